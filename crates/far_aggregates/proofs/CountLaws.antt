@@ -6,8 +6,8 @@ use Rattle.std.specs.List.{AllByRecursion}
 use Rattle.std.specs.FinMap as fin
 use Rattle.std.proofs.lemmas.Int.{ints}
 use Rattle.far_types.specs.declared.key.Key.{Key}
-use Rattle.far_types.specs.Answers.{is_under, values_of, int_sum, tally, totals}
-use Rattle.far_types.specs.Changes.{count_in}
+use Rattle.far_types.specs.Answers.{is_under, values_of, int_sum, count_sum, totals}
+use Rattle.far_types.specs.Effects.{count_in}
 use Rattle.far_types.specs.Pairs.{Pair, PairsFit}
 use Rattle.far_types.proofs.Grouping.{own_key, if_any, get-grouped, values_of-cons}
 use Rattle.far_types.proofs.LineLaws.{int_sum-low, int_sum-high}
@@ -27,13 +27,13 @@ length-values_of q (p ∷ ps) =
     let P : List ℤ → Type 0 = λ vs. length vs ≤ suc (length ps) in
     subst P (sym (values_of-cons q p ps)) (elim (is_under q p) as (λ b. length (cond b (p.1 ∷ values_of q ps) (values_of q ps)) ≤ suc (length ps)) [ true ↦ omega arith | false ↦ omega arith ])
 
-counted : (vs : List ℤ) → count_in (if_any vs (tally vs)) ≡ length vs
+counted : (vs : List ℤ) → count_in (if_any vs (count_sum vs)) ≡ length vs
 counted [] = refl
 counted (v ∷ vs) = refl
 
 pub few_under : (ps : List Pair) (q : Option Key) → count_in (fin.get (totals ps) q) ≤ length ps
 few_under ps q =
-    let is : count_in (fin.get (totals ps) q) ≡ length (values_of q ps) = ap count_in (get-grouped tally ps q) ∙ counted (values_of q ps) in
+    let is : count_in (fin.get (totals ps) q) ≡ length (values_of q ps) = ap count_in (get-grouped count_sum ps q) ∙ counted (values_of q ps) in
     let few = length-values_of q ps in
     omega arith
 
@@ -43,10 +43,10 @@ low n s v h = omega (arith, ints)
 high : (n : ℕ) (s v : ℤ) → s ≤ℤ pos (n * (2 ^ 63 - 1)) → ((v +ℤ s) -ℤ v) ≤ℤ pos ((suc n - 1) * (2 ^ 63 - 1))
 high n s v h = omega (arith, ints)
 
-own : (p : Pair) (ps : List Pair) → fin.get (totals (p ∷ ps)) p.0 ≡ Some (tally (p.1 ∷ values_of p.0 ps))
+own : (p : Pair) (ps : List Pair) → fin.get (totals (p ∷ ps)) p.0 ≡ Some (count_sum (p.1 ∷ values_of p.0 ps))
 own p ps =
-    get-grouped tally (p ∷ ps) p.0
-    ∙ ap (λ vs. if_any vs (tally vs)) (values_of-cons p.0 p ps ∙ ap (λ b. cond b (p.1 ∷ values_of p.0 ps) (values_of p.0 ps)) (own_key p.0))
+    get-grouped count_sum (p ∷ ps) p.0
+    ∙ ap (λ vs. if_any vs (count_sum vs)) (values_of-cons p.0 p ps ∙ ap (λ b. cond b (p.1 ∷ values_of p.0 ps) (values_of p.0 ps)) (own_key p.0))
 
 pub can_take : (p : Pair) (ps : List Pair) → PairsFit ps → CanTake p.1 (fin.get (totals (p ∷ ps)) p.0)
 can_take p ps h =

@@ -4,7 +4,7 @@ use Rattle.std.specs.Prelude.{ℤ, option_map}
 use Rattle.std.specs.FinMap as fin
 use Rattle.std.proofs.lemmas.List.{get_or-set_same, length-map, length-take-le, take-map, take_all}
 use Rattle.far_types.specs.Answers.{Totals, Extrema, totals}
-use Rattle.far_types.specs.Changes.{count_in, with_pair, without_pair, with_seen, widened}
+use Rattle.far_types.specs.Effects.{count_in, with_pair, without_pair, with_observed, widened}
 use Rattle.far_types.specs.Pairs.{Pair}
 use Rattle.far_types.proofs.ByKeyMaps.{get_inserted}
 use Rattle.far_types.proofs.TotalLaws.{totals-cons, without_pair-totals}
@@ -19,7 +19,7 @@ use Rattle.far_aggregates.specs.declared.deltas.Delta.{Delta}
 use Rattle.far_aggregates.specs.Accumulators.{Slot, Change}
 use Rattle.far_aggregates.specs.Pairs.{Gives, change_of, AccumulatorFolds, Folds, EachFolds}
 use Rattle.far_aggregates.specs.Deltas.{delta_of, row_delta, delta_in, accumulator_more, added, accumulator_undo, undo, AccumulatorMayAdd, AccumulatorMayUndo, MayUndo, EachMayUndo, AccumulatorFits, Fits, EachFits}
-use Rattle.far_aggregates.specs.Reserve.{AccumulatorHasRoom, HasRoom, HaveRoom}
+use Rattle.far_aggregates.specs.Reserve.{AccumulatorIsReserved, IsReserved, AreReserved}
 use Rattle.far_aggregates.specs.Until.{zip_until, zip_all}
 use Rattle.far_aggregates.proofs.CountLaws.{few_under, can_take}
 use Rattle.far_aggregates.proofs.ListLaws.{set-again, set-own, length-written, length-zip_all, get-take}
@@ -38,27 +38,27 @@ some_not x None h e = cc
 some_not x (Some y) h e = cc
 
 -- what was seen in a row group is there
-seen-there : (g : ℕ) (gs : List Extrema) (p : Pair) → g < length gs → fin.get (group_at (slice_set gs g (with_seen (group_at gs g) p)) g) p.0 ≢ None
+seen-there : (g : ℕ) (gs : List Extrema) (p : Pair) → g < length gs → fin.get (group_at (slice_set gs g (with_observed (group_at gs g) p)) g) p.0 ≢ None
 seen-there g gs p l =
     let m = group_at gs g in
-    some_not (widened p.1 (fin.get m p.0)) _ (ap (λ n. fin.get n p.0) (get_or-set_same gs g (with_seen m p) fin.empty l) ∙ get_inserted m p.0 (widened p.1 (fin.get m p.0)))
+    some_not (widened p.1 (fin.get m p.0)) _ (ap (λ n. fin.get n p.0) (get_or-set_same gs g (with_observed m p) fin.empty l) ∙ get_inserted m p.0 (widened p.1 (fin.get m p.0)))
 
 -- and goes again
 seen-undone : (g : ℕ) (gs : List Extrema) (p : Pair) (o : Option (ℤ × ℤ)) → g < length gs → o ≡ fin.get (group_at gs g) p.0
-    → slice_set (slice_set gs g (with_seen (group_at gs g) p)) g (put_span (group_at (slice_set gs g (with_seen (group_at gs g) p)) g) p.0 o) ≡ gs
+    → slice_set (slice_set gs g (with_observed (group_at gs g) p)) g (put_span (group_at (slice_set gs g (with_observed (group_at gs g) p)) g) p.0 o) ≡ gs
 seen-undone g gs p o l h =
     let m = group_at gs g in
-    set-again gs g (with_seen m p) (put_span (group_at (slice_set gs g (with_seen m p)) g) p.0 o)
-    ∙ ap (λ n. slice_set gs g (put_span n p.0 o)) (get_or-set_same gs g (with_seen m p) fin.empty l)
-    ∙ ap (λ s. slice_set gs g (put_span (with_seen m p) p.0 s)) h
+    set-again gs g (with_observed m p) (put_span (group_at (slice_set gs g (with_observed m p)) g) p.0 o)
+    ∙ ap (λ n. slice_set gs g (put_span n p.0 o)) (get_or-set_same gs g (with_observed m p) fin.empty l)
+    ∙ ap (λ s. slice_set gs g (put_span (with_observed m p) p.0 s)) h
     ∙ ap (slice_set gs g) (seen-undo m p)
     ∙ set-own gs g fin.empty
 
 kept-may_undo : (g : ℕ) (k : Accumulator) (c : Delta) → AccumulatorFits g k c → AccumulatorMayUndo g (accumulator_more g k c.pair) c.pair
 kept-may_undo g (accumulator.Totals live) c h = subst (λ m. CanTake c.pair.1 (fin.get m c.pair.0)) (totals-cons c.pair h.0 ∙ ap (λ m. with_pair m c.pair) (sym h.1)) (can_take c.pair h.0 h.2)
 kept-may_undo g (accumulator.Extrema live) c h =
-    let same = length-written live.groups g (with_seen (group_at live.groups g) c.pair) in
-    let room = h.0 in
+    let same = length-written live.groups g (with_observed (group_at live.groups g) c.pair) in
+    let reserved = h.0 in
     (omega arith, seen-there g live.groups c.pair h.0)
 
 undone : (m : Totals) (p : Pair) (ps : List Pair) → m ≡ totals ps → without_pair (with_pair m p) p ≡ m
@@ -123,21 +123,21 @@ added-none g None = refl
 added-none g (Some a) = refl
 
 -- the delta of a pair fits the accumulator
-pub pair-fits : (g : ℕ) (k : Accumulator) (p : Pair) → AccumulatorFolds k → AccumulatorHasRoom g k → AccumulatorFits g k (delta_of g k p)
+pub pair-fits : (g : ℕ) (k : Accumulator) (p : Pair) → AccumulatorFolds k → AccumulatorIsReserved g k → AccumulatorFits g k (delta_of g k p)
 pair-fits g (accumulator.Totals live) p f r = f
 pair-fits g (accumulator.Extrema live) p f r = (r, refl)
 
--- the delta of a place fits the accumulator, if totals are few and extrema have room
-kept-fits : (g : ℕ) (a : Aggregate) (k : Accumulator) (o : Change) → AccumulatorFolds k → AccumulatorHasRoom g k → Fits g (Some (record a { accumulator = k })) (option_map (delta_of g k) o)
+-- the delta of a place fits the accumulator, if totals are few and extrema are reserved
+kept-fits : (g : ℕ) (a : Aggregate) (k : Accumulator) (o : Change) → AccumulatorFolds k → AccumulatorIsReserved g k → Fits g (Some (record a { accumulator = k })) (option_map (delta_of g k) o)
 kept-fits g a k None f r = tt
 kept-fits g a (accumulator.Totals live) (Some p) f r = f
 kept-fits g a (accumulator.Extrema live) (Some p) f r = (r, refl)
 
-pub slot-fits : (size i : ℕ) (o : Gives) (s : Slot) → Folds s → HasRoom (i / size) s → Fits (i / size) s (row_delta size i o s)
+pub slot-fits : (size i : ℕ) (o : Gives) (s : Slot) → Folds s → IsReserved (i / size) s → Fits (i / size) s (row_delta size i o s)
 slot-fits size i o None f r = tt
 slot-fits size i o (Some a) f r = kept-fits (i / size) a a.accumulator (change_of size i o (Some a)) f r
 
-pub each-fits : (size i : ℕ) (o : Gives) (slots : List Slot) → EachFolds slots → HaveRoom (i / size) slots → EachFits (i / size) slots (map (row_delta size i o) slots)
+pub each-fits : (size i : ℕ) (o : Gives) (slots : List Slot) → EachFolds slots → AreReserved (i / size) slots → EachFits (i / size) slots (map (row_delta size i o) slots)
 each-fits size i o [] f r k s c here there = cc
 each-fits size i o (t ∷ slots) f r zero s c here there =
     let a : t ≡ s = cc in
@@ -150,7 +150,7 @@ may_undo-alike : (g n : ℕ) (slots : List Slot) (deltas more : List (Option Del
 may_undo-alike g n slots deltas more e h k s c l here there = h k s c l here (sym (get-take n k deltas l) ∙ ap (λ (cs : List (Option Delta)). slice_get cs k) (sym e) ∙ get-take n k more l ∙ there)
 
 -- deltas are applied one after the other: those of the first n are listed
-module _ (size i : ℕ) (o : Gives) (slots : List Slot) (folds : EachFolds slots) (room : HaveRoom (i / size) slots) (n : ℕ) (within : n < length slots) (deltas : List (Option Delta)) (is : deltas ≡ map (row_delta size i o) (take n slots)) where
+module _ (size i : ℕ) (o : Gives) (slots : List Slot) (folds : EachFolds slots) (reserved : AreReserved (i / size) slots) (n : ℕ) (within : n < length slots) (deltas : List (Option Delta)) (is : deltas ≡ map (row_delta size i o) (take n slots)) where
   abbrev all : List (Option Delta)
   all = map (row_delta size i o) slots
 
@@ -166,19 +166,19 @@ module _ (size i : ℕ) (o : Gives) (slots : List Slot) (folds : EachFolds slots
       take_all n deltas (omega arith) ∙ is ∙ sym (take-map (row_delta size i o) n slots)
 
   pub next-may_undo : EachMayUndo (i / size) n mid deltas
-  next-may_undo = may_undo-alike (i / size) n mid all deltas alike (until-may_undo (i / size) n slots all (each-fits size i o slots folds room))
+  next-may_undo = may_undo-alike (i / size) n mid all deltas alike (until-may_undo (i / size) n slots all (each-fits size i o slots folds reserved))
 
   pub next-undone : zip_until (undo (i / size)) n mid deltas ≡ slots
   next-undone =
       sym (zip_until-take (undo (i / size)) n mid deltas)
       ∙ ap (zip_until (undo (i / size)) n mid) alike
       ∙ zip_until-take (undo (i / size)) n mid all
-      ∙ zip_until-undo (added (i / size)) (undo (i / size)) n slots all (λ k s d h j. fits-undo (i / size) s d (each-fits size i o slots folds room k s d h j))
+      ∙ zip_until-undo (added (i / size)) (undo (i / size)) n slots all (λ k s d h j. fits-undo (i / size) s d (each-fits size i o slots folds reserved k s d h j))
 
 -- the deltas of a place can all be undone, and then all aggregates are as they were
-module _ (size i : ℕ) (o : Gives) (slots mid : List Slot) (deltas : List (Option Delta)) (is : deltas ≡ map (row_delta size i o) slots) (applied : mid ≡ zip_all (added (i / size)) slots deltas) (folds : EachFolds slots) (room : HaveRoom (i / size) slots) where
+module _ (size i : ℕ) (o : Gives) (slots mid : List Slot) (deltas : List (Option Delta)) (is : deltas ≡ map (row_delta size i o) slots) (applied : mid ≡ zip_all (added (i / size)) slots deltas) (folds : EachFolds slots) (reserved : AreReserved (i / size) slots) where
   deltas-fit : EachFits (i / size) slots deltas
-  deltas-fit = subst (EachFits (i / size) slots) (sym is) (each-fits size i o slots folds room)
+  deltas-fit = subst (EachFits (i / size) slots) (sym is) (each-fits size i o slots folds reserved)
 
   pub applied-may_undo : EachMayUndo (i / size) (length mid) mid deltas
   applied-may_undo = subst (λ l. EachMayUndo (i / size) (length l) l deltas) (sym applied) (all-may_undo (i / size) slots deltas deltas-fit)

@@ -8,18 +8,18 @@ use Rattle.far_types.specs.declared.key.Key.{Key}
 use Rattle.far_types.specs.declared.spec.Spec.{Spec}
 use Rattle.far_types.specs.Keys.{line_cmp}
 use Rattle.far_types.specs.Answers.{Extrema, extrema}
-use Rattle.far_types.specs.Changes.{with_seen, widened}
+use Rattle.far_types.specs.Effects.{with_observed, widened}
 use Rattle.far_types.specs.Edits.{changed_at}
 use Rattle.far_types.specs.Pairs.{Pair}
-use Rattle.far_types.specs.Table.{Place, place_pair, in_group, is_unbuilt}
+use Rattle.far_types.specs.Table.{Place, place_pair, in_group, is_pending}
 use Rattle.far_types.proofs.ByKeyMaps.{get_inserted}
 use Rattle.far_types.proofs.TotalLaws.{extrema-cons, extrema-among}
 use Rattle.far_extrema.specs.Live.{group_at}
 use Rattle.far_extrema.specs.Spans.{put_span}
 use Rattle.far_extrema.proofs.GoneLaws.{gone, within, put-same}
 use Rattle.far_extrema.proofs.HolderLaws.{widened_within}
-use Rattle.far_aggregates.specs.Accumulators.{Change, group_pairs, built_group}
-use Rattle.far_aggregates.specs.Pairs.{with_seen_change}
+use Rattle.far_aggregates.specs.Accumulators.{Change, group_pairs, scanned_group}
+use Rattle.far_aggregates.specs.Pairs.{with_observed_change}
 use Rattle.far_aggregates.proofs.ListLaws.{length-written, set-own}
 
 pub same_or_not : (a b : ℕ) → (a ≡ b) ⊎ (a ≢ b)
@@ -28,7 +28,7 @@ same_or_not zero (suc b) = inr (λ e. absurd (omega arith))
 same_or_not (suc a) zero = inr (λ e. absurd (omega arith))
 same_or_not (suc a) (suc b) = elim (same_or_not a b) as (λ o. (suc a ≡ suc b) ⊎ (suc a ≢ suc b)) [ inl e ↦ inl (ap suc e) | inr n ↦ inr (λ e. n (omega arith)) ]
 
-pub seen-more : (o : Change) (ps : List Pair) → extrema (cons_option o ps) ≡ with_seen_change (extrema ps) o
+pub seen-more : (o : Change) (ps : List Pair) → extrema (cons_option o ps) ≡ with_observed_change (extrema ps) o
 seen-more None ps = refl
 seen-more (Some pair) ps = extrema-cons pair ps
 
@@ -38,7 +38,7 @@ seen-swap (Some x) None ps = refl
 seen-swap (Some x) (Some y) ps = sym (extrema-among (y ∷ []) x ps)
 
 seen-under : (o : Change) (ps qs : List Pair) → extrema ps ≡ extrema qs → extrema (cons_option o ps) ≡ extrema (cons_option o qs)
-seen-under o ps qs h = seen-more o ps ∙ ap (λ m. with_seen_change m o) h ∙ sym (seen-more o qs)
+seen-under o ps qs h = seen-more o ps ∙ ap (λ m. with_observed_change m o) h ∙ sym (seen-more o qs)
 
 -- the pairs of all places but one
 module _ (spec : Spec) where
@@ -80,13 +80,13 @@ IsWith g gs hs m = (group_at hs g ≡ m) × ((h : ℕ) → h ≢ g → group_at 
 
 abbrev pub groups_seen : ℕ → List Extrema → Change → List Extrema
 groups_seen g gs None = gs
-groups_seen g gs (Some pair) = slice_set gs g (with_seen (group_at gs g) pair)
+groups_seen g gs (Some pair) = slice_set gs g (with_observed (group_at gs g) pair)
 
 abbrev pub groups_left : ℕ → List Extrema → Change → Extrema → List Extrema
 groups_left g gs None new = gs
 groups_left g gs (Some pair) new = slice_set gs g (put_span (group_at gs g) pair.0 (fin.get new pair.0))
 
-pub seen-is : (g : ℕ) (gs : List Extrema) (o : Change) → g < length gs → IsWith g gs (groups_seen g gs o) (with_seen_change (group_at gs g) o)
+pub seen-is : (g : ℕ) (gs : List Extrema) (o : Change) → g < length gs → IsWith g gs (groups_seen g gs o) (with_observed_change (group_at gs g) o)
 seen-is g gs None l = (refl, λ h n. refl)
 seen-is g gs (Some p) l = (get_or-set_same gs g _ fin.empty l, λ h n. get_or-set_other gs g h _ fin.empty n)
 
@@ -99,27 +99,27 @@ seen-length g gs None = refl
 seen-length g gs (Some p) = length-written gs g _
 
 -- where all other row groups have the places that they had
-module _ (spec : Spec) (size : ℕ) (unbuilt : List Bool) (g : ℕ) (ps qs : List Place) (others : (h : ℕ) → h ≢ g → in_group size h qs ≡ in_group size h ps) where
-  other-group : (h : ℕ) → h ≢ g → built_group spec size unbuilt ps h ≡ built_group spec size unbuilt qs h
-  other-group h n = ap (λ l. cond (is_unbuilt unbuilt h) fin.empty (extrema (filter_map (place_pair spec) l))) (sym (others h n))
+module _ (spec : Spec) (size : ℕ) (pending : List Bool) (g : ℕ) (ps qs : List Place) (others : (h : ℕ) → h ≢ g → in_group size h qs ≡ in_group size h ps) where
+  other-group : (h : ℕ) → h ≢ g → scanned_group spec size pending ps h ≡ scanned_group spec size pending qs h
+  other-group h n = ap (λ l. cond (is_pending pending h) fin.empty (extrema (filter_map (place_pair spec) l))) (sym (others h n))
 
   -- the row group is scanned, and has the extrema of its places
-  pub kept-built : (gs hs : List Extrema) → is_unbuilt unbuilt g ≡ false → ((h : ℕ) → group_at gs h ≡ built_group spec size unbuilt ps h) → IsWith g gs hs (extrema (group_pairs spec size g qs))
-      → (h : ℕ) → group_at hs h ≡ built_group spec size unbuilt qs h
-  kept-built gs hs is kept w h = elim (same_or_not h g) as (λ o. group_at hs h ≡ built_group spec size unbuilt qs h) [
+  pub kept-built : (gs hs : List Extrema) → is_pending pending g ≡ false → ((h : ℕ) → group_at gs h ≡ scanned_group spec size pending ps h) → IsWith g gs hs (extrema (group_pairs spec size g qs))
+      → (h : ℕ) → group_at hs h ≡ scanned_group spec size pending qs h
+  kept-built gs hs is kept w h = elim (same_or_not h g) as (λ o. group_at hs h ≡ scanned_group spec size pending qs h) [
     | inl e ↦
         ap (group_at hs) e ∙ w.0
         ∙ sym (ap (λ b. cond b fin.empty (extrema (group_pairs spec size g qs))) is)
-        ∙ ap (built_group spec size unbuilt qs) (sym e)
+        ∙ ap (scanned_group spec size pending qs) (sym e)
     | inr n ↦ w.1 h n ∙ kept h ∙ other-group h n
   ]
 
   -- nothing is kept of it
-  pub kept-unbuilt : (gs : List Extrema) → is_unbuilt unbuilt g ≡ true → ((h : ℕ) → group_at gs h ≡ built_group spec size unbuilt ps h) → (h : ℕ) → group_at gs h ≡ built_group spec size unbuilt qs h
-  kept-unbuilt gs is kept h =
-      kept h ∙ elim (same_or_not h g) as (λ o. built_group spec size unbuilt ps h ≡ built_group spec size unbuilt qs h) [
+  pub kept-pending : (gs : List Extrema) → is_pending pending g ≡ true → ((h : ℕ) → group_at gs h ≡ scanned_group spec size pending ps h) → (h : ℕ) → group_at gs h ≡ scanned_group spec size pending qs h
+  kept-pending gs is kept h =
+      kept h ∙ elim (same_or_not h g) as (λ o. scanned_group spec size pending ps h ≡ scanned_group spec size pending qs h) [
         | inl e ↦
-            let shut : is_unbuilt unbuilt h ≡ true = ap (is_unbuilt unbuilt) e ∙ is in
+            let shut : is_pending pending h ≡ true = ap (is_pending pending) e ∙ is in
             ap (λ b. cond b fin.empty (extrema (group_pairs spec size h ps))) shut ∙ sym (ap (λ b. cond b fin.empty (extrema (group_pairs spec size h qs))) shut)
         | inr n ↦ other-group h n
       ]
@@ -127,11 +127,11 @@ module _ (spec : Spec) (size : ℕ) (unbuilt : List Bool) (g : ℕ) (ps qs : Lis
 nothing : (x : ℤ × ℤ) → None ≡ Some x → ⊥
 nothing x e = cc
 
--- a row group in which a key occurs has room
-pub has-room : (g : ℕ) (gs : List Extrema) (k : Option Key) (x : ℤ × ℤ) → fin.get (group_at gs g) k ≡ Some x → g < length gs
-has-room g [] k x h = absurd (nothing x (sym (fin.get-empty line_cmp k) ∙ h))
-has-room zero (m ∷ gs) k x h = omega arith
-has-room (suc g) (m ∷ gs) k x h = let rest = has-room g gs k x h in omega arith
+-- a row group in which a key occurs is reserved
+pub is-reserved : (g : ℕ) (gs : List Extrema) (k : Option Key) (x : ℤ × ℤ) → fin.get (group_at gs g) k ≡ Some x → g < length gs
+is-reserved g [] k x h = absurd (nothing x (sym (fin.get-empty line_cmp k) ∙ h))
+is-reserved zero (m ∷ gs) k x h = omega arith
+is-reserved (suc g) (m ∷ gs) k x h = let rest = is-reserved g gs k x h in omega arith
 
 some_span : (s t : ℤ × ℤ) → Some s ≡ Some t → t ≡ s
 some_span s t e = cc
@@ -144,8 +144,8 @@ left-within g gs k v o s seen found low high =
     sym (ap (λ p. slice_set gs g (put_span (group_at gs g) k p)) rest ∙ ap (slice_set gs g) (put-same (group_at gs g) k s found) ∙ set-own gs g fin.empty)
 
 -- if an added value is within, the row group stays as it is
-pub seen-within : (g : ℕ) (gs : List Extrema) (k : Option Key) (v : ℤ) (s : ℤ × ℤ) → fin.get (group_at gs g) k ≡ Some s → s.0 ≤ℤ v → v ≤ℤ s.1 → gs ≡ slice_set gs g (with_seen (group_at gs g) (k, v))
+pub seen-within : (g : ℕ) (gs : List Extrema) (k : Option Key) (v : ℤ) (s : ℤ × ℤ) → fin.get (group_at gs g) k ≡ Some s → s.0 ≤ℤ v → v ≤ℤ s.1 → gs ≡ slice_set gs g (with_observed (group_at gs g) (k, v))
 seen-within g gs k v s found low high =
     let m = group_at gs g in
-    let same : with_seen m (k, v) ≡ m = ap (λ o. fin.insert m k (widened v o)) found ∙ ap (fin.insert m k) (widened_within v s low high) ∙ put-same m k s found in
+    let same : with_observed m (k, v) ≡ m = ap (λ o. fin.insert m k (widened v o)) found ∙ ap (fin.insert m k) (widened_within v s low high) ∙ put-same m k s found in
     sym (ap (slice_set gs g) same ∙ set-own gs g fin.empty)

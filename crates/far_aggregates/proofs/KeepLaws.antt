@@ -9,79 +9,79 @@ use Rattle.far_types.specs.Answers.{Extrema, totals, extrema}
 use Rattle.far_types.specs.Cells.{RowFits}
 use Rattle.far_types.specs.Edits.{changed_at}
 use Rattle.far_types.specs.Pairs.{Pair, PairsFit}
-use Rattle.far_types.specs.Table.{Place, place_pair, is_unbuilt, in_group}
+use Rattle.far_types.specs.Table.{Place, place_pair, is_pending, in_group}
 use Rattle.far_groups.specs.Live as groups
 use Rattle.far_extrema.specs.Live as spans
 use Rattle.far_extrema.specs.Live.{group_at}
 use Rattle.far_aggregates.specs.declared.aggregate.Accumulator.{Accumulator}
 use Rattle.far_aggregates.specs.declared.aggregate.Accumulator.TheVariants as accumulator
-use Rattle.far_aggregates.specs.Accumulators.{Slot, Change, PlacesFit, built_pair, built_pairs, pairs_here, group_pairs, built_group, KeepsSlot}
-use Rattle.far_aggregates.specs.Pairs.{place_gives, change_of, with_change, without_change, with_seen_change}
+use Rattle.far_aggregates.specs.Accumulators.{Slot, Change, PlacesFit, scanned_pair, scanned_pairs, pairs_here, group_pairs, scanned_group, KeepsSlot}
+use Rattle.far_aggregates.specs.Pairs.{place_gives, change_of, with_change, without_change, with_observed_change}
 use Rattle.far_aggregates.specs.Deltas.{delta_of, row_delta, added}
 use Rattle.far_aggregates.specs.Retract.{retracted, MayRetract}
-use Rattle.far_aggregates.specs.Reserve.{HasRoom}
-use Rattle.far_aggregates.proofs.BuiltLaws.{totals-more, totals-swap, others, built-apart, built-changed, built-appended, built_pair-fits, cons-fits, others-fits}
+use Rattle.far_aggregates.specs.Reserve.{IsReserved}
+use Rattle.far_aggregates.proofs.ScannedLaws.{totals-more, totals-swap, others, built-apart, built-changed, built-appended, scanned_pair-fits, cons-fits, others-fits}
 use Rattle.far_aggregates.proofs.CountLaws.{can_take}
-use Rattle.far_aggregates.proofs.ExtremaLaws.{seen-more, seen-swap, rest, rest-apart, rest-changed, gone-leaves, gone-seen, groups_seen, groups_left, seen-is, left-is, seen-length, kept-built, kept-unbuilt}
+use Rattle.far_aggregates.proofs.ExtremaLaws.{seen-more, seen-swap, rest, rest-apart, rest-changed, gone-leaves, gone-seen, groups_seen, groups_left, seen-is, left-is, seen-length, kept-built, kept-pending}
 use Rattle.far_aggregates.proofs.GroupLaws.{in_group-changed, in_group-appended, in_group-last, in_group-there, get-in_group, nth}
 use Rattle.far_aggregates.proofs.PairLaws.{extrema-joined}
 
 abbrev pub slot : Spec → ℕ → List Bool → Accumulator → Slot
-slot spec registration unbuilt k = Some (record { spec = spec; registration = registration; unbuilt = unbuilt; accumulator = k })
+slot spec registration pending k = Some (record { spec = spec; registration = registration; pending = pending; accumulator = k })
 
-module _ (spec : Spec) (registration : ℕ) (unbuilt : List Bool) (g : ℕ) where
-  added-is : (live : groups.Live) (o : Change) → added g (slot spec registration unbuilt (accumulator.Totals live)) (option_map (delta_of g (accumulator.Totals live)) o) ≡ slot spec registration unbuilt (accumulator.Totals (record { left = live.left; totals = with_change live.totals o }))
+module _ (spec : Spec) (registration : ℕ) (pending : List Bool) (g : ℕ) where
+  added-is : (live : groups.Live) (o : Change) → added g (slot spec registration pending (accumulator.Totals live)) (option_map (delta_of g (accumulator.Totals live)) o) ≡ slot spec registration pending (accumulator.Totals (record { left = live.left; totals = with_change live.totals o }))
   added-is live None = refl
   added-is live (Some pair) = refl
 
-  added-seen : (live : spans.Live) (o : Change) → added g (slot spec registration unbuilt (accumulator.Extrema live)) (option_map (delta_of g (accumulator.Extrema live)) o) ≡ slot spec registration unbuilt (accumulator.Extrema (record live { groups = groups_seen g live.groups o }))
+  added-seen : (live : spans.Live) (o : Change) → added g (slot spec registration pending (accumulator.Extrema live)) (option_map (delta_of g (accumulator.Extrema live)) o) ≡ slot spec registration pending (accumulator.Extrema (record live { groups = groups_seen g live.groups o }))
   added-seen live None = refl
   added-seen live (Some pair) = refl
 
-  retracted-is : (here : List Place) (live : groups.Live) (o : Change) → retracted g here (slot spec registration unbuilt (accumulator.Totals live)) o ≡ slot spec registration unbuilt (accumulator.Totals (record { left = live.left; totals = without_change live.totals o }))
+  retracted-is : (here : List Place) (live : groups.Live) (o : Change) → retracted g here (slot spec registration pending (accumulator.Totals live)) o ≡ slot spec registration pending (accumulator.Totals (record { left = live.left; totals = without_change live.totals o }))
   retracted-is here live None = refl
   retracted-is here live (Some pair) = refl
 
-  retracted-left : (here : List Place) (live : spans.Live) (o : Change) → retracted g here (slot spec registration unbuilt (accumulator.Extrema live)) o ≡ slot spec registration unbuilt (accumulator.Extrema (record live { groups = groups_left g live.groups o (extrema (pairs_here spec here)) }))
+  retracted-left : (here : List Place) (live : spans.Live) (o : Change) → retracted g here (slot spec registration pending (accumulator.Extrema live)) o ≡ slot spec registration pending (accumulator.Extrema (record live { groups = groups_left g live.groups o (extrema (pairs_here spec here)) }))
   retracted-left here live None = refl
   retracted-left here live (Some pair) = refl
 
 -- a row group that is scanned has the extrema of its places
-here-kept : (spec : Spec) (size : ℕ) (unbuilt : List Bool) (g : ℕ) (ps : List Place) (gs : List Extrema) → is_unbuilt unbuilt g ≡ false → ((h : ℕ) → group_at gs h ≡ built_group spec size unbuilt ps h) → group_at gs g ≡ extrema (group_pairs spec size g ps)
-here-kept spec size unbuilt g ps gs is kept = kept g ∙ ap (λ b. cond b fin.empty (extrema (group_pairs spec size g ps))) is
+here-kept : (spec : Spec) (size : ℕ) (pending : List Bool) (g : ℕ) (ps : List Place) (gs : List Extrema) → is_pending pending g ≡ false → ((h : ℕ) → group_at gs h ≡ scanned_group spec size pending ps h) → group_at gs g ≡ extrema (group_pairs spec size g ps)
+here-kept spec size pending g ps gs is kept = kept g ∙ ap (λ b. cond b fin.empty (extrema (group_pairs spec size g ps))) is
 
 -- one slot under an insert
 
-module _ (size : ℕ) (spec : Spec) (registration : ℕ) (unbuilt : List Bool) (ps : List Place) (p : Place) (positive : 0 < size) where
-  appended-seen : extrema (group_pairs spec size (length ps / size) (ps ++ p ∷ [])) ≡ with_seen_change (extrema (group_pairs spec size (length ps / size) ps)) (place_pair spec p)
+module _ (size : ℕ) (spec : Spec) (registration : ℕ) (pending : List Bool) (ps : List Place) (p : Place) (positive : 0 < size) where
+  appended-seen : extrema (group_pairs spec size (length ps / size) (ps ++ p ∷ [])) ≡ with_observed_change (extrema (group_pairs spec size (length ps / size) ps)) (place_pair spec p)
   appended-seen =
       let mine = in_group size (length ps / size) ps in
       ap (λ l. extrema (filter_map (place_pair spec) l)) (in_group-last size ps p positive)
       ∙ ap extrema (filter_map-append (place_pair spec) mine (p ∷ []))
       ∙ extrema-joined (filter_map (place_pair spec) mine) (place_pair spec p)
 
-  insert-extrema : (live : spans.Live) (b : Bool) → is_unbuilt unbuilt (length ps / size) ≡ b → KeepsSlot size ps (slot spec registration unbuilt (accumulator.Extrema live)) → length ps / size < length live.groups
-      → KeepsSlot size (ps ++ p ∷ []) (added (length ps / size) (slot spec registration unbuilt (accumulator.Extrema live)) (option_map (delta_of (length ps / size) (accumulator.Extrema live)) (cond b None (place_pair spec p))))
-  insert-extrema live true is h room = (h.0, (kept-unbuilt spec size unbuilt (length ps / size) ps (ps ++ p ∷ []) (λ k n. in_group-appended size k ps p positive n) live.groups is h.1.0, h.1.1))
-  insert-extrema live false is h room =
+  insert-extrema : (live : spans.Live) (b : Bool) → is_pending pending (length ps / size) ≡ b → KeepsSlot size ps (slot spec registration pending (accumulator.Extrema live)) → length ps / size < length live.groups
+      → KeepsSlot size (ps ++ p ∷ []) (added (length ps / size) (slot spec registration pending (accumulator.Extrema live)) (option_map (delta_of (length ps / size) (accumulator.Extrema live)) (cond b None (place_pair spec p))))
+  insert-extrema live true is h reserved = (h.0, (kept-pending spec size pending (length ps / size) ps (ps ++ p ∷ []) (λ k n. in_group-appended size k ps p positive n) live.groups is h.1.0, h.1.1))
+  insert-extrema live false is h reserved =
       let g = length ps / size in
       let o = place_pair spec p in
-      let w = seen-is g live.groups o room in
-      let new : with_seen_change (group_at live.groups g) o ≡ extrema (group_pairs spec size g (ps ++ p ∷ [])) = ap (λ m. with_seen_change m o) (here-kept spec size unbuilt g ps live.groups is h.1.0) ∙ sym appended-seen in
-      subst (KeepsSlot size (ps ++ p ∷ [])) (sym (added-seen spec registration unbuilt g live o))
-      (h.0, (kept-built spec size unbuilt g ps (ps ++ p ∷ []) (λ k n. in_group-appended size k ps p positive n) live.groups (groups_seen g live.groups o) is h.1.0 (w.0 ∙ new, w.1), h.1.1))
+      let w = seen-is g live.groups o reserved in
+      let new : with_observed_change (group_at live.groups g) o ≡ extrema (group_pairs spec size g (ps ++ p ∷ [])) = ap (λ m. with_observed_change m o) (here-kept spec size pending g ps live.groups is h.1.0) ∙ sym appended-seen in
+      subst (KeepsSlot size (ps ++ p ∷ [])) (sym (added-seen spec registration pending g live o))
+      (h.0, (kept-built spec size pending g ps (ps ++ p ∷ []) (λ k n. in_group-appended size k ps p positive n) live.groups (groups_seen g live.groups o) is h.1.0 (w.0 ∙ new, w.1), h.1.1))
 
-  insert-kept : (k : Accumulator) → KeepsSlot size ps (slot spec registration unbuilt k) → HasRoom (length ps / size) (slot spec registration unbuilt k)
-      → KeepsSlot size (ps ++ p ∷ []) (added (length ps / size) (slot spec registration unbuilt k) (row_delta size (length ps) (place_gives p) (slot spec registration unbuilt k)))
-  insert-kept (accumulator.Totals live) h room =
-      let o = built_pair spec size unbuilt (length ps) p in
-      subst (KeepsSlot size (ps ++ p ∷ [])) (sym (added-is spec registration unbuilt (length ps / size) live o)) (h.0, (ap (λ m. with_change m o) h.1.0 ∙ built-appended spec size unbuilt ps p, h.1.1))
-  insert-kept (accumulator.Extrema live) h room = insert-extrema live (is_unbuilt unbuilt (length ps / size)) refl h room
+  insert-kept : (k : Accumulator) → KeepsSlot size ps (slot spec registration pending k) → IsReserved (length ps / size) (slot spec registration pending k)
+      → KeepsSlot size (ps ++ p ∷ []) (added (length ps / size) (slot spec registration pending k) (row_delta size (length ps) (place_gives p) (slot spec registration pending k)))
+  insert-kept (accumulator.Totals live) h reserved =
+      let o = scanned_pair spec size pending (length ps) p in
+      subst (KeepsSlot size (ps ++ p ∷ [])) (sym (added-is spec registration pending (length ps / size) live o)) (h.0, (ap (λ m. with_change m o) h.1.0 ∙ built-appended spec size pending ps p, h.1.1))
+  insert-kept (accumulator.Extrema live) h reserved = insert-extrema live (is_pending pending (length ps / size)) refl h reserved
 
-pub slot-insert : (size : ℕ) (ps : List Place) (p : Place) (s : Slot) → 0 < size → KeepsSlot size ps s → HasRoom (length ps / size) s
+pub slot-insert : (size : ℕ) (ps : List Place) (p : Place) (s : Slot) → 0 < size → KeepsSlot size ps s → IsReserved (length ps / size) s
     → KeepsSlot size (ps ++ p ∷ []) (added (length ps / size) s (row_delta size (length ps) (place_gives p) s))
-slot-insert size ps p None positive h room = tt
-slot-insert size ps p (Some a) positive h room = insert-kept size a.spec a.registration a.unbuilt ps p positive a.accumulator h room
+slot-insert size ps p None positive h reserved = tt
+slot-insert size ps p (Some a) positive h reserved = insert-kept size a.spec a.registration a.pending ps p positive a.accumulator h reserved
 
 -- one slot under a set: a place x becomes y
 
@@ -102,77 +102,77 @@ module _ (size : ℕ) (f : Place → Place) (ps : List Place) (i : ℕ) (x y : P
       ∙ ap (λ r. extrema (cons_option (place_pair spec y) r)) (rest-changed spec f mine (nth size i))
 
   -- the new pair is in, and the old one still
-  both-in : (spec : Spec) (m : Extrema) → m ≡ extrema (group_pairs spec size (i / size) ps) → with_seen_change m (place_pair spec y) ≡ extrema (cons_option (place_pair spec x) (cons_option (place_pair spec y) (beside spec)))
+  both-in : (spec : Spec) (m : Extrema) → m ≡ extrema (group_pairs spec size (i / size) ps) → with_observed_change m (place_pair spec y) ≡ extrema (cons_option (place_pair spec x) (cons_option (place_pair spec y) (beside spec)))
   both-in spec m h =
-      ap (λ n. with_seen_change n (place_pair spec y)) (h ∙ was-apart spec)
+      ap (λ n. with_observed_change n (place_pair spec y)) (h ∙ was-apart spec)
       ∙ sym (seen-more (place_pair spec y) (cons_option (place_pair spec x) (beside spec)))
       ∙ seen-swap (place_pair spec y) (place_pair spec x) (beside spec)
 
-  set-extrema : (spec : Spec) (registration : ℕ) (unbuilt : List Bool) (live : spans.Live) (b : Bool) → is_unbuilt unbuilt (i / size) ≡ b → KeepsSlot size ps (slot spec registration unbuilt (accumulator.Extrema live)) → i / size < length live.groups
-      → KeepsSlot size (changed_at f i ps) (retracted (i / size) (in_group size (i / size) (changed_at f i ps)) (added (i / size) (slot spec registration unbuilt (accumulator.Extrema live)) (option_map (delta_of (i / size) (accumulator.Extrema live)) (cond b None (place_pair spec y)))) (cond b None (place_pair spec x)))
-  set-extrema spec registration unbuilt live true is h room = (h.0, (kept-unbuilt spec size unbuilt (i / size) ps (changed_at f i ps) (λ k n. in_group-changed size k f i ps positive n) live.groups is h.1.0, h.1.1))
-  set-extrema spec registration unbuilt live false is h room =
+  set-extrema : (spec : Spec) (registration : ℕ) (pending : List Bool) (live : spans.Live) (b : Bool) → is_pending pending (i / size) ≡ b → KeepsSlot size ps (slot spec registration pending (accumulator.Extrema live)) → i / size < length live.groups
+      → KeepsSlot size (changed_at f i ps) (retracted (i / size) (in_group size (i / size) (changed_at f i ps)) (added (i / size) (slot spec registration pending (accumulator.Extrema live)) (option_map (delta_of (i / size) (accumulator.Extrema live)) (cond b None (place_pair spec y)))) (cond b None (place_pair spec x)))
+  set-extrema spec registration pending live true is h reserved = (h.0, (kept-pending spec size pending (i / size) ps (changed_at f i ps) (λ k n. in_group-changed size k f i ps positive n) live.groups is h.1.0, h.1.1))
+  set-extrema spec registration pending live false is h reserved =
       let g = i / size in
       let delta = place_pair spec y in
       let went = place_pair spec x in
       let new = extrema (group_pairs spec size g (changed_at f i ps)) in
       let mid = groups_seen g live.groups delta in
       let many = seen-length g live.groups delta in
-      let one = seen-is g live.groups delta room in
+      let one = seen-is g live.groups delta reserved in
       let two = left-is g mid went new (omega arith) in
-      let left = gone-leaves went (cons_option delta (beside spec)) _ new (one.0 ∙ both-in spec (group_at live.groups g) (here-kept spec size unbuilt g ps live.groups is h.1.0)) (is-apart spec) in
-      subst (KeepsSlot size (changed_at f i ps)) (sym (ap (λ s. retracted g (in_group size g (changed_at f i ps)) s went) (added-seen spec registration unbuilt g live delta) ∙ retracted-left spec registration unbuilt g (in_group size g (changed_at f i ps)) (record live { groups = mid }) went))
-      (h.0, (kept-built spec size unbuilt g ps (changed_at f i ps) (λ k n. in_group-changed size k f i ps positive n) live.groups (groups_left g mid went new) is h.1.0 (two.0 ∙ left, λ k n. two.1 k n ∙ one.1 k n), h.1.1))
+      let left = gone-leaves went (cons_option delta (beside spec)) _ new (one.0 ∙ both-in spec (group_at live.groups g) (here-kept spec size pending g ps live.groups is h.1.0)) (is-apart spec) in
+      subst (KeepsSlot size (changed_at f i ps)) (sym (ap (λ s. retracted g (in_group size g (changed_at f i ps)) s went) (added-seen spec registration pending g live delta) ∙ retracted-left spec registration pending g (in_group size g (changed_at f i ps)) (record live { groups = mid }) went))
+      (h.0, (kept-built spec size pending g ps (changed_at f i ps) (λ k n. in_group-changed size k f i ps positive n) live.groups (groups_left g mid went new) is h.1.0 (two.0 ∙ left, λ k n. two.1 k n ∙ one.1 k n), h.1.1))
 
-  set-kept : (spec : Spec) (registration : ℕ) (unbuilt : List Bool) (k : Accumulator) → KeepsSlot size ps (slot spec registration unbuilt k) → HasRoom (i / size) (slot spec registration unbuilt k)
-      → KeepsSlot size (changed_at f i ps) (retracted (i / size) (in_group size (i / size) (changed_at f i ps)) (added (i / size) (slot spec registration unbuilt k) (row_delta size i (place_gives y) (slot spec registration unbuilt k))) (change_of size i (place_gives x) (slot spec registration unbuilt k)))
-  set-kept spec registration unbuilt (accumulator.Totals live) h room =
-      let delta = built_pair spec size unbuilt i y in
-      let went = built_pair spec size unbuilt i x in
+  set-kept : (spec : Spec) (registration : ℕ) (pending : List Bool) (k : Accumulator) → KeepsSlot size ps (slot spec registration pending k) → IsReserved (i / size) (slot spec registration pending k)
+      → KeepsSlot size (changed_at f i ps) (retracted (i / size) (in_group size (i / size) (changed_at f i ps)) (added (i / size) (slot spec registration pending k) (row_delta size i (place_gives y) (slot spec registration pending k))) (change_of size i (place_gives x) (slot spec registration pending k)))
+  set-kept spec registration pending (accumulator.Totals live) h reserved =
+      let delta = scanned_pair spec size pending i y in
+      let went = scanned_pair spec size pending i x in
       let mid : groups.Live = record { left = live.left; totals = with_change live.totals delta } in
-      subst (KeepsSlot size (changed_at f i ps)) (sym (ap (λ s. retracted (i / size) (in_group size (i / size) (changed_at f i ps)) s went) (added-is spec registration unbuilt (i / size) live delta) ∙ retracted-is spec registration unbuilt (i / size) (in_group size (i / size) (changed_at f i ps)) mid went))
-      (h.0, (ap (λ m. without_change (with_change m delta) went) h.1.0 ∙ built-changed spec size unbuilt f ps i x y here there, h.1.1))
-  set-kept spec registration unbuilt (accumulator.Extrema live) h room = set-extrema spec registration unbuilt live (is_unbuilt unbuilt (i / size)) refl h room
+      subst (KeepsSlot size (changed_at f i ps)) (sym (ap (λ s. retracted (i / size) (in_group size (i / size) (changed_at f i ps)) s went) (added-is spec registration pending (i / size) live delta) ∙ retracted-is spec registration pending (i / size) (in_group size (i / size) (changed_at f i ps)) mid went))
+      (h.0, (ap (λ m. without_change (with_change m delta) went) h.1.0 ∙ built-changed spec size pending f ps i x y here there, h.1.1))
+  set-kept spec registration pending (accumulator.Extrema live) h reserved = set-extrema spec registration pending live (is_pending pending (i / size)) refl h reserved
 
-  pub slot-set : (s : Slot) → KeepsSlot size ps s → HasRoom (i / size) s → KeepsSlot size (changed_at f i ps) (retracted (i / size) (in_group size (i / size) (changed_at f i ps)) (added (i / size) s (row_delta size i (place_gives y) s)) (change_of size i (place_gives x) s))
-  slot-set None h room = tt
-  slot-set (Some a) h room = set-kept a.spec a.registration a.unbuilt a.accumulator h room
+  pub slot-set : (s : Slot) → KeepsSlot size ps s → IsReserved (i / size) s → KeepsSlot size (changed_at f i ps) (retracted (i / size) (in_group size (i / size) (changed_at f i ps)) (added (i / size) s (row_delta size i (place_gives y) s)) (change_of size i (place_gives x) s))
+  slot-set None h reserved = tt
+  slot-set (Some a) h reserved = set-kept a.spec a.registration a.pending a.accumulator h reserved
 
   -- the old pair may be retracted
 
-  may_retract-totals : (spec : Spec) (registration : ℕ) (unbuilt : List Bool) (live : groups.Live) (o : Change) (qs : List Pair) → live.totals ≡ totals (cons_option o qs) → PairsFit qs → MayRetract (i / size) (in_group size (i / size) (changed_at f i ps)) (slot spec registration unbuilt (accumulator.Totals live)) o
-  may_retract-totals spec registration unbuilt live None qs h fit = tt
-  may_retract-totals spec registration unbuilt live (Some p) qs h fit = subst (λ t. groups.CanTake p.1 (fin.get t p.0)) (sym h) (can_take p qs fit)
+  may_retract-totals : (spec : Spec) (registration : ℕ) (pending : List Bool) (live : groups.Live) (o : Change) (qs : List Pair) → live.totals ≡ totals (cons_option o qs) → PairsFit qs → MayRetract (i / size) (in_group size (i / size) (changed_at f i ps)) (slot spec registration pending (accumulator.Totals live)) o
+  may_retract-totals spec registration pending live None qs h fit = tt
+  may_retract-totals spec registration pending live (Some p) qs h fit = subst (λ t. groups.CanTake p.1 (fin.get t p.0)) (sym h) (can_take p qs fit)
 
-  may_retract-extrema : (spec : Spec) (registration : ℕ) (unbuilt : List Bool) (live : spans.Live) (o : Change) (qs : List Pair) → group_at live.groups (i / size) ≡ extrema (cons_option o qs) → extrema (group_pairs spec size (i / size) (changed_at f i ps)) ≡ extrema qs → MayRetract (i / size) (in_group size (i / size) (changed_at f i ps)) (slot spec registration unbuilt (accumulator.Extrema live)) o
-  may_retract-extrema spec registration unbuilt live None qs h new = tt
-  may_retract-extrema spec registration unbuilt live (Some p) qs h new = gone-seen p qs (group_at live.groups (i / size)) (extrema (group_pairs spec size (i / size) (changed_at f i ps))) h new
+  may_retract-extrema : (spec : Spec) (registration : ℕ) (pending : List Bool) (live : spans.Live) (o : Change) (qs : List Pair) → group_at live.groups (i / size) ≡ extrema (cons_option o qs) → extrema (group_pairs spec size (i / size) (changed_at f i ps)) ≡ extrema qs → MayRetract (i / size) (in_group size (i / size) (changed_at f i ps)) (slot spec registration pending (accumulator.Extrema live)) o
+  may_retract-extrema spec registration pending live None qs h new = tt
+  may_retract-extrema spec registration pending live (Some p) qs h new = gone-seen p qs (group_at live.groups (i / size)) (extrema (group_pairs spec size (i / size) (changed_at f i ps))) h new
 
-  set-may_retract-extrema : (spec : Spec) (registration : ℕ) (unbuilt : List Bool) (live : spans.Live) (b : Bool) → is_unbuilt unbuilt (i / size) ≡ b → KeepsSlot size ps (slot spec registration unbuilt (accumulator.Extrema live)) → i / size < length live.groups
-      → MayRetract (i / size) (in_group size (i / size) (changed_at f i ps)) (added (i / size) (slot spec registration unbuilt (accumulator.Extrema live)) (option_map (delta_of (i / size) (accumulator.Extrema live)) (cond b None (place_pair spec y)))) (cond b None (place_pair spec x))
-  set-may_retract-extrema spec registration unbuilt live true is h room = tt
-  set-may_retract-extrema spec registration unbuilt live false is h room =
+  set-may_retract-extrema : (spec : Spec) (registration : ℕ) (pending : List Bool) (live : spans.Live) (b : Bool) → is_pending pending (i / size) ≡ b → KeepsSlot size ps (slot spec registration pending (accumulator.Extrema live)) → i / size < length live.groups
+      → MayRetract (i / size) (in_group size (i / size) (changed_at f i ps)) (added (i / size) (slot spec registration pending (accumulator.Extrema live)) (option_map (delta_of (i / size) (accumulator.Extrema live)) (cond b None (place_pair spec y)))) (cond b None (place_pair spec x))
+  set-may_retract-extrema spec registration pending live true is h reserved = tt
+  set-may_retract-extrema spec registration pending live false is h reserved =
       let g = i / size in
       let delta = place_pair spec y in
-      let one = seen-is g live.groups delta room in
-      subst (λ s. MayRetract g (in_group size g (changed_at f i ps)) s (place_pair spec x)) (sym (added-seen spec registration unbuilt g live delta))
-      (may_retract-extrema spec registration unbuilt (record live { groups = groups_seen g live.groups delta }) (place_pair spec x) (cons_option delta (beside spec))
-      (one.0 ∙ both-in spec (group_at live.groups g) (here-kept spec size unbuilt g ps live.groups is h.1.0)) (is-apart spec))
+      let one = seen-is g live.groups delta reserved in
+      subst (λ s. MayRetract g (in_group size g (changed_at f i ps)) s (place_pair spec x)) (sym (added-seen spec registration pending g live delta))
+      (may_retract-extrema spec registration pending (record live { groups = groups_seen g live.groups delta }) (place_pair spec x) (cons_option delta (beside spec))
+      (one.0 ∙ both-in spec (group_at live.groups g) (here-kept spec size pending g ps live.groups is h.1.0)) (is-apart spec))
 
   module _ (fit : PlacesFit ps) (row : RowFits y.cells) where
-    set-may_retract : (spec : Spec) (registration : ℕ) (unbuilt : List Bool) (k : Accumulator) → KeepsSlot size ps (slot spec registration unbuilt k) → HasRoom (i / size) (slot spec registration unbuilt k)
-        → MayRetract (i / size) (in_group size (i / size) (changed_at f i ps)) (added (i / size) (slot spec registration unbuilt k) (row_delta size i (place_gives y) (slot spec registration unbuilt k))) (change_of size i (place_gives x) (slot spec registration unbuilt k))
-    set-may_retract spec registration unbuilt (accumulator.Totals live) h room =
-        let delta = built_pair spec size unbuilt i y in
-        let went = built_pair spec size unbuilt i x in
-        let r = others spec size unbuilt 0 ps i in
-        let apart : totals (built_pairs spec size unbuilt 0 ps) ≡ totals (cons_option went r) = built-apart spec size unbuilt 0 ps i x here ∙ rw zero-add refl in
-        subst (λ s. MayRetract (i / size) (in_group size (i / size) (changed_at f i ps)) s went) (sym (added-is spec registration unbuilt (i / size) live delta))
-        (may_retract-totals spec registration unbuilt (record { left = live.left; totals = with_change live.totals delta }) went (cons_option delta r)
+    set-may_retract : (spec : Spec) (registration : ℕ) (pending : List Bool) (k : Accumulator) → KeepsSlot size ps (slot spec registration pending k) → IsReserved (i / size) (slot spec registration pending k)
+        → MayRetract (i / size) (in_group size (i / size) (changed_at f i ps)) (added (i / size) (slot spec registration pending k) (row_delta size i (place_gives y) (slot spec registration pending k))) (change_of size i (place_gives x) (slot spec registration pending k))
+    set-may_retract spec registration pending (accumulator.Totals live) h reserved =
+        let delta = scanned_pair spec size pending i y in
+        let went = scanned_pair spec size pending i x in
+        let r = others spec size pending 0 ps i in
+        let apart : totals (scanned_pairs spec size pending 0 ps) ≡ totals (cons_option went r) = built-apart spec size pending 0 ps i x here ∙ rw zero-add refl in
+        subst (λ s. MayRetract (i / size) (in_group size (i / size) (changed_at f i ps)) s went) (sym (added-is spec registration pending (i / size) live delta))
+        (may_retract-totals spec registration pending (record { left = live.left; totals = with_change live.totals delta }) went (cons_option delta r)
         (ap (λ m. with_change m delta) (h.1.0 ∙ apart) ∙ sym (totals-more delta (cons_option went r)) ∙ totals-swap delta went r)
-        (cons-fits delta r (built_pair-fits spec size unbuilt i y row) (others-fits spec size unbuilt 0 ps i fit)))
-    set-may_retract spec registration unbuilt (accumulator.Extrema live) h room = set-may_retract-extrema spec registration unbuilt live (is_unbuilt unbuilt (i / size)) refl h room
+        (cons-fits delta r (scanned_pair-fits spec size pending i y row) (others-fits spec size pending 0 ps i fit)))
+    set-may_retract spec registration pending (accumulator.Extrema live) h reserved = set-may_retract-extrema spec registration pending live (is_pending pending (i / size)) refl h reserved
 
-    pub slot-may_retract : (s : Slot) → KeepsSlot size ps s → HasRoom (i / size) s → MayRetract (i / size) (in_group size (i / size) (changed_at f i ps)) (added (i / size) s (row_delta size i (place_gives y) s)) (change_of size i (place_gives x) s)
-    slot-may_retract None h room = tt
-    slot-may_retract (Some a) h room = set-may_retract a.spec a.registration a.unbuilt a.accumulator h room
+    pub slot-may_retract : (s : Slot) → KeepsSlot size ps s → IsReserved (i / size) s → MayRetract (i / size) (in_group size (i / size) (changed_at f i ps)) (added (i / size) s (row_delta size i (place_gives y) s)) (change_of size i (place_gives x) s)
+    slot-may_retract None h reserved = tt
+    slot-may_retract (Some a) h reserved = set-may_retract a.spec a.registration a.pending a.accumulator h reserved

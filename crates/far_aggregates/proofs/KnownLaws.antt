@@ -8,15 +8,15 @@ use Rattle.far_types.specs.declared.key.Key.{Key}
 use Rattle.far_types.specs.Keys.{line_cmp}
 use Rattle.far_types.specs.KeyOrder.{line_total}
 use Rattle.far_types.specs.Answers.{Extrema}
-use Rattle.far_types.specs.Changes.{with_seen, widened}
+use Rattle.far_types.specs.Effects.{with_observed, widened}
 use Rattle.far_types.proofs.ByKeyMaps.{get_inserted}
-use Rattle.far_extrema.specs.Live.{group_at, with_room}
+use Rattle.far_extrema.specs.Live.{group_at, with_reserved}
 use Rattle.far_extrema.specs.Spans.{put_span}
 use Rattle.far_aggregates.specs.Known.{AreKnown, IsNoted}
 use Rattle.far_aggregates.proofs.ExtremaLaws.{same_or_not}
 use Rattle.far_aggregates.proofs.ListLaws.{index-replicate}
 
-pub known-reserved : (plain : List (Option (ℤ × ℤ))) (groups new : List Extrema) (g : ℕ) → new ≡ with_room g groups → AreKnown plain groups → AreKnown plain new
+pub known-reserved : (plain : List (Option (ℤ × ℤ))) (groups new : List Extrema) (g : ℕ) → new ≡ with_reserved g groups → AreKnown plain groups → AreKnown plain new
 known-reserved plain groups new g is known h span noted =
     ap (λ (gs : List Extrema). fin.get (group_at gs h) None) is
     ∙ ap (λ (m : Extrema). fin.get m None) (index-replicate groups (g + 1 - length groups) h fin.empty)
@@ -64,10 +64,10 @@ pub put-beside : (m : Extrema) (key : Option Key) (o : Option (ℤ × ℤ)) → 
 put-beside m None o is = absurd cc
 put-beside m (Some k) o is = get_put m (Some k) o None
 
-pub seen-plain : (m : Extrema) (key : Option Key) (v : ℤ) (previous : Option (ℤ × ℤ)) → is_some key ≡ false → previous ≡ fin.get m key → Some (widened v previous) ≡ fin.get (with_seen m (key, v)) None
+pub seen-plain : (m : Extrema) (key : Option Key) (v : ℤ) (previous : Option (ℤ × ℤ)) → is_some key ≡ false → previous ≡ fin.get m key → Some (widened v previous) ≡ fin.get (with_observed m (key, v)) None
 seen-plain m None v previous is there = ap (λ o. Some (widened v o)) there ∙ sym (get_inserted m None (widened v (fin.get m None)))
 seen-plain m (Some k) v previous is there = absurd cc
 
-pub seen-beside : (m : Extrema) (key : Option Key) (v : ℤ) → is_some key ≡ true → fin.get (with_seen m (key, v)) None ≡ fin.get m None
+pub seen-beside : (m : Extrema) (key : Option Key) (v : ℤ) → is_some key ≡ true → fin.get (with_observed m (key, v)) None ≡ fin.get m None
 seen-beside m None v is = absurd cc
 seen-beside m (Some k) v is = fin.get-insert line_total m (Some k) (widened v (fin.get m (Some k))) None

@@ -6,7 +6,7 @@ use Rattle.std.proofs.lemmas.List.{get_or-set_same, length-map}
 use Rattle.far_types.specs.declared.key.Key.{Key}
 use Rattle.far_types.specs.declared.spec.Spec.{Spec}
 use Rattle.far_types.specs.Answers.{Extrema, extrema}
-use Rattle.far_types.specs.Changes.{with_seen, widened}
+use Rattle.far_types.specs.Effects.{with_observed, widened}
 use Rattle.far_types.specs.Pairs.{Pair}
 use Rattle.far_types.specs.Table.{Place, in_group}
 use Rattle.far_types.proofs.ByKeyMaps.{get_inserted}
@@ -21,16 +21,16 @@ use Rattle.far_aggregates.specs.Pairs.{Gives, change_of}
 use Rattle.far_aggregates.specs.Deltas.{delta_of, row_delta, accumulator_more, added}
 use Rattle.far_aggregates.specs.Retract.{accumulator_less, retracted, AccumulatorMayRetract, MayRetract, EachMayRetract}
 use Rattle.far_aggregates.specs.Pending.{all_retracted, RetractsAll}
-use Rattle.far_aggregates.specs.Reserve.{AccumulatorHasRoom, HasRoom, HaveRoom}
-use Rattle.far_aggregates.specs.LeavingOut.{NeedNotGo, IsLeftOut, EachLeftOut}
+use Rattle.far_aggregates.specs.Reserve.{AccumulatorIsReserved, IsReserved, AreReserved}
+use Rattle.far_aggregates.specs.LeavingOut.{NeedNotRetract, IsLeftOut, EachLeftOut}
 use Rattle.far_aggregates.specs.Until.{zip_all}
 use Rattle.far_aggregates.proofs.ExtremaLaws.{left-within, same_or_not}
 use Rattle.far_aggregates.proofs.PendingLaws.{get-set_other}
 
 -- what stands under the key of a delta
-seen-under_key : (m : Extrema) (p : Pair) (k : Option Key) (span : ℤ × ℤ) → fin.get m p.0 ≡ Some span → p.0 ≡ k → fin.get (with_seen m p) k ≡ Some (widened p.1 (Some span))
+seen-under_key : (m : Extrema) (p : Pair) (k : Option Key) (span : ℤ × ℤ) → fin.get m p.0 ≡ Some span → p.0 ≡ k → fin.get (with_observed m p) k ≡ Some (widened p.1 (Some span))
 seen-under_key m p k span is same =
-    ap (fin.get (with_seen m p)) (sym same)
+    ap (fin.get (with_observed m p)) (sym same)
     ∙ get_inserted m p.0 (widened p.1 (fin.get m p.0))
     ∙ ap (λ (o : Option (ℤ × ℤ)). Some (widened p.1 o)) is
 
@@ -41,23 +41,23 @@ none-span : (span : ℤ × ℤ) → None ≡ Some span → ⊥
 none-span span h = cc
 
 module _ (g : ℕ) (here : List Place) where
-  needless-kept : (spec : Spec) (k : Accumulator) (p pair : Pair) → AccumulatorHasRoom g k → NeedNotGo (Some (delta_of g k p)) (Some pair) → AccumulatorMayRetract spec g here (accumulator_more g k p) pair
+  needless-kept : (spec : Spec) (k : Accumulator) (p pair : Pair) → AccumulatorIsReserved g k → NeedNotRetract (Some (delta_of g k p)) (Some pair) → AccumulatorMayRetract spec g here (accumulator_more g k p) pair
       → accumulator_less spec g here (accumulator_more g k p) pair ≡ accumulator_more g k p
-  needless-kept spec (accumulator.Totals live) p pair room s may = absurd (none-span s.0 s.1)
-  needless-kept spec (accumulator.Extrema live) p pair room s may =
+  needless-kept spec (accumulator.Totals live) p pair reserved s may = absurd (none-span s.0 s.1)
+  needless-kept spec (accumulator.Extrema live) p pair reserved s may =
       let m = group_at live.groups g in
-      let gs = slice_set live.groups g (with_seen m p) in
+      let gs = slice_set live.groups g (with_observed m p) in
       let wide = widened p.1 (Some s.0) in
       let found : fin.get (group_at gs g) pair.0 ≡ Some wide =
-      ap (λ (n : Extrema). fin.get n pair.0) (get_or-set_same live.groups g (with_seen m p) fin.empty room) ∙ seen-under_key m p pair.0 s.0 s.1 s.2 in
+      ap (λ (n : Extrema). fin.get n pair.0) (get_or-set_same live.groups g (with_observed m p) fin.empty reserved) ∙ seen-under_key m p pair.0 s.0 s.1 s.2 in
       ap (λ (hs : List Extrema). accumulator.Extrema (record live { groups = hs })) (sym (left-within g gs pair.0 pair.1 (fin.get (extrema (pairs_here spec here)) pair.0) wide may found s.3 s.4))
 
   -- of one slot, which has a delta or none
-  needless-slot : (a : Aggregate) (o c : Change) → AccumulatorHasRoom g a.accumulator → NeedNotGo (option_map (delta_of g a.accumulator) o) c → MayRetract g here (added g (Some a) (option_map (delta_of g a.accumulator) o)) c
+  needless-slot : (a : Aggregate) (o c : Change) → AccumulatorIsReserved g a.accumulator → NeedNotRetract (option_map (delta_of g a.accumulator) o) c → MayRetract g here (added g (Some a) (option_map (delta_of g a.accumulator) o)) c
       → retracted g here (added g (Some a) (option_map (delta_of g a.accumulator) o)) c ≡ added g (Some a) (option_map (delta_of g a.accumulator) o)
-  needless-slot a None c room s may = absurd s
-  needless-slot a (Some p) None room s may = absurd s
-  needless-slot a (Some p) (Some pair) room s may = ap (λ (k : Accumulator). Some (record a { accumulator = k })) (needless-kept a.spec a.accumulator p pair room s may)
+  needless-slot a None c reserved s may = absurd s
+  needless-slot a (Some p) None reserved s may = absurd s
+  needless-slot a (Some p) (Some pair) reserved s may = ap (λ (k : Accumulator). Some (record a { accumulator = k })) (needless-kept a.spec a.accumulator p pair reserved s may)
 
   nothing-retracted : (s : Slot) → retracted g here s None ≡ s
   nothing-retracted None = refl
@@ -72,29 +72,29 @@ module _ (g : ℕ) (here : List Place) where
   left-may s delta c d (inr out) may = subst (MayRetract g here s) (sym out.0) (nothing-may s)
 
 module _ (size i : ℕ) (gives : Gives) (here : List Place) where
-  needless : (t : Slot) (c : Change) → HasRoom (i / size) t → NeedNotGo (row_delta size i gives t) c → MayRetract (i / size) here (added (i / size) t (row_delta size i gives t)) c
+  needless : (t : Slot) (c : Change) → IsReserved (i / size) t → NeedNotRetract (row_delta size i gives t) c → MayRetract (i / size) here (added (i / size) t (row_delta size i gives t)) c
       → retracted (i / size) here (added (i / size) t (row_delta size i gives t)) c ≡ added (i / size) t (row_delta size i gives t)
-  needless None c room s may = refl
-  needless (Some a) c room s may = needless-slot (i / size) here a (change_of size i gives (Some a)) c room s may
+  needless None c reserved s may = refl
+  needless (Some a) c reserved s may = needless-slot (i / size) here a (change_of size i gives (Some a)) c reserved s may
 
-  left-retracted : (t : Slot) (c d : Change) → HasRoom (i / size) t → IsLeftOut (row_delta size i gives t) c d → MayRetract (i / size) here (added (i / size) t (row_delta size i gives t)) c
+  left-retracted : (t : Slot) (c d : Change) → IsReserved (i / size) t → IsLeftOut (row_delta size i gives t) c d → MayRetract (i / size) here (added (i / size) t (row_delta size i gives t)) c
       → retracted (i / size) here (added (i / size) t (row_delta size i gives t)) d ≡ retracted (i / size) here (added (i / size) t (row_delta size i gives t)) c
-  left-retracted t c d room (inl same) may = ap (retracted (i / size) here (added (i / size) t (row_delta size i gives t))) same
-  left-retracted t c d room (inr out) may =
+  left-retracted t c d reserved (inl same) may = ap (retracted (i / size) here (added (i / size) t (row_delta size i gives t))) same
+  left-retracted t c d reserved (inr out) may =
       ap (retracted (i / size) here (added (i / size) t (row_delta size i gives t))) out.0
       ∙ nothing-retracted (i / size) here (added (i / size) t (row_delta size i gives t))
-      ∙ sym (needless t c room out.1 may)
+      ∙ sym (needless t c reserved out.1 may)
 
-  all-left_retracted : (slots : List Slot) (cs ds : List Change) → length ds ≡ length cs → HaveRoom (i / size) slots → EachLeftOut (map (row_delta size i gives) slots) cs ds
+  all-left_retracted : (slots : List Slot) (cs ds : List Change) → length ds ≡ length cs → AreReserved (i / size) slots → EachLeftOut (map (row_delta size i gives) slots) cs ds
       → EachMayRetract (i / size) here (zip_all (added (i / size)) slots (map (row_delta size i gives) slots)) cs
       → zip_all (retracted (i / size) here) (zip_all (added (i / size)) slots (map (row_delta size i gives) slots)) ds ≡ zip_all (retracted (i / size) here) (zip_all (added (i / size)) slots (map (row_delta size i gives) slots)) cs
-  all-left_retracted [] cs ds many room out may = refl
-  all-left_retracted (t ∷ slots) [] [] many room out may = refl
-  all-left_retracted (t ∷ slots) [] (d ∷ ds) many room out may = absurd (omega arith)
-  all-left_retracted (t ∷ slots) (c ∷ cs) [] many room out may = absurd (omega arith)
-  all-left_retracted (t ∷ slots) (c ∷ cs) (d ∷ ds) many room out may = λ j.
-      left-retracted t c d room.0 (out 0 _ c d refl refl refl) (may 0 _ c refl refl) j
-      ∷ all-left_retracted slots cs ds (omega arith) room.1 (λ k. out (suc k)) (λ k. may (suc k)) j
+  all-left_retracted [] cs ds many reserved out may = refl
+  all-left_retracted (t ∷ slots) [] [] many reserved out may = refl
+  all-left_retracted (t ∷ slots) [] (d ∷ ds) many reserved out may = absurd (omega arith)
+  all-left_retracted (t ∷ slots) (c ∷ cs) [] many reserved out may = absurd (omega arith)
+  all-left_retracted (t ∷ slots) (c ∷ cs) (d ∷ ds) many reserved out may = λ j.
+      left-retracted t c d reserved.0 (out 0 _ c d refl refl refl) (may 0 _ c refl refl) j
+      ∷ all-left_retracted slots cs ds (omega arith) reserved.1 (λ k. out (suc k)) (λ k. may (suc k)) j
 
 get-there : {X : Type 0} (xs : List X) (k : ℕ) → k < length xs → (x : X) × (slice_get xs k ≡ Some x)
 get-there [] k h = absurd (omega arith)
@@ -114,19 +114,19 @@ each-left_may g here deltas slots cs ds many as_many out may k s d at is =
     left-may g here s delta.0 c.0 d (out k delta.0 c.0 d delta.1 c.1 is) (may k s c.0 at c.1)
 
 -- so the pairs may be retracted without them, and then what is kept is the same
-pub left_out-goes : (size place : ℕ) (gives : Gives) (places : List Place) (mid new : List Slot) (deltas : List (Option Delta)) (old left : Pending) → HaveRoom (place / size) mid
+pub left_out-retracts : (size place : ℕ) (gives : Gives) (places : List Place) (mid new : List Slot) (deltas : List (Option Delta)) (old left : Pending) → AreReserved (place / size) mid
     → old.group ≡ place / size → left.group ≡ place / size → deltas ≡ map (row_delta size place gives) mid → new ≡ zip_all (added (place / size)) mid (map (row_delta size place gives) mid)
     → length left.to_retract.items ≡ length old.to_retract.items → length old.to_retract.items ≡ length mid → length left.to_retract.items ≤ length new → EachLeftOut deltas old.to_retract.items left.to_retract.items
     → RetractsAll size (place / size) places new old → RetractsAll size (place / size) places new left
-left_out-goes size place gives places mid new deltas old left room at there delta applied many as_many within out goes =
+left_out-retracts size place gives places mid new deltas old left reserved at there delta applied many as_many within out retracts =
     let g = place / size in
     let here = in_group size g places in
-    let may : EachMayRetract g here new old.to_retract.items = subst (λ n. EachMayRetract n here new old.to_retract.items) at goes.may.may in
+    let may : EachMayRetract g here new old.to_retract.items = subst (λ n. EachMayRetract n here new old.to_retract.items) at retracts.may.may in
     let few : length deltas ≡ length mid = ap length delta ∙ length-map mid (row_delta size place gives) in
     let outs : EachLeftOut (map (row_delta size place gives) mid) old.to_retract.items left.to_retract.items = subst (λ l. EachLeftOut l old.to_retract.items left.to_retract.items) delta out in
     let mays : EachMayRetract g here (zip_all (added g) mid (map (row_delta size place gives) mid)) old.to_retract.items = subst (λ l. EachMayRetract g here l old.to_retract.items) applied may in
     let same : zip_all (retracted g here) new left.to_retract.items ≡ zip_all (retracted g here) new old.to_retract.items =
-    ap (λ l. zip_all (retracted g here) l left.to_retract.items) applied ∙ all-left_retracted size place gives here mid old.to_retract.items left.to_retract.items many room outs mays ∙ ap (λ l. zip_all (retracted g here) l old.to_retract.items) (sym applied) in
+    ap (λ l. zip_all (retracted g here) l left.to_retract.items) applied ∙ all-left_retracted size place gives here mid old.to_retract.items left.to_retract.items many reserved outs mays ∙ ap (λ l. zip_all (retracted g here) l old.to_retract.items) (sym applied) in
     let to_retract : all_retracted here new left ≡ all_retracted here new old = ap (λ n. zip_all (retracted n here) new left.to_retract.items) there ∙ same ∙ ap (λ n. zip_all (retracted n here) new old.to_retract.items) (sym at) in
     record {
       at = there;
@@ -134,7 +134,7 @@ left_out-goes size place gives places mid new deltas old left room at there delt
         len = within;
         may = subst (λ n. EachMayRetract n here new left.to_retract.items) (sym there) (each-left_may g here deltas new old.to_retract.items left.to_retract.items many (as_many ∙ sym few) out may);
       };
-      kept = subst (Keeps size places) (sym to_retract) goes.kept;
+      kept = subst (Keeps size places) (sym to_retract) retracts.kept;
     }
 
 get-written : {X : Type 0} (xs : List X) (i : ℕ) (c d : X) → slice_get xs i ≡ Some c → slice_get (slice_set xs i d) i ≡ Some d
@@ -143,13 +143,13 @@ get-written (x ∷ xs) zero c d h = refl
 get-written (x ∷ xs) (suc i) c d h = get-written xs i c d h
 
 -- one more may be left out
-module _ (i : ℕ) (deltas : List (Option Delta)) (old now : List Change) (delta : Option Delta) (c d : Change) (applied : slice_get deltas i ≡ Some delta) (goes : slice_get now i ≡ Some c)
+module _ (i : ℕ) (deltas : List (Option Delta)) (old now : List Change) (delta : Option Delta) (c d : Change) (applied : slice_get deltas i ≡ Some delta) (retracts : slice_get now i ≡ Some c)
     (rest : (k : ℕ) → i ≤ k → slice_get now k ≡ slice_get old k) (s : IsLeftOut delta c d) (out : EachLeftOut deltas old now) where
   own-left_out : (m : Option Delta) (a b : Change) → slice_get deltas i ≡ Some m → slice_get old i ≡ Some a → slice_get (slice_set now i d) i ≡ Some b → IsLeftOut m a b
   own-left_out m a b p q r =
       let one : delta ≡ m = same-some delta m (sym applied ∙ p) in
-      let two : c ≡ a = same-some c a (sym goes ∙ rest i (omega arith) ∙ q) in
-      let three : d ≡ b = same-some d b (sym (get-written now i c d goes) ∙ r) in
+      let two : c ≡ a = same-some c a (sym retracts ∙ rest i (omega arith) ∙ q) in
+      let three : d ≡ b = same-some d b (sym (get-written now i c d retracts) ∙ r) in
       subst (λ e. IsLeftOut e a b) one (subst (λ e. IsLeftOut delta e b) two (subst (IsLeftOut delta c) three s))
 
   other-left_out : (k : ℕ) → k ≢ i → (m : Option Delta) (a b : Change) → slice_get deltas k ≡ Some m → slice_get old k ≡ Some a → slice_get (slice_set now i d) k ≡ Some b → IsLeftOut m a b

@@ -1,5 +1,5 @@
 pub mod AnswerLaws
-pub mod BuiltLaws
+pub mod ScannedLaws
 pub mod DeltaLaws
 pub mod CountLaws
 pub mod EditLaws

@@ -4,7 +4,7 @@ use Rattle.std.specs.Prelude.{IsSome, IfNone}
 use Rattle.far_types.specs.Table.{Place, Registered}
 use Rattle.far_aggregates.specs.Accumulators.{Slot, registered_in, registered_of, KeepsSlot, Keeps}
 use Rattle.far_aggregates.specs.Aggregates.{joined, free_from, aggregate_in, is_left}
-use Rattle.far_aggregates.specs.Scans.{has_unbuilt}
+use Rattle.far_aggregates.specs.Scans.{has_pending}
 
 abbrev no_aggregate : Option Registered
 no_aggregate = None
@@ -23,11 +23,11 @@ slot-at slots a = on slots (32 - length slots) a where
   on (Some v ∷ ss) n zero = refl
   on (s ∷ ss) n (suc k) = on ss n k
 
-left-in : (s : Slot) (g : ℕ) → is_left (registered_in s) g ≡ has_unbuilt g s
+left-in : (s : Slot) (g : ℕ) → is_left (registered_in s) g ≡ has_pending g s
 left-in None g = refl
 left-in (Some a) g = refl
 
-pub left-at : (slots : List Slot) (a g : ℕ) → is_left (aggregate_in slots a) g ≡ has_unbuilt g (joined (slice_get slots a))
+pub left-at : (slots : List Slot) (a g : ℕ) → is_left (aggregate_in slots a) g ≡ has_pending g (joined (slice_get slots a))
 left-at slots a g = ap (λ o. is_left o g) (slot-at slots a) ∙ left-in (joined (slice_get slots a)) g
 
 pub keeps-at : (size : ℕ) (places : List Place) (slots : List Slot) (a : ℕ) → Keeps size places slots → KeepsSlot size places (joined (slice_get slots a))

@@ -4,18 +4,18 @@ use Rattle.std.specs.List.{filter_map, cons_option}
 use Rattle.std.proofs.lemmas.List.{append-nil}
 use Rattle.far_types.specs.declared.spec.Spec.{Spec}
 use Rattle.far_types.specs.Answers.{extrema}
-use Rattle.far_types.specs.Changes.{with_seen}
+use Rattle.far_types.specs.Effects.{with_observed}
 use Rattle.far_types.specs.Pairs.{Pair}
 use Rattle.far_types.specs.Table.{Place, place_pair}
 use Rattle.far_types.proofs.TotalLaws.{extrema-cons, extrema-among}
 use Rattle.far_aggregates.specs.Accumulators.{Change}
-use Rattle.far_aggregates.specs.Pairs.{with_seen_change}
+use Rattle.far_aggregates.specs.Pairs.{with_observed_change}
 
-extrema-last : (xs : List Pair) (p : Pair) → extrema (xs ++ p ∷ []) ≡ with_seen (extrema xs) p
+extrema-last : (xs : List Pair) (p : Pair) → extrema (xs ++ p ∷ []) ≡ with_observed (extrema xs) p
 extrema-last xs p = extrema-among xs p [] ∙ ap (λ l. extrema (p ∷ l)) (append-nil xs) ∙ extrema-cons p xs
 
 -- one more pair at the end, where there is one
-pub extrema-joined : (xs : List Pair) (o : Change) → extrema (xs ++ cons_option o []) ≡ with_seen_change (extrema xs) o
+pub extrema-joined : (xs : List Pair) (o : Change) → extrema (xs ++ cons_option o []) ≡ with_observed_change (extrema xs) o
 extrema-joined xs None = ap extrema (append-nil xs)
 extrema-joined xs (Some p) = extrema-last xs p
 

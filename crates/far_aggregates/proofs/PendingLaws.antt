@@ -16,7 +16,7 @@ use Rattle.far_aggregates.specs.Pairs.{row_gives, place_gives, alive_with, chang
 use Rattle.far_aggregates.specs.Deltas.{row_delta, added, undo, EachMayUndo}
 use Rattle.far_aggregates.specs.Retract.{retracted, EachMayRetract}
 use Rattle.far_aggregates.specs.Pending.{AreKept, KeepsAsBefore, IsAliveAt, UndoesAll, RetractsAll}
-use Rattle.far_aggregates.specs.Reserve.{HaveRoom}
+use Rattle.far_aggregates.specs.Reserve.{AreReserved}
 use Rattle.far_aggregates.specs.Until.{zip_all}
 use Rattle.far_aggregates.proofs.EditLaws.{after_insert, set_may_retract, after_set, removed-adds_all}
 use Rattle.far_aggregates.proofs.ListLaws.{length-zip_all}
@@ -61,24 +61,24 @@ fit-removed zero (p ∷ ps) h = h
 fit-removed (suc i) (p ∷ ps) h = (h.0, fit-removed i ps h.1)
 
 -- an insert
-pub insert-applied : (size place : ℕ) (cells : Cells) (old mid new : List Slot) → 0 < size → HaveRoom (place / size) mid → KeepsAsBefore old mid
+pub insert-applied : (size place : ℕ) (cells : Cells) (old mid new : List Slot) → 0 < size → AreReserved (place / size) mid → KeepsAsBefore old mid
     → new ≡ zip_all (added (place / size)) mid (map (row_delta size place (row_gives cells)) mid)
     → (places : List Place) (row : List Cell) → length places ≡ place → cells ≡ cells_of row → Keeps size places old → Keeps size (places ++ alive_with row ∷ []) new
-insert-applied size place cells old mid new positive room before is places row count same kept =
-    after_insert size place places (places ++ alive_with row ∷ []) (alive_with row) mid new (sym count) refl positive (before size places kept) room
+insert-applied size place cells old mid new positive reserved before is places row count same kept =
+    after_insert size place places (places ++ alive_with row ∷ []) (alive_with row) mid new (sym count) refl positive (before size places kept) reserved
     (is ∙ ap (λ f. zip_all (added (place / size)) mid (map (row_delta size place (row_gives f)) mid)) same)
 
 -- the deltas can be undone
-pub goes-undo : (g : ℕ) (old mid new : List Slot) (pending : Pending) → KeepsAsBefore old mid → pending.group ≡ g → length pending.applied.items ≡ length new
+pub retracts-undo : (g : ℕ) (old mid new : List Slot) (pending : Pending) → KeepsAsBefore old mid → pending.group ≡ g → length pending.applied.items ≡ length new
     → EachMayUndo g (length new) new pending.applied.items → zip_all (undo g) new pending.applied.items ≡ mid → UndoesAll old new pending
-goes-undo g old mid new pending before at len may is = record {
+retracts-undo g old mid new pending before at len may is = record {
   may = record { len = omega arith; may = subst (λ n. EachMayUndo n (length new) new pending.applied.items) (sym at) may };
   kept = λ size places h. subst (Keeps size places) (sym (ap (λ n. zip_all (undo n) new pending.applied.items) at ∙ is)) (before size places h);
 }
 
 -- if there is no delta, nothing is undone
-pub nothing-goes-undo : (slots : List Slot) (pending : Pending) → slots ≡ [] → pending.applied.items ≡ [] → UndoesAll slots slots pending
-nothing-goes-undo slots pending empty none = record {
+pub nothing-retracts-undo : (slots : List Slot) (pending : Pending) → slots ≡ [] → pending.applied.items ≡ [] → UndoesAll slots slots pending
+nothing-retracts-undo slots pending empty none = record {
   may = record {
     len = omega (arith, ap length none);
     may = λ k s c within at there. absurd (none-some c (sym (ap (λ l. slice_get l k) none) ∙ there));
@@ -87,12 +87,12 @@ nothing-goes-undo slots pending empty none = record {
 }
 
 -- the pairs can be retracted if a place x becomes f x
-goes-on : (size place : ℕ) (f : Place → Place) (x : Place) (old mid new : List Slot) (pending : Pending) (places : List Place) → 0 < size → HaveRoom (place / size) mid → KeepsAsBefore old mid
+retracts-on : (size place : ℕ) (f : Place → Place) (x : Place) (old mid new : List Slot) (pending : Pending) (places : List Place) → 0 < size → AreReserved (place / size) mid → KeepsAsBefore old mid
     → pending.group ≡ place / size → pending.to_retract.items ≡ map (change_of size place (place_gives x)) mid
     → new ≡ zip_all (added (place / size)) mid (map (row_delta size place (place_gives (f x))) mid)
     → slice_get places place ≡ Some x → AreKept size places old → PlacesFit (changed_at f place places)
     → RetractsAll size (place / size) (changed_at f place places) new pending
-goes-on size place f x old mid new pending places positive room before at went applied here kept fit =
+retracts-on size place f x old mid new pending places positive reserved before at went applied here kept fit =
     let after = changed_at f place places in
     let there : Some (f x) ≡ option_map f (slice_get places place) = sym (ap (option_map f) here) in
     let many : length pending.to_retract.items ≡ length mid = ap length went ∙ length-map mid (change_of size place (place_gives x)) in
@@ -102,32 +102,32 @@ goes-on size place f x old mid new pending places positive room before at went a
       may = record {
         len = omega arith;
         may = subst (λ n. EachMayRetract n (in_group size (place / size) after) new pending.to_retract.items) (sym at)
-            (set_may_retract size f places after place x (f x) mid new pending.to_retract.items positive refl (sym here) there went applied (before size places kept.kept) room kept.fit fit);
+            (set_may_retract size f places after place x (f x) mid new pending.to_retract.items positive refl (sym here) there went applied (before size places kept.kept) reserved kept.fit fit);
       };
-      kept = after_set size f places after place x (f x) mid new pending.to_retract.items positive refl (sym here) there went applied (before size places kept.kept) room
+      kept = after_set size f places after place x (f x) mid new pending.to_retract.items positive refl (sym here) there went applied (before size places kept.kept) reserved
           (zip_all (retracted pending.group (in_group size (place / size) after)) new pending.to_retract.items)
           (ap (λ n. zip_all (retracted n (in_group size (place / size) after)) new pending.to_retract.items) at);
     }
 
 -- a set
-pub set-goes : (size place column : ℕ) (cell : Cell) (cells : Cells) (old mid new : List Slot) (pending : Pending) → 0 < size → IsSome (cells column) → HaveRoom (place / size) mid → KeepsAsBefore old mid
+pub set-retracts : (size place column : ℕ) (cell : Cell) (cells : Cells) (old mid new : List Slot) (pending : Pending) → 0 < size → IsSome (cells column) → AreReserved (place / size) mid → KeepsAsBefore old mid
     → pending.group ≡ place / size → pending.to_retract.items ≡ map (change_of size place (row_gives cells)) mid
     → new ≡ zip_all (added (place / size)) mid (map (row_delta size place (row_gives (with_cell_at column cell cells))) mid)
     → (places : List Place) → IsAliveAt cells place places → AreKept size places old → PlacesFit (changed_at (with_cell column cell) place places)
     → RetractsAll size (place / size) (changed_at (with_cell column cell) place places) new pending
-set-goes size place column cell cells old mid new pending positive has room before at went applied places there kept fit =
-    goes-on size place (with_cell column cell) (alive_with there.0) old mid new pending places positive room before at
+set-retracts size place column cell cells old mid new pending positive has reserved before at went applied places there kept fit =
+    retracts-on size place (with_cell column cell) (alive_with there.0) old mid new pending places positive reserved before at
     (went ∙ ap (λ (f : Cells). map (change_of size place (row_gives f)) mid) there.1)
     (applied ∙ ap (λ (f : Cells). zip_all (added (place / size)) mid (map (row_delta size place (row_gives f)) mid)) (ap (with_cell_at column cell) there.1 ∙ changed-cells there.0 column cell (subst (λ (f : Cells). IsSome (f column)) there.1 has)))
     there.2 kept fit
 
 -- a removal
-pub remove-goes : (size place : ℕ) (cells : Cells) (old mid : List Slot) (pending : Pending) → 0 < size → HaveRoom (place / size) mid → KeepsAsBefore old mid
+pub remove-retracts : (size place : ℕ) (cells : Cells) (old mid : List Slot) (pending : Pending) → 0 < size → AreReserved (place / size) mid → KeepsAsBefore old mid
     → pending.group ≡ place / size → pending.to_retract.items ≡ map (change_of size place (row_gives cells)) mid
     → (places : List Place) → IsAliveAt cells place places → AreKept size places old
     → RetractsAll size (place / size) (changed_at removed place places) mid pending
-remove-goes size place cells old mid pending positive room before at went places there kept =
-    goes-on size place removed (alive_with there.0) old mid mid pending places positive room before at
+remove-retracts size place cells old mid pending positive reserved before at went places there kept =
+    retracts-on size place removed (alive_with there.0) old mid mid pending places positive reserved before at
     (went ∙ ap (λ (f : Cells). map (change_of size place (row_gives f)) mid) there.1)
     (sym (removed-adds_all size place (alive_with there.0) mid))
     there.2 kept (fit-removed place places kept.fit)

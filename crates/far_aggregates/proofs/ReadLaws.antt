@@ -6,7 +6,7 @@ use Rattle.std.specs.FinMap as fin
 use Rattle.far_types.specs.declared.spec.Spec.{Spec}
 use Rattle.far_types.specs.declared.spec.Fold.{Fold}
 use Rattle.far_types.specs.declared.spec.Fold.TheVariants as fold
-use Rattle.far_types.specs.Answers.{is_under, values_of, tally, totals}
+use Rattle.far_types.specs.Answers.{is_under, values_of, count_sum, totals}
 use Rattle.far_types.specs.Cells.{cells_of, number_in}
 use Rattle.far_types.specs.Filters.{keeps}
 use Rattle.far_types.specs.Pairs.{Pair, key_under, paired, pair_in, pair_of}
@@ -18,7 +18,7 @@ use Rattle.far_aggregates.specs.declared.aggregate.Aggregate.{Aggregate}
 use Rattle.far_aggregates.specs.declared.aggregate.Accumulator.TheVariants as accumulator
 use Rattle.far_aggregates.specs.Accumulators.{Change, registered_in, fold_of, IsKept, KeepsSlot}
 use Rattle.far_aggregates.specs.Readings.{is_totals, all_values, plain_in}
-use Rattle.far_aggregates.proofs.BuiltLaws.{built-all}
+use Rattle.far_aggregates.proofs.ScannedLaws.{built-all}
 
 -- without key column each pair stands under the one key "none"
 
@@ -50,17 +50,17 @@ all_under_none : (spec : Spec) (ps : List Place) → spec.key ≡ None → value
 all_under_none spec [] h = refl
 all_under_none spec (p ∷ ps) h = under_none (place_pair spec p) (filter_map (place_pair spec) ps) (keyless spec p h) (all_under_none spec ps h)
 
-tally_or_zero : (vs : List ℤ) → unwrap_or (if_any vs (tally vs)) (0, pos 0) ≡ tally vs
-tally_or_zero [] = refl
-tally_or_zero (v ∷ vs) = refl
+count_sum_or_zero : (vs : List ℤ) → unwrap_or (if_any vs (count_sum vs)) (0, pos 0) ≡ count_sum vs
+count_sum_or_zero [] = refl
+count_sum_or_zero (v ∷ vs) = refl
 
 plain-values : (spec : Spec) (ps : List Place) → spec.key ≡ None → unwrap_or (fin.get (totals (filter_map (place_pair spec) ps)) None) (0, pos 0) ≡ all_values spec ps
 plain-values spec ps h =
     let pairs = filter_map (place_pair spec) ps in
-    ap (λ o. unwrap_or o (0, pos 0)) (get-grouped tally pairs None)
-    ∙ tally_or_zero (values_of None pairs)
-    ∙ ap tally (all_under_none spec ps h)
-    ∙ ap (λ l. tally (map (λ (pair : Pair). pair.1) l)) (sym (pairs_of-rows spec ps))
+    ap (λ o. unwrap_or o (0, pos 0)) (get-grouped count_sum pairs None)
+    ∙ count_sum_or_zero (values_of None pairs)
+    ∙ ap count_sum (all_under_none spec ps h)
+    ∙ ap (λ l. count_sum (map (λ (pair : Pair). pair.1) l)) (sym (pairs_of-rows spec ps))
 
 no_key : (o : Option ℕ) → is_none o ≡ true → o ≡ None
 no_key None h = refl
@@ -73,7 +73,7 @@ pub plain-now : (size : ℕ) (ps : List Place) (a : Aggregate) (live : groups.Li
     → Some (unwrap_or (fin.get live.totals None) (0, pos 0)) ≡ plain_in ps (registered_in (Some a))
 plain-now size ps a live is h k z =
     let here = subst (λ x. (fold_of x ≡ a.spec.fold) × IsKept size ps a x) is h in
-    let none : left a.unbuilt ≡ 0 = sym here.1.1 ∙ z in
-    ap (λ t. Some (unwrap_or (fin.get t None) (0, pos 0))) (here.1.0 ∙ ap totals (built-all a.spec size a.unbuilt 0 ps none))
+    let none : left a.pending ≡ 0 = sym here.1.1 ∙ z in
+    ap (λ t. Some (unwrap_or (fin.get t None) (0, pos 0))) (here.1.0 ∙ ap totals (built-all a.spec size a.pending 0 ps none))
     ∙ ap Some (plain-values a.spec ps (no_key a.spec.key k))
-    ∙ all_three a.spec.fold a.spec.key (left a.unbuilt) (all_values a.spec ps) here.0 k none
+    ∙ all_three a.spec.fold a.spec.key (left a.pending) (all_values a.spec ps) here.0 k none

@@ -8,7 +8,7 @@ use Rattle.far_types.specs.declared.refusal.Refusal.{Refusal}
 use Rattle.far_types.specs.declared.refusal.Refusal.TheVariants as refusal
 use Rattle.far_types.specs.declared.spec.Spec.{Spec}
 use Rattle.far_types.specs.MayRefuse.{MayRefuse}
-use Rattle.far_types.specs.Table.{Place, Registered, groups, is_unbuilt, left}
+use Rattle.far_types.specs.Table.{Place, Registered, groups, is_pending, left}
 use Rattle.far_offload.specs.declared.partial.PartialDone.{PartialDone}
 use Rattle.far_offload.specs.Partials.{partial_of}
 use Rattle.far_aggregates.specs.declared.aggregate.Aggregate.{Aggregate}
@@ -25,7 +25,7 @@ all-left : (n : ℕ) → left (replicate n true) ≡ n
 all-left zero = refl
 all-left (suc n) = let e = sum_by-cons (λ (b : Bool). cond b 1 0) true (replicate n true) in let rest = all-left n in omega arith
 
-left-at : (n k : ℕ) → k < n → is_unbuilt (replicate n true) k ≡ true
+left-at : (n k : ℕ) → k < n → is_pending (replicate n true) k ≡ true
 left-at zero k within = absurd (omega arith)
 left-at (suc n) zero within = refl
 left-at (suc n) (suc k) within = left-at n k (omega arith)
@@ -67,8 +67,8 @@ module _ (spec : Spec) (size count : ℕ) (partials : List PartialDone) where
   pub record AreMerged (aggregate : Aggregate) (number : ℕ) (rest : List PartialDone) : Type 0 where
     pub same_spec : aggregate.spec ≡ spec
     pub all : number + length rest ≡ groups size count
-    pub some : left aggregate.unbuilt + number ≡ groups size count
-    pub flags : (k : ℕ) → number ≤ k → k < groups size count → is_unbuilt aggregate.unbuilt k ≡ true
+    pub some : left aggregate.pending + number ≡ groups size count
+    pub flags : (k : ℕ) → number ≤ k → k < groups size count → is_pending aggregate.pending k ≡ true
     pub others : (all : List Place) → AreThose all → rest ≡ partials_from spec size all number (length rest)
     pub kept : (all : List Place) → length all ≡ count → AreThose all → KeepsSlot size all (Some aggregate)
 
@@ -76,13 +76,13 @@ module _ (spec : Spec) (size count : ℕ) (partials : List PartialDone) where
   pub none-merged : (cloned : Spec) → cloned ≡ spec → (a : Aggregate) → registered_in (Some a) ≡ Some (record { spec = cloned; registration = 0; unbuilt = replicate (groups size count) true })
       → ((all : List Place) → length all ≡ count → KeepsSlot size all (Some a)) → length partials ≡ groups size count → AreMerged a 0 partials
   none-merged cloned equal a registered kept long =
-      let told = same_Some (record { spec = a.spec; registration = a.registration; unbuilt = a.unbuilt }) (record { spec = cloned; registration = 0; unbuilt = replicate (groups size count) true }) registered in
-      let flags : a.unbuilt ≡ replicate (groups size count) true = ap (λ (r : Registered). r.unbuilt) told in
+      let told = same_Some (record { spec = a.spec; registration = a.registration; unbuilt = a.pending }) (record { spec = cloned; registration = 0; unbuilt = replicate (groups size count) true }) registered in
+      let flags : a.pending ≡ replicate (groups size count) true = ap (λ (r : Registered). r.unbuilt) told in
       record {
         same_spec = ap (λ (r : Registered). r.spec) told ∙ equal;
         all = omega (arith, long);
         some = (let none = ap left flags in let every = all-left (groups size count) in omega arith);
-        flags = λ k low within. ap (λ u. is_unbuilt u k) flags ∙ left-at (groups size count) k within;
+        flags = λ k low within. ap (λ u. is_pending u k) flags ∙ left-at (groups size count) k within;
         others = λ all those. those ∙ ap (partials_from spec size all 0) (sym long);
         kept = λ all few those. kept all few;
       }
@@ -92,27 +92,27 @@ module _ (spec : Spec) (size count : ℕ) (partials : List PartialDone) where
     pub next-is : (all : List Place) → AreThose all → partial ≡ partial_at spec size all number
     next-is all those = let e = are.others all those in cc
 
-    next-left : is_unbuilt a.unbuilt number ≡ true
+    next-left : is_pending a.pending number ≡ true
     next-left = are.flags number (omega arith) (let e = are.all in omega arith)
 
     -- and one row group more is merged
-    pub one-merged : b.spec ≡ a.spec → b.unbuilt ≡ slice_set a.unbuilt number false
+    pub one-merged : b.spec ≡ a.spec → b.pending ≡ slice_set a.pending number false
         → ((all : List Place) → partial ≡ partial_at a.spec size all number → KeepsSlot size all (Some a) → KeepsSlot size all (Some b)) → AreMerged b (number + 1) rest
     one-merged same cleared kept = record {
       same_spec = same ∙ are.same_spec;
       all = (let e = are.all in omega arith);
-      some = (let e = are.some in let l = left-cleared a.unbuilt number next-left in let is : left b.unbuilt ≡ left (slice_set a.unbuilt number false) = ap left cleared in omega arith);
-      flags = λ k low within. ap (λ u. is_unbuilt u k) cleared ∙ cleared-other a.unbuilt number k (λ e. omega arith) ∙ are.flags k (omega arith) within;
+      some = (let e = are.some in let l = left-cleared a.pending number next-left in let is : left b.pending ≡ left (slice_set a.pending number false) = ap left cleared in omega arith);
+      flags = λ k low within. ap (λ u. is_pending u k) cleared ∙ cleared-other a.pending number k (λ e. omega arith) ∙ are.flags k (omega arith) within;
       others = λ all those. (let e = are.others all those in cc);
       kept = λ all few those. kept all (next-is all those ∙ ap (λ s. partial_at s size all number) (sym are.same_spec)) (are.kept all few those);
     }
 
   -- no row group is pending once there are no more partials
-  pub none-left : (a : Aggregate) (number : ℕ) (rest : List PartialDone) → AreMerged a number rest → length rest ≡ 0 → left a.unbuilt ≡ 0
+  pub none-left : (a : Aggregate) (number : ℕ) (rest : List PartialDone) → AreMerged a number rest → length rest ≡ 0 → left a.pending ≡ 0
   none-left a number rest are none = let all = are.all in let some = are.some in omega arith
 
 -- an aggregate that answers can be refused memory alone
-pub memory-alone : (a : Aggregate) (e : Refusal) → left a.unbuilt ≡ 0 → MayRefuse (ask_refusal (registered_in (Some a))) true e → e ≡ refusal.NoMemory
+pub memory-alone : (a : Aggregate) (e : Refusal) → left a.pending ≡ 0 → MayRefuse (ask_refusal (registered_in (Some a))) true e → e ≡ refusal.NoMemory
 memory-alone a e none may =
-    let test : (left a.unbuilt == 0) ≡ true = grind (arith, nat_tests) in
-    (subst (λ b. MayRefuse (cond b None (Some (refusal.Building (left a.unbuilt)))) true e) test may).0
+    let test : (left a.pending == 0) ≡ true = grind (arith, nat_tests) in
+    (subst (λ b. MayRefuse (cond b None (Some (refusal.Building (left a.pending)))) true e) test may).0

@@ -9,11 +9,11 @@ use Rattle.std.proofs.lemmas.List.Sums.{sum_by-cons}
 use Rattle.std.proofs.lemmas.Nat.{le-div}
 use Rattle.far_types.specs.declared.spec.Spec.{Spec}
 use Rattle.far_types.specs.Answers.{totals, extrema}
-use Rattle.far_types.specs.Table.{Place, Registered, groups, all_unbuilt, is_unbuilt, left, in_group, place_pair}
+use Rattle.far_types.specs.Table.{Place, Registered, groups, all_pending, is_pending, left, in_group, place_pair}
 use Rattle.far_aggregates.specs.declared.aggregate.Accumulator.{Accumulator}
 use Rattle.far_aggregates.specs.declared.aggregate.Accumulator.TheVariants as accumulator
-use Rattle.far_aggregates.specs.Accumulators.{Slot, registered_in, registered_of, group_pairs, built_group, fold_of, KeepsNothing, KeepsSlot}
-use Rattle.far_aggregates.proofs.BuiltLaws.{built-none}
+use Rattle.far_aggregates.specs.Accumulators.{Slot, registered_in, registered_of, group_pairs, scanned_group, fold_of, KeepsNothing, KeepsSlot}
+use Rattle.far_aggregates.proofs.ScannedLaws.{built-none}
 use Rattle.far_aggregates.proofs.ListLaws.{map-set_like}
 
 set-before : {X : Type 0} (xs ys : List X) (a : ℕ) (y : X) → a < length xs → slice_set (xs ++ ys) a y ≡ slice_set xs a y ++ ys
@@ -85,8 +85,8 @@ group_below k size places g l =
     let c = le-div (k / size + 1) (places + size - 1) size g b in
     omega arith
 
-all_unbuilt-there : (size : ℕ) (ps : List Place) (k : ℕ) → 0 < size → k < length ps → is_unbuilt (all_unbuilt size ps) (k / size) ≡ true
-all_unbuilt-there size ps k g l = get_or-replicate (groups size (length ps)) (k / size) true false (group_below k size (length ps) g l)
+all_pending-there : (size : ℕ) (ps : List Place) (k : ℕ) → 0 < size → k < length ps → is_pending (all_pending size ps) (k / size) ≡ true
+all_pending-there size ps k g l = get_or-replicate (groups size (length ps)) (k / size) true false (group_below k size (length ps) g l)
 
 -- past the row groups there are no places
 none_there : (size g : ℕ) (ps : List Place) → 0 < size → groups size (length ps) ≤ g → in_group size g ps ≡ []
@@ -102,10 +102,10 @@ above_or_not zero (suc b) = inl (omega arith)
 above_or_not (suc a) zero = inr (omega arith)
 above_or_not (suc a) (suc b) = elim (above_or_not a b) as (λ o. (suc a < suc b) ⊎ (suc b ≤ suc a)) [ inl l ↦ inl (omega arith) | inr l ↦ inr (omega arith) ]
 
-nothing_built : (spec : Spec) (size : ℕ) (ps : List Place) (g : ℕ) → 0 < size → fin.empty ≡ built_group spec size (all_unbuilt size ps) ps g
-nothing_built spec size ps g pos = elim (above_or_not g (groups size (length ps))) as (λ o. fin.empty ≡ built_group spec size (all_unbuilt size ps) ps g) [
+nothing_scanned : (spec : Spec) (size : ℕ) (ps : List Place) (g : ℕ) → 0 < size → fin.empty ≡ scanned_group spec size (all_pending size ps) ps g
+nothing_scanned spec size ps g pos = elim (above_or_not g (groups size (length ps))) as (λ o. fin.empty ≡ scanned_group spec size (all_pending size ps) ps g) [
   | inl l ↦ sym (ap (λ b. cond b fin.empty (extrema (group_pairs spec size g ps))) (get_or-replicate (groups size (length ps)) g true false l))
-  | inr l ↦ sym (elim (is_unbuilt (all_unbuilt size ps) g) as (λ b. cond b fin.empty (extrema (group_pairs spec size g ps)) ≡ fin.empty) [
+  | inr l ↦ sym (elim (is_pending (all_pending size ps) g) as (λ b. cond b fin.empty (extrema (group_pairs spec size g ps)) ≡ fin.empty) [
     | true ↦ refl
     | false ↦ ap (λ l. extrema (filter_map (place_pair spec) l)) (none_there size g ps pos l)
   ])
@@ -113,21 +113,21 @@ nothing_built spec size ps g pos = elim (above_or_not g (groups size (length ps)
 
 -- an aggregate that is registered now keeps what it is to keep
 new-kept : (size : ℕ) (ps : List Place) (spec : Spec) (registration : ℕ) (k : Accumulator) → 0 < size → fold_of k ≡ spec.fold → KeepsNothing (groups size (length ps)) k
-    → KeepsSlot size ps (Some (record { spec = spec; registration = registration; unbuilt = all_unbuilt size ps; accumulator = k }))
+    → KeepsSlot size ps (Some (record { spec = spec; registration = registration; pending = all_pending size ps; accumulator = k }))
 new-kept size ps spec registration (accumulator.Totals live) g f h = (
   f,
   (
-    h.1 ∙ sym (ap totals (built-none spec size (all_unbuilt size ps) 0 ps (λ k l. all_unbuilt-there size ps k g (omega arith)))),
+    h.1 ∙ sym (ap totals (built-none spec size (all_pending size ps) 0 ps (λ k l. all_pending-there size ps k g (omega arith)))),
     h.0 ∙ sym (count-replicate (groups size (length ps))),
   ),
 )
 new-kept size ps spec registration (accumulator.Extrema live) g f h = (
   f,
-  ((λ i. ap (λ l. slice_index_or l i fin.empty) h.1 ∙ nothing_built spec size ps i g), h.0 ∙ sym (count-replicate (groups size (length ps)))),
+  ((λ i. ap (λ l. slice_index_or l i fin.empty) h.1 ∙ nothing_scanned spec size ps i g), h.0 ∙ sym (count-replicate (groups size (length ps)))),
 )
 
-pub new-keeps : (size : ℕ) (ps : List Place) (spec : Spec) (registration count : ℕ) (unbuilt : List Bool) (k : Accumulator) → 0 < size → count ≡ groups size (length ps) → fold_of k ≡ spec.fold → unbuilt ≡ replicate count true → KeepsNothing count k
-    → KeepsSlot size ps (Some (record { spec = spec; registration = registration; unbuilt = unbuilt; accumulator = k }))
-new-keeps size ps spec registration count unbuilt k g n f flags h =
-    subst (λ u. KeepsSlot size ps (Some (record { spec = spec; registration = registration; unbuilt = u; accumulator = k }))) (sym (flags ∙ ap (λ m. replicate m true) n))
+pub new-keeps : (size : ℕ) (ps : List Place) (spec : Spec) (registration count : ℕ) (pending : List Bool) (k : Accumulator) → 0 < size → count ≡ groups size (length ps) → fold_of k ≡ spec.fold → pending ≡ replicate count true → KeepsNothing count k
+    → KeepsSlot size ps (Some (record { spec = spec; registration = registration; pending = pending; accumulator = k }))
+new-keeps size ps spec registration count pending k g n f flags h =
+    subst (λ u. KeepsSlot size ps (Some (record { spec = spec; registration = registration; pending = u; accumulator = k }))) (sym (flags ∙ ap (λ m. replicate m true) n))
     (new-kept size ps spec registration k g f (subst (λ m. KeepsNothing m k) n h))

@@ -1,4 +1,4 @@
--- Room that is reserved for a row group changes nothing that is kept.
+-- That a row group is reserved changes nothing that is kept.
 use Rattle.std.proofs.Common.{◌≡◌, ℕ, ◌+◌, ◌-◌, List, length, refl, ◌∙◌, arith, None, Some, replicate, length-append}
 use Rattle.std.specs.FinMap as fin
 use Rattle.std.proofs.lemmas.List.{length-replicate}
@@ -8,24 +8,24 @@ use Rattle.far_aggregates.specs.declared.aggregate.Aggregate.{Aggregate}
 use Rattle.far_aggregates.specs.declared.aggregate.Accumulator.{Accumulator}
 use Rattle.far_aggregates.specs.declared.aggregate.Accumulator.TheVariants as accumulator
 use Rattle.far_aggregates.specs.Accumulators.{Slot, registered_in, fold_of, IsKept, KeepsSlot}
-use Rattle.far_aggregates.specs.Reserve.{accumulator_reserved, reserved, AccumulatorHasRoom, HasRoom}
+use Rattle.far_aggregates.specs.Reserve.{accumulator_reserved, reserved, AccumulatorIsReserved, IsReserved}
 use Rattle.far_aggregates.proofs.ListLaws.{index-replicate}
 
 pub reserved-registered : (g : ℕ) (s : Slot) → registered_in (reserved g s) ≡ registered_in s
 reserved-registered g None = refl
 reserved-registered g (Some a) = refl
 
-has_room : (g : ℕ) (k : Accumulator) → AccumulatorHasRoom g (accumulator_reserved g k)
-has_room g (accumulator.Totals live) = tt
-has_room g (accumulator.Extrema live) =
+is_reserved : (g : ℕ) (k : Accumulator) → AccumulatorIsReserved g (accumulator_reserved g k)
+is_reserved g (accumulator.Totals live) = tt
+is_reserved g (accumulator.Extrema live) =
     let e : Extrema = fin.empty in
     let more = length-append live.groups (replicate (g + 1 - length live.groups) e) in
     let many = length-replicate (g + 1 - length live.groups) e in
     omega arith
 
-pub reserved-has : (g : ℕ) (s : Slot) → HasRoom g (reserved g s)
-reserved-has g None = tt
-reserved-has g (Some a) = has_room g a.accumulator
+pub reserved-is : (g : ℕ) (s : Slot) → IsReserved g (reserved g s)
+reserved-is g None = tt
+reserved-is g (Some a) = is_reserved g a.accumulator
 
 reserved-fold : (g : ℕ) (k : Accumulator) → fold_of (accumulator_reserved g k) ≡ fold_of k
 reserved-fold g (accumulator.Totals live) = refl
@@ -35,7 +35,7 @@ reserved-kept : (g size : ℕ) (ps : List Place) (a : Aggregate) (k : Accumulato
 reserved-kept g size ps a (accumulator.Totals live) h = h
 reserved-kept g size ps a (accumulator.Extrema live) h = (λ i. index-replicate live.groups (g + 1 - length live.groups) i fin.empty ∙ h.0 i, h.1)
 
-pub same-kept : (size : ℕ) (ps : List Place) (a b : Aggregate) (k : Accumulator) → a.spec ≡ b.spec → a.unbuilt ≡ b.unbuilt → IsKept size ps a k → IsKept size ps b k
+pub same-kept : (size : ℕ) (ps : List Place) (a b : Aggregate) (k : Accumulator) → a.spec ≡ b.spec → a.pending ≡ b.pending → IsKept size ps a k → IsKept size ps b k
 same-kept size ps a b (accumulator.Totals live) e f h = rw (← e, ← f) h
 same-kept size ps a b (accumulator.Extrema live) e f h = rw (← e, ← f) h
 

@@ -11,11 +11,11 @@ use Rattle.far_types.specs.declared.spec.Spec.{Spec}
 use Rattle.far_types.specs.declared.spec.Fold.{Fold}
 use Rattle.far_types.specs.declared.spec.Fold.TheVariants as fold
 use Rattle.far_types.specs.Answers.{Extrema, totals, extrema}
-use Rattle.far_types.specs.Changes.{joined_totals}
+use Rattle.far_types.specs.Effects.{joined_totals}
 use Rattle.far_types.specs.Pairs.{Pair}
-use Rattle.far_types.specs.Table.{Place, place_pair, is_unbuilt, left, in_group}
+use Rattle.far_types.specs.Table.{Place, place_pair, is_pending, left, in_group}
 use Rattle.far_types.proofs.TotalLaws.{totals-cons, totals-among, totals-append}
-use Rattle.far_extrema.specs.Live.{with_room}
+use Rattle.far_extrema.specs.Live.{with_reserved}
 use Rattle.far_groups.specs.Live as groups
 use Rattle.far_groups.specs.Live.{CanJoin}
 use Rattle.far_offload.specs.declared.partial.PartialDone.{PartialDone}
@@ -28,43 +28,43 @@ use Rattle.far_groups.proofs.PairLaws.{can_join}
 use Rattle.far_aggregates.specs.declared.aggregate.Aggregate.{Aggregate}
 use Rattle.far_aggregates.specs.declared.aggregate.Accumulator.{Accumulator}
 use Rattle.far_aggregates.specs.declared.aggregate.Accumulator.TheVariants as accumulator
-use Rattle.far_aggregates.specs.Accumulators.{Slot, Change, built_pairs, pairs_here, group_pairs, built_group, fold_of, IsKept, KeepsSlot}
+use Rattle.far_aggregates.specs.Accumulators.{Slot, Change, scanned_pairs, pairs_here, group_pairs, scanned_group, fold_of, IsKept, KeepsSlot}
 use Rattle.far_aggregates.proofs.ReserveLaws.{same-kept}
-use Rattle.far_aggregates.specs.Scans.{has_unbuilt, IsScanned, IsSame, AccumulatorMayScan}
+use Rattle.far_aggregates.specs.Scans.{has_pending, IsScanned, IsSame, AccumulatorMayScan}
 use Rattle.far_aggregates.specs.Aggregates.{joined}
 use Rattle.far_aggregates.specs.Pairs.{with_change}
-use Rattle.far_aggregates.proofs.BuiltLaws.{length-built}
+use Rattle.far_aggregates.proofs.ScannedLaws.{length-built}
 use Rattle.far_aggregates.proofs.ListLaws.{index-replicate}
 use Rattle.far_aggregates.proofs.PairLaws.{pairs-few}
 use Rattle.far_aggregates.proofs.ExtremaLaws.{same_or_not}
 
 -- the flag of a row group that is pending is there
-flag-there : (unbuilt : List Bool) (g : ℕ) → is_unbuilt unbuilt g ≡ true → g < length unbuilt
+flag-there : (pending : List Bool) (g : ℕ) → is_pending pending g ≡ true → g < length pending
 flag-there [] g h = cc
-flag-there (b ∷ unbuilt) zero h = omega arith
-flag-there (b ∷ unbuilt) (suc g) h = let l = flag-there unbuilt g h in omega arith
+flag-there (b ∷ pending) zero h = omega arith
+flag-there (b ∷ pending) (suc g) h = let l = flag-there pending g h in omega arith
 
-pub cleared-same : (unbuilt : List Bool) (g : ℕ) → is_unbuilt unbuilt g ≡ true → is_unbuilt (slice_set unbuilt g false) g ≡ false
-cleared-same unbuilt g h = get_or-set_same unbuilt g false false (flag-there unbuilt g h)
+pub cleared-same : (pending : List Bool) (g : ℕ) → is_pending pending g ≡ true → is_pending (slice_set pending g false) g ≡ false
+cleared-same pending g h = get_or-set_same pending g false false (flag-there pending g h)
 
-pub cleared-other : (unbuilt : List Bool) (g k : ℕ) → k ≢ g → is_unbuilt (slice_set unbuilt g false) k ≡ is_unbuilt unbuilt k
-cleared-other unbuilt g k n = get_or-set_other unbuilt g k false false n
+pub cleared-other : (pending : List Bool) (g k : ℕ) → k ≢ g → is_pending (slice_set pending g false) k ≡ is_pending pending k
+cleared-other pending g k n = get_or-set_other pending g k false false n
 
 -- one row group less is pending
-pub left-cleared : (unbuilt : List Bool) (g : ℕ) → is_unbuilt unbuilt g ≡ true → left (slice_set unbuilt g false) + 1 ≡ left unbuilt
+pub left-cleared : (pending : List Bool) (g : ℕ) → is_pending pending g ≡ true → left (slice_set pending g false) + 1 ≡ left pending
 left-cleared [] g h = cc
-left-cleared (true ∷ unbuilt) zero h = let a = sum_by-cons (λ (b : Bool). cond b 1 0) true unbuilt in let b = sum_by-cons (λ (b : Bool). cond b 1 0) false unbuilt in omega arith
-left-cleared (false ∷ unbuilt) zero h = cc
-left-cleared (b ∷ unbuilt) (suc g) h =
-    let i = left-cleared unbuilt g h in
-    let x = sum_by-cons (λ (b : Bool). cond b 1 0) b unbuilt in
-    let y = sum_by-cons (λ (b : Bool). cond b 1 0) b (slice_set unbuilt g false) in
+left-cleared (true ∷ pending) zero h = let a = sum_by-cons (λ (b : Bool). cond b 1 0) true pending in let b = sum_by-cons (λ (b : Bool). cond b 1 0) false pending in omega arith
+left-cleared (false ∷ pending) zero h = cc
+left-cleared (b ∷ pending) (suc g) h =
+    let i = left-cleared pending g h in
+    let x = sum_by-cons (λ (b : Bool). cond b 1 0) b pending in
+    let y = sum_by-cons (λ (b : Bool). cond b 1 0) b (slice_set pending g false) in
     omega arith
 
 abbrev no_places : List Place
 no_places = []
 
-module _ (spec : Spec) (size : ℕ) (unbuilt : List Bool) (g : ℕ) (there : is_unbuilt unbuilt g ≡ true) where
+module _ (spec : Spec) (size : ℕ) (pending : List Bool) (g : ℕ) (there : is_pending pending g ≡ true) where
   -- what a place of the row group adds
   abbrev added_pair : ℕ → Place → Change
   added_pair i p = cond (nat_eq (i / size) g) (place_pair spec p) None
@@ -82,22 +82,22 @@ module _ (spec : Spec) (size : ℕ) (unbuilt : List Bool) (g : ℕ) (there : is_
   first (Some p) xs ys zs h = totals-cons p xs ∙ ap (λ m. with_change m (Some p)) h ∙ sym (totals-cons p (ys ++ zs))
 
   in_or_out : (k : ℕ) (c : Change) (xs ys zs : List Pair) → totals xs ≡ totals (ys ++ zs)
-      → totals (cons_option (cond (is_unbuilt (slice_set unbuilt g false) k) None c) xs) ≡ totals (cons_option (cond (is_unbuilt unbuilt k) None c) ys ++ cons_option (cond (nat_eq k g) c None) zs)
-  in_or_out k c xs ys zs h = elim (same_or_not k g) as (λ o. totals (cons_option (cond (is_unbuilt (slice_set unbuilt g false) k) None c) xs) ≡ totals (cons_option (cond (is_unbuilt unbuilt k) None c) ys ++ cons_option (cond (nat_eq k g) c None) zs)) [
+      → totals (cons_option (cond (is_pending (slice_set pending g false) k) None c) xs) ≡ totals (cons_option (cond (is_pending pending k) None c) ys ++ cons_option (cond (nat_eq k g) c None) zs)
+  in_or_out k c xs ys zs h = elim (same_or_not k g) as (λ o. totals (cons_option (cond (is_pending (slice_set pending g false) k) None c) xs) ≡ totals (cons_option (cond (is_pending pending k) None c) ys ++ cons_option (cond (nat_eq k g) c None) zs)) [
     | inl e ↦
-        let shut : is_unbuilt unbuilt k ≡ true = ap (is_unbuilt unbuilt) e ∙ there in
-        let shown : is_unbuilt (slice_set unbuilt g false) k ≡ false = ap (is_unbuilt (slice_set unbuilt g false)) e ∙ cleared-same unbuilt g there in
+        let shut : is_pending pending k ≡ true = ap (is_pending pending) e ∙ there in
+        let shown : is_pending (slice_set pending g false) k ≡ false = ap (is_pending (slice_set pending g false)) e ∙ cleared-same pending g there in
         let same : nat_eq k g ≡ true = grind (arith, nat_tests) in
         rw (shown, shut, same) (both c xs ys zs h)
     | inr n ↦
-        let like : is_unbuilt (slice_set unbuilt g false) k ≡ is_unbuilt unbuilt k = cleared-other unbuilt g k n in
+        let like : is_pending (slice_set pending g false) k ≡ is_pending pending k = cleared-other pending g k n in
         let not : nat_eq k g ≡ false = grind (arith, nat_tests) in
-        rw (like, not) (first (cond (is_unbuilt unbuilt k) None c) xs ys zs h)
+        rw (like, not) (first (cond (is_pending pending k) None c) xs ys zs h)
   ]
 
-  scanned : (i : ℕ) (ps : List Place) → totals (built_pairs spec size (slice_set unbuilt g false) i ps) ≡ totals (built_pairs spec size unbuilt i ps ++ added_pairs i ps)
+  scanned : (i : ℕ) (ps : List Place) → totals (scanned_pairs spec size (slice_set pending g false) i ps) ≡ totals (scanned_pairs spec size pending i ps ++ added_pairs i ps)
   scanned i [] = refl
-  scanned i (p ∷ ps) = in_or_out (i / size) (place_pair spec p) (built_pairs spec size (slice_set unbuilt g false) (i + 1) ps) (built_pairs spec size unbuilt (i + 1) ps) (added_pairs (i + 1) ps) (scanned (i + 1) ps)
+  scanned i (p ∷ ps) = in_or_out (i / size) (place_pair spec p) (scanned_pairs spec size (slice_set pending g false) (i + 1) ps) (scanned_pairs spec size pending (i + 1) ps) (added_pairs (i + 1) ps) (scanned (i + 1) ps)
 
   out : (i : ℕ) (p : Place) → (i / size ≡ g → ⊥) → added_pair i p ≡ None
   out i p n = let e : nat_eq (i / size) g ≡ false = grind (arith, nat_tests) in ap (λ b. cond b (place_pair spec p) None) e
@@ -127,49 +127,49 @@ module _ (spec : Spec) (size : ℕ) (unbuilt : List Bool) (g : ℕ) (there : is_
       ∙ before d (i + 1) ps pos (omega arith)
 
   -- the totals of the places with one row group more
-  pub totals-scanned : (ps : List Place) → 0 < size → joined_totals (totals (built_pairs spec size unbuilt 0 ps)) (totals (group_pairs spec size g ps)) ≡ totals (built_pairs spec size (slice_set unbuilt g false) 0 ps)
+  pub totals-scanned : (ps : List Place) → 0 < size → joined_totals (totals (scanned_pairs spec size pending 0 ps)) (totals (group_pairs spec size g ps)) ≡ totals (scanned_pairs spec size (slice_set pending g false) 0 ps)
   totals-scanned ps pos =
-      sym (totals-append (built_pairs spec size unbuilt 0 ps) (group_pairs spec size g ps))
-      ∙ ap (λ l. totals (built_pairs spec size unbuilt 0 ps ++ l)) (sym (before (g * size) 0 ps pos (omega arith)))
+      sym (totals-append (scanned_pairs spec size pending 0 ps) (group_pairs spec size g ps))
+      ∙ ap (λ l. totals (scanned_pairs spec size pending 0 ps ++ l)) (sym (before (g * size) 0 ps pos (omega arith)))
       ∙ sym (scanned 0 ps)
 
   -- and the extrema
-  pub groups-scanned : (ps : List Place) (gs : List Extrema) → ((h : ℕ) → slice_index_or gs h fin.empty ≡ built_group spec size unbuilt ps h)
-      → (h : ℕ) → slice_index_or (slice_set (with_room g gs) g (extrema (group_pairs spec size g ps))) h fin.empty ≡ built_group spec size (slice_set unbuilt g false) ps h
+  pub groups-scanned : (ps : List Place) (gs : List Extrema) → ((h : ℕ) → slice_index_or gs h fin.empty ≡ scanned_group spec size pending ps h)
+      → (h : ℕ) → slice_index_or (slice_set (with_reserved g gs) g (extrema (group_pairs spec size g ps))) h fin.empty ≡ scanned_group spec size (slice_set pending g false) ps h
   groups-scanned ps gs kept h =
       let e = extrema (group_pairs spec size g ps) in
       let none : Extrema = fin.empty in
       let more = length-append gs (replicate (g + 1 - length gs) none) in
       let many = length-replicate (g + 1 - length gs) none in
-      elim (same_or_not h g) as (λ o. slice_index_or (slice_set (with_room g gs) g e) h fin.empty ≡ built_group spec size (slice_set unbuilt g false) ps h) [
+      elim (same_or_not h g) as (λ o. slice_index_or (slice_set (with_reserved g gs) g e) h fin.empty ≡ scanned_group spec size (slice_set pending g false) ps h) [
         | inl k ↦
-            ap (λ n. slice_index_or (slice_set (with_room g gs) g e) n fin.empty) k
-            ∙ get_or-set_same (with_room g gs) g e fin.empty (omega arith)
-            ∙ sym (ap (λ b. cond b fin.empty e) (cleared-same unbuilt g there))
-            ∙ ap (built_group spec size (slice_set unbuilt g false) ps) (sym k)
+            ap (λ n. slice_index_or (slice_set (with_reserved g gs) g e) n fin.empty) k
+            ∙ get_or-set_same (with_reserved g gs) g e fin.empty (omega arith)
+            ∙ sym (ap (λ b. cond b fin.empty e) (cleared-same pending g there))
+            ∙ ap (scanned_group spec size (slice_set pending g false) ps) (sym k)
         | inr n ↦
-            get_or-set_other (with_room g gs) g h e fin.empty n
+            get_or-set_other (with_reserved g gs) g h e fin.empty n
             ∙ index-replicate gs (g + 1 - length gs) h fin.empty
             ∙ kept h
-            ∙ ap (λ b. cond b fin.empty (extrema (group_pairs spec size h ps))) (sym (cleared-other unbuilt g h n))
+            ∙ ap (λ b. cond b fin.empty (extrema (group_pairs spec size h ps))) (sym (cleared-other pending g h n))
       ]
 
-  pub left-scanned : left unbuilt - 1 ≡ left (slice_set unbuilt g false)
-  left-scanned = let e = left-cleared unbuilt g there in omega arith
+  pub left-scanned : left pending - 1 ≡ left (slice_set pending g false)
+  left-scanned = let e = left-cleared pending g there in omega arith
 
-  pub left-some : left unbuilt ≡ 0 → ⊥
-  left-some h = let e = left-cleared unbuilt g there in absurd (omega arith)
+  pub left-some : left pending ≡ 0 → ⊥
+  left-some h = let e = left-cleared pending g there in absurd (omega arith)
 
 -- an aggregate after a row group was scanned
-pub kept-scanned : (size : ℕ) (ps : List Place) (a : Aggregate) (k k' : Accumulator) (g : ℕ) → is_unbuilt a.unbuilt g ≡ true → 0 < size → IsKept size ps a k → IsScanned a.spec g (in_group size g ps) k k' → IsKept size ps (record a { unbuilt = slice_set a.unbuilt g false }) k'
-kept-scanned size ps a (accumulator.Totals live) k' g there pos h s = subst (IsKept size ps (record a { unbuilt = slice_set a.unbuilt g false })) (sym s) (
-  ap (λ m. joined_totals m (totals (group_pairs a.spec size g ps))) h.0 ∙ totals-scanned a.spec size a.unbuilt g there ps pos,
-  ap (λ n. n - 1) h.1 ∙ left-scanned a.spec size a.unbuilt g there,
+pub kept-scanned : (size : ℕ) (ps : List Place) (a : Aggregate) (k k' : Accumulator) (g : ℕ) → is_pending a.pending g ≡ true → 0 < size → IsKept size ps a k → IsScanned a.spec g (in_group size g ps) k k' → IsKept size ps (record a { pending = slice_set a.pending g false }) k'
+kept-scanned size ps a (accumulator.Totals live) k' g there pos h s = subst (IsKept size ps (record a { pending = slice_set a.pending g false })) (sym s) (
+  ap (λ m. joined_totals m (totals (group_pairs a.spec size g ps))) h.0 ∙ totals-scanned a.spec size a.pending g there ps pos,
+  ap (λ n. n - 1) h.1 ∙ left-scanned a.spec size a.pending g there,
 )
 kept-scanned size ps a (accumulator.Extrema live) (accumulator.Totals new) g there pos h s = absurd s
 kept-scanned size ps a (accumulator.Extrema live) (accumulator.Extrema new) g there pos h s = (
-  (λ i. ap (λ gs. slice_index_or gs i fin.empty) s.1 ∙ groups-scanned a.spec size a.unbuilt g there ps live.groups h.0 i),
-  s.0 ∙ ap (λ n. n - 1) h.1 ∙ left-scanned a.spec size a.unbuilt g there,
+  (λ i. ap (λ gs. slice_index_or gs i fin.empty) s.1 ∙ groups-scanned a.spec size a.pending g there ps live.groups h.0 i),
+  s.0 ∙ ap (λ n. n - 1) h.1 ∙ left-scanned a.spec size a.pending g there,
 )
 
 pub fold-scanned : (spec : Spec) (size g : ℕ) (ps : List Place) (k k' : Accumulator) → IsScanned spec g (in_group size g ps) k k' → fold_of k' ≡ fold_of k
@@ -204,26 +204,26 @@ group-few spec size g ps =
     let b = group-length size g ps in
     omega arith
 
-pub may_scan : (size : ℕ) (ps : List Place) (a : Aggregate) (k : Accumulator) (g : ℕ) → is_unbuilt a.unbuilt g ≡ true → length ps ≤ 2 ^ 24 → IsKept size ps a k → AccumulatorMayScan a.spec g (in_group size g ps) k
+pub may_scan : (size : ℕ) (ps : List Place) (a : Aggregate) (k : Accumulator) (g : ℕ) → is_pending a.pending g ≡ true → length ps ≤ 2 ^ 24 → IsKept size ps a k → AccumulatorMayScan a.spec g (in_group size g ps) k
 may_scan size ps a (accumulator.Totals live) g there few h = (
-  (λ e. left-some a.spec size a.unbuilt g there (sym h.1 ∙ e)),
+  (λ e. left-some a.spec size a.pending g there (sym h.1 ∙ e)),
   subst (λ m. CanJoin m (totals (group_pairs a.spec size g ps))) (sym h.0)
-      (let b = length-built a.spec size a.unbuilt 0 ps in
+      (let b = length-built a.spec size a.pending 0 ps in
       let c = group-few a.spec size g ps in
-      can_join (built_pairs a.spec size a.unbuilt 0 ps) (group_pairs a.spec size g ps) (omega arith)),
+      can_join (scanned_pairs a.spec size a.pending 0 ps) (group_pairs a.spec size g ps) (omega arith)),
 )
 may_scan size ps a (accumulator.Extrema live) g there few h = (
-  (λ e. left-some a.spec size a.unbuilt g there (sym h.1 ∙ e)),
+  (λ e. left-some a.spec size a.pending g there (sym h.1 ∙ e)),
   h.0 g ∙ ap (λ b. cond b fin.empty (extrema (group_pairs a.spec size g ps))) there,
 )
 
-pub slot-scanned : (size : ℕ) (ps : List Place) (a : Aggregate) (g : ℕ) (flags : List Bool) (k : Accumulator) → is_unbuilt a.unbuilt g ≡ true → 0 < size → KeepsSlot size ps (Some a) → flags ≡ slice_set a.unbuilt g false → IsScanned a.spec g (in_group size g ps) a.accumulator k
-    → KeepsSlot size ps (Some (record a { unbuilt = flags; accumulator = k }))
+pub slot-scanned : (size : ℕ) (ps : List Place) (a : Aggregate) (g : ℕ) (flags : List Bool) (k : Accumulator) → is_pending a.pending g ≡ true → 0 < size → KeepsSlot size ps (Some a) → flags ≡ slice_set a.pending g false → IsScanned a.spec g (in_group size g ps) a.accumulator k
+    → KeepsSlot size ps (Some (record a { pending = flags; accumulator = k }))
 slot-scanned size ps a g flags k there pos h e s =
-    subst (λ u. KeepsSlot size ps (Some (record a { unbuilt = u; accumulator = k }))) (sym e)
-    (fold-scanned a.spec size g ps a.accumulator k s ∙ h.0, same-kept size ps (record a { unbuilt = slice_set a.unbuilt g false }) (record a { unbuilt = slice_set a.unbuilt g false; accumulator = k }) k refl refl (kept-scanned size ps a a.accumulator k g there pos h.1 s))
+    subst (λ u. KeepsSlot size ps (Some (record a { pending = u; accumulator = k }))) (sym e)
+    (fold-scanned a.spec size g ps a.accumulator k s ∙ h.0, same-kept size ps (record a { pending = slice_set a.pending g false }) (record a { pending = slice_set a.pending g false; accumulator = k }) k refl refl (kept-scanned size ps a a.accumulator k g there pos h.1 s))
 
-pub has-below : (slots : List Slot) (g a : ℕ) → has_unbuilt g (joined (slice_get slots a)) ≡ true → a < length slots
+pub has-below : (slots : List Slot) (g a : ℕ) → has_pending g (joined (slice_get slots a)) ≡ true → a < length slots
 has-below [] g a h = cc
 has-below (s ∷ slots) g zero h = omega arith
 has-below (s ∷ slots) g (suc a) h = let l = has-below slots g a h in omega arith

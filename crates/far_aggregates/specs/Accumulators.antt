@@ -10,7 +10,7 @@ use Rattle.far_types.specs.declared.answer.Answer.TheVariants as answer
 use Rattle.far_types.specs.Answers.{Extrema, totals, extrema, or_zero, total_lines, extrema_lines}
 use Rattle.far_types.specs.Cells.{RowFits}
 use Rattle.far_types.specs.Pairs.{Pair}
-use Rattle.far_types.specs.Table.{Place, Registered, place_pair, in_group, is_unbuilt, left}
+use Rattle.far_types.specs.Table.{Place, Registered, place_pair, in_group, is_pending, left}
 use Rattle.far_extrema.specs.Live.{all_groups, group_at}
 use Rattle.far_aggregates.specs.declared.aggregate.Aggregate.{Aggregate}
 use Rattle.far_aggregates.specs.declared.aggregate.Accumulator.{Accumulator}
@@ -27,7 +27,7 @@ Change = Option Pair
 -- what the table shows of a slot
 abbrev pub registered_in : Slot → Option Registered
 registered_in None = None
-registered_in (Some aggregate) = Some (record { spec = aggregate.spec; registration = aggregate.registration; unbuilt = aggregate.unbuilt })
+registered_in (Some aggregate) = Some (record { spec = aggregate.spec; registration = aggregate.registration; unbuilt = aggregate.pending })
 
 -- the aggregates by number, of which there are 32. The slots end with the last number that was ever used
 abbrev pub registered_of : List Slot → List (Option Registered)
@@ -38,13 +38,13 @@ abbrev pub PlacesFit : List Place → Type 0
 PlacesFit places = AllByRecursion (λ (place : Place). RowFits place.cells) places
 
 -- a place counts unless its row group is pending
-abbrev pub built_pair : Spec → ℕ → List Bool → ℕ → Place → Change
-built_pair spec size unbuilt i place = cond (is_unbuilt unbuilt (i / size)) None (place_pair spec place)
+abbrev pub scanned_pair : Spec → ℕ → List Bool → ℕ → Place → Change
+scanned_pair spec size pending i place = cond (is_pending pending (i / size)) None (place_pair spec place)
 
 -- the pairs of the places, from number i on, whose row groups are scanned
-abbrev pub built_pairs : Spec → ℕ → List Bool → ℕ → List Place → List Pair
-built_pairs spec size unbuilt i [] = []
-built_pairs spec size unbuilt i (place ∷ places) = cons_option (built_pair spec size unbuilt i place) (built_pairs spec size unbuilt (i + 1) places)
+abbrev pub scanned_pairs : Spec → ℕ → List Bool → ℕ → List Place → List Pair
+scanned_pairs spec size pending i [] = []
+scanned_pairs spec size pending i (place ∷ places) = cons_option (scanned_pair spec size pending i place) (scanned_pairs spec size pending (i + 1) places)
 
 -- the pairs of some places, as those of a row group
 abbrev pub pairs_here : Spec → List Place → List Pair
@@ -55,8 +55,8 @@ abbrev pub group_pairs : Spec → ℕ → ℕ → List Place → List Pair
 group_pairs spec size g places = pairs_here spec (in_group size g places)
 
 -- what extrema are to have of a row group: nothing while it is pending
-abbrev pub built_group : Spec → ℕ → List Bool → List Place → ℕ → Extrema
-built_group spec size unbuilt places g = cond (is_unbuilt unbuilt g) fin.empty (extrema (group_pairs spec size g places))
+abbrev pub scanned_group : Spec → ℕ → List Bool → List Place → ℕ → Extrema
+scanned_group spec size pending places g = cond (is_pending pending g) fin.empty (extrema (group_pairs spec size g places))
 
 abbrev pub fold_of : Accumulator → Fold
 fold_of (accumulator.Totals live) = fold.Totals
@@ -79,8 +79,8 @@ KeepsNothing count (accumulator.Extrema live) = (live.left ≡ count) × (live.g
 
 -- an accumulator is what computing afresh over the row groups that are scanned would give
 abbrev pub IsKept : ℕ → List Place → Aggregate → Accumulator → Type 0
-IsKept size places a (accumulator.Totals live) = (live.totals ≡ totals (built_pairs a.spec size a.unbuilt 0 places)) × (live.left ≡ left a.unbuilt)
-IsKept size places a (accumulator.Extrema live) = ((g : ℕ) → group_at live.groups g ≡ built_group a.spec size a.unbuilt places g) × (live.left ≡ left a.unbuilt)
+IsKept size places a (accumulator.Totals live) = (live.totals ≡ totals (scanned_pairs a.spec size a.pending 0 places)) × (live.left ≡ left a.pending)
+IsKept size places a (accumulator.Extrema live) = ((g : ℕ) → group_at live.groups g ≡ scanned_group a.spec size a.pending places g) × (live.left ≡ left a.pending)
 
 abbrev pub KeepsSlot : ℕ → List Place → Slot → Type 0
 KeepsSlot size places None = Unit {0}

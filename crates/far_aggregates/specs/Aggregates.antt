@@ -5,7 +5,7 @@ use Rattle.far_types.specs.declared.refusal.Refusal.{Refusal}
 use Rattle.far_types.specs.declared.refusal.Refusal.TheVariants as refusal
 use Rattle.far_types.specs.declared.answer.Answer.{Answer}
 use Rattle.far_types.specs.Answers.{answer_over}
-use Rattle.far_types.specs.Table.{Place, Registered, rows_of, is_unbuilt, left}
+use Rattle.far_types.specs.Table.{Place, Registered, rows_of, is_pending, left}
 use Rattle.far_aggregates.specs.Accumulators.{Slot, registered_of}
 
 abbrev pub joined : {A : Type 0} → Option (Option A) → Option A
@@ -24,7 +24,7 @@ aggregate_in slots a = joined (slice_get (registered_of slots) a)
 
 -- whether a row group is pending in an aggregate
 abbrev pub is_left : Option Registered → ℕ → Bool
-is_left aggregate g = option_map_or (λ r. is_unbuilt r.unbuilt g) aggregate false
+is_left aggregate g = option_map_or (λ r. is_pending r.unbuilt g) aggregate false
 
 -- an aggregate answers if no row group is pending
 abbrev pub ask_refusal : Option Registered → Option Refusal
@@ -32,8 +32,8 @@ ask_refusal None = Some refusal.NoAggregate
 ask_refusal (Some aggregate) = cond (left aggregate.unbuilt == 0) None (Some (refusal.Building (left aggregate.unbuilt)))
 
 -- a row group less is pending
-abbrev pub built_in : ℕ → Registered → Registered
-built_in g aggregate = record aggregate { unbuilt = slice_set aggregate.unbuilt g false }
+abbrev pub scanned_in : ℕ → Registered → Registered
+scanned_in g aggregate = record aggregate { unbuilt = slice_set aggregate.unbuilt g false }
 
 -- this is the answer of an aggregate over the rows of these places, and no row group is pending
 abbrev pub Answers : List Place → Option Registered → Answer → Type 0

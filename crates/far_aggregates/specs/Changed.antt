@@ -1,4 +1,5 @@
 -- A row with one cell changed, by the number of the column.
+-- Internal: no public contract cites it.
 use Rattle.std.specs.Prelude.{ℕ, ◌==◌, cond, Some}
 use Rattle.far_types.specs.declared.cell.Cell.{Cell}
 use Rattle.far_types.specs.Cells.{Cells}

@@ -2,7 +2,7 @@
 use Rattle.std.specs.Prelude.{◌≡◌, ◌≢◌, ℕ, ℤ, ◌<◌, ◌^◌, ◌/◌, List, length, Option, None, Some, option_map, slice_get, slice_set}
 use Rattle.std.specs.FinMap as fin
 use Rattle.far_types.specs.declared.key.Key.{Key}
-use Rattle.far_types.specs.Changes.{count_in, with_pair, without_pair, with_seen}
+use Rattle.far_types.specs.Effects.{count_in, with_pair, without_pair, with_observed}
 use Rattle.far_types.specs.Pairs.{Pair}
 use Rattle.far_extrema.specs.Live.{group_at}
 use Rattle.far_extrema.specs.Spans.{put_span}
@@ -35,7 +35,7 @@ delta_in g (Some a) pair = Some (delta_of g a.accumulator pair)
 -- one pair more
 abbrev pub accumulator_more : ℕ → Accumulator → Pair → Accumulator
 accumulator_more g (accumulator.Totals live) pair = accumulator.Totals (record live { totals = with_pair live.totals pair })
-accumulator_more g (accumulator.Extrema live) pair = accumulator.Extrema (record live { groups = slice_set live.groups g (with_seen (group_at live.groups g) pair) })
+accumulator_more g (accumulator.Extrema live) pair = accumulator.Extrema (record live { groups = slice_set live.groups g (with_observed (group_at live.groups g) pair) })
 
 abbrev pub added : ℕ → Slot → Option Delta → Slot
 added g None delta = None
@@ -52,7 +52,7 @@ undo g None delta = None
 undo g (Some a) None = Some a
 undo g (Some a) (Some delta) = Some (record a { accumulator = accumulator_undo g a.accumulator delta })
 
--- a pair may be added: totals have few under its key, extrema have room
+-- a pair may be added: totals have few under its key, extrema are reserved
 abbrev pub AccumulatorMayAdd : ℕ → Accumulator → Pair → Type 0
 AccumulatorMayAdd g (accumulator.Totals live) pair = count_in (fin.get live.totals pair.0) < 2 ^ 26
 AccumulatorMayAdd g (accumulator.Extrema live) pair = g < length live.groups

@@ -1,4 +1,5 @@
 -- What is known without a look-up of what stands under no key.
+-- Internal: no public contract cites it.
 use Rattle.std.specs.Prelude.{◌≡◌, ◌≢◌, ◌⊎◌, ℕ, ℤ, List, Option, None, Some, slice_get}
 use Rattle.std.specs.FinMap as fin
 use Rattle.far_types.specs.Answers.{Extrema}

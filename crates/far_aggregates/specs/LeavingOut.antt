@@ -1,18 +1,19 @@
 -- Pairs that need not be retracted, since the aggregates are the same without that.
+-- Internal: no public contract cites it.
 use Rattle.std.specs.Prelude.{◌≡◌, ◌⊎◌, ℕ, ℤ, ◌<ℤ◌, List, Option, None, Some, slice_get}
-use Rattle.far_types.specs.Changes.{widened}
+use Rattle.far_types.specs.Effects.{widened}
 use Rattle.far_aggregates.specs.declared.deltas.Delta.{Delta}
 use Rattle.far_aggregates.specs.Accumulators.{Change}
 
 -- the value to retract is strictly within what stands under its key in the row group, with the delta's value
-abbrev pub NeedNotGo : Option Delta → Change → Type 0
-NeedNotGo None change = ⊥
-NeedNotGo (Some delta) None = ⊥
-NeedNotGo (Some delta) (Some pair) = (span : ℤ × ℤ) × (delta.previous ≡ Some span) × (delta.pair.0 ≡ pair.0) × ((widened delta.pair.1 (Some span)).0 <ℤ pair.1) × (pair.1 <ℤ (widened delta.pair.1 (Some span)).1)
+abbrev pub NeedNotRetract : Option Delta → Change → Type 0
+NeedNotRetract None change = ⊥
+NeedNotRetract (Some delta) None = ⊥
+NeedNotRetract (Some delta) (Some pair) = (span : ℤ × ℤ) × (delta.previous ≡ Some span) × (delta.pair.0 ≡ pair.0) × ((widened delta.pair.1 (Some span)).0 <ℤ pair.1) × (pair.1 <ℤ (widened delta.pair.1 (Some span)).1)
 
 -- a pair is as it was, or is left out since it need not be retracted
 abbrev pub IsLeftOut : Option Delta → Change → Change → Type 0
-IsLeftOut delta old new = (new ≡ old) ⊎ ((new ≡ None) × NeedNotGo delta old)
+IsLeftOut delta old new = (new ≡ old) ⊎ ((new ≡ None) × NeedNotRetract delta old)
 
 -- likewise each
 abbrev pub EachLeftOut : List (Option Delta) → List Change → List Change → Type 0

@@ -4,9 +4,9 @@ use Rattle.far_types.specs.declared.cell.Cell.{Cell}
 use Rattle.far_types.specs.declared.spec.Spec.{Spec}
 use Rattle.far_types.specs.Answers.{Totals, Extrema, totals}
 use Rattle.far_types.specs.Cells.{Cells}
-use Rattle.far_types.specs.Changes.{with_pair, without_pair, with_seen}
+use Rattle.far_types.specs.Effects.{with_pair, without_pair, with_observed}
 use Rattle.far_types.specs.Pairs.{Pair, PairsFit, pair_of}
-use Rattle.far_types.specs.Table.{Place, place_pair, is_unbuilt}
+use Rattle.far_types.specs.Table.{Place, place_pair, is_pending}
 use Rattle.far_aggregates.specs.declared.aggregate.Accumulator.{Accumulator}
 use Rattle.far_aggregates.specs.declared.aggregate.Accumulator.TheVariants as accumulator
 use Rattle.far_aggregates.specs.Accumulators.{Slot, Change}
@@ -30,7 +30,7 @@ alive_with row = record { cells = row; alive = true }
 -- what a row of place i gives to a slot, unless its row group is pending there
 abbrev pub change_of : ℕ → ℕ → Gives → Slot → Change
 change_of size i gives None = None
-change_of size i gives (Some a) = cond (is_unbuilt a.unbuilt (i / size)) None (gives a.spec)
+change_of size i gives (Some a) = cond (is_pending a.pending (i / size)) None (gives a.spec)
 
 -- one pair more or less, where there is one
 abbrev pub with_change : Totals → Change → Totals
@@ -41,9 +41,9 @@ abbrev pub without_change : Totals → Change → Totals
 without_change totals None = totals
 without_change totals (Some pair) = without_pair totals pair
 
-abbrev pub with_seen_change : Extrema → Change → Extrema
-with_seen_change extrema None = extrema
-with_seen_change extrema (Some pair) = with_seen extrema pair
+abbrev pub with_observed_change : Extrema → Change → Extrema
+with_observed_change extrema None = extrema
+with_observed_change extrema (Some pair) = with_observed extrema pair
 
 -- totals are those of some pairs, which are few
 abbrev pub AccumulatorFolds : Accumulator → Type 0

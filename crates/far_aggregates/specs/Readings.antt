@@ -3,7 +3,7 @@ use Rattle.std.specs.Prelude.{ℕ, ℤ, Bool, true, false, cond, ◌&&◌, ◌==
 use Rattle.far_types.specs.declared.spec.Spec.{Spec}
 use Rattle.far_types.specs.declared.spec.Fold.{Fold}
 use Rattle.far_types.specs.declared.spec.Fold.TheVariants as fold
-use Rattle.far_types.specs.Answers.{tally}
+use Rattle.far_types.specs.Answers.{count_sum}
 use Rattle.far_types.specs.Pairs.{Pair, pairs_of}
 use Rattle.far_types.specs.Table.{Place, Registered, rows_of, left}
 
@@ -14,7 +14,7 @@ is_totals fold.Extrema = false
 
 -- how many rows are folded, and the sum of their values, whatever their keys
 abbrev pub all_values : Spec → List Place → ℕ × ℤ
-all_values spec places = tally (map (λ (pair : Pair). pair.1) (pairs_of spec (rows_of places)))
+all_values spec places = count_sum (map (λ (pair : Pair). pair.1) (pairs_of spec (rows_of places)))
 
 -- an aggregate of totals without key column is plain: if no row group is pending it has one count and one sum
 abbrev pub plain_in : List Place → Option Registered → Option (ℕ × ℤ)

@@ -2,9 +2,9 @@
 use Rattle.std.specs.Prelude.{◌≡◌, ℕ, zero, suc, ◌+◌, ◌-◌, List, [], ◌∷◌, slice_set}
 use Rattle.std.specs.FinMap as fin
 use Rattle.far_types.specs.declared.spec.Spec.{Spec}
-use Rattle.far_types.specs.Changes.{joined_totals}
+use Rattle.far_types.specs.Effects.{joined_totals}
 use Rattle.far_types.specs.Table.{Place}
-use Rattle.far_extrema.specs.Live.{with_room, group_at}
+use Rattle.far_extrema.specs.Live.{with_reserved, group_at}
 use Rattle.far_groups.specs.Live.{CanJoin}
 use Rattle.far_offload.specs.declared.partial.PartialDone.{PartialDone}
 use Rattle.far_offload.specs.declared.partial.PartialDone.TheVariants as partial
@@ -29,10 +29,10 @@ AccumulatorMayMerge g (partial.Totals done) (accumulator.Extrema live) = ⊥
 AccumulatorMayMerge g (partial.Extrema seen) (accumulator.Totals live) = ⊥
 AccumulatorMayMerge g (partial.Extrema seen) (accumulator.Extrema live) = (live.left ≡ 0 → ⊥) × (group_at live.groups g ≡ fin.empty)
 
--- the rows that a partial stands for are in what is kept. Which keys have room is left open
+-- the rows that a partial stands for are in what is kept. Which keys are reserved is left open
 abbrev pub IsMerged : ℕ → PartialDone → Accumulator → Accumulator → Type 0
 IsMerged g (partial.Totals done) (accumulator.Totals live) new = new ≡ accumulator.Totals (record { left = live.left - 1; totals = joined_totals live.totals done.totals })
 IsMerged g (partial.Totals done) (accumulator.Extrema live) new = ⊥
 IsMerged g (partial.Extrema seen) (accumulator.Totals live) new = ⊥
 IsMerged g (partial.Extrema seen) (accumulator.Extrema live) (accumulator.Totals new) = ⊥
-IsMerged g (partial.Extrema seen) (accumulator.Extrema live) (accumulator.Extrema new) = (new.left ≡ live.left - 1) × (new.groups ≡ slice_set (with_room g live.groups) g seen)
+IsMerged g (partial.Extrema seen) (accumulator.Extrema live) (accumulator.Extrema new) = (new.left ≡ live.left - 1) × (new.groups ≡ slice_set (with_reserved g live.groups) g seen)

@@ -3,7 +3,7 @@ use Rattle.std.specs.Prelude.{◌≡◌, ℕ, List, None, Some, slice_get, slice
 use Rattle.std.specs.FinMap as fin
 use Rattle.far_types.specs.declared.spec.Spec.{Spec}
 use Rattle.far_types.specs.Answers.{extrema}
-use Rattle.far_types.specs.Changes.{without_pair, widened}
+use Rattle.far_types.specs.Effects.{without_pair, widened}
 use Rattle.far_types.specs.Pairs.{Pair}
 use Rattle.far_types.specs.Table.{Place}
 use Rattle.far_extrema.specs.Live.{group_at}

@@ -3,31 +3,31 @@ use Rattle.std.specs.Prelude.{◌≡◌, ℕ, ◌-◌, ◌≤◌, ◌^◌, Bool,
 use Rattle.std.specs.FinMap as fin
 use Rattle.far_types.specs.declared.spec.Spec.{Spec}
 use Rattle.far_types.specs.Answers.{totals, extrema}
-use Rattle.far_types.specs.Changes.{joined_totals}
-use Rattle.far_types.specs.Table.{Place, Registered, in_group, is_unbuilt}
-use Rattle.far_extrema.specs.Live.{with_room, group_at}
+use Rattle.far_types.specs.Effects.{joined_totals}
+use Rattle.far_types.specs.Table.{Place, Registered, in_group, is_pending}
+use Rattle.far_extrema.specs.Live.{with_reserved, group_at}
 use Rattle.far_groups.specs.Live.{CanJoin}
 use Rattle.far_aggregates.specs.declared.aggregate.Accumulator.{Accumulator}
 use Rattle.far_aggregates.specs.declared.aggregate.Accumulator.TheVariants as accumulator
 use Rattle.far_aggregates.specs.Accumulators.{Slot, pairs_here, KeepsSlot}
-use Rattle.far_aggregates.specs.Aggregates.{built_in}
+use Rattle.far_aggregates.specs.Aggregates.{scanned_in}
 
 -- whether a row group is pending in what stands in a slot
-abbrev pub has_unbuilt : ℕ → Slot → Bool
-has_unbuilt g None = false
-has_unbuilt g (Some a) = is_unbuilt a.unbuilt g
+abbrev pub has_pending : ℕ → Slot → Bool
+has_pending g None = false
+has_pending g (Some a) = is_pending a.pending g
 
-abbrev pub built_slot : ℕ → Option Registered → Option Registered
-built_slot g None = None
-built_slot g (Some aggregate) = Some (built_in g aggregate)
+abbrev pub scanned_slot : ℕ → Option Registered → Option Registered
+scanned_slot g None = None
+scanned_slot g (Some aggregate) = Some (scanned_in g aggregate)
 
--- the rows of one row group more, at these places, are in what is kept. Which keys have room is left open
+-- the rows of one row group more, at these places, are in what is kept. Which keys are reserved is left open
 abbrev pub IsScanned : Spec → ℕ → List Place → Accumulator → Accumulator → Type 0
 IsScanned spec g here (accumulator.Totals live) new = new ≡ accumulator.Totals (record { left = live.left - 1; totals = joined_totals live.totals (totals (pairs_here spec here)) })
 IsScanned spec g here (accumulator.Extrema live) (accumulator.Totals new) = ⊥
-IsScanned spec g here (accumulator.Extrema live) (accumulator.Extrema new) = (new.left ≡ live.left - 1) × (new.groups ≡ slice_set (with_room g live.groups) g (extrema (pairs_here spec here)))
+IsScanned spec g here (accumulator.Extrema live) (accumulator.Extrema new) = (new.left ≡ live.left - 1) × (new.groups ≡ slice_set (with_reserved g live.groups) g (extrema (pairs_here spec here)))
 
--- the same rows are in. Which keys have room is left open
+-- the same rows are in. Which keys are reserved is left open
 abbrev pub IsSame : Accumulator → Accumulator → Type 0
 IsSame (accumulator.Totals live) new = new ≡ accumulator.Totals live
 IsSame (accumulator.Extrema live) (accumulator.Totals new) = ⊥

@@ -1,4 +1,5 @@
 -- Text keys that are kept for the next edit.
+-- Internal: no public contract cites it.
 use Rattle.std.specs.Prelude.{List, [], ◌∷◌, Option, None, Some}
 use Rattle.far_types.specs.declared.key.Key.{Key}
 use Rattle.far_types.specs.declared.key.Key.TheVariants as key

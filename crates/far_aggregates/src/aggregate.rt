@@ -17,6 +17,6 @@ pub struct Aggregate {
     pub spec: Spec,
     /// How many registrations were made before this one.
     pub registration: u64,
-    pub unbuilt: PendingGroups,
+    pub pending: PendingGroups,
     pub accumulator: Accumulator,
 }

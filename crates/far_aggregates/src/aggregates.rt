@@ -17,12 +17,13 @@ use super::leaving_out::leave_out;
 use super::lend_group::LendGroup;
 use super::pairs::row_pairs;
 use super::pending::Pending;
-use super::readings::{first_unbuilt, plain};
+use super::readings::{first_pending, plain};
 use super::registrations::{aggregate_at, forget, free_number, register};
 use super::reserve::reserve_all;
 use super::retract::{needs_rows, retract_all, retract_totals};
 use super::scans::build_at;
 use super::spare_keys::SpareKeys;
+use far_reciprocal::Reciprocal;
 use far_types::{Answer, CellRef, LendCells, Refusal, Spec};
 use std::alloc::Global;
 use std::marker::Model;
@@ -37,6 +38,8 @@ pub struct Aggregates {
     /// The lists of an edit that has ended, for the next one, so that it makes none.
     lists: Pending,
     spare_keys: SpareKeys,
+    /// A hint for divisions by how many places a row group has.
+    reciprocal: Reciprocal,
 }
 
 impl Model for Aggregates {
@@ -61,10 +64,10 @@ impl Aggregates {
     ghost use Rattle.far_aggregates.specs.Accumulators.{Keeps, PlacesFit, registered_of};
     ghost use Rattle.far_aggregates.specs.Lending.{SlotIsServed, AreServed};
     ghost use Rattle.far_aggregates.specs.Readings.{plain_in};
-    ghost use Rattle.far_aggregates.specs.Scans.{built_slot};
+    ghost use Rattle.far_aggregates.specs.Scans.{scanned_slot};
     ghost use Rattle.far_aggregates.specs.Pending.{AreKept, KeepsAsBefore, IsAliveAt, MayUndoAll, all_undone, UndoesAll, MayRetractAll, all_retracted, RetractsAll};
 
-    /// No aggregate. Takes no memory.
+    /// No aggregate. Allocates nothing.
     pub fn new(alloc: Global) -> Aggregates
         ensures registered { registered_of result ≡ replicate 32 None }
         ensures kept { (size : ℕ) → (places : List Place) → Keeps size places result }
@@ -73,17 +76,28 @@ impl Aggregates {
             slots: Vec::new(alloc),
             lists: Pending::nothing(alloc),
             spare_keys: SpareKeys::new(alloc),
+            reciprocal: Reciprocal::new(1),
         }
     }
 
-    /// Whether none was ever registered, so that an edit has nothing to keep. Takes no memory.
+    // The row group of a place.
+    #[inline(always)]
+    fn group_of(&self, place: usize, size: u32) -> u32
+        requires size { 0 < size }
+        requires few { place ≤ 2 ^ 24 }
+        ensures { result ≡ place / size }
+    {
+        self.reciprocal.quotient(place, size as usize) as u32
+    }
+
+    /// Whether none was ever registered, so that an edit has nothing to keep. Allocates nothing.
     pub fn is_empty(&self) -> bool
         ensures { IsTrue result → (size : ℕ) → (places : List Place) → Keeps size places self.now }
     {
         self.slots.is_empty()
     }
 
-    /// The lowest number under which no aggregate is registered, or `None` where 32 are. Takes no memory.
+    /// The lowest number under which no aggregate is registered, or `None` if 32 are. Allocates nothing.
     pub fn free_number(&self) -> Option<u32>
         ensures number { result ≡ free_from 0 (registered_of self.now) }
         ensures within { IfSome result (λ a. a < 32) }
@@ -110,10 +124,11 @@ impl Aggregates {
         ensures unchanged { OnErr result (self.new ≡ self.old) }
         ensures memory { IfErr result (λ e. e ≡ Refusal.NoMemory) }
     {
+        self.reciprocal = Reciprocal::new(size as usize);
         register(alloc, &mut self.slots, a, spec, registration, size, places)
     }
 
-    /// No aggregate is under the number any more; there was one. Takes no memory.
+    /// No aggregate is under the number any more; there was one. Allocates nothing.
     pub fn forget(&mut self, a: u32)
         requires { IsSome (aggregate_in self.old a) }
         ensures registered { registered_of self.new ≡ slice_set (registered_of self.old) a None }
@@ -122,7 +137,7 @@ impl Aggregates {
         forget(&mut self.slots, a);
     }
 
-    /// What the aggregate of a number computes, or `None` where there is none. Takes no memory.
+    /// What the aggregate of a number computes, or `None` if there is none. Allocates nothing.
     pub fn spec(&self, a: u32) -> Option<&Spec>
         ensures { option_copied result ≡ option_map (λ aggregate. aggregate.spec) (aggregate_in self.now a) }
     {
@@ -130,7 +145,7 @@ impl Aggregates {
         Some(&aggregate.spec)
     }
 
-    /// How many registrations were made before that of a number, or `None` where there is none. Takes no memory.
+    /// How many registrations were made before that of a number, or `None` if there is none. Allocates nothing.
     pub fn registration(&self, a: u32) -> Option<u64>
         ensures { result ≡ option_map (λ aggregate. aggregate.registration) (aggregate_in self.now a) }
     {
@@ -143,17 +158,17 @@ impl Aggregates {
         ensures { result ≡ is_left (aggregate_in self.now a) group }
     {
         match aggregate_at(self.slots.as_slice(), a) {
-            Some(aggregate) => aggregate.unbuilt.has(group as usize),
+            Some(aggregate) => aggregate.pending.has(group as usize),
             None => false,
         }
     }
 
     /// An aggregate and a row group that is pending in it, or `None` if there is none. Allocates nothing.
-    pub fn first_unbuilt(&self) -> Option<(u32, u32)>
+    pub fn first_pending(&self) -> Option<(u32, u32)>
         ensures some { IfSome result (λ at. is_left (aggregate_in self.now at.0) at.1 ≡ true) }
         ensures none { IfNone result ((a : ℕ) → (g : ℕ) → is_left (aggregate_in self.now a) g ≡ false) }
     {
-        first_unbuilt(self.slots.as_slice())
+        first_pending(self.slots.as_slice())
     }
 
     /// What the aggregate of a number answers over the rows for which all are kept. Refused with `NoAggregate` (12) exactly
@@ -189,10 +204,10 @@ impl Aggregates {
         number: u32,
     ) -> Result<(), Refusal>
         requires size { 0 < size }
-        requires unbuilt { is_left (aggregate_in self.old a) number ≡ true }
+        requires pending { is_left (aggregate_in self.old a) number ≡ true }
         requires served { SlotIsServed (G.has group.now) (aggregate_in self.old a) }
         requires kept { (places : List Place) × (G.places group.now ≡ in_group size number places) × AreKept size places self.old }
-        ensures registered { OnOk result (registered_of self.new ≡ slice_set (registered_of self.old) a (built_slot number (aggregate_in self.old a))) }
+        ensures registered { OnOk result (registered_of self.new ≡ slice_set (registered_of self.old) a (scanned_slot number (aggregate_in self.old a))) }
         ensures kept { (places : List Place) → G.places group.now ≡ in_group size number places → Keeps size places self.old → Keeps size places self.new }
         ensures unchanged { OnErr result (registered_of self.new ≡ registered_of self.old) }
         ensures memory { IfErr result (λ e. e ≡ Refusal.NoMemory) }
@@ -223,7 +238,7 @@ impl Aggregates {
         if self.slots.is_empty() {
             return Ok(Pending::nothing(alloc));
         }
-        let group = (place / size as usize) as u32;
+        let group = self.group_of(place, size);
         let Pending {
             applied,
             mut to_retract,
@@ -264,13 +279,13 @@ impl Aggregates {
         requires few { place ≤ 2 ^ 24 }
         requires column { IsSome (R.cells row.now column) }
         requires kept { (places : List Place) × AreKept size places self.old }
-        ensures goes { IfOk result (λ pending. (places : List Place) → IsAliveAt (R.cells row.now) place places → AreKept size places self.old → PlacesFit (places_after (edit.Set place column (lent_cell cell.entry)) places) → RetractsAll size (place / size) (places_after (edit.Set place column (lent_cell cell.entry)) places) self.new pending) }
+        ensures retracts { IfOk result (λ pending. (places : List Place) → IsAliveAt (R.cells row.now) place places → AreKept size places self.old → PlacesFit (places_after (edit.Set place column (lent_cell cell.entry)) places) → RetractsAll size (place / size) (places_after (edit.Set place column (lent_cell cell.entry)) places) self.new pending) }
         ensures undo { IfOk result (UndoesAll self.old self.new) }
         ensures unchanged { OnErr result (KeepsAsBefore self.old self.new) }
         ensures registered { registered_of self.new ≡ registered_of self.old }
         ensures memory { IfErr result (λ e. e ≡ Refusal.NoMemory) }
     {
-        let group = (place / size as usize) as u32;
+        let group = self.group_of(place, size);
         let Pending {
             applied,
             to_retract,
@@ -316,12 +331,12 @@ impl Aggregates {
     ) -> Result<Pending, Refusal>
         requires size { 0 < size }
         requires few { place ≤ 2 ^ 24 }
-        ensures goes { IfOk result (λ pending. (places : List Place) → IsAliveAt (R.cells row.now) place places → AreKept size places self.old → RetractsAll size (place / size) (places_after (edit.Remove place) places) self.new pending) }
+        ensures retracts { IfOk result (λ pending. (places : List Place) → IsAliveAt (R.cells row.now) place places → AreKept size places self.old → RetractsAll size (place / size) (places_after (edit.Remove place) places) self.new pending) }
         ensures unchanged { KeepsAsBefore self.old self.new }
         ensures registered { registered_of self.new ≡ registered_of self.old }
         ensures memory { IfErr result (λ e. e ≡ Refusal.NoMemory) }
     {
-        let group = (place / size as usize) as u32;
+        let group = self.group_of(place, size);
         let Pending {
             mut applied,
             to_retract,

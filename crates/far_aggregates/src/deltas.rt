@@ -4,7 +4,7 @@ ghost use Rattle.far_types.specs.declared.key.Key.TheVariants as variants;
 ghost use Rattle.far_types.specs.Lent.{key_by};
 ghost use Rattle.far_aggregates.specs.Pairs.{Folds, EachFolds, row_gives};
 ghost use Rattle.far_aggregates.specs.Deltas.{previous_in, row_delta, delta_in, accumulator_more, added, undo, AccumulatorMayAdd, MayUndo, EachMayUndo};
-ghost use Rattle.far_aggregates.specs.Reserve.{HasRoom, HaveRoom};
+ghost use Rattle.far_aggregates.specs.Reserve.{IsReserved, AreReserved};
 ghost use Rattle.far_aggregates.specs.Until.{zip_until, zip_all};
 
 use super::aggregate::{Accumulator, Aggregate};
@@ -68,7 +68,7 @@ fn add_to(
             live.add_under(key, value)?;
             Ok(None)
         }
-        Accumulator::Extrema(live) => live.see_under(group, key, value),
+        Accumulator::Extrema(live) => live.observe_under(group, key, value),
     }
 }
 
@@ -83,7 +83,7 @@ fn apply_under(
     value: i64,
 ) -> Result<(), Refusal>
     requires folds { Folds slot.old }
-    requires room { HasRoom group slot.old }
+    requires reserved { IsReserved group slot.old }
     requires place { vec_len deltas.old < vec_capacity deltas.old }
     ensures ok { OnOk result (slot.new ≡ added group slot.old (delta_in group slot.old (key_by number, value))) }
     ensures deltas { OnOk result (deltas.new.items ≡ deltas.old.items ++ delta_in group slot.old (key_by number, value) ∷ []) }
@@ -122,7 +122,7 @@ fn apply_under_text(
     value: i64,
 ) -> Result<(), Refusal>
     requires folds { Folds slot.old }
-    requires room { HasRoom group slot.old }
+    requires reserved { IsReserved group slot.old }
     requires place { vec_len deltas.old < vec_capacity deltas.old }
     ensures ok { OnOk result (slot.new ≡ added group slot.old (delta_in group slot.old (Some (variants.Text text.now), value))) }
     ensures deltas { OnOk result (deltas.new.items ≡ deltas.old.items ++ delta_in group slot.old (Some (variants.Text text.now), value) ∷ []) }
@@ -162,7 +162,7 @@ fn apply_next<R: LendCells>(
     requires few { place ≤ 2 ^ 24 }
     requires group { group ≡ place / size }
     requires folds { Folds slot.old }
-    requires room { HasRoom (place / size) slot.old }
+    requires reserved { IsReserved (place / size) slot.old }
     requires place { vec_len deltas.old < vec_capacity deltas.old }
     ensures ok { OnOk result (slot.new ≡ added (place / size) slot.old (row_delta size place (row_gives (R.cells row.now)) slot.old)) }
     ensures deltas { OnOk result (deltas.new.items ≡ deltas.old.items ++ row_delta size place (row_gives (R.cells row.now)) slot.old ∷ []) }
@@ -198,7 +198,7 @@ pub fn apply_deltas<R: LendCells>(
     requires few { place ≤ 2 ^ 24 }
     requires group { group ≡ place / size }
     requires folds { EachFolds slots.old }
-    requires room { HaveRoom (place / size) slots.old }
+    requires reserved { AreReserved (place / size) slots.old }
     ensures ok { OnOk result (slots.new ≡ zip_all (added (place / size)) slots.old (map (row_delta size place (row_gives (R.cells row.now))) slots.old)) }
     ensures deltas { IfOk result (λ deltas. deltas.items ≡ map (row_delta size place (row_gives (R.cells row.now))) slots.old) }
     ensures len { IfOk result (λ deltas. length deltas.items ≡ length slots.new) }

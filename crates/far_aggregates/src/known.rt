@@ -1,7 +1,7 @@
 // Live extrema, with what stands under no key beside them.
 ghost use Rattle.std.specs.Prelude.{◌≡◌, ◌≢◌, ◌-◌, ◌<◌, [], None, Some, Err, OnOk, OnErr, IfOk, IfErr, IfSome, IsTrue, ℤ, ◌≤ℤ◌, length, slice_get, slice_set};
 ghost use Rattle.std.specs.FinMap as fin;
-ghost use Rattle.far_types.specs.Changes.{widened, with_seen};
+ghost use Rattle.far_types.specs.Effects.{widened, with_observed};
 ghost use Rattle.far_extrema.specs.Live.{all_groups, group_at};
 ghost use Rattle.far_aggregates.specs.Known.{IsNoted};
 
@@ -42,7 +42,7 @@ fn make_place(plain: &mut Vec<Option<MinMax>>, group: usize)
 }
 
 /// Notes what stands under no key in a row group, or that it is not known. Where the list has no place for it, and behind
-/// the row group after the last, nothing is noted. Takes no memory.
+/// the row group after the last, nothing is noted. Allocates nothing.
 fn note(plain: &mut Vec<Option<MinMax>>, group: usize, span: Option<MinMax>)
     ensures { IsNoted plain.old.items group span plain.new.items }
 {
@@ -67,7 +67,7 @@ fn noted_in(plain: &[Option<MinMax>], group: usize) -> Option<MinMax>
 
 /// Whether a value is within a span, if there is one.
 #[inline(always)]
-fn is_within(value: i64, span: Option<MinMax>) -> bool
+fn is_within_noted(value: i64, span: Option<MinMax>) -> bool
     ensures { IsTrue result → (s : ℤ × ℤ) × (span ≡ Some s) × (s.0 ≤ℤ value) × (value ≤ℤ s.1) }
 {
     match span {
@@ -77,26 +77,26 @@ fn is_within(value: i64, span: Option<MinMax>) -> bool
 }
 
 /// One folded row more under no key, whose least and greatest value are noted or looked up. Returns the previous ones.
-fn see_noted(
+fn observe_noted(
     live: &mut LiveExtrema,
     group: u32,
     value: i64,
     noted: Option<MinMax>,
 ) -> Result<Option<MinMax>, Refusal>
-    requires room { group < length live.old.groups }
+    requires reserved { group < length live.old.groups }
     requires noted { IfSome noted (λ span. fin.get (group_at live.old.groups group) None ≡ Some span) }
     ensures previous { IfOk result (λ previous. previous ≡ fin.get (group_at live.old.groups group) None) }
-    ensures ok { OnOk result (live.new ≡ record live.old { groups = slice_set live.old.groups group (with_seen (group_at live.old.groups group) (None, value)) }) }
+    ensures ok { OnOk result (live.new ≡ record live.old { groups = slice_set live.old.groups group (with_observed (group_at live.old.groups group) (None, value)) }) }
     ensures err { OnErr result (live.new ≡ live.old) }
     ensures only_new { OnErr result (fin.get (group_at live.old.groups group) None ≡ None) }
     ensures memory { IfErr result (λ e. e ≡ Refusal.NoMemory) }
 {
     match noted {
         Some(span) => {
-            live.see_over(group, &None, value, span);
+            live.observe_over(group, &None, value, span);
             Ok(Some(span))
         }
-        None => live.see_under(group, &None, value),
+        None => live.observe_under(group, &None, value),
     }
 }
 
@@ -113,7 +113,7 @@ fn wider(value: i64, previous: Option<MinMax>) -> MinMax
 
 impl KnownExtrema {
     ghost use Rattle.far_types.specs.Answers.{extrema_lines};
-    ghost use Rattle.far_extrema.specs.Live.{with_room, HasRoomFor};
+    ghost use Rattle.far_extrema.specs.Live.{with_reserved, IsReservedFor};
     ghost use Rattle.far_extrema.specs.Spans.{put_span};
 
     /// As `LiveExtrema::new`.
@@ -127,41 +127,41 @@ impl KnownExtrema {
         }
     }
 
-    /// As `LiveExtrema::make_room`.
-    pub fn make_room(&mut self, group: u32)
-        ensures { self.new ≡ record self.old { groups = with_room group self.old.groups } }
+    /// As `LiveExtrema::reserve`.
+    pub fn reserve(&mut self, group: u32)
+        ensures { self.new ≡ record self.old { groups = with_reserved group self.old.groups } }
     {
-        self.live.make_room(group);
+        self.live.reserve(group);
     }
 
-    /// As `LiveExtrema::make_room_for`.
-    pub fn make_room_for(&mut self, group: u32, extrema: &GroupExtrema) -> Result<(), Refusal>
+    /// As `LiveExtrema::reserve_for`.
+    pub fn reserve_for(&mut self, group: u32, extrema: &GroupExtrema) -> Result<(), Refusal>
         ensures left { self.new.left ≡ self.old.left }
-        ensures groups { OnOk result (self.new.groups ≡ with_room group self.old.groups) }
-        ensures room { OnOk result (HasRoomFor extrema.now self.new) }
+        ensures groups { OnOk result (self.new.groups ≡ with_reserved group self.old.groups) }
+        ensures reserved { OnOk result (IsReservedFor extrema.now self.new) }
         ensures err { OnErr result (self.new.groups ≡ self.old.groups) }
         ensures memory { IfErr result (λ e. e ≡ Refusal.NoMemory) }
     {
         make_place(&mut self.plain, group as usize);
-        self.live.make_room_for(group, extrema)
+        self.live.reserve_for(group, extrema)
     }
 
-    /// As `see_under`, for a row under no key: where what stands there is noted, a value within that costs no look-up, and
+    /// As `observe_under`, for a row under no key: where what stands there is noted, a value within that costs no look-up, and
     /// nothing is written.
-    fn see_plain(&mut self, group: u32, value: i64) -> Result<Option<MinMax>, Refusal>
+    fn observe_plain(&mut self, group: u32, value: i64) -> Result<Option<MinMax>, Refusal>
         requires { group < length self.old.groups }
         ensures previous { IfOk result (λ previous. previous ≡ fin.get (group_at self.old.groups group) None) }
-        ensures ok { OnOk result (self.new ≡ record self.old { groups = slice_set self.old.groups group (with_seen (group_at self.old.groups group) (None, value)) }) }
+        ensures ok { OnOk result (self.new ≡ record self.old { groups = slice_set self.old.groups group (with_observed (group_at self.old.groups group) (None, value)) }) }
         ensures err { OnErr result (self.new ≡ self.old) }
         ensures only_new { OnErr result (fin.get (group_at self.old.groups group) None ≡ None) }
         ensures memory { IfErr result (λ e. e ≡ Refusal.NoMemory) }
     {
         let noted = noted_in(self.plain.as_slice(), group as usize);
-        if is_within(value, noted) {
+        if is_within_noted(value, noted) {
             return Ok(noted);
         }
         make_place(&mut self.plain, group as usize);
-        let previous = see_noted(&mut self.live, group, value, noted)?;
+        let previous = observe_noted(&mut self.live, group, value, noted)?;
         note(
             &mut self.plain,
             group as usize,
@@ -170,9 +170,9 @@ impl KnownExtrema {
         Ok(previous)
     }
 
-    /// As `LiveExtrema::see_under`.
+    /// As `LiveExtrema::observe_under`.
     #[inline(always)]
-    pub fn see_under(
+    pub fn observe_under(
         &mut self,
         group: u32,
         key: &Option<Key>,
@@ -180,20 +180,20 @@ impl KnownExtrema {
     ) -> Result<Option<MinMax>, Refusal>
         requires { group < length self.old.groups }
         ensures previous { IfOk result (λ previous. previous ≡ fin.get (group_at self.old.groups group) key.now) }
-        ensures ok { OnOk result (self.new ≡ record self.old { groups = slice_set self.old.groups group (with_seen (group_at self.old.groups group) (key.now, value)) }) }
+        ensures ok { OnOk result (self.new ≡ record self.old { groups = slice_set self.old.groups group (with_observed (group_at self.old.groups group) (key.now, value)) }) }
         ensures err { OnErr result (self.new ≡ self.old) }
         ensures only_new { OnErr result (fin.get (group_at self.old.groups group) key.now ≡ None) }
         ensures memory { IfErr result (λ e. e ≡ Refusal.NoMemory) }
     {
         match key {
-            None => self.see_plain(group, value),
-            Some(_) => self.live.see_under(group, key, value),
+            None => self.observe_plain(group, value),
+            Some(_) => self.live.observe_under(group, key, value),
         }
     }
 
     /// As `LiveExtrema::put_span`.
     pub fn put_span(&mut self, group: u32, key: &Option<Key>, span: Option<MinMax>)
-        requires room { group < length self.old.groups }
+        requires reserved { group < length self.old.groups }
         requires there { fin.get (group_at self.old.groups group) key.now ≢ None }
         ensures { self.new ≡ record self.old { groups = slice_set self.old.groups group (put_span (group_at self.old.groups group) key.now span) } }
     {
@@ -205,7 +205,7 @@ impl KnownExtrema {
 
     /// As `shrink`, for a row under no key: where what stands there is noted, a value strictly within that costs no look-up.
     fn shrink_plain<R: RowsLeft>(&mut self, group: u32, value: i64, rows: &R)
-        requires room { group < length self.old.groups }
+        requires reserved { group < length self.old.groups }
         requires at_hand { R.at_hand rows.now }
         requires previous { fin.get (group_at self.old.groups group) None ≡ Some (widened value (R.extremes rows.now)) }
         ensures { self.new ≡ record self.old { groups = slice_set self.old.groups group (put_span (group_at self.old.groups group) None (R.extremes rows.now)) } }
@@ -221,7 +221,7 @@ impl KnownExtrema {
 
     /// As `LiveExtrema::shrink`.
     pub fn shrink<R: RowsLeft>(&mut self, group: u32, key: &Option<Key>, value: i64, rows: &R)
-        requires room { group < length self.old.groups }
+        requires reserved { group < length self.old.groups }
         requires at_hand { R.at_hand rows.now }
         requires previous { fin.get (group_at self.old.groups group) key.now ≡ Some (widened value (R.extremes rows.now)) }
         ensures { self.new ≡ record self.old { groups = slice_set self.old.groups group (put_span (group_at self.old.groups group) key.now (R.extremes rows.now)) } }
@@ -236,8 +236,8 @@ impl KnownExtrema {
 
     /// As `LiveExtrema::merge`.
     pub fn merge(&mut self, group: u32, extrema: GroupExtrema)
-        requires room { group < length self.old.groups }
-        requires keys { HasRoomFor extrema self.old }
+        requires reserved { group < length self.old.groups }
+        requires keys { IsReservedFor extrema self.old }
         requires new { group_at self.old.groups group ≡ fin.empty }
         requires left { self.old.left ≢ 0 }
         ensures left { self.new.left ≡ self.old.left - 1 }

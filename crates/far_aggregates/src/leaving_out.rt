@@ -1,12 +1,12 @@
 // Pairs that need not be retracted from extrema.
-ghost use Rattle.std.specs.Prelude.{◌≡◌, ◌<ℤ◌, Some, IsTrue, length};
-ghost use Rattle.far_types.specs.Changes.{widened};
-ghost use Rattle.far_aggregates.specs.LeavingOut.{NeedNotGo, IsLeftOut, EachLeftOut};
+ghost use Rattle.std.specs.Prelude.{◌≡◌, Some, IsTrue, length};
+ghost use Rattle.far_types.specs.Effects.{widened};
+ghost use Rattle.far_aggregates.specs.LeavingOut.{NeedNotRetract, IsLeftOut, EachLeftOut};
 
 use super::deltas::Delta;
 use super::pairs::Pair;
 use super::spare_keys::SpareKeys;
-use far_extrema::MinMax;
+use far_extrema::{MinMax, is_strictly_within};
 use far_types::Key;
 
 /// Whether two keys are one.
@@ -29,21 +29,15 @@ fn wide(span: MinMax, pair: &Pair) -> MinMax
     (pair.1.min(span.0), pair.1.max(span.1))
 }
 
-/// Whether the value of a pair is neither the least nor the greatest.
-fn is_inside(pair: &Pair, span: MinMax) -> bool
-    ensures { IsTrue result → (span.0 <ℤ pair.now.1) × (pair.now.1 <ℤ span.1) }
-{
-    span.0 < pair.1 && pair.1 < span.1
-}
-
 /// Whether a pair need not be retracted: its value is strictly within what stands under its key since the delta was applied.
-fn need_not_go(delta: &Option<Delta>, to_retract: &Option<Pair>) -> bool
-    ensures { IsTrue result → NeedNotGo delta.now to_retract.now }
+fn need_not_retract(delta: &Option<Delta>, to_retract: &Option<Pair>) -> bool
+    ensures { IsTrue result → NeedNotRetract delta.now to_retract.now }
 {
     if let Some(delta) = delta {
         if let Some(span) = delta.previous {
             if let Some(pair) = to_retract {
-                return is_inside(pair, wide(span, &delta.pair)) && are_same(&delta.pair.0, &pair.0);
+                return is_strictly_within(pair.1, wide(span, &delta.pair))
+                    && are_same(&delta.pair.0, &pair.0);
             }
         }
     }
@@ -54,7 +48,7 @@ fn need_not_go(delta: &Option<Delta>, to_retract: &Option<Pair>) -> bool
 fn leave_out_one(keys: &mut SpareKeys, delta: &Option<Delta>, to_retract: &mut Option<Pair>)
     ensures { IsLeftOut delta.now to_retract.old to_retract.new }
 {
-    if need_not_go(delta, to_retract) {
+    if need_not_retract(delta, to_retract) {
         if let Some(pair) = to_retract.take() {
             keys.keep(pair);
         }

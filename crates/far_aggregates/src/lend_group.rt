@@ -14,14 +14,14 @@ pub trait LendGroup {
     /// Whether the column of a number is at hand.
     ghost has: { Self → ℕ → Bool };
 
-    /// The column of a number, read where it lies, or `None` where it is not at hand. Its first cells are those of the
-    /// places; others may stand behind them. Takes no memory.
+    /// The column of a number, read where it lies, or `None` if it is not at hand. Its first cells are those of the
+    /// places; others may stand behind them. Allocates nothing.
     fn column(&self, number: u32) -> Option<Column<'_>>
         ensures there { has self.now number ≡ true → IsSome result }
         ensures number { IfSome result (λ column. column.0 ≡ number) }
         ensures cells { IfSome result (IsOfPlaces (places self.now)) };
 
-    /// For each place whether it is alive. Takes no memory.
+    /// For each place whether it is alive. Allocates nothing.
     fn alive(&self) -> &[bool]
         ensures { result.now ≡ map (λ place. place.alive) (places self.now) };
 }

@@ -35,7 +35,7 @@ fn lent<'a, G: LendGroup>(group: &'a G, number: Option<u32>, other: u32) -> Colu
 
 /// The columns that an aggregate needs: that of its value, that of its key and those of its tests, of which there are at
 /// most 4. They lie in an array, so that extrema shrink without memory. What is left of it has the number of the
-/// value's column, which stands first, so that it is never found. Takes no memory.
+/// value's column, which stands first, so that it is never found. Allocates nothing.
 pub fn needed_columns<'a, G: LendGroup>(spec: &Spec, group: &'a G) -> [Column<'a>; 6]
     requires { IsServed (G.has group.now) spec.now }
     ensures { AreAtHand spec.now result (G.places group.now) }
@@ -60,7 +60,7 @@ pub fn has_no_test(spec: &Spec) -> bool
 }
 
 /// The columns that an aggregate without tests needs: that of its value and that of its key. What is left without a key has
-/// the number of the value's column, so that it is never found. Takes no memory.
+/// the number of the value's column, so that it is never found. Allocates nothing.
 #[inline(always)]
 pub fn untested_columns<'a, G: LendGroup>(spec: &Spec, group: &'a G) -> [Column<'a>; 2]
     requires served { IsServed (G.has group.now) spec.now }

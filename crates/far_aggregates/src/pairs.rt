@@ -25,7 +25,7 @@ pub fn give<'a, R: LendCells>(
 {
     match slot {
         None => PairRef::Nothing,
-        Some(aggregate) if aggregate.unbuilt.has(group as usize) => PairRef::Nothing,
+        Some(aggregate) if aggregate.pending.has(group as usize) => PairRef::Nothing,
         Some(aggregate) => aggregate.spec.lend_pair(row),
     }
 }

@@ -16,14 +16,15 @@ pub struct Pending {
 }
 
 impl Pending {
-    /// The row group of the edit. Allocates nothing.
+    /// The row group of the edit. Allocates nothing. It is 0 if `apply_deltas` had no aggregate to change, whichever row
+    /// group the row is of.
     pub fn row_group(&self) -> u32
         ensures { result ≡ self.now.group }
     {
         self.group
     }
 
-    /// Of no edit. Takes no memory.
+    /// Of no edit. Allocates nothing.
     pub(crate) fn nothing(alloc: Global) -> Pending
         ensures applied { result.applied.items ≡ [] }
     {
@@ -34,7 +35,7 @@ impl Pending {
         }
     }
 
-    /// The lists without their pairs, for the next edit. Their text keys become spare ones. Takes no memory.
+    /// The lists without their pairs, for the next edit. Their text keys become spare ones. Allocates nothing.
     pub(crate) fn emptied(self, keys: &mut SpareKeys) -> Pending
         ensures applied { result.applied.items ≡ [] }
         ensures to_retract { result.to_retract.items ≡ [] }

@@ -16,18 +16,18 @@ impl Model for PendingGroups {
 
     ghost Value = { List Bool };
 
-    ghost view = { λ unbuilt. unbuilt.flags.items };
+    ghost view = { λ pending. pending.flags.items };
 
-    ghost invariant = { λ unbuilt. length unbuilt.flags.items < 2 ^ 32 };
+    ghost invariant = { λ pending. length pending.flags.items < 2 ^ 32 };
 }
 
 impl PendingGroups {
-    ghost use Rattle.far_types.specs.Table.{is_unbuilt};
+    ghost use Rattle.far_types.specs.Table.{is_pending};
 
     /// The first `groups` row groups are pending.
     pub fn all(alloc: Global, groups: usize) -> Result<PendingGroups, AllocError>
         requires { groups < 2 ^ 32 }
-        ensures { IfOk result (λ unbuilt. unbuilt ≡ replicate groups true) }
+        ensures { IfOk result (λ pending. pending ≡ replicate groups true) }
     {
         Ok(PendingGroups {
             flags: vec![in alloc; true; groups]?,
@@ -36,7 +36,7 @@ impl PendingGroups {
 
     /// Whether a row group is pending.
     pub fn has(&self, group: usize) -> bool
-        ensures { result ≡ is_unbuilt self.now group }
+        ensures { result ≡ is_pending self.now group }
     {
         match self.flags.get(group) {
             Some(flag) => *flag,
@@ -46,8 +46,8 @@ impl PendingGroups {
 
     /// The first row group that is pending, if there is one.
     pub fn first(&self) -> Option<u32>
-        ensures some { IfSome result (λ g. is_unbuilt self.now g ≡ true) }
-        ensures none { IfNone result ((g : ℕ) → is_unbuilt self.now g ≡ false) }
+        ensures some { IfSome result (λ g. is_pending self.now g ≡ true) }
+        ensures none { IfNone result ((g : ℕ) → is_pending self.now g ≡ false) }
     {
         first_set(self.flags.as_slice())
     }

@@ -3,20 +3,20 @@ ghost use Rattle.std.specs.Prelude.{◌≡◌, ◌<◌, ◌≤◌, ℕ, List, So
 ghost use Rattle.far_types.specs.Table.{Place};
 ghost use Rattle.far_aggregates.specs.Accumulators.{KeepsSlot, registered_in};
 ghost use Rattle.far_aggregates.specs.Readings.{plain_in};
-ghost use Rattle.far_aggregates.specs.Scans.{has_unbuilt};
+ghost use Rattle.far_aggregates.specs.Scans.{has_pending};
 ghost use Rattle.far_aggregates.specs.Aggregates.{joined};
 
 use super::aggregate::{Accumulator, Aggregate};
 
 /// The first row group that is pending, with the lowest number of an aggregate that lacks it.
-pub fn first_unbuilt(slots: &[Option<Aggregate>]) -> Option<(u32, u32)>
+pub fn first_pending(slots: &[Option<Aggregate>]) -> Option<(u32, u32)>
     requires { length slots.now ≤ 32 }
-    ensures some { IfSome result (λ at. has_unbuilt at.1 (joined (slice_get slots.now at.0)) ≡ true) }
-    ensures none { IfNone result ((a : ℕ) → (g : ℕ) → has_unbuilt g (joined (slice_get slots.now a)) ≡ false) }
+    ensures some { IfSome result (λ at. has_pending at.1 (joined (slice_get slots.now at.0)) ≡ true) }
+    ensures none { IfNone result ((a : ℕ) → (g : ℕ) → has_pending g (joined (slice_get slots.now a)) ≡ false) }
 {
     for i in 0..slots.len() {
         if let Some(aggregate) = &slots[i] {
-            if let Some(group) = aggregate.unbuilt.first() {
+            if let Some(group) = aggregate.pending.first() {
                 return Some((i as u32, group));
             }
         }

@@ -1,7 +1,7 @@
 // An aggregate that is computed from scratch, out of what its row groups come to.
 ghost use Rattle.std.specs.Prelude.{◌≡◌, ◌<◌, ◌≤◌, ◌^◌, ℕ, List, Some, true, false, length, slice_set, OnOk, IfOk, IfErr};
 ghost use Rattle.far_types.specs.Answers.{answer_over};
-ghost use Rattle.far_types.specs.Table.{Place, groups, is_unbuilt, rows_of};
+ghost use Rattle.far_types.specs.Table.{Place, groups, is_pending, rows_of};
 ghost use Rattle.far_aggregates.specs.Accumulators.{KeepsSlot};
 ghost use Rattle.far_aggregates.specs.Recounting.{partial_at, partials_from};
 
@@ -21,15 +21,15 @@ fn merge_next(
     partial: PartialDone,
 ) -> Result<(), Refusal>
     requires size { 0 < size }
-    requires unbuilt { is_unbuilt aggregate.old.unbuilt number ≡ true }
+    requires pending { is_pending aggregate.old.pending number ≡ true }
     requires may { (places : List Place) × (length places ≤ 2 ^ 24) × (partial ≡ partial_at aggregate.old.spec size places number) × KeepsSlot size places (Some aggregate.old) }
     ensures spec { OnOk result (aggregate.new.spec ≡ aggregate.old.spec) }
-    ensures unbuilt { OnOk result (aggregate.new.unbuilt ≡ slice_set aggregate.old.unbuilt number false) }
+    ensures pending { OnOk result (aggregate.new.pending ≡ slice_set aggregate.old.pending number false) }
     ensures kept { OnOk result ((places : List Place) → partial ≡ partial_at aggregate.old.spec size places number → KeepsSlot size places (Some aggregate.old) → KeepsSlot size places (Some aggregate.new)) }
     ensures memory { IfErr result (λ e. e ≡ Refusal.NoMemory) }
 {
     merge_in(&mut aggregate.accumulator, number, partial)?;
-    aggregate.unbuilt.clear(number as usize);
+    aggregate.pending.clear(number as usize);
     Ok(())
 }
 

@@ -1,7 +1,7 @@
 // Aggregates under their numbers.
 ghost use Rattle.std.specs.Prelude.{◌≡◌, ◌<◌, ◌≤◌, ◌+◌, ◌^◌, ℕ, List, Some, None, true, length, replicate, slice_get, slice_set, IfOk, IfErr, IfSome, OnOk, OnErr};
 ghost use Rattle.std.specs.Option.{option_copied};
-ghost use Rattle.far_types.specs.Table.{Place, groups, is_unbuilt};
+ghost use Rattle.far_types.specs.Table.{Place, groups, is_pending};
 ghost use Rattle.far_aggregates.specs.Accumulators.{Keeps, KeepsSlot, KeepsNothing, fold_of, registered_in, registered_of};
 ghost use Rattle.far_aggregates.specs.Aggregates.{free_from, joined};
 
@@ -76,10 +76,10 @@ pub fn new_aggregate(
     ensures memory { IfErr result (λ e. e ≡ Refusal.NoMemory) }
 {
     let groups = group_count(size, places);
-    let unbuilt = PendingGroups::all(alloc, groups)?;
+    let pending = PendingGroups::all(alloc, groups)?;
     Ok(Aggregate {
         registration,
-        unbuilt,
+        pending,
         accumulator: nothing_kept(alloc, spec.fold, groups as u32),
         spec,
     })

@@ -2,7 +2,7 @@
 ghost use Rattle.std.specs.Prelude.{◌≡◌, ◌≤◌, ◌<◌, [], Some, false, length, map, slice_get, slice_set};
 ghost use Rattle.std.specs.FinMap as fin;
 ghost use Rattle.far_types.specs.Answers.{extrema};
-ghost use Rattle.far_types.specs.Changes.{widened};
+ghost use Rattle.far_types.specs.Effects.{widened};
 ghost use Rattle.far_extrema.specs.Live.{group_at};
 ghost use Rattle.far_extrema.specs.Spans.{put_span};
 ghost use Rattle.far_aggregates.specs.Accumulators.{pairs_here, registered_in};
@@ -45,7 +45,7 @@ impl<'a, G: LendGroup> RowsLeft for Left<'a, G> {
 
     ghost extremes = { λ left. fin.get (extrema (pairs_here left.spec.now (G.places left.group.now))) left.key.now };
 
-    /// It is not inlined, so that its callers make no room for columns that mostly are not looked at.
+    /// It is not inlined, so that its callers keep no stack space for columns that mostly are not looked at.
     #[inline(never)]
     fn span(&self) -> Option<MinMax> {
         span_left(self.spec, self.group, self.key)

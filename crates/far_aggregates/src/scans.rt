@@ -2,13 +2,13 @@
 ghost use Rattle.std.specs.Prelude.{◌≡◌, ◌≢◌, ◌-◌, ◌<◌, ◌≤◌, ◌^◌, ℕ, List, true, length, slice_get, slice_set, IfOk, OnOk, OnErr, IfErr};
 ghost use Rattle.far_types.specs.declared.spec.Fold.TheVariants as folds;
 ghost use Rattle.far_types.specs.Answers.{totals};
-ghost use Rattle.far_types.specs.Changes.{joined_totals};
+ghost use Rattle.far_types.specs.Effects.{joined_totals};
 ghost use Rattle.far_types.specs.Table.{Place, in_group};
 ghost use Rattle.far_groups.specs.Live.{CanJoin};
 ghost use Rattle.far_offload.specs.Partials.{partial_of};
 ghost use Rattle.far_aggregates.specs.Accumulators.{KeepsSlot, Keeps, fold_of, pairs_here, registered_in, registered_of};
 ghost use Rattle.far_aggregates.specs.Lending.{IsServed, SlotIsServed};
-ghost use Rattle.far_aggregates.specs.Scans.{built_slot, has_unbuilt, IsScanned, IsSame, AccumulatorMayScan, SlotMayBuild};
+ghost use Rattle.far_aggregates.specs.Scans.{scanned_slot, has_pending, IsScanned, IsSame, AccumulatorMayScan, SlotMayBuild};
 ghost use Rattle.far_aggregates.specs.Aggregates.{joined};
 ghost use Rattle.far_aggregates.specs.Recounting.{AccumulatorMayMerge, IsMerged};
 
@@ -54,7 +54,7 @@ pub fn merge_in(
         Accumulator::Extrema(live) => match partial {
             PartialDone::Totals(_) => unreachable!(),
             PartialDone::Extrema(extrema) => {
-                live.make_room_for(number, &extrema)?;
+                live.reserve_for(number, &extrema)?;
                 live.merge(number, extrema);
                 Ok(())
             }
@@ -116,10 +116,10 @@ fn build_in<G: LendGroup>(
     number: u32,
 ) -> Result<(), Refusal>
     requires size { 0 < size }
-    requires unbuilt { has_unbuilt number slot.old ≡ true }
+    requires pending { has_pending number slot.old ≡ true }
     requires served { SlotIsServed (G.has group.now) (registered_in slot.old) }
     requires may { SlotMayBuild size number (G.places group.now) slot.old }
-    ensures registered { OnOk result (registered_in slot.new ≡ built_slot number (registered_in slot.old)) }
+    ensures registered { OnOk result (registered_in slot.new ≡ scanned_slot number (registered_in slot.old)) }
     ensures kept { (places : List Place) → G.places group.now ≡ in_group size number places → KeepsSlot size places slot.old → KeepsSlot size places slot.new }
     ensures unchanged { OnErr result (registered_in slot.new ≡ registered_in slot.old) }
     ensures memory { IfErr result (λ e. e ≡ Refusal.NoMemory) }
@@ -132,7 +132,7 @@ fn build_in<G: LendGroup>(
             group,
             number,
         )?;
-        aggregate.unbuilt.clear(number as usize);
+        aggregate.pending.clear(number as usize);
     }
     Ok(())
 }
@@ -148,10 +148,10 @@ pub fn build_at<G: LendGroup>(
     number: u32,
 ) -> Result<(), Refusal>
     requires size { 0 < size }
-    requires unbuilt { has_unbuilt number (joined (slice_get slots.old.items a)) ≡ true }
+    requires pending { has_pending number (joined (slice_get slots.old.items a)) ≡ true }
     requires served { SlotIsServed (G.has group.now) (registered_in (joined (slice_get slots.old.items a))) }
     requires may { SlotMayBuild size number (G.places group.now) (joined (slice_get slots.old.items a)) }
-    ensures registered { OnOk result (registered_of slots.new.items ≡ slice_set (registered_of slots.old.items) a (built_slot number (registered_in (joined (slice_get slots.old.items a))))) }
+    ensures registered { OnOk result (registered_of slots.new.items ≡ slice_set (registered_of slots.old.items) a (scanned_slot number (registered_in (joined (slice_get slots.old.items a))))) }
     ensures kept { (places : List Place) → G.places group.now ≡ in_group size number places → Keeps size places slots.old.items → Keeps size places slots.new.items }
     ensures unchanged { OnErr result (registered_of slots.new.items ≡ registered_of slots.old.items) }
     ensures memory { IfErr result (λ e. e ≡ Refusal.NoMemory) }

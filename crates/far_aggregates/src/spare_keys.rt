@@ -1,5 +1,5 @@
 // The memory of text keys, from one edit to the next.
-ghost use Rattle.std.specs.Prelude.{◌≡◌, ◌<◌, ◌≤◌, ◌++◌, [], Some, IfOk, IfErr, vec_len, vec_capacity};
+ghost use Rattle.std.specs.Prelude.{◌≡◌, ◌↔◌, ◌<◌, ◌≤◌, ◌++◌, [], Some, IsTrue, IfOk, IfErr, vec_len, vec_capacity};
 ghost use Rattle.far_types.specs.declared.key.Key.TheVariants as keys;
 ghost use Rattle.far_aggregates.specs.SpareKeys.{text_key};
 
@@ -20,7 +20,7 @@ pub struct SpareKeys {
 }
 
 impl SpareKeys {
-    /// No key. Takes no memory.
+    /// No key. Allocates nothing.
     pub fn new(alloc: Global) -> SpareKeys
         ensures { result.keys.items ≡ [] }
     {
@@ -42,7 +42,14 @@ impl SpareKeys {
         CellRef::Text(text).key(self.alloc, earlier)
     }
 
-    /// Keeps the key of a pair that is needed no more, if it is a text and the list has capacity for it. Takes no memory.
+    // Whether a key can be kept. Before the first text key none can, and then no pair is looked at.
+    fn has_capacity(&self) -> bool
+        ensures { IsTrue result ↔ (vec_len self.now.keys < vec_capacity self.now.keys) }
+    {
+        self.keys.len() < self.keys.capacity()
+    }
+
+    /// Keeps the key of a pair that is needed no more, if it is a text and the list has capacity for it. Allocates nothing.
     pub fn keep(&mut self, pair: Pair)
         ensures kept { vec_len self.old.keys < vec_capacity self.old.keys → self.new.keys.items ≡ self.old.keys.items ++ text_key pair.0 }
         ensures full { vec_capacity self.old.keys ≤ vec_len self.old.keys → self.new.keys.items ≡ self.old.keys.items }
@@ -60,6 +67,10 @@ impl SpareKeys {
     pub fn keep_deltas(&mut self, applied: &mut Vec<Option<Delta>>)
         ensures { applied.new.items ≡ [] }
     {
+        if !self.has_capacity() {
+            applied.clear();
+            return;
+        }
         while let Some(delta) = applied.pop() {
             if let Some(Delta { pair, .. }) = delta {
                 self.keep(pair);
@@ -71,6 +82,10 @@ impl SpareKeys {
     pub fn keep_pairs(&mut self, to_retract: &mut Vec<Option<Pair>>)
         ensures { to_retract.new.items ≡ [] }
     {
+        if !self.has_capacity() {
+            to_retract.clear();
+            return;
+        }
         while let Some(pair) = to_retract.pop() {
             if let Some(pair) = pair {
                 self.keep(pair);

@@ -1,5 +1,5 @@
 // Tests of far_groups and far_extrema: what no clause says, that calls succeed with ample memory, worked examples, and
-// what a refused growth leaves.
+// what a failed allocation leaves.
 //
 // What is tested is made in one place and lent to the function that plays the case, so no way out of that drops it.
 mod extrema;

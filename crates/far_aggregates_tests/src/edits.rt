@@ -1,4 +1,4 @@
-// Tests of far_aggregates: edits that take no memory.
+// Tests of far_aggregates: edits that allocate nothing.
 ghost use Rattle.std.specs.Prelude.{◌≡◌, ◌+◌, ◌<◌, ◌^◌, [], List, length, IfOk, OnOk};
 ghost use Rattle.far_types.specs.Table.{Place};
 ghost use Rattle.far_aggregates.specs.Accumulators.{Keeps};
@@ -60,7 +60,7 @@ fn append(
 
 static ANN: Sale = Sale { name: "ann" };
 
-/// Whether a second row under a name takes no memory. The first one alone may be refused for want of memory.
+/// Whether a second row under a name allocates nothing. The first one alone may be refused for lack of memory.
 fn knows_a_name(alloc: Global, aggregates: &mut Aggregates) -> Result<bool, Refusal>
     requires { Keeps 4 [] aggregates.old }
 {

@@ -1,15 +1,14 @@
 // A script that is read, and what is said of the faults that end one.
 use crate::cases::{Case, all_are_right, must_be};
-use far_script::{Input, Output, ShellFault};
+use far_script::{Input, Output, ShellFault, Source};
 use far_types::Refusal;
 use std::alloc::Global;
-use std::io::Read;
 
 /// Two lines, which come at one read.
 const SCRIPT: &[u8] = b"schema 4 int\ninsert 1\n";
 
 /// How many reads and bytes are left of a script once two lines and its end were read.
-fn left_behind<R: Read + Drop>(
+fn left_behind<R: Source + Drop>(
     input: &mut Input<R>,
     output: &mut Output,
     replies: &mut Vec<u8>,
@@ -43,7 +42,10 @@ impl Case for Printed {
 }
 
 static FAULTS: [Printed; 5] = [
-    Printed(ShellFault::BadStart, "the first command opens no table"),
+    Printed(
+        ShellFault::BadStart,
+        "the first command opens no table and asks for no sessions",
+    ),
     Printed(ShellFault::Input, "the script could not be read"),
     Printed(ShellFault::Output, "the replies could not be written"),
     Printed(ShellFault::Memory, "the shell is out of memory"),

@@ -2,6 +2,7 @@
 mod aggregates;
 mod answers;
 mod clones;
+mod examples;
 mod lent;
 mod limits;
 mod pairs;

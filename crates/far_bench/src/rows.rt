@@ -1,7 +1,7 @@
 // Rows over objects that are all local: they are pushed, their numbers set, and their cells, rows and row groups read.
 ghost use Rattle.std.specs.Prelude.{◌≡◌, length, false, None, Some, OnOk, IfOk, option_map, slice_get};
 ghost use Rattle.far_types.specs.Cells.{is_too_long};
-ghost use Rattle.far_rows.specs.Slots.{kind_of};
+ghost use Rattle.far_rows.specs.ColumnIndexes.{kind_of};
 ghost use Rattle.far_rows.specs.Opening.{numbers_from, texts_from};
 ghost use Rattle.far_rows.specs.Refusing.{push_refusal};
 ghost use Rattle.far_rows.specs.Setting.{cell_of, kind_in, set_refusal};
@@ -120,7 +120,7 @@ fn push_all<S: FarTickets>(alloc: Global, rows: &mut Rows<S>, row: &NewRow, coun
 fn may_set<S: FarTickets>(rows: &Rows<S>, place: usize, value: &NewCell) -> Result<(), Refusal>
     requires of_numbers { kind_in value.now ≡ Kind.Int }
     requires short { is_too_long (cell_of value.now) ≡ false }
-    ensures of_kind { OnOk result (option_map kind_of (slice_get rows.now.slots 0) ≡ Some (kind_in value.now)) }
+    ensures of_kind { OnOk result (option_map kind_of (slice_get rows.now.column_indexes 0) ≡ Some (kind_in value.now)) }
     ensures free { OnOk result (set_refusal S.content rows.now 0 place value.now ≡ None) }
 {
     let Some(Kind::Int) = rows.kind(0) else {

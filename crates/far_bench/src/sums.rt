@@ -13,7 +13,7 @@ use std::alloc::Global;
 const LIMITS: ObjectLimits = ObjectLimits {
     segments: 32,
     size: 65_536,
-    changes: u64::MAX,
+    max_writes: u64::MAX,
     leavings: u64::MAX,
 };
 

@@ -5,6 +5,8 @@ use boxcar::slot::{OnceSlot, SlotRule, Written};
 use boxcar::tag::Tag;
 use far_store::{Engine, Failure};
 use std::alloc::{AllocError, Global};
+use std::error::Error;
+use std::fmt;
 use std::marker::Model;
 use std::sync::atomic::{AtomicUsize, Ordering};
 
@@ -12,7 +14,7 @@ use std::sync::atomic::{AtomicUsize, Ordering};
 /// for each byte that it can hold.
 ///
 /// A write takes its slots in one atomic step and then fills them, so threads share the log with no lock. A write that does
-/// not fit fails with [`LogFull`] and takes none. Reading never fails but for want of memory.
+/// not fit fails with [`LogFull`] and takes none. Reading never fails unless memory runs out.
 #[derive(Drop)]
 pub struct ByteLog {
     slots: Vec<OnceSlot<u8, AnyByte>>,
@@ -41,6 +43,19 @@ pub struct Extent {
 #[derive(Drop, Debug)]
 pub struct LogFull;
 
+/// Prints a sentence, without a full stop.
+impl fmt::Display for LogFull {
+    ghost use Rattle.std.specs.Prelude.{Some, codes};
+
+    ghost output = { λ _. Some (codes "the log has no room for so many bytes") };
+
+    fn fmt<W: fmt::Write>(&self, f: &mut fmt::Formatter<W>) -> fmt::Result {
+        f.write_str("the log has no room for so many bytes")
+    }
+}
+
+impl Error for LogFull {}
+
 // A slot takes any byte.
 pub struct AnyByte;
 
@@ -49,7 +64,7 @@ impl SlotRule<u8> for AnyByte {
 }
 
 impl ByteLog {
-    /// An empty log for so many bytes. Refused for want of memory alone.
+    /// An empty log for so many bytes. Refused for lack of memory alone.
     pub fn new(alloc: Global, size: usize) -> Result<ByteLog, AllocError>
         ensures { IfOk result (λ log. length log ≡ size) }
     {
@@ -61,14 +76,14 @@ impl ByteLog {
         })
     }
 
-    /// How many bytes the log can hold. Takes no memory.
+    /// How many bytes the log can hold. Allocates nothing.
     pub fn size(&self) -> usize
         ensures { result ≡ length self.now }
     {
         self.slots.len()
     }
 
-    /// How many bytes are in use, those of a write that is under way among them. Takes no memory.
+    /// How many bytes are in use, those of a write that is under way among them. Allocates nothing.
     pub fn used(&self) -> usize {
         self.used.load(Ordering::SeqCst)
     }
@@ -130,7 +145,7 @@ impl Engine for ByteLog {
 
     ghost written = { λ key. map (λ token. token.value) key.written.items };
 
-    ghost name = { λ log. log };
+    ghost engine_id = { λ log. log };
 
     ghost is_of = { λ key name. (i : ℕ) → IfSome (slice_get key.written.items i) (λ token. slice_get name (key.offset + i) ≡ Some token.of) };
 

@@ -6,7 +6,7 @@ use Rattle.std.proofs.lemmas.List.{length-append, length-map, get_or-map, map-ap
 use Rattle.std.proofs.lemmas.List.Folds.{flat_map-map}
 use Rattle.std.proofs.lemmas.Grind.{flat_map-append}
 use Rattle.far_types.specs.FormLengths.{text_bytes}
-use Rattle.far_codec.specs.Changes.{with_text}
+use Rattle.far_codec.specs.Effects.{with_text}
 use Rattle.far_codec.specs.TextForm.{bytes_of, bytes_before, ends_of, texts_of, ends_in, AreTextParts}
 use Rattle.far_codec.specs.TextLaws.{Texts, length-ends_of, end_at, start_at, before_le, text_bytes_is, length-texts_of}
 use Rattle.far_codec.proofs.ChangedForms.{moved, ends_dropped, ends_with, body_with, behind_is}

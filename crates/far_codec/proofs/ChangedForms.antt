@@ -7,7 +7,7 @@ use Rattle.std.proofs.lemmas.List.{length-append, length-map, length-take, get_o
 use Rattle.std.proofs.lemmas.List.FromFn.{take-map-range_with_len}
 use Rattle.std.proofs.lemmas.Grind.{flat_map-append}
 use Rattle.std.proofs.Math.Seq.{take-append-add}
-use Rattle.far_codec.specs.Changes.{with_text}
+use Rattle.far_codec.specs.Effects.{with_text}
 use Rattle.far_codec.specs.Reading.{is_missing, flags_of}
 use Rattle.far_codec.specs.TextForm.{bytes_of, bytes_before, ends_of, texts_of}
 use Rattle.far_codec.specs.TextLaws.{Texts, length-ends_of, end_at}

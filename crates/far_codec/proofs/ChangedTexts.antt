@@ -7,7 +7,7 @@ use Rattle.std.specs.Str.{IsUtf8}
 use Rattle.std.proofs.lemmas.List.{take_all, drop_all, set_split}
 use Rattle.std.proofs.lemmas.List.Elements.{All-append, All-cons, All-take, All-drop}
 use Rattle.far_types.specs.FormLengths.{texts_length}
-use Rattle.far_codec.specs.Changes.{with_text}
+use Rattle.far_codec.specs.Effects.{with_text}
 use Rattle.far_codec.specs.FarForm.{head}
 use Rattle.far_codec.specs.TextForm.{bytes_of, ends_of, texts_form, AreTexts}
 use Rattle.far_codec.specs.TextLaws.{Texts}

@@ -1,5 +1,5 @@
 pub mod BytesLaws
-pub mod Changes
+pub mod Effects
 pub mod FarForm
 pub mod Forms
 pub mod Lent

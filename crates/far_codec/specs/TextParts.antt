@@ -1,4 +1,5 @@
 -- What makes ends and text bytes those of texts, one fact after the other.
+-- Internal: no public contract cites it.
 use Rattle.std.specs.Prelude.{◌≡◌, ℕ, ◌<◌, ◌≤◌, true, List, ◌∷◌, length, slice_index, slice_range}
 use Rattle.std.specs.Str.{IsUtf8}
 use Rattle.far_codec.specs.Reading.{is_missing}

@@ -4,7 +4,7 @@ ghost use Rattle.std.specs.List.{flat_map, list_any};
 ghost use Rattle.std.specs.Int.{w32, to_le_bytes};
 ghost use Rattle.std.specs.Str.{IsUtf8};
 ghost use Rattle.far_types.specs.FormLengths.{text_bytes, texts_length};
-ghost use Rattle.far_codec.specs.Changes.{with_text};
+ghost use Rattle.far_codec.specs.Effects.{with_text};
 ghost use Rattle.far_codec.specs.TextForm.{bytes_of, ends_of, texts_of, ends_in, texts_meaning, AreTexts, AreTextParts, IsTextsForm};
 
 use crate::flags::ChangedFlags;
@@ -65,9 +65,21 @@ fn push_fields(
     Ok(())
 }
 
-/// The far form of the texts of which text `i` is this one. It has so many bytes.
+/// A list that is needed no more, without its bytes and with room for so many. It allocates only if it has not the room.
+#[inline(always)]
+fn emptied(spare: Vec<u8>, size: usize) -> Result<Vec<u8>, Refusal>
+    ensures items { IfOk result (λ list. list.items ≡ []) }
+    ensures memory { IfErr result (λ e. e ≡ Refusal.NoMemory) }
+{
+    let mut list = spare;
+    list.clear();
+    list.reserve(size)?;
+    Ok(list)
+}
+
+/// The far form of the texts of which text `i` is this one, in the memory of a list that is needed no more. It has so many bytes.
 fn form_around(
-    alloc: Global,
+    spare: Vec<u8>,
     parts: TextParts<'_>,
     i: usize,
     text: &Option<Text>,
@@ -89,16 +101,16 @@ fn form_around(
         i,
         missing: text.is_none(),
     };
-    let mut form = Vec::with_capacity(alloc, size)?;
+    let mut form = emptied(spare, size)?;
     push_head(&mut form, 1, &flags)?;
     push_fields(&mut form, parts, i, text)?;
     Ok(form)
 }
 
-/// The far form of texts once a text stands behind them, where none is missing. It has so many bytes. Each part is copied
-/// as it lies, and the head alone is another.
+/// The far form of texts once a text stands behind them, where none is missing, in the memory of a list that is needed no more.
+/// It has so many bytes. Each part is copied as it lies, and the head alone is another.
 fn form_behind(
-    alloc: Global,
+    spare: Vec<u8>,
     parts: TextParts<'_>,
     text: &Option<Text>,
     size: usize,
@@ -116,7 +128,7 @@ fn form_behind(
     let count = (parts.ends.len() + 1).to_le_bytes();
     let bytes = bytes_in(text);
     let end = parts.body.len() + bytes.len();
-    let mut form = Vec::with_capacity(alloc, size)?;
+    let mut form = emptied(spare, size)?;
     form.extend_from_slice(&[1, 1, count[0], count[1], count[2], count[3]])?;
     form.extend_from_slice(parts.ends.as_flattened())?;
     form.extend_from_slice(&(end as u32).to_le_bytes())?;
@@ -142,7 +154,7 @@ pub fn form_with(
     ensures memory { IfErr result (λ e. e ≡ Refusal.NoMemory) }
 {
     form_around(
-        alloc,
+        Vec::new(alloc),
         known_parts(form),
         i,
         text,
@@ -150,9 +162,9 @@ pub fn form_with(
     )
 }
 
-/// The far form of texts once this text stands behind the others: one pass over the old form, one allocation. Refused
-/// with `NoMemory` (1) alone.
-pub fn form_with_next(alloc: Global, form: &[u8], text: &Option<Text>) -> Result<Vec<u8>, Refusal>
+/// The far form of texts once this text stands behind the others: one pass over the old form. It is made in the memory of a list
+/// that is needed no more, and allocates only if that has not the room. Refused with `NoMemory` (1) alone.
+pub fn form_with_next(spare: Vec<u8>, form: &[u8], text: &Option<Text>) -> Result<Vec<u8>, Refusal>
     requires form { IsTextsForm form.now }
     requires room { texts_length (texts_meaning form.now ++ text.now ∷ []) < 2 ^ 32 }
     ensures form { IfOk result (λ new. IsTextsForm new.items) }
@@ -163,13 +175,13 @@ pub fn form_with_next(alloc: Global, form: &[u8], text: &Option<Text>) -> Result
     let parts = known_parts(form);
     let size = length_with_next(form, text);
     if form[0] == 1 && text.is_some() {
-        return form_behind(alloc, parts, text, size);
+        return form_behind(spare, parts, text, size);
     }
-    form_around(alloc, parts, parts.ends.len(), text, size)
+    form_around(spare, parts, parts.ends.len(), text, size)
 }
 
-/// The far form of one text. Refused with `NoMemory` (1) alone.
-pub fn form_of(alloc: Global, text: &Option<Text>) -> Result<Vec<u8>, Refusal>
+/// The far form of one text, in the memory of a list that is needed no more. Refused with `NoMemory` (1) alone.
+pub fn form_of(spare: Vec<u8>, text: &Option<Text>) -> Result<Vec<u8>, Refusal>
     requires { texts_length (text.now ∷ []) < 2 ^ 32 }
     ensures form { IfOk result (λ new. IsTextsForm new.items) }
     ensures texts { IfOk result (λ new. texts_meaning new.items ≡ text.now ∷ []) }
@@ -182,7 +194,7 @@ pub fn form_of(alloc: Global, text: &Option<Text>) -> Result<Vec<u8>, Refusal>
         body: &[],
     };
     form_around(
-        alloc,
+        spare,
         none,
         0,
         text,

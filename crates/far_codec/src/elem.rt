@@ -28,7 +28,7 @@ pub trait Elem: Copy + Drop + Send + Sync {
         ensures spelled { IfOk result (λ bytes. IsSpelled in_range has_spelling spelling view.now bytes.items) }
         ensures memory { IfErr result (λ e. e ≡ Refusal.NoMemory) };
 
-    /// The list that the bytes spell, and `None` where they spell none. Refused with `NoMemory` (1) alone.
+    /// The list that the bytes spell, and `None` if they spell none. Refused with `NoMemory` (1) alone.
     fn unspell(alloc: Global, bytes: &[u8]) -> Result<Option<Vec<Self>>, Refusal>
         // What is read is spelled so.
         ensures found { IfOk result (λ read. IfSome read (λ list. IsSpelled in_range has_spelling spelling list.items bytes.now)) }
@@ -36,7 +36,7 @@ pub trait Elem: Copy + Drop + Send + Sync {
         ensures only { (list : List Self) → IsSpelled in_range has_spelling spelling list bytes.now → IfOk result (λ read. option_map (λ found. found.items) read ≡ Some list) }
         ensures memory { IfErr result (λ e. e ≡ Refusal.NoMemory) };
 
-    /// Whether the bytes are the spelling of the list. Takes no memory, and stops at the first difference.
+    /// Whether the bytes are the spelling of the list. Allocates nothing, and stops at the first difference.
     fn spells(bytes: &[u8], view: &[Self]) -> bool
         ensures exact { IsTrue result ↔ (bytes.now ≡ spelling view.now) }
         ensures range { IsTrue result → All in_range view.now };

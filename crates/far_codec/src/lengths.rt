@@ -9,7 +9,7 @@ use crate::text_forms::{bytes_in, known_parts};
 use crate::texts::text_in;
 use far_types::Text;
 
-/// How many bytes a text has that is lent; none where it is missing.
+/// How many bytes a text has that is lent; none if it is missing.
 fn lent_length(text: Option<&str>) -> usize
     ensures { result ≡ length (bytes_of (option_copied text.entry)) }
 {

@@ -29,7 +29,7 @@ impl<'a> Model for LentInts<'a> {
 }
 
 impl<'a> LentInts<'a> {
-    /// The numbers of a far form of numbers. Takes no memory, and looks at the head alone.
+    /// The numbers of a far form of numbers. Allocates nothing, and looks at the head alone.
     fn new(form: &'a [u8]) -> LentInts<'a>
         requires { IsIntsForm form.now }
         ensures { result ≡ ints_meaning form.now }
@@ -41,7 +41,7 @@ impl<'a> LentInts<'a> {
         LentInts { mask, words }
     }
 
-    /// Number `i`; `None` where it is missing, and past the end. Takes no memory.
+    /// Number `i`; `None` if it is missing, and past the end. Allocates nothing.
     pub fn get(&self, i: usize) -> Option<i64>
         ensures number { result ≡ option_and_then (λ number. number) (slice_get self.now i) }
         ensures fits { IfSome result (FitsSigned w64) }
@@ -71,7 +71,7 @@ impl<'a> Model for LentTexts<'a> {
 }
 
 impl<'a> LentTexts<'a> {
-    /// The texts of a far form of texts. Takes no memory, and looks at the head alone.
+    /// The texts of a far form of texts. Allocates nothing, and looks at the head alone.
     fn new(form: &'a [u8]) -> LentTexts<'a>
         requires { IsTextsForm form.now }
         ensures { result ≡ texts_meaning form.now }
@@ -81,7 +81,7 @@ impl<'a> LentTexts<'a> {
         }
     }
 
-    /// Text `i`, lent in place; `None` where it is missing, and past the end. Takes no memory.
+    /// Text `i`, lent in place; `None` if it is missing, and past the end. Allocates nothing.
     pub fn get(&self, i: usize) -> Option<&'a str>
         ensures { option_copied result ≡ option_and_then (λ text. text) (slice_get self.now i) }
     {
@@ -96,7 +96,7 @@ pub enum LentValues<'a> {
     Texts(LentTexts<'a>),
 }
 
-/// The values of bytes that are known to be a far form. Takes no memory, and looks at the head alone.
+/// The values of bytes that are known to be a far form. Allocates nothing, and looks at the head alone.
 pub fn lend_values(form: &[u8]) -> LentValues<'_>
     requires { IsForm form.now }
     ensures { result ≡ lent_in form.now }

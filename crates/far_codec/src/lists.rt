@@ -19,7 +19,7 @@ impl Model for IntList {
 }
 
 impl IntList {
-    /// The list of these numbers. Takes no memory.
+    /// The list of these numbers. Allocates nothing.
     pub fn new(numbers: Vec<Option<i64>>) -> IntList
         ensures { result ≡ numbers.items }
     {
@@ -33,7 +33,7 @@ impl IntList {
         self.numbers.as_slice()
     }
 
-    /// The numbers. Takes no memory.
+    /// The numbers. Allocates nothing.
     pub fn into_vec(self) -> Vec<Option<i64>>
         ensures { result.items ≡ self }
     {
@@ -56,7 +56,7 @@ impl Model for TextList {
 }
 
 impl TextList {
-    /// The list of these texts. Takes no memory.
+    /// The list of these texts. Allocates nothing.
     pub fn new(texts: Vec<Option<Text>>) -> TextList
         ensures { result ≡ texts.items }
     {
@@ -70,7 +70,7 @@ impl TextList {
         self.texts.as_slice()
     }
 
-    /// The texts. Takes no memory.
+    /// The texts. Allocates nothing.
     pub fn into_vec(self) -> Vec<Option<Text>>
         ensures { result.items ≡ self }
     {

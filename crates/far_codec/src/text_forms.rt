@@ -12,7 +12,7 @@ use crate::texts::{TextParts, split_texts, text_in};
 use far_types::{Refusal, Text};
 use std::alloc::{AllocError, Global};
 
-/// The bytes of a text, lent in place; none where it is missing.
+/// The bytes of a text, lent in place; none if it is missing.
 pub(crate) fn bytes_in(text: &Option<Text>) -> &[u8]
     ensures bytes { result.now ≡ bytes_of text.now }
     ensures utf8 { IfSome text.now IsUtf8 }
@@ -83,8 +83,8 @@ pub fn encode_texts(alloc: Global, texts: &[Option<Text>]) -> Result<Vec<u8>, Re
     Ok(form)
 }
 
-/// Text `i` of the texts that the bytes are the far form of, lent in place; `None` where the bytes are none, past
-/// the end, and where text `i` is missing. Takes no memory.
+/// Text `i` of the texts that the bytes are the far form of, lent in place; `None` if the bytes are none, past
+/// the end, and where text `i` is missing. Allocates nothing.
 pub fn text_at(bytes: &[u8], i: usize) -> Option<&str>
     ensures found { IfSome result (λ text. IsTextsForm bytes.now × (slice_get (texts_meaning bytes.now) i ≡ Some (Some text.now))) }
     ensures only { IsTextsForm bytes.now → option_copied result ≡ option_and_then (λ text. text) (slice_get (texts_meaning bytes.now) i) }
@@ -116,7 +116,7 @@ pub(crate) fn known_parts(form: &[u8]) -> TextParts<'_>
     TextParts { mask, ends, body }
 }
 
-/// How many texts a far form of texts has. Takes no memory, and looks at the head alone.
+/// How many texts a far form of texts has. Allocates nothing, and looks at the head alone.
 pub fn count_texts(form: &[u8]) -> usize
     requires { IsTextsForm form.now }
     ensures { result ≡ length (texts_meaning form.now) }
@@ -124,7 +124,7 @@ pub fn count_texts(form: &[u8]) -> usize
     known_parts(form).ends.len()
 }
 
-/// Text `i` of a far form of texts, lent in place; `None` past the end, and where it is missing. Takes no memory,
+/// Text `i` of a far form of texts, lent in place; `None` past the end, and where it is missing. Allocates nothing,
 /// and looks at the head, one bit of the mask and two ends alone.
 pub fn text_of(form: &[u8], i: usize) -> Option<&str>
     requires { IsTextsForm form.now }

@@ -123,7 +123,7 @@ pub(crate) fn split_texts(bytes: &[u8]) -> Option<TextParts<'_>>
     Some(TextParts { mask, ends, body })
 }
 
-/// Text `i` of a form that was parted, lent in place; `None` where it is missing, and past the end.
+/// Text `i` of a form that was parted, lent in place; `None` if it is missing, and past the end.
 pub(crate) fn text_in<'a>(parts: TextParts<'a>, i: usize) -> Option<&'a str>
     requires { AreTextParts parts.mask.now (ends_in parts.ends.now) parts.body.now }
     ensures { option_copied result ≡ option_and_then (λ text. text) (slice_get (texts_of parts.entry.mask.now (ends_in parts.entry.ends.now) parts.entry.body.now) i) }

@@ -17,7 +17,7 @@ pub enum Values {
     Texts(TextList),
 }
 
-/// The values that the bytes are the far form of; `None` where they are none. Refused with `NoMemory` (1) alone.
+/// The values that the bytes are the far form of; `None` if they are none. Refused with `NoMemory` (1) alone.
 pub fn decode(alloc: Global, bytes: &[u8]) -> Result<Option<Values>, Refusal>
     // What is read has these bytes as its form.
     ensures found { IfOk result (λ read. IfSome read (λ values. HaveForm values × (bytes.now ≡ form_of values))) }
@@ -34,7 +34,7 @@ pub fn decode(alloc: Global, bytes: &[u8]) -> Result<Option<Values>, Refusal>
     Ok(None)
 }
 
-/// The kind of the values that the bytes are the far form of; `None` where they are none. Takes no memory.
+/// The kind of the values that the bytes are the far form of; `None` if they are none. Allocates nothing.
 pub fn kind_of(bytes: &[u8]) -> Option<Kind>
     ensures ints { (result ≡ Some Kind.Int) ↔ IsIntsForm bytes.now }
     ensures texts { (result ≡ Some Kind.Text) ↔ IsTextsForm bytes.now }

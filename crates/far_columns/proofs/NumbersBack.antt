@@ -10,65 +10,65 @@ use Rattle.std.proofs.lemmas.List.Kept.{AllPairs-cons}
 use Rattle.std.proofs.lemmas.Nat.{div-mul-add}
 use Rattle.far_scopes.specs.Memory.{at_of}
 use Rattle.far_scopes.specs.Movement.{Movement, ChangesObject, is_local, pins_of}
-use Rattle.far_scopes.specs.Effects.{uncreated}
-use Rattle.far_vector.specs.Vector.{Vector, IsShaped, IsVector, AreApart, IsUntouched, elements, object_at}
+use Rattle.far_scopes.specs.Effects.{after_uncreate}
+use Rattle.far_vector.specs.Vector.{Vector, IsShaped, IsVector, AreDisjoint, IsUntouched, elements, object_at}
 use Rattle.far_vector.specs.Vectors.{AreVectors, ChangesVector}
-use Rattle.far_vector.specs.Effects.{is_full, pushed, pushed_in, unpushed}
+use Rattle.far_vector.specs.Effects.{is_full, after_push, pushed_in, after_unpush}
 use Rattle.far_columns.specs.NumbersTogether.{NumberLists, NumberColumns, KeepsNumbers}
 use Rattle.far_columns.specs.NumbersBack.{KeepsBelow, IsBegun, AreBegunFrom, AreBegunLast, all_uncreated}
-use Rattle.far_columns.proofs.NumbersTogether.{pairs-head, pairs-tail, apart-turned}
+use Rattle.far_columns.proofs.NumbersTogether.{pairs-head, pairs-tail, disjoint-turned}
 use Rattle.far_columns.proofs.NumbersBegun.{one-more, alone, last}
 
 -- all but the first
-pub beside-tail : (lists : NumberLists) (c : Vector (Option ℤ)) (rest : NumberColumns) → AreVectors lists (c ∷ rest) → AreVectors lists rest
-beside-tail lists c rest beside = record { each = All-tail (IsVector lists) c rest beside.each; apart = pairs-tail AreApart c rest beside.apart }
+pub all_disjoint-tail : (lists : NumberLists) (c : Vector (Option ℤ)) (rest : NumberColumns) → AreVectors lists (c ∷ rest) → AreVectors lists rest
+all_disjoint-tail lists c rest all_disjoint = record { each = All-tail (IsVector lists) c rest all_disjoint.each; disjoint = pairs-tail AreDisjoint c rest all_disjoint.disjoint }
 
 map-same : {X Y : Type 0} (f h : X → Y) (xs : List X) → All (λ x. h x ≡ f x) xs → map h xs ≡ map f xs
 map-same f h [] same = refl
 map-same f h (x ∷ xs) same = ap (λ y. y ∷ map h xs) (All-head (λ x. h x ≡ f x) x xs same) ∙ ap (λ l. f x ∷ l) (map-same f h xs (All-tail (λ x. h x ≡ f x) x xs same))
 
-module _ (old mid new : NumberLists) (c c' : Vector (Option ℤ)) (rest rest' : NumberColumns) (beside : AreVectors old (c ∷ rest)) (after : AreVectors mid rest') (keeps : KeepsNumbers old mid rest rest') where
-  apart-first : All (λ r. AreApart r c) rest
-  apart-first k d below = apart-turned c (get_or rest k d) (pairs-head AreApart c rest beside.apart k d below)
+module _ (old mid new : NumberLists) (c c' : Vector (Option ℤ)) (rest rest' : NumberColumns) (all_disjoint : AreVectors old (c ∷ rest)) (after : AreVectors mid rest') (keeps : KeepsNumbers old mid rest rest') where
+  disjoint-first : All (λ r. AreDisjoint r c) rest
+  disjoint-first k d below = disjoint-turned c (get_or rest k d) (pairs-head AreDisjoint c rest all_disjoint.disjoint k d below)
 
   -- the first once the others are changed
   pub first-stays : IsVector mid c
-  first-stays = keeps.is c (All-head (IsVector old) c rest beside.each) apart-first
+  first-stays = keeps.is c (All-head (IsVector old) c rest all_disjoint.each) disjoint-first
 
   -- and once it is changed too
   module _ (first : ChangesVector mid new c c') where
     other : (k : ℕ) (d : Vector (Option ℤ)) → k < length rest' → IsUntouched mid new c' (get_or rest' k d)
-    other k d below = first.others (get_or rest' k d) (after.each k d below) (apart-turned (get_or rest' k d) c (keeps.apart c (All-head (IsVector old) c rest beside.each) apart-first k d below))
+    other k d below = first.others (get_or rest' k d) (after.each k d below) (disjoint-turned (get_or rest' k d) c (keeps.disjoint c (All-head (IsVector old) c rest all_disjoint.each) disjoint-first k d below))
 
-    pub beside-back : AreVectors new (c' ∷ rest')
-    beside-back = record {
+    pub all_disjoint-back : AreVectors new (c' ∷ rest')
+    all_disjoint-back = record {
       each = All-cons (IsVector new) c' rest' first.is (λ k d below. (other k d below).is);
-      apart = AllPairs-cons AreApart c' rest' (λ k d below. (other k d below).apart) after.apart;
+      disjoint = AllPairs-cons AreDisjoint c' rest' (λ k d below. (other k d below).disjoint) after.disjoint;
     }
 
     -- the numbers but the last of each
     pub numbers-back : elements new c' ≡ take (c.len - 1) (elements mid c) → map (elements mid) rest' ≡ map (λ d. take (d.len - 1) (elements old d)) rest → map (elements new) (c' ∷ rest') ≡ map (λ d. take (d.len - 1) (elements old d)) (c ∷ rest)
     numbers-back here others =
-        ap (λ l. l ∷ map (elements new) rest') (here ∙ ap (take (c.len - 1)) (keeps.numbers c (All-head (IsVector old) c rest beside.each) apart-first))
+        ap (λ l. l ∷ map (elements new) rest') (here ∙ ap (take (c.len - 1)) (keeps.numbers c (All-head (IsVector old) c rest all_disjoint.each) disjoint-first))
         ∙ ap (λ l. take (c.len - 1) (elements old c) ∷ l) (map-same (elements mid) (elements new) rest' (λ k d below. (other k d below).elements) ∙ others)
 
     pub keeps-back : KeepsNumbers old new (c ∷ rest) (c' ∷ rest')
     keeps-back = record {
-      is = λ w is apart. (first-of w is apart).is;
-      numbers = λ w is apart. (first-of w is apart).elements ∙ keeps.numbers w is (All-tail (λ r. AreApart r w) c rest apart);
-      apart = λ w is apart. All-cons (λ r. AreApart r w) c' rest' (first-of w is apart).apart (keeps.apart w is (All-tail (λ r. AreApart r w) c rest apart));
+      is = λ w is disjoint. (first-of w is disjoint).is;
+      numbers = λ w is disjoint. (first-of w is disjoint).elements ∙ keeps.numbers w is (All-tail (λ r. AreDisjoint r w) c rest disjoint);
+      disjoint = λ w is disjoint. All-cons (λ r. AreDisjoint r w) c' rest' (first-of w is disjoint).disjoint (keeps.disjoint w is (All-tail (λ r. AreDisjoint r w) c rest disjoint));
     }
       where
-        first-of : (w : Vector (Option ℤ)) → IsVector old w → All (λ r. AreApart r w) (c ∷ rest) → IsUntouched mid new c' w
-        first-of w is apart = first.others w (keeps.is w is (All-tail (λ r. AreApart r w) c rest apart)) (All-head (λ r. AreApart r w) c rest apart)
+        first-of : (w : Vector (Option ℤ)) → IsVector old w → All (λ r. AreDisjoint r w) (c ∷ rest) → IsUntouched mid new c' w
+        first-of w is disjoint = first.others w (keeps.is w is (All-tail (λ r. AreDisjoint r w) c rest disjoint)) (All-head (λ r. AreDisjoint r w) c rest disjoint)
 
 -- with a number less each they are of one length and one size still
-pub even-back : (columns : NumberColumns) → AllPairs (λ c d. (c.size ≡ d.size) × (c.len ≡ d.len)) columns → AllPairs (λ c d. (c.size ≡ d.size) × (c.len ≡ d.len)) (map unpushed columns)
-even-back [] even = even
-even-back (c ∷ rest) even =
-    AllPairs-cons (λ c d. (c.size ≡ d.size) × (c.len ≡ d.len)) (unpushed c) (map unpushed rest)
-    (All-map (λ d. (c.size ≡ d.size) × (c.len - 1 ≡ d.len)) unpushed rest (λ k d below. let pair = pairs-head (λ c d. (c.size ≡ d.size) × (c.len ≡ d.len)) c rest even k d below in (pair.0, ap (λ l. l - 1) pair.1)))
-    (even-back rest (pairs-tail (λ c d. (c.size ≡ d.size) × (c.len ≡ d.len)) c rest even))
+pub same_length-back : (columns : NumberColumns) → AllPairs (λ c d. (c.size ≡ d.size) × (c.len ≡ d.len)) columns → AllPairs (λ c d. (c.size ≡ d.size) × (c.len ≡ d.len)) (map after_unpush columns)
+same_length-back [] same_length = same_length
+same_length-back (c ∷ rest) same_length =
+    AllPairs-cons (λ c d. (c.size ≡ d.size) × (c.len ≡ d.len)) (after_unpush c) (map after_unpush rest)
+    (All-map (λ d. (c.size ≡ d.size) × (c.len - 1 ≡ d.len)) after_unpush rest (λ k d below. let pair = pairs-head (λ c d. (c.size ≡ d.size) × (c.len ≡ d.len)) c rest same_length k d below in (pair.0, ap (λ l. l - 1) pair.1)))
+    (same_length-back rest (pairs-tail (λ c d. (c.size ≡ d.size) × (c.len ≡ d.len)) c rest same_length))
 
 module _ {K : Type 0} where
   pub length-uncreated : (n : ℕ) (m : Movement (Option ℤ) K) → length (all_uncreated n m).entries ≡ length m.entries - n
@@ -112,13 +112,13 @@ module _ {K : Type 0} where
         begun-kept (length mid.entries) m mid keeps (length mid.entries - 1) (omega (arith, all, left)) c (subst (λ o. IsBegun m o c) number begun.0)
 
 -- the object of a row group that is begun
-pub object-begun : (c : Vector (Option ℤ)) (n : ℕ) → IsShaped c → is_full c ≡ true → object_at (pushed c n) c.len ≡ n
+pub object-begun : (c : Vector (Option ℤ)) (n : ℕ) → IsShaped c → is_full c ≡ true → object_at (after_push c n) c.len ≡ n
 object-begun c n shaped full =
     let places : c.len ≡ length c.objects * c.size + 0 = omega (arith, eqb-true c.len (length c.objects * c.size) full) in
     let group : length c.objects ≡ c.len / c.size = sym (ap (λ l. l / c.size) places ∙ div-mul-add (length c.objects) c.size 0 shaped.some) in
     rw full (get_or_push c.objects n 0 (c.len / c.size) group)
 
-module _ {K : Type 0} (m mid new : Movement (Option ℤ) K) (c c' : Vector (Option ℤ)) (x : Option ℤ) (shaped : IsShaped c) (full : is_full c ≡ true) (is : c' ≡ pushed c (length m.entries)) (written : mid ≡ pushed_in m c x) (others : ChangesObject m mid (object_at c' c.len)) (keeps : KeepsBelow (length mid.entries) mid new) where
+module _ {K : Type 0} (m mid new : Movement (Option ℤ) K) (c c' : Vector (Option ℤ)) (x : Option ℤ) (shaped : IsShaped c) (full : is_full c ≡ true) (is : c' ≡ after_push c (length m.entries)) (written : mid ≡ pushed_in m c x) (others : ChangesObject m mid (object_at c' c.len)) (keeps : KeepsBelow (length mid.entries) mid new) where
   more : length mid.entries ≡ length m.entries + 1
   more = one-more m mid c c' x full is written
 
@@ -140,8 +140,8 @@ module _ {K : Type 0} (m mid new : Movement (Option ℤ) K) (c c' : Vector (Opti
       (begun-kept (length mid.entries) mid new keeps (length m.entries) (omega (arith, more)) c' first, subst (λ o. AreBegunFrom new o rest') more begun)
 
   -- taking all back gives what was there
-  pub undone-all : (rest rest' : NumberColumns) → (unpushed c' ≡ c) × (uncreated mid ≡ m) → (map unpushed rest' ≡ rest) × (all_uncreated (length rest) new ≡ mid) → (map unpushed (c' ∷ rest') ≡ c ∷ rest) × (all_uncreated (length (c ∷ rest)) new ≡ m)
+  pub undone-all : (rest rest' : NumberColumns) → (after_unpush c' ≡ c) × (after_uncreate mid ≡ m) → (map after_unpush rest' ≡ rest) × (all_uncreated (length rest) new ≡ mid) → (map after_unpush (c' ∷ rest') ≡ c ∷ rest) × (all_uncreated (length (c ∷ rest)) new ≡ m)
   undone-all rest rest' first others = (
-    ap (λ d. d ∷ map unpushed rest') first.0 ∙ ap (λ l. c ∷ l) others.0,
-    ap uncreated others.1 ∙ first.1,
+    ap (λ d. d ∷ map after_unpush rest') first.0 ∙ ap (λ l. c ∷ l) others.0,
+    ap after_uncreate others.1 ∙ first.1,
   )

@@ -9,20 +9,20 @@ use Rattle.far_scopes.proofs.WordPlaces.{slice_get-push_last}
 use Rattle.far_types.specs.declared.refusal.Refusal.{Refusal}
 use Rattle.far_types.specs.declared.refusal.Refusal.TheVariants as refusal
 use Rattle.far_types.specs.FirstOf.{first_of}
-use Rattle.far_log.specs.Room.{spaces_of, lowest_for, fits_in, fit_in_order}
+use Rattle.far_log.specs.RegionState.{spaces_of, lowest_for, fits_in, fit_in_order}
 use Rattle.far_scopes.specs.Movement.{Movement}
-use Rattle.far_scopes.specs.Effects.{created, new_entry}
-use Rattle.far_scopes.specs.Refusing.{no_room, write_refusal}
+use Rattle.far_scopes.specs.Effects.{after_create, new_entry}
+use Rattle.far_scopes.specs.Refusing.{no_space, write_refusal}
 use Rattle.far_vector.specs.Vector.{Vector, IsShaped, object_at}
-use Rattle.far_vector.specs.Effects.{is_full, pushed, pushed_in, next_name, next_group, range_written}
+use Rattle.far_vector.specs.Effects.{is_full, after_push, pushed_in, next_name, next_group, range_written}
 use Rattle.far_vector.specs.Refusing.{push_refusal}
 use Rattle.far_columns.specs.NumbersTogether.{NumberColumns}
 
-module _ {K : Type 0} (m mid : Movement (Option ℤ) K) (c c' : Vector (Option ℤ)) (x : Option ℤ) (full : is_full c ≡ true) (is : c' ≡ pushed c (length m.entries)) (written : mid ≡ pushed_in m c x) where
+module _ {K : Type 0} (m mid : Movement (Option ℤ) K) (c c' : Vector (Option ℤ)) (x : Option ℤ) (full : is_full c ≡ true) (is : c' ≡ after_push c (length m.entries)) (written : mid ≡ pushed_in m c x) where
   -- there is an object more
   pub one-more : length mid.entries ≡ length m.entries + 1
   one-more =
-      ap (λ w. length w.entries) (written ∙ ap (λ (b : Bool). cond b (created m (next_name c) (next_group c x)) (range_written m c c.len (x ∷ []))) full)
+      ap (λ w. length w.entries) (written ∙ ap (λ (b : Bool). cond b (after_create m (next_name c) (next_group c x)) (range_written m c c.len (x ∷ []))) full)
       ∙ length_push m.entries (new_entry (next_name c) (length (next_group c x)))
 
   longer : c' ≡ record c { objects = c.objects ++ length m.entries ∷ []; len = c.len + 1 }
@@ -68,18 +68,18 @@ none-fits spaces n ns full = on-none (λ i. fit_in_order (slice_set spaces i (sl
 
 -- why the first of several is refused
 module _ {K : Type 0} (m : Movement (Option ℤ) K) (c : Vector (Option ℤ)) (lens : List ℕ) (full : is_full c ≡ true) where
-  due : push_refusal m c ≡ first_of (no_room m (length m.entries) c.size ∷ [])
-  due = ap (λ (b : Bool). cond b (first_of (no_room m (length m.entries) c.size ∷ [])) (write_refusal m (object_at c c.len))) full
+  due : push_refusal m c ≡ first_of (no_space m (length m.entries) c.size ∷ [])
+  due = ap (λ (b : Bool). cond b (first_of (no_space m (length m.entries) c.size ∷ [])) (write_refusal m (object_at c c.len))) full
 
   room-due : (e : Refusal) (fits : Bool) → first_of ((not fits, refusal.RegionFull) ∷ []) ≡ Some e → (e ≡ refusal.RegionFull) × (fits ≡ false)
   room-due e true is = absurd cc
   room-due e false is = (cc, refl)
 
   pub first-refused : (e : Refusal) → (push_refusal m c ≡ Some e) ⊎ ((push_refusal m c ≡ None) × (is_full c ≡ true) × (e ≡ refusal.NoMemory))
-      → ((e ≡ refusal.RegionFull) × (fit_in_order (spaces_of m.memory.room) (c.size ∷ lens) ≡ false)) ⊎ (e ≡ refusal.NoMemory)
+      → ((e ≡ refusal.RegionFull) × (fit_in_order (spaces_of m.memory.state) (c.size ∷ lens) ≡ false)) ⊎ (e ≡ refusal.NoMemory)
   first-refused e (inl some) =
-      let why = room-due e (fits_in m.memory.room c.size) (sym due ∙ some) in
-      inl (why.0, none-fits (spaces_of m.memory.room) c.size lens why.1)
+      let why = room-due e (fits_in m.memory.state c.size) (sym due ∙ some) in
+      inl (why.0, none-fits (spaces_of m.memory.state) c.size lens why.1)
   first-refused e (inr rest) = inr rest.2
 
 -- why the others are refused

@@ -4,20 +4,20 @@ use Rattle.std.specs.Prelude.{All}
 use Rattle.std.proofs.lemmas.List.Elements.{All-cons, All-head, All-tail}
 use Rattle.std.proofs.lemmas.List.Kept.{AllPairs-cons}
 use Rattle.far_scopes.specs.Movement.{Movement, ChangesObject}
-use Rattle.far_vector.specs.Vector.{Vector, IsShaped, IsVector, AreApart, IsUntouched, elements, object_at}
+use Rattle.far_vector.specs.Vector.{Vector, IsShaped, IsVector, AreDisjoint, IsUntouched, elements, object_at}
 use Rattle.far_vector.specs.Vectors.{AreVectors, ChangesVector}
 use Rattle.far_vector.specs.Effects.{is_full, pushed_in}
 use Rattle.far_vector.specs.Refusing.{push_refusal}
 use Rattle.far_columns.specs.Numbers.{Numbers}
 use Rattle.far_columns.specs.NumbersTogether.{NumberLists, NumberColumns, all_numbers_with, KeepsNumbers}
-use Rattle.far_columns.proofs.NumbersTogether.{pairs-head, pairs-tail, apart-turned, next-apart, push-free, free-push, write-other, changes-same}
+use Rattle.far_columns.proofs.NumbersTogether.{pairs-head, pairs-tail, disjoint-turned, next-disjoint, push-free, free-push, write-other, changes-same}
 
 pub first-has : {X : Type 0} (P : X → Type 0) (x : X) (xs ys : List X) → ys ≡ x ∷ xs → All P ys → P x
 first-has P x xs ys is all = All-head P x xs (subst (All P) is all)
 
 -- nothing changes
 pub same-numbers : (lists : NumberLists) (columns : NumberColumns) → KeepsNumbers lists lists columns columns
-same-numbers lists columns = record { is = λ w is _. is; numbers = λ w is _. refl; apart = λ w is apart. apart }
+same-numbers lists columns = record { is = λ w is _. is; numbers = λ w is _. refl; disjoint = λ w is disjoint. disjoint }
 
 -- the numbers with one more, of columns whose numbers are the same
 pub numbers-with-same : (old new : NumberLists) (columns : NumberColumns) (numbers : Numbers) → All (λ c. elements new c ≡ elements old c) columns → all_numbers_with new columns numbers ≡ all_numbers_with old columns numbers
@@ -27,40 +27,40 @@ numbers-with-same old new (c ∷ columns) (x ∷ numbers) same =
     ap (λ l. (l ++ x ∷ []) ∷ all_numbers_with new columns numbers) (All-head (λ d. elements new d ≡ elements old d) c columns same)
     ∙ ap (λ l. (elements old c ++ x ∷ []) ∷ l) (numbers-with-same old new columns numbers (All-tail (λ d. elements new d ≡ elements old d) c columns same))
 
-module _ (old mid : NumberLists) (c c' : Vector (Option ℤ)) (rest : NumberColumns) (beside : AreVectors old (c ∷ rest)) (first : ChangesVector old mid c c') where
+module _ (old mid : NumberLists) (c c' : Vector (Option ℤ)) (rest : NumberColumns) (all_disjoint : AreVectors old (c ∷ rest)) (first : ChangesVector old mid c c') where
   -- the others once the first is changed
   module _ (k : ℕ) (d : Vector (Option ℤ)) (below : k < length rest) where
     rest-is : IsVector old (get_or rest k d)
-    rest-is = All-tail (IsVector old) c rest beside.each k d below
+    rest-is = All-tail (IsVector old) c rest all_disjoint.each k d below
 
-    pub rest-apart : AreApart c (get_or rest k d)
-    rest-apart = pairs-head AreApart c rest beside.apart k d below
+    pub rest-disjoint : AreDisjoint c (get_or rest k d)
+    rest-disjoint = pairs-head AreDisjoint c rest all_disjoint.disjoint k d below
 
     pub untouched : IsUntouched old mid c' (get_or rest k d)
-    untouched = first.others (get_or rest k d) rest-is rest-apart
+    untouched = first.others (get_or rest k d) rest-is rest-disjoint
 
-  pub beside-rest : AreVectors mid rest
-  beside-rest = record { each = λ k d below. (untouched k d below).is; apart = pairs-tail AreApart c rest beside.apart }
+  pub all_disjoint-rest : AreVectors mid rest
+  all_disjoint-rest = record { each = λ k d below. (untouched k d below).is; disjoint = pairs-tail AreDisjoint c rest all_disjoint.disjoint }
 
-  module _ (new : NumberLists) (rest' : NumberColumns) (beside' : AreVectors new rest') (keeps : KeepsNumbers mid new rest rest') where
-    rest-from-first : All (λ r. AreApart r c') rest
-    rest-from-first k d below = apart-turned c' (get_or rest k d) (untouched k d below).apart
+  module _ (new : NumberLists) (rest' : NumberColumns) (all_disjoint' : AreVectors new rest') (keeps : KeepsNumbers mid new rest rest') where
+    rest-from-first : All (λ r. AreDisjoint r c') rest
+    rest-from-first k d below = disjoint-turned c' (get_or rest k d) (untouched k d below).disjoint
 
-    pub beside-all : AreVectors new (c' ∷ rest')
-    beside-all = record {
-      each = All-cons (IsVector new) c' rest' (keeps.is c' first.is rest-from-first) beside'.each;
-      apart = AllPairs-cons AreApart c' rest' (λ k d below. apart-turned (get_or rest' k d) c' (keeps.apart c' first.is rest-from-first k d below)) beside'.apart;
+    pub all_disjoint-all : AreVectors new (c' ∷ rest')
+    all_disjoint-all = record {
+      each = All-cons (IsVector new) c' rest' (keeps.is c' first.is rest-from-first) all_disjoint'.each;
+      disjoint = AllPairs-cons AreDisjoint c' rest' (λ k d below. disjoint-turned (get_or rest' k d) c' (keeps.disjoint c' first.is rest-from-first k d below)) all_disjoint'.disjoint;
     }
 
     pub keeps-all : KeepsNumbers old new (c ∷ rest) (c' ∷ rest')
     keeps-all = record {
-      is = λ w is apart. let mine = first-of w is apart in keeps.is w mine.is (All-tail (λ r. AreApart r w) c rest apart);
-      numbers = λ w is apart. let mine = first-of w is apart in keeps.numbers w mine.is (All-tail (λ r. AreApart r w) c rest apart) ∙ mine.elements;
-      apart = λ w is apart. let mine = first-of w is apart in All-cons (λ r. AreApart r w) c' rest' mine.apart (keeps.apart w mine.is (All-tail (λ r. AreApart r w) c rest apart));
+      is = λ w is disjoint. let mine = first-of w is disjoint in keeps.is w mine.is (All-tail (λ r. AreDisjoint r w) c rest disjoint);
+      numbers = λ w is disjoint. let mine = first-of w is disjoint in keeps.numbers w mine.is (All-tail (λ r. AreDisjoint r w) c rest disjoint) ∙ mine.elements;
+      disjoint = λ w is disjoint. let mine = first-of w is disjoint in All-cons (λ r. AreDisjoint r w) c' rest' mine.disjoint (keeps.disjoint w mine.is (All-tail (λ r. AreDisjoint r w) c rest disjoint));
     }
       where
-        first-of : (w : Vector (Option ℤ)) → IsVector old w → All (λ r. AreApart r w) (c ∷ rest) → IsUntouched old mid c' w
-        first-of w is apart = first.others w is (All-head (λ r. AreApart r w) c rest apart)
+        first-of : (w : Vector (Option ℤ)) → IsVector old w → All (λ r. AreDisjoint r w) (c ∷ rest) → IsUntouched old mid c' w
+        first-of w is disjoint = first.others w is (All-head (λ r. AreDisjoint r w) c rest disjoint)
 
     pub numbers-all : (x : Option ℤ) (numbers : Numbers) → elements mid c' ≡ elements old c ++ x ∷ [] → map (elements new) rest' ≡ all_numbers_with mid rest numbers → map (elements new) (c' ∷ rest') ≡ all_numbers_with old (c ∷ rest) (x ∷ numbers)
     numbers-all x numbers here others =
@@ -70,12 +70,12 @@ module _ (old mid : NumberLists) (c c' : Vector (Option ℤ)) (rest : NumberColu
 module _ {K : Type 0} (m mid : Movement (Option ℤ) K) (c : Vector (Option ℤ)) (x : Option ℤ) (rest : NumberColumns) (written : mid ≡ pushed_in m c x) (others : ChangesObject m mid (object_at c c.len)) where
   -- the others, whose places may be written, may be still
   pub free-rest : (lists : NumberLists) → AreVectors lists (c ∷ rest) → All IsShaped (c ∷ rest) → All (λ d. is_full d ≡ false) (c ∷ rest) → All (λ d. push_refusal m d ≡ None) (c ∷ rest) → All (λ d. push_refusal mid d ≡ None) rest
-  free-rest lists beside shaped begun free k d below =
+  free-rest lists all_disjoint shaped begun free k d below =
       let w = get_or rest k d in
       let begun_w = All-tail (λ (d : Vector (Option ℤ)). is_full d ≡ false) c rest begun k d below in
       let begun_c = All-head (λ (d : Vector (Option ℤ)). is_full d ≡ false) c rest begun in
-      let apart = pairs-head AreApart c rest beside.apart k d below in
-      let ne = next-apart c w (All-head IsShaped c rest shaped) (All-tail IsShaped c rest shaped k d below) begun_c begun_w apart in
+      let disjoint = pairs-head AreDisjoint c rest all_disjoint.disjoint k d below in
+      let ne = next-disjoint c w (All-head IsShaped c rest shaped) (All-tail IsShaped c rest shaped k d below) begun_c begun_w disjoint in
       let was = All-tail (λ d. push_refusal m d ≡ None) c rest free k d below in
-      let changes : mid.changes ≡ m.changes = ap (λ w. w.changes) written ∙ changes-same m c x in
+      let changes : mid.max_writes ≡ m.max_writes = ap (λ w. w.max_writes) written ∙ changes-same m c x in
       push-free mid w begun_w (sym (write-other m mid (object_at c c.len) (object_at w w.len) others changes ne ∙ free-push m w begun_w was))

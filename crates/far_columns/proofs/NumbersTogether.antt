@@ -11,17 +11,17 @@ use Rattle.far_pointer.specs.declared.pointer.Pointer.{Pointer}
 use Rattle.far_types.specs.declared.refusal.Refusal.{Refusal}
 use Rattle.far_types.specs.declared.refusal.Refusal.TheVariants as refusal
 use Rattle.far_types.specs.FirstOf.{first_of}
-use Rattle.far_scopes.specs.declared.entry.Entry.{Entry}
+use Rattle.far_scopes.specs.declared.object_record.ObjectRecord.{ObjectRecord}
 use Rattle.far_scopes.specs.Memory.{at_of}
 use Rattle.far_scopes.specs.Movement.{Movement, ChangesObject}
-use Rattle.far_scopes.specs.Refusing.{absent, written_out, write_refusal, no_room}
+use Rattle.far_scopes.specs.Refusing.{absent, written_out, write_refusal, no_space}
 use Rattle.far_scopes.proofs.Pins.{length-with}
-use Rattle.far_vector.specs.Vector.{Vector, IsShaped, AreApart, object_at}
-use Rattle.far_vector.specs.Effects.{is_full, pushed, pushed_in}
+use Rattle.far_vector.specs.Vector.{Vector, IsShaped, AreDisjoint, object_at}
+use Rattle.far_vector.specs.Effects.{is_full, after_push, pushed_in}
 use Rattle.far_vector.specs.Refusing.{push_refusal}
 use Rattle.far_scopes.proofs.FirstCases.{first-append, two-free}
 use Rattle.far_scopes.proofs.Alike.{none-pass}
-use Rattle.far_columns.specs.NumbersTogether.{NumberLists, NumberColumns, AreNumberColumns, all_begin, all_pushed, absents, some_written_out, no_room_for_groups, push_numbers_refusal}
+use Rattle.far_columns.specs.NumbersTogether.{NumberLists, NumberColumns, AreNumberColumns, all_begin, all_pushed, absents, some_written_out, no_space_for_groups, push_numbers_refusal}
 
 pub pairs-head : {X : Type 0} (R : X → X → Type 0) (x : X) (xs : List X) → AllPairs R (x ∷ xs) → All (R x) xs
 pairs-head R x xs pairs k d below = pairs 0 (suc k) d (omega arith) (omega (arith, below))
@@ -48,25 +48,25 @@ both-begin c d has other size len begins =
 
 -- a row group that is begun is not full, so a number is pushed where its object may be written
 pub push-free : {K : Type 0} (m : Movement (Option ℤ) K) (v : Vector (Option ℤ)) → is_full v ≡ false → None ≡ write_refusal m (object_at v v.len) → push_refusal m v ≡ None
-push-free m v begun free = ap (λ (b : Bool). cond b (first_of (no_room m (length m.entries) v.size ∷ [])) (write_refusal m (object_at v v.len))) begun ∙ sym free
+push-free m v begun free = ap (λ (b : Bool). cond b (first_of (no_space m (length m.entries) v.size ∷ [])) (write_refusal m (object_at v v.len))) begun ∙ sym free
 
 pub free-push : {K : Type 0} (m : Movement (Option ℤ) K) (v : Vector (Option ℤ)) → is_full v ≡ false → push_refusal m v ≡ None → write_refusal m (object_at v v.len) ≡ None
-free-push m v begun free = sym (ap (λ (b : Bool). cond b (first_of (no_room m (length m.entries) v.size ∷ [])) (write_refusal m (object_at v v.len))) begun) ∙ free
+free-push m v begun free = sym (ap (λ (b : Bool). cond b (first_of (no_space m (length m.entries) v.size ∷ [])) (write_refusal m (object_at v v.len))) begun) ∙ free
 
 -- that is the refusal before other objects change
-abbrev writing : {K : Type 0} → Option Pointer → Option (Entry K) → ℕ → Option Refusal
+abbrev writing : {K : Type 0} → Option Pointer → Option (ObjectRecord K) → ℕ → Option Refusal
 writing word entry changes = first_of (
     (not (is_some (option_and_then at_of word)), option_map_or (λ e. refusal.Absent e.name.column e.name.group) entry refusal.StaleJob)
     ∷ (not (nat_lt (option_map_or (λ e. e.version) entry 0) changes), refusal.EditsUsedUp)
     ∷ [])
 
-pub write-other : {K : Type 0} (old new : Movement (Option ℤ) K) (o p : ℕ) → ChangesObject old new o → new.changes ≡ old.changes → p ≢ o → write_refusal new p ≡ write_refusal old p
-write-other old new o p changes same apart =
-    ap (λ word. writing word (slice_get new.entries p) new.changes) (changes.words p apart)
-    ∙ ap (λ entry. writing (slice_get old.memory.words p) entry new.changes) (changes.entries p apart)
+pub write-other : {K : Type 0} (old new : Movement (Option ℤ) K) (o p : ℕ) → ChangesObject old new o → new.max_writes ≡ old.max_writes → p ≢ o → write_refusal new p ≡ write_refusal old p
+write-other old new o p changes same disjoint =
+    ap (λ word. writing word (slice_get new.entries p) new.max_writes) (changes.words p disjoint)
+    ∙ ap (λ entry. writing (slice_get old.memory.words p) entry new.max_writes) (changes.entries p disjoint)
     ∙ ap (writing (slice_get old.memory.words p) (slice_get old.entries p)) same
 
-pub changes-same : {K : Type 0} (m : Movement (Option ℤ) K) (v : Vector (Option ℤ)) (x : Option ℤ) → (pushed_in m v x).changes ≡ m.changes
+pub changes-same : {K : Type 0} (m : Movement (Option ℤ) K) (v : Vector (Option ℤ)) (x : Option ℤ) → (pushed_in m v x).max_writes ≡ m.max_writes
 changes-same m v x = elim (cases_Bool (is_full v)) [ inl full ↦ rw full refl | inr begun ↦ rw begun refl ]
 
 -- a number more in a row group that is begun makes no object
@@ -74,8 +74,8 @@ pub count-same : {K : Type 0} (m : Movement (Option ℤ) K) (v : Vector (Option 
 count-same m v x begun = rw begun (length-with m.entries (object_at v v.len) (λ entry. record entry { version = entry.version + 1 }))
 
 -- apart either way
-pub apart-turned : (v w : Vector (Option ℤ)) → AreApart v w → AreApart w v
-apart-turned v w apart k d within j e inside same = apart j e inside k d within (sym same)
+pub disjoint-turned : (v w : Vector (Option ℤ)) → AreDisjoint v w → AreDisjoint w v
+disjoint-turned v w disjoint k d within j e inside same = disjoint j e inside k d within (sym same)
 
 -- the object of the next place is one of those that are there
 pub next-within : (v : Vector (Option ℤ)) → IsShaped v → is_full v ≡ false → v.len / v.size < length v.objects
@@ -84,8 +84,8 @@ next-within v shaped begun =
     div_below v.len v.size (length v.objects) shaped.some (omega (arith, shaped.enough, short))
 
 -- two that are begun have different objects for their next places
-pub next-apart : (v w : Vector (Option ℤ)) → IsShaped v → IsShaped w → is_full v ≡ false → is_full w ≡ false → AreApart v w → object_at w w.len ≢ object_at v v.len
-next-apart v w shaped other begun begun_too apart same = apart (v.len / v.size) 0 (next-within v shaped begun) (w.len / w.size) 0 (next-within w other begun_too) (sym same)
+pub next-disjoint : (v w : Vector (Option ℤ)) → IsShaped v → IsShaped w → is_full v ≡ false → is_full w ≡ false → AreDisjoint v w → object_at w w.len ≢ object_at v v.len
+next-disjoint v w shaped other begun begun_too disjoint same = disjoint (v.len / v.size) 0 (next-within v shaped begun) (w.len / w.size) 0 (next-within w other begun_too) (sym same)
 
 -- where a number may be pushed and its row group is begun, no push is refused
 pub none-refused : (due : Option Refusal) (full : Bool) (e : Refusal) → due ≡ None → full ≡ false → (due ≡ Some e) ⊎ ((due ≡ None) × (full ≡ true) × (e ≡ refusal.NoMemory)) → ⊥
@@ -93,51 +93,51 @@ none-refused due full e free begun (inl some) = absurd (let two = sym free ∙ s
 none-refused due full e free begun (inr rest) = absurd (let two = sym begun ∙ rest.1 in cc)
 
 -- a column whose row group is begun, with a number more
-pub begun-same : (c : Vector (Option ℤ)) (n o : ℕ) → is_full c ≡ false → pushed c n ≡ pushed c o
+pub begun-same : (c : Vector (Option ℤ)) (n o : ℕ) → is_full c ≡ false → after_push c n ≡ after_push c o
 begun-same c n o begun = rw begun refl
 
-pub begun-object : (c c' : Vector (Option ℤ)) (n : ℕ) → is_full c ≡ false → c' ≡ pushed c n → object_at c' c.len ≡ object_at c c.len
+pub begun-object : (c c' : Vector (Option ℤ)) (n : ℕ) → is_full c ≡ false → c' ≡ after_push c n → object_at c' c.len ≡ object_at c c.len
 begun-object c c' n begun is = rw (is, begun) refl
 
 -- the columns with a number more each, the first and then the rest
-pub pushed-first : (n k : ℕ) (c c' : Vector (Option ℤ)) (rest rest' columns : NumberColumns) → columns ≡ c ∷ rest → c' ≡ pushed c n → rest' ≡ all_pushed k rest → k ≡ n + 1 → c' ∷ rest' ≡ all_pushed n columns
+pub pushed-first : (n k : ℕ) (c c' : Vector (Option ℤ)) (rest rest' columns : NumberColumns) → columns ≡ c ∷ rest → c' ≡ after_push c n → rest' ≡ all_pushed k rest → k ≡ n + 1 → c' ∷ rest' ≡ all_pushed n columns
 pushed-first n k c c' rest rest' columns is first others step =
-    ap (λ d. d ∷ rest') first ∙ ap (λ l. pushed c n ∷ l) (others ∙ ap (λ i. all_pushed i rest) step) ∙ ap (all_pushed n) (sym is)
+    ap (λ d. d ∷ rest') first ∙ ap (λ l. after_push c n ∷ l) (others ∙ ap (λ i. all_pushed i rest) step) ∙ ap (all_pushed n) (sym is)
 
 -- columns of one table, which all begin row groups or none
 module _ (lists : NumberLists) (columns : NumberColumns) (are : AreNumberColumns lists columns) (shaped : All IsShaped columns) where
   alike : (c d : Vector (Option ℤ)) → IsShaped c → IsShaped d → (c.size ≡ d.size) × (c.len ≡ d.len) → is_full c ≡ true → is_full d ≡ true
-  alike c d one other even = both-begin c d one other even.0 even.1
+  alike c d one other same_length = both-begin c d one other same_length.0 same_length.1
 
   pub none-begin : all_begin columns ≡ false → All (λ (c : Vector (Option ℤ)). is_full c ≡ false) columns
-  none-begin = none-pass is_full IsShaped (λ c d. (c.size ≡ d.size) × (c.len ≡ d.len)) (λ c d even. (sym even.0, sym even.1)) alike columns shaped are.even
+  none-begin = none-pass is_full IsShaped (λ c d. (c.size ≡ d.size) × (c.len ≡ d.len)) (λ c d same_length. (sym same_length.0, sym same_length.1)) alike columns shaped are.same_length
 
 -- with a number more each they are of one length and one size still
-pub pushed-size : (c : Vector (Option ℤ)) (n : ℕ) → (pushed c n).size ≡ c.size
+pub pushed-size : (c : Vector (Option ℤ)) (n : ℕ) → (after_push c n).size ≡ c.size
 pushed-size c n = elim (cases_Bool (is_full c)) [ inl full ↦ rw full refl | inr begun ↦ rw begun refl ]
 
-pub pushed-len : (c : Vector (Option ℤ)) (n : ℕ) → (pushed c n).len ≡ c.len + 1
+pub pushed-len : (c : Vector (Option ℤ)) (n : ℕ) → (after_push c n).len ≡ c.len + 1
 pushed-len c n = elim (cases_Bool (is_full c)) [ inl full ↦ rw full refl | inr begun ↦ rw begun refl ]
 
-even-beside : (c : Vector (Option ℤ)) (k n : ℕ) (rest : NumberColumns) → All (λ d. (c.size ≡ d.size) × (c.len ≡ d.len)) rest → All (λ d. ((pushed c k).size ≡ d.size) × ((pushed c k).len ≡ d.len)) (all_pushed n rest)
-even-beside c k n [] even = All-nil (λ d. ((pushed c k).size ≡ d.size) × ((pushed c k).len ≡ d.len))
-even-beside c k n (d ∷ rest) even =
-    let pair = All-head (λ d. (c.size ≡ d.size) × (c.len ≡ d.len)) d rest even in
-    All-cons (λ d. ((pushed c k).size ≡ d.size) × ((pushed c k).len ≡ d.len)) (pushed d n) (all_pushed (n + 1) rest)
+same_length-all_disjoint : (c : Vector (Option ℤ)) (k n : ℕ) (rest : NumberColumns) → All (λ d. (c.size ≡ d.size) × (c.len ≡ d.len)) rest → All (λ d. ((after_push c k).size ≡ d.size) × ((after_push c k).len ≡ d.len)) (all_pushed n rest)
+same_length-all_disjoint c k n [] same_length = All-nil (λ d. ((after_push c k).size ≡ d.size) × ((after_push c k).len ≡ d.len))
+same_length-all_disjoint c k n (d ∷ rest) same_length =
+    let pair = All-head (λ d. (c.size ≡ d.size) × (c.len ≡ d.len)) d rest same_length in
+    All-cons (λ d. ((after_push c k).size ≡ d.size) × ((after_push c k).len ≡ d.len)) (after_push d n) (all_pushed (n + 1) rest)
     (pushed-size c k ∙ pair.0 ∙ sym (pushed-size d n), pushed-len c k ∙ ap (λ l. l + 1) pair.1 ∙ sym (pushed-len d n))
-    (even-beside c k (n + 1) rest (All-tail (λ d. (c.size ≡ d.size) × (c.len ≡ d.len)) d rest even))
+    (same_length-all_disjoint c k (n + 1) rest (All-tail (λ d. (c.size ≡ d.size) × (c.len ≡ d.len)) d rest same_length))
 
-pub even-pushed : (n : ℕ) (columns : NumberColumns) → AllPairs (λ c d. (c.size ≡ d.size) × (c.len ≡ d.len)) columns → AllPairs (λ c d. (c.size ≡ d.size) × (c.len ≡ d.len)) (all_pushed n columns)
-even-pushed n [] even = even
-even-pushed n (c ∷ rest) even =
-    AllPairs-cons (λ c d. (c.size ≡ d.size) × (c.len ≡ d.len)) (pushed c n) (all_pushed (n + 1) rest)
-    (even-beside c n (n + 1) rest (pairs-head (λ c d. (c.size ≡ d.size) × (c.len ≡ d.len)) c rest even))
-    (even-pushed (n + 1) rest (pairs-tail (λ c d. (c.size ≡ d.size) × (c.len ≡ d.len)) c rest even))
+pub same_length-pushed : (n : ℕ) (columns : NumberColumns) → AllPairs (λ c d. (c.size ≡ d.size) × (c.len ≡ d.len)) columns → AllPairs (λ c d. (c.size ≡ d.size) × (c.len ≡ d.len)) (all_pushed n columns)
+same_length-pushed n [] same_length = same_length
+same_length-pushed n (c ∷ rest) same_length =
+    AllPairs-cons (λ c d. (c.size ≡ d.size) × (c.len ≡ d.len)) (after_push c n) (all_pushed (n + 1) rest)
+    (same_length-all_disjoint c n (n + 1) rest (pairs-head (λ c d. (c.size ≡ d.size) × (c.len ≡ d.len)) c rest same_length))
+    (same_length-pushed (n + 1) rest (pairs-tail (λ c d. (c.size ≡ d.size) × (c.len ≡ d.len)) c rest same_length))
 
 -- the refusals where row groups are begun
 pub due-begun : {K : Type 0} (m : Movement (Option ℤ) K) (columns : NumberColumns) → all_begin columns ≡ false → push_numbers_refusal m columns ≡ option_or (first_of (absents m columns)) (first_of (some_written_out m columns ∷ []))
 due-begun m columns begun =
-    ap (λ (b : Bool). first_of (cond b (no_room_for_groups m columns ∷ []) (absents m columns ++ some_written_out m columns ∷ []))) begun
+    ap (λ (b : Bool). first_of (cond b (no_space_for_groups m columns ∷ []) (absents m columns ++ some_written_out m columns ∷ []))) begun
     ∙ first-append (absents m columns) (some_written_out m columns ∷ [])
 
 -- where no number is refused and the row groups are begun, no push is

@@ -1,7 +1,7 @@
 -- Columns of numbers that began row groups together, and how that is taken back.
 use Rattle.std.specs.Prelude.{◌≡◌, ℕ, zero, suc, ℤ, ◌+◌, ◌-◌, ◌*◌, ◌<◌, true, [], ◌∷◌, length, Option, Some, slice_get}
 use Rattle.far_scopes.specs.Movement.{Movement, is_local, pins_of}
-use Rattle.far_scopes.specs.Effects.{uncreated}
+use Rattle.far_scopes.specs.Effects.{after_uncreate}
 use Rattle.far_vector.specs.Vector.{Vector}
 use Rattle.far_columns.specs.NumbersTogether.{NumberColumns}
 
@@ -30,4 +30,4 @@ module _ {K : Type 0} where
   -- the objects without the last n
   abbrev pub all_uncreated : ℕ → Movement (Option ℤ) K → Movement (Option ℤ) K
   all_uncreated zero m = m
-  all_uncreated (suc n) m = uncreated (all_uncreated n m)
+  all_uncreated (suc n) m = after_uncreate (all_uncreated n m)

@@ -4,12 +4,12 @@ use Rattle.std.specs.List.{list_all, list_any}
 use Rattle.far_types.specs.declared.refusal.Refusal.{Refusal}
 use Rattle.far_types.specs.declared.refusal.Refusal.TheVariants as refusal
 use Rattle.far_types.specs.FirstOf.{first_of}
-use Rattle.far_log.specs.Room.{spaces_of, fit_in_order}
+use Rattle.far_log.specs.RegionState.{spaces_of, fit_in_order}
 use Rattle.far_scopes.specs.Movement.{Movement}
 use Rattle.far_scopes.specs.Refusing.{absent, written_out}
-use Rattle.far_vector.specs.Vector.{Vector, IsVector, AreApart, elements, object_at}
+use Rattle.far_vector.specs.Vector.{Vector, IsVector, AreDisjoint, elements, object_at}
 use Rattle.far_vector.specs.Vectors.{AreVectors}
-use Rattle.far_vector.specs.Effects.{is_full, pushed, pushed_in}
+use Rattle.far_vector.specs.Effects.{is_full, after_push, pushed_in}
 use Rattle.far_columns.specs.Numbers.{Numbers}
 
 -- a list for each object by its number, where it has one
@@ -22,8 +22,8 @@ NumberColumns = List (Vector (Option ℤ))
 
 -- columns of one table: columns of numbers that lie in these lists, of one length and one size of row groups
 pub record AreNumberColumns (lists : NumberLists) (columns : NumberColumns) : Type 0 where
-  pub beside : AreVectors lists columns
-  pub even : AllPairs (λ c d. (c.size ≡ d.size) × (c.len ≡ d.len)) columns
+  pub all_disjoint : AreVectors lists columns
+  pub same_length : AllPairs (λ c d. (c.size ≡ d.size) × (c.len ≡ d.len)) columns
 
 -- whether the next places begin row groups; of such columns, all do or none
 abbrev pub all_begin : NumberColumns → Bool
@@ -32,7 +32,7 @@ all_begin columns = list_all is_full columns
 -- the columns with a number more each; n is the number of the first new object
 abbrev pub all_pushed : ℕ → NumberColumns → NumberColumns
 all_pushed n [] = []
-all_pushed n (c ∷ columns) = pushed c n ∷ all_pushed (n + 1) columns
+all_pushed n (c ∷ columns) = after_push c n ∷ all_pushed (n + 1) columns
 
 -- the numbers of each column with one more behind them
 abbrev pub all_numbers_with : NumberLists → NumberColumns → Numbers → List Numbers
@@ -43,9 +43,9 @@ all_numbers_with lists (c ∷ columns) (number ∷ numbers) = (elements lists c 
 -- every column that has no object in common with one of these stays a column, keeps its numbers, and has none in common
 -- with one of those that they become
 pub record KeepsNumbers (old new : NumberLists) (columns becoming : NumberColumns) : Type 0 where
-  pub is : (w : Vector (Option ℤ)) → IsVector old w → All (λ c. AreApart c w) columns → IsVector new w
-  pub numbers : (w : Vector (Option ℤ)) → IsVector old w → All (λ c. AreApart c w) columns → elements new w ≡ elements old w
-  pub apart : (w : Vector (Option ℤ)) → IsVector old w → All (λ c. AreApart c w) columns → All (λ c. AreApart c w) becoming
+  pub is : (w : Vector (Option ℤ)) → IsVector old w → All (λ c. AreDisjoint c w) columns → IsVector new w
+  pub numbers : (w : Vector (Option ℤ)) → IsVector old w → All (λ c. AreDisjoint c w) columns → elements new w ≡ elements old w
+  pub disjoint : (w : Vector (Option ℤ)) → IsVector old w → All (λ c. AreDisjoint c w) columns → All (λ c. AreDisjoint c w) becoming
 
 module _ {K : Type 0} where
   -- the objects once each column has got a number, one after the other
@@ -64,8 +64,8 @@ module _ {K : Type 0} where
     some_written_out = (list_any (λ c. (written_out m (object_at c c.len)).0) columns, refusal.EditsUsedUp)
 
     -- new row groups, placed in order, do not find room
-    abbrev pub no_room_for_groups : Bool × Refusal
-    no_room_for_groups = (not (fit_in_order (spaces_of m.memory.room) (map (λ c. c.size) columns)), refusal.RegionFull)
+    abbrev pub no_space_for_groups : Bool × Refusal
+    no_space_for_groups = (not (fit_in_order (spaces_of m.memory.state) (map (λ c. c.size) columns)), refusal.RegionFull)
 
     abbrev pub push_numbers_refusal : Option Refusal
-    push_numbers_refusal = first_of (if all_begin columns then no_room_for_groups ∷ [] else absents ++ some_written_out ∷ [])
+    push_numbers_refusal = first_of (if all_begin columns then no_space_for_groups ∷ [] else absents ++ some_written_out ∷ [])

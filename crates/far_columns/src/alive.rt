@@ -20,7 +20,7 @@ impl Model for Alive {
 }
 
 impl Alive {
-    /// No place. Takes no memory.
+    /// No place. Allocates nothing.
     pub fn new(alloc: Global) -> Alive
         ensures { result ≡ [] }
     {
@@ -29,14 +29,14 @@ impl Alive {
         }
     }
 
-    /// How many places there are. Takes no memory.
+    /// How many places there are. Allocates nothing.
     pub fn len(&self) -> usize
         ensures { result ≡ length self.now }
     {
         self.flags.len()
     }
 
-    /// Whether a place is alive; `None` where there is no such place. Takes no memory.
+    /// Whether a place is alive; `None` if there is no such place. Allocates nothing.
     pub fn get(&self, place: usize) -> Option<bool>
         ensures { result ≡ slice_get self.now place }
     {
@@ -53,7 +53,7 @@ impl Alive {
         Ok(())
     }
 
-    /// Takes back the last push: the last place goes. Takes no memory.
+    /// Takes back the last push: the last place goes. Allocates nothing.
     pub fn unpush(&mut self)
         requires { 0 < length self.old }
         ensures { self.new ≡ take (length self.old - 1) self.old }
@@ -61,7 +61,7 @@ impl Alive {
         self.flags.pop();
     }
 
-    /// The place is not alive from now on. Takes no memory.
+    /// The place is not alive from now on. Allocates nothing.
     pub fn clear(&mut self, place: usize)
         requires { place < length self.old }
         ensures { self.new ≡ slice_set self.old place false }

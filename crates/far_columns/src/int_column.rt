@@ -1,13 +1,13 @@
 // A column of numbers.
-ghost use Rattle.std.specs.Prelude.{◌≡◌, ◌++◌, ◌∷◌, ◌-◌, ◌+◌, ◌*◌, ◌<◌, ◌^◌, ◌⊎◌, ℕ, pos, List, [], Option, length, map, true, false, None, Some, take, All, IfOk, IfErr, OnOk, OnErr, slice_get, slice_set, slice_range};
+ghost use Rattle.std.specs.Prelude.{◌≡◌, ◌++◌, ◌∷◌, ◌-◌, ◌+◌, ◌*◌, ◌/◌, ◌<◌, ◌^◌, ◌⊎◌, ℕ, pos, List, [], Option, length, map, true, false, None, Some, take, All, IfOk, IfErr, OnOk, OnErr, slice_get, slice_set, slice_range};
 ghost use Rattle.std.specs.List.{flat_map};
-ghost use Rattle.far_log.specs.Room.{spaces_of, fit_in_order};
+ghost use Rattle.far_log.specs.RegionState.{spaces_of, fit_in_order};
 ghost use Rattle.far_scopes.specs.Movement.{AreClean, AreHere, ChangesObject, is_local, pins_of};
-ghost use Rattle.far_scopes.specs.Effects.{uncreated};
+ghost use Rattle.far_scopes.specs.Effects.{after_uncreate};
 ghost use Rattle.far_scopes.specs.Refusing.{refusal_in, lend_refusal, write_refusal};
 ghost use Rattle.far_codec.specs.Reading.{ints_meaning};
-ghost use Rattle.far_vector.specs.Vector.{Vector, IsShaped, IsVector, AreApart, IsUntouched, KeepsOthers, object_at};
-ghost use Rattle.far_vector.specs.Effects.{is_full, pushed, pushed_in, unpushed, range_written};
+ghost use Rattle.far_vector.specs.Vector.{Vector, IsShaped, IsVector, AreDisjoint, IsUntouched, KeepsOthers, object_at};
+ghost use Rattle.far_vector.specs.Effects.{is_full, after_push, pushed_in, after_unpush, range_written};
 ghost use Rattle.far_vector.specs.Pieces.{pieces_of};
 ghost use Rattle.far_vector.specs.Refusing.{get_refusal, set_refusal, push_refusal, pieces_refusal};
 ghost use Rattle.far_columns.specs.Numbers.{Numbers, number_lists, numbers_in, with_flags};
@@ -27,7 +27,7 @@ pub use together::{fill_numbers, may_push_numbers, push_numbers, unpush_numbers}
 /// A column of numbers, each of which may be missing. The numbers of a row group are the list of one object of the
 /// `Objects<Option<i64>, S>` that each call names; in places that are not yet used stands 0.
 ///
-/// Contracts see the column as a vector, whose blank number is 0, and its numbers by the lists of its objects.
+/// Contracts see the column as a vector, whose default value is 0, and its numbers by the lists of its objects.
 #[derive(Drop)]
 pub struct IntColumn {
     vector: FarVector<Option<i64>>,
@@ -42,7 +42,7 @@ impl Model for IntColumn {
 
     ghost view = { λ c. c.vector };
 
-    ghost invariant = { λ c. c.vector.blank ≡ Some (pos 0) };
+    ghost invariant = { λ c. c.vector.default_value ≡ Some (pos 0) };
 }
 
 impl IntColumn {
@@ -52,7 +52,7 @@ impl IntColumn {
     /// memory beside the objects is taken here. Refused with `NoMemory` (1) alone.
     pub fn new(alloc: Global, column: u32, size: u32) -> Result<IntColumn, Refusal>
         requires { 0 < size }
-        ensures empty { IfOk result (λ c. c ≡ record { column = column; size = size; objects = []; len = 0; blank = Some (pos 0) }) }
+        ensures empty { IfOk result (λ c. c ≡ record { column = column; size = size; objects = []; len = 0; default_value = Some (pos 0) }) }
         ensures is { IfOk result (λ c. (lists : ℕ → Option Numbers) → IsVector lists c) }
         ensures memory { IfErr result (λ e. e ≡ Refusal.NoMemory) }
     {
@@ -61,25 +61,25 @@ impl IntColumn {
         })
     }
 
-    /// How many numbers there are. Takes no memory.
+    /// How many numbers there are. Allocates nothing.
     pub fn len(&self) -> usize
         ensures len { result ≡ self.now.len }
         ensures shaped { IsShaped self.now }
-        ensures blank { self.now.blank ≡ Some (pos 0) }
+        ensures default_value { self.now.default_value ≡ Some (pos 0) }
     {
         self.vector.len()
     }
 
-    /// The object of a row group; `None` exactly where no place of it is used. Takes no memory.
+    /// The object of a row group; `None` exactly if no place of it is used. Allocates nothing.
     pub fn object(&self, group: u32) -> Option<u32>
         ensures { result ≡ slice_get self.now.objects group }
     {
         self.vector.object(group)
     }
 
-    /// The number of a place; `None` where it is missing. Takes no memory.
+    /// The number of a place; `None` if it is missing. Allocates nothing.
     ///
-    /// Refused with `OutOfRange` (14) exactly past the end, else with `Absent` (16) exactly where the object of the place's
+    /// Refused with `OutOfRange` (14) exactly past the end, else with `Absent` (16) exactly if the object of the place's
     /// row group is away.
     pub fn get<S: FarTickets>(
         &self,
@@ -96,9 +96,9 @@ impl IntColumn {
     /// Adds a number at the end: in the last row group, or, where that is full, in a new one, whose object is made here.
     /// `unpush` undoes a push that made an object (`undone`).
     ///
-    /// Refused, where it begins a row group, with `RegionFull` (17) exactly where no segment has the space, else with
-    /// `NoMemory` (1) alone. Elsewhere refused with `Absent` (16) exactly where the last row group's object is away, else
-    /// with `EditsUsedUp` (24) exactly where that was written as often as objects may be, and takes no memory. Then nothing
+    /// Refused, where it begins a row group, with `RegionFull` (17) exactly if no segment has the space, else with
+    /// `NoMemory` (1) alone. Elsewhere refused with `Absent` (16) exactly if the last row group's object is away, else
+    /// with `EditsUsedUp` (24) exactly if that was written as often as objects may be, and allocates nothing. Then nothing
     /// is changed.
     pub fn push<S: FarTickets>(
         &mut self,
@@ -107,14 +107,14 @@ impl IntColumn {
     ) -> Result<(), Refusal>
         requires is { IsVector (number_lists S.content objects.old) self.old }
         requires few { is_full self.old ≡ true → length objects.old.entries < 2 ^ 28 }
-        ensures pushed { OnOk result (self.new ≡ pushed self.old (length objects.old.entries)) }
+        ensures pushed { OnOk result (self.new ≡ after_push self.old (length objects.old.entries)) }
         ensures written { OnOk result (objects.new ≡ pushed_in objects.old self.old number) }
-        ensures undone { OnOk result (is_full self.old ≡ true → (unpushed self.new ≡ self.old) × (uncreated objects.new ≡ objects.old)) }
+        ensures undone { OnOk result (is_full self.old ≡ true → (after_unpush self.new ≡ self.old) × (after_uncreate objects.new ≡ objects.old)) }
         ensures last { OnOk result (is_full self.old ≡ true → (is_local objects.new (length objects.old.entries) ≡ true) × (pins_of objects.new (length objects.old.entries) ≡ 0)) }
-        ensures next { OnOk result (is_full self.old ≡ true → (lens : List ℕ) → fit_in_order (spaces_of objects.old.memory.room) (self.old.size ∷ lens) ≡ fit_in_order (spaces_of objects.new.memory.room) lens) }
+        ensures next { OnOk result (is_full self.old ≡ true → (lens : List ℕ) → fit_in_order (spaces_of objects.old.memory.state) (self.old.size ∷ lens) ≡ fit_in_order (spaces_of objects.new.memory.state) lens) }
         ensures numbers { OnOk result (numbers_in S.content objects.new self.new ≡ numbers_in S.content objects.old self.old ++ number ∷ []) }
         ensures is { IsVector (number_lists S.content objects.new) self.new }
-        ensures apart { (w : Vector (Option ℤ)) → IsVector (number_lists S.content objects.old) w → AreApart self.old w → IsUntouched (number_lists S.content objects.old) (number_lists S.content objects.new) self.new w }
+        ensures disjoint { (w : Vector (Option ℤ)) → IsVector (number_lists S.content objects.old) w → AreDisjoint self.old w → IsUntouched (number_lists S.content objects.old) (number_lists S.content objects.new) self.new w }
         ensures lists { OnOk result (KeepsOthers (number_lists S.content objects.old) (number_lists S.content objects.new) (object_at self.new self.old.len)) }
         ensures others { OnOk result (ChangesObject objects.old objects.new (object_at self.new self.old.len)) }
         ensures clean { AreClean ints_meaning S.content objects.old → AreClean ints_meaning S.content objects.new }
@@ -126,18 +126,18 @@ impl IntColumn {
         self.vector.push(objects, number)
     }
 
-    /// Takes back a push that made an object: its number, the only one of its row group, and the object. Takes no memory.
+    /// Takes back a push that made an object: its number, the only one of its row group, and the object. Allocates nothing.
     pub fn unpush<S: FarTickets>(&mut self, objects: &mut Objects<Option<i64>, S>)
         requires is { IsVector (number_lists S.content objects.old) self.old }
         requires alone { self.old.len ≡ (length self.old.objects - 1) * self.old.size + 1 }
         requires last { slice_get self.old.objects (length self.old.objects - 1) ≡ Some (length objects.old.entries - 1) }
         requires local { is_local objects.old (length objects.old.entries - 1) ≡ true }
         requires unpinned { pins_of objects.old (length objects.old.entries - 1) ≡ 0 }
-        ensures unpushed { self.new ≡ unpushed self.old }
-        ensures uncreated { objects.new ≡ uncreated objects.old }
+        ensures unpushed { self.new ≡ after_unpush self.old }
+        ensures uncreated { objects.new ≡ after_uncreate objects.old }
         ensures numbers { numbers_in S.content objects.new self.new ≡ take (self.old.len - 1) (numbers_in S.content objects.old self.old) }
         ensures is { IsVector (number_lists S.content objects.new) self.new }
-        ensures apart { (w : Vector (Option ℤ)) → IsVector (number_lists S.content objects.old) w → AreApart self.old w → IsUntouched (number_lists S.content objects.old) (number_lists S.content objects.new) self.new w }
+        ensures disjoint { (w : Vector (Option ℤ)) → IsVector (number_lists S.content objects.old) w → AreDisjoint self.old w → IsUntouched (number_lists S.content objects.old) (number_lists S.content objects.new) self.new w }
         ensures lists { KeepsOthers (number_lists S.content objects.old) (number_lists S.content objects.new) (length objects.old.entries - 1) }
         ensures others { ChangesObject objects.old objects.new (length objects.old.entries - 1) }
         ensures clean { AreClean ints_meaning S.content objects.old → AreClean ints_meaning S.content objects.new }
@@ -146,10 +146,10 @@ impl IntColumn {
         self.vector.unpush(objects);
     }
 
-    /// Writes the number of a place; its row group's object counts as written. Takes no memory.
+    /// Writes the number of a place; its row group's object counts as written. Allocates nothing.
     ///
-    /// Refused with `OutOfRange` (14) exactly past the end, else with `Absent` (16) exactly where the object of the place's
-    /// row group is away, else with `EditsUsedUp` (24) exactly where that was written as often as objects may be; then
+    /// Refused with `OutOfRange` (14) exactly past the end, else with `Absent` (16) exactly if the object of the place's
+    /// row group is away, else with `EditsUsedUp` (24) exactly if that was written as often as objects may be; then
     /// nothing is changed.
     pub fn set<S: FarTickets>(
         &mut self,
@@ -162,7 +162,7 @@ impl IntColumn {
         ensures written { OnOk result (objects.new ≡ range_written objects.old self.old place (number ∷ [])) }
         ensures numbers { OnOk result (numbers_in S.content objects.new self.new ≡ slice_set (numbers_in S.content objects.old self.old) place number) }
         ensures is { IsVector (number_lists S.content objects.new) self.new }
-        ensures apart { (w : Vector (Option ℤ)) → IsVector (number_lists S.content objects.old) w → AreApart self.old w → IsUntouched (number_lists S.content objects.old) (number_lists S.content objects.new) self.new w }
+        ensures disjoint { (w : Vector (Option ℤ)) → IsVector (number_lists S.content objects.old) w → AreDisjoint self.old w → IsUntouched (number_lists S.content objects.old) (number_lists S.content objects.new) self.new w }
         ensures lists { KeepsOthers (number_lists S.content objects.old) (number_lists S.content objects.new) (object_at self.old place) }
         ensures others { ChangesObject objects.old objects.new (object_at self.old place) }
         ensures clean { AreClean ints_meaning S.content objects.old → AreClean ints_meaning S.content objects.new }
@@ -173,7 +173,31 @@ impl IntColumn {
         self.vector.set(objects, place, number)
     }
 
-    /// Whether the number of a place may be written. Takes no memory, and is refused exactly as `set` is.
+    /// Writes the number of a place that may be written, as `set` does, where the caller knows its row group. So nothing is asked
+    /// again, and no place is divided. Allocates nothing.
+    pub fn set_in_group<S: FarTickets>(
+        &self,
+        objects: &mut Objects<Option<i64>, S>,
+        group: u32,
+        place: usize,
+        number: Option<i64>,
+    )
+        requires is { IsVector (number_lists S.content objects.old) self.now }
+        requires group { group ≡ place / self.now.size }
+        requires free { set_refusal objects.old self.now place ≡ None }
+        ensures written { objects.new ≡ range_written objects.old self.now place (number ∷ []) }
+        ensures numbers { numbers_in S.content objects.new self.now ≡ slice_set (numbers_in S.content objects.old self.now) place number }
+        ensures is { IsVector (number_lists S.content objects.new) self.now }
+        ensures disjoint { (w : Vector (Option ℤ)) → IsVector (number_lists S.content objects.old) w → AreDisjoint self.now w → IsUntouched (number_lists S.content objects.old) (number_lists S.content objects.new) self.now w }
+        ensures lists { KeepsOthers (number_lists S.content objects.old) (number_lists S.content objects.new) (object_at self.now place) }
+        ensures others { ChangesObject objects.old objects.new (object_at self.now place) }
+        ensures clean { AreClean ints_meaning S.content objects.old → AreClean ints_meaning S.content objects.new }
+        ensures store { (name : List ℕ) → AreHere S.is_of name objects.old → AreHere S.is_of name objects.new }
+    {
+        self.vector.set_in_group(objects, group, place, number);
+    }
+
+    /// Whether the number of a place may be written. Allocates nothing, and is refused exactly as `set` is.
     pub fn may_set<S: FarTickets>(
         &self,
         objects: &Objects<Option<i64>, S>,
@@ -186,10 +210,10 @@ impl IntColumn {
     }
 
     /// The numbers of the places `from` up to `to`, lent in place with the flags of their places, piece by piece: one for each
-    /// row group that has some of them. Takes no memory.
+    /// row group that has some of them. Allocates nothing.
     ///
-    /// Refused with `OutOfRange` (14) exactly where `from` is above `to` or `to` is past the end; else with `Absent` (16)
-    /// exactly where the object of a row group with some of them is away, naming the first such.
+    /// Refused with `OutOfRange` (14) exactly if `from` is above `to` or `to` is past the end; else with `Absent` (16)
+    /// exactly if the object of a row group with some of them is away, naming the first such.
     pub fn lent<'a, S: FarTickets>(
         &'a self,
         objects: &'a Objects<Option<i64>, S>,
@@ -203,7 +227,7 @@ impl IntColumn {
         ensures values { IfOk result (λ lents. map (λ lent. lent.0) lents ≡ pieces_of (numbers_in S.content objects.now self.now) self.now.size from to) }
         ensures joined { IfOk result (λ lents. flat_map (λ lent. lent.0) lents ≡ slice_range (numbers_in S.content objects.now self.now) from to) }
         ensures alive { IfOk result (λ lents. flat_map (λ lent. lent.1) lents ≡ slice_range alive.now from to) }
-        ensures even { IfOk result (λ lents. All (λ lent. length lent.1 ≡ length lent.0) lents) }
+        ensures same_length { IfOk result (λ lents. All (λ lent. length lent.1 ≡ length lent.0) lents) }
         ensures refused { refusal_in result ≡ pieces_refusal objects.now self.now from to }
     {
         // It tells that there are as many numbers as it says.

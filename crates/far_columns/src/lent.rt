@@ -45,7 +45,7 @@ impl<'a, S: FarTickets> Lents<'a, S> {
         Lents { pieces, alive }
     }
 
-    /// The next piece with its flags, and `None` where there is none left. Takes no memory.
+    /// The next piece with its flags, and `None` if there is none left. Allocates nothing.
     pub fn next(&mut self) -> Option<Lent<'a>>
         ensures first { IfSome result (λ lent. self.old ≡ (lent.values.now, lent.alive.now) ∷ self.new) }
         ensures none { IfNone result ((self.old ≡ []) × (self.new ≡ [])) }
@@ -56,7 +56,7 @@ impl<'a, S: FarTickets> Lents<'a, S> {
         Some(Lent { values, alive })
     }
 
-    /// How many pieces are left. Takes no memory.
+    /// How many pieces are left. Allocates nothing.
     pub fn len(&self) -> usize
         ensures { result ≡ length self.now }
     {

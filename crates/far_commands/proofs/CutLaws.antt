@@ -1,5 +1,5 @@
 -- What is printed of an answer that a fault ends.
-use Rattle.std.proofs.Common.{◌≡◌, ℕ, inl, inr, List, [], ◌∷◌, ◌++◌, length, take, append-nil, Option, Result, Ok, Err, IfErr, OnErr, ◌∙◌, refl, sym, ap, subst}
+use Rattle.std.proofs.Common.{◌≡◌, ◌≤◌, ℕ, inl, inr, List, [], ◌∷◌, ◌++◌, length, length-append, take, append-nil, Option, Result, Ok, Err, IfErr, OnErr, ◌∙◌, refl, sym, ap, subst, arith}
 use Rattle.far_script.specs.declared.fault.ShellFault.{ShellFault}
 use Rattle.far_script.specs.declared.fault.ShellFault.TheVariants as fault
 use Rattle.far_script.specs.Faults.{IfInput}
@@ -64,3 +64,6 @@ take-all (x ∷ xs) ys = ap (λ (t : List ℕ). x ∷ t) (take-all xs ys)
 -- the first bytes, as many as there are
 pub take-front : (xs ys : List ℕ) (n : ℕ) → length xs ≡ n → take n (xs ++ ys) ≡ xs
 take-front xs ys n e = subst (λ (k : ℕ). take k (xs ++ ys) ≡ xs) e (take-all xs ys)
+
+pub front-came : (xs ys : List ℕ) (n : ℕ) → length xs ≡ n → n ≤ length (xs ++ ys)
+front-came xs ys n e = omega (arith, e, length-append xs ys)

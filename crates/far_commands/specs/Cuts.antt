@@ -1,5 +1,5 @@
 -- What is printed of an answer that a fault ends, and which lines cannot be answered.
-use Rattle.std.specs.Prelude.{◌≡◌, ◌⊎◌, ◌<◌, ℕ, List, [], ◌++◌, length, take, Option, Some, IsUtf8}
+use Rattle.std.specs.Prelude.{◌≡◌, ◌⊎◌, ◌<◌, ◌≤◌, ℕ, List, [], ◌++◌, length, take, Option, Some, IsUtf8}
 use Rattle.far_types.specs.declared.cell.Kind.{Kind}
 use Rattle.far_frame.specs.State.{live}
 use Rattle.far_script.specs.declared.fault.ShellFault.{ShellFault}
@@ -15,7 +15,7 @@ use Rattle.far_commands.specs.Progress.{At}
 abbrev pub IsFront : (List ℕ → Type 0) → List ℕ → Type 0
 IsFront answer text = (text ≡ []) ⊎ ((rest : List ℕ) × answer (text ++ rest))
 
--- what is printed of the answer that a fault ends: nothing where the input is at fault
+-- what is printed of the answer that a fault ends: nothing if the input is at fault
 abbrev pub CutOff : ShellFault → (List ℕ → Type 0) → List ℕ → Type 0
 CutOff fault.BadStart answer text = ⊥
 CutOff fault.Input answer text = text ≡ []
@@ -27,13 +27,13 @@ CutOff fault.Turns answer text = ⊥
 abbrev pub PrintsCut : ShellFault → (List ℕ → Type 0) → Option (List ℕ) → List ℕ → Option (List ℕ) → List ℕ → Type 0
 PrintsCut why answer old held new left = (text : List ℕ) × Prints old held text new left × CutOff why answer text
 
--- a load whose bytes did not all come, or are no text
-abbrev pub FailsBy : Option Command → List ℕ → Type 0
-FailsBy asked behind = (count : ℕ) × (asked ≡ Some (command.Load count)) × ((length behind < count) ⊎ ¬ (IsUtf8 (take count behind)))
+-- a load whose bytes did not all come, or came and are no text. The first argument says why no more came
+abbrev pub FailsBy : Type 0 → Option Command → List ℕ → Type 0
+FailsBy short asked behind = (count : ℕ) × (asked ≡ Some (command.Load count)) × (((length behind < count) × short) ⊎ ((count ≤ length behind) × ¬ (IsUtf8 (take count behind))))
 
 -- a line that cannot be answered with the bytes behind it: it is no text, or such a load
-abbrev pub Fails : List Kind → List ℕ → List ℕ → Type 0
-Fails kinds line behind = ¬ (IsUtf8 line) ⊎ FailsBy (command_of kinds line) behind
+abbrev pub Fails : Type 0 → List Kind → List ℕ → List ℕ → Type 0
+Fails short kinds line behind = ¬ (IsUtf8 line) ⊎ FailsBy short (command_of kinds line) behind
 
 -- a line asks for a dump, and this is what is listed
 abbrev pub Lists : {K : Type 0} → At K → List ℕ → List ℕ → Type 0

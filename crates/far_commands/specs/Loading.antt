@@ -1,4 +1,5 @@
--- internal: how a load goes over its records, and what is printed of it.
+-- How a load goes over its records, and what is printed of it.
+-- Internal: no public contract cites it.
 use Rattle.std.specs.Prelude.{◌≡◌, ◌<◌, ◌+◌, ℕ, false, List, [], ◌++◌, length, codes, Option, Some}
 use Rattle.std.specs.Option.{option_map_or}
 use Rattle.csv.specs.Machine.{ends_at_end}

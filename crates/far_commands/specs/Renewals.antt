@@ -15,7 +15,7 @@ IsNotRenewed old why new = IsOneOf (21 ∷ 22 ∷ 1 ∷ []) why × (new ≡ reco
 module _ {S K : Type 0} (tickets : Tickets S K) where
   -- the table goes on with a store of this capacity: every row, aggregate and answer stays, and all numbers of jobs are spent
   abbrev pub IsRenewed : ℕ → World K → World K → Type 0
-  IsRenewed capacity old new = (store : S) × (tickets.capacity_of store ≡ capacity) × IsMigratedTo tickets.content tickets.content (tickets.name store) old new
+  IsRenewed capacity old new = (store : S) × (tickets.capacity_of store ≡ capacity) × IsMigratedTo tickets.content tickets.content (tickets.store_id store) old new
 
   -- a table is asked to go on with a store of this capacity, and the text is the reply
   abbrev pub Renews : ℕ → World K → List ℕ → World K → Type 0

@@ -1,8 +1,7 @@
 // Lines as commands.
-ghost use Rattle.std.specs.Prelude.{◌≡◌, IfOk, IfErr, option_map, option_and_then, slice_get, Some, None};
+ghost use Rattle.std.specs.Prelude.{◌≡◌, IfOk, IfErr, option_map};
 ghost use Rattle.far_commands.specs.Commands.{lend_of, object_in, compact_of, movement_of, offload_of, command_of, insert_of, set_of, numbered, scan_of, command_by};
 ghost use Rattle.far_script.specs.Watches.{spec_of};
-ghost use Rattle.far_script.specs.Words.{last_number_in};
 
 use far_frame::Step;
 use far_script::Words;
@@ -230,7 +229,7 @@ fn complete(
     }
 }
 
-/// The command that a line spells over a table of these columns, or `None` where it spells none. Refused with `NoMemory`
+/// The command that a line spells over a table of these columns, or `None` if it spells none. Refused with `NoMemory`
 /// (1) alone.
 pub fn parse(alloc: Global, kinds: &[Kind], line: &str) -> Result<Option<Command>, Refusal>
     ensures command { IfOk result (λ command. command ≡ command_of kinds.now line.now) }

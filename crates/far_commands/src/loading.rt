@@ -12,7 +12,7 @@ use csv::{Reader, ReaderBuilder, StringRecord};
 use far_frame::{Reply, World};
 use far_script::Page;
 use far_script::bounded::MAX_BYTES;
-use far_script::field::{plain_cells, record_cells};
+use far_script::field::{cells_in, record_cells};
 use far_script::lines::{are_plain_lines, next_line};
 use far_script::print::{numbered, refused};
 use far_store::FarStore;
@@ -51,7 +51,8 @@ fn insert_line<S: FarStore>(
     ensures faults { world.new.faults ≡ world.old.faults }
     ensures memory { IfErr result (λ e. e ≡ Refusal.NoMemory) }
 {
-    let cells = plain_cells(alloc, world.frame().schema().as_slice(), line)?;
+    let spare = world.spare_cells();
+    let cells = cells_in(alloc, spare, world.frame().schema().as_slice(), line)?;
     Ok(world.edit(Edit::Insert(Row::new(cells))))
 }
 

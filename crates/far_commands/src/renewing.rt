@@ -1,5 +1,5 @@
 // A table that goes on with a new store.
-ghost use Rattle.std.specs.Prelude.{◌≡◌, ◌++◌, ◌+◌, ◌≤◌, ◌<◌, ◌^◌, OnOk, IfErr, IsErrAnd, IsOkAnd};
+ghost use Rattle.std.specs.Prelude.{◌≡◌, ◌+◌, ◌≤◌, ◌<◌, ◌^◌, OnOk, IfErr, IsErrAnd, IsOkAnd};
 ghost use Rattle.far_frame.specs.Renewing.{IsMigratedTo};
 ghost use Rattle.far_commands.specs.Renewals.{IsRenewed, IsNotRenewed, Renews};
 
@@ -62,7 +62,7 @@ fn put_back<T: Drop>(place: &mut T, moved: Result<T, (Refusal, T)>) -> Result<()
 /// Moves a table to a store. Refused as `World::migrate` is; then the table is moved back, jobs included, but for its count of faults.
 fn migrate<S: FarStore>(world: &mut World<S>, empty: World<S>, store: S) -> Result<(), Refusal>
     requires few { world.old.faults < 2 ^ 62 }
-    ensures renewed { OnOk result (IsMigratedTo S.content S.content (S.name store) world.old world.new) }
+    ensures renewed { OnOk result (IsMigratedTo S.content S.content (S.store_id store) world.old world.new) }
     ensures back { IfErr result (λ e. IsNotRenewed world.old e world.new) }
 {
     let old = mem::replace(world, empty);

@@ -1,10 +1,9 @@
 // Lines as commands, and their answers.
-ghost use Rattle.std.specs.Prelude.{◌≡◌, ℕ, List, [], ◌++◌, ◌+◌, ◌≤◌, ◌<◌, ◌^◌, true, false, codes, IfOk, IfErr, OnOk, OnErr, Some};
-ghost use Rattle.far_frame.specs.declared.step.Reply.{Reply};
+ghost use Rattle.std.specs.Prelude.{◌≡◌, ℕ, List, ◌++◌, ◌+◌, ◌≤◌, ◌<◌, ◌^◌, true, false, codes, IfOk, IfErr, OnOk, OnErr, Some};
 ghost use Rattle.far_frame.specs.State.{live};
 ghost use Rattle.far_commands.specs.Cuts.{Fails, FailsBy, Lists, PrintsCut};
 ghost use Rattle.far_script.specs.Faults.{IfInput};
-ghost use Rattle.far_script.specs.Flow.{Prints, Reads, Stops, Holds, has_failed, spanned};
+ghost use Rattle.far_script.specs.Flow.{Holds, IsShort, Prints, Reads, Stops, has_failed, spanned};
 ghost use Rattle.far_script.specs.Printing.{numbered_text};
 ghost use Rattle.far_commands.specs.Listings.{listing_of};
 ghost use Rattle.far_commands.specs.Replies.{Serves, Takes, done_text, reply_text, AnswersLine};
@@ -20,11 +19,11 @@ use super::renewing::renew;
 use super::resources::Resources;
 use far_frame::{Reply, Step, World};
 use far_script::print::{answer, numbered, refused};
-use far_script::{Input, Output, Page, ShellFault, Span};
+use far_script::{ByteRange, Input, Output, Page, ShellFault, Source};
 use far_store::FarStore;
 use far_types::Refusal;
 use std::alloc::Global;
-use std::io::{Read, Write};
+use std::io::Write;
 
 /// What a step is answered that is done and has nothing to say.
 fn done(step: &Step) -> &'static str
@@ -123,7 +122,7 @@ fn take_step<S: FarStore>(world: &mut World<S>, step: Step, reply: &mut Page) ->
 }
 
 /// Loads the rows behind a line, which have this many bytes, and prints the reply.
-fn serve_load<S: FarStore, R: Read + Drop, W: Write>(
+fn serve_load<S: FarStore, R: Source + Drop, W: Write>(
     alloc: Global,
     world: &mut World<S>,
     count: u32,
@@ -133,7 +132,7 @@ fn serve_load<S: FarStore, R: Read + Drop, W: Write>(
 ) -> Result<(), ShellFault>
     ensures ok { OnOk result ((rows : List ℕ) × (text : List ℕ) × Reads R.Read input.old rows input.new × Prints (W.contents writer.old) output.old.page text (W.contents writer.new) output.new.page × Serves S.FarTickets world.old (Command.Load count) rows text world.new) }
     ensures err { IfErr result (λ fault. PrintsCut fault (λ said. ⊥) (W.contents writer.old) output.old.page (W.contents writer.new) output.new.page) }
-    ensures stopped { IfErr result (λ fault. IfInput fault (Stops R.Read (λ behind. FailsBy (Some (Command.Load count)) behind) input.old input.new)) }
+    ensures stopped { IfErr result (λ fault. IfInput fault (Stops R.Read (λ behind rest. FailsBy (IsShort R.Read R.may_fail input.old input.new rest) (Some (Command.Load count)) behind) input.old input.new)) }
     ensures faults { world.new.faults ≡ world.old.faults }
     ensures failed { IfErr result (λ fault. fault ≡ ShellFault.Output → has_failed output.new ≡ true) }
     ensures asked { input.new.source.reads ≤ input.old.source.reads }
@@ -144,7 +143,7 @@ fn serve_load<S: FarStore, R: Read + Drop, W: Write>(
 }
 
 /// Serves a command, with the bytes behind its line that belong to it, and prints its reply.
-fn serve_command<S: FarStore, A: Resources<S>, R: Read + Drop, W: Write>(
+fn serve_command<S: FarStore, A: Resources<S>, R: Source + Drop, W: Write>(
     resources: &A,
     world: &mut World<S>,
     command: Command,
@@ -155,7 +154,7 @@ fn serve_command<S: FarStore, A: Resources<S>, R: Read + Drop, W: Write>(
     requires few { world.old.faults < 2 ^ 62 }
     ensures ok { OnOk result ((rows : List ℕ) × (text : List ℕ) × Reads R.Read input.old rows input.new × Prints (W.contents writer.old) output.old.page text (W.contents writer.new) output.new.page × Serves S.FarTickets world.old command rows text world.new) }
     ensures err { IfErr result (λ fault. PrintsCut fault (λ said. (command ≡ Command.Dump) × (said ≡ listing_of (live world.old.state))) (W.contents writer.old) output.old.page (W.contents writer.new) output.new.page) }
-    ensures stopped { IfErr result (λ fault. IfInput fault (Stops R.Read (λ behind. FailsBy (Some command) behind) input.old input.new)) }
+    ensures stopped { IfErr result (λ fault. IfInput fault (Stops R.Read (λ behind rest. FailsBy (IsShort R.Read R.may_fail input.old input.new rest) (Some command) behind) input.old input.new)) }
     ensures faults { world.new.faults ≤ world.old.faults + 1 }
     ensures failed { IfErr result (λ fault. fault ≡ ShellFault.Output → has_failed output.new ≡ true) }
     ensures asked { input.new.source.reads ≤ input.old.source.reads }
@@ -190,10 +189,10 @@ fn print_syntax(output: &mut Output, number: u32) -> Result<(), ShellFault>
 }
 
 /// Answers a line: an empty one is no command, and any other the next one.
-pub fn answer_line<S: FarStore, A: Resources<S>, R: Read + Drop, W: Write>(
+pub fn answer_line<S: FarStore, A: Resources<S>, R: Source + Drop, W: Write>(
     resources: &A,
     progress: &mut Progress<S>,
-    line: Span,
+    line: ByteRange,
     input: &mut Input<R>,
     output: &mut Output,
     writer: &mut W,
@@ -202,7 +201,7 @@ pub fn answer_line<S: FarStore, A: Resources<S>, R: Read + Drop, W: Write>(
     requires few { progress.old.number < 4294967295 }
     ensures ok { OnOk result ((rows : List ℕ) × (text : List ℕ) × Reads R.Read input.old rows input.new × Prints (W.contents writer.old) output.old.page text (W.contents writer.new) output.new.page × AnswersLine S.FarTickets progress.old (spanned R.Read input.old line) rows text progress.new) }
     ensures err { IfErr result (λ fault. PrintsCut fault (λ said. Lists progress.old (spanned R.Read input.old line) said) (W.contents writer.old) output.old.page (W.contents writer.new) output.new.page) }
-    ensures stopped { IfErr result (λ fault. IfInput fault (Stops R.Read (λ behind. Fails progress.old.world.state.table.schema (spanned R.Read input.old line) behind) input.old input.new)) }
+    ensures stopped { IfErr result (λ fault. IfInput fault (Stops R.Read (λ behind rest. Fails (IsShort R.Read R.may_fail input.old input.new rest) progress.old.world.state.table.schema (spanned R.Read input.old line) behind) input.old input.new)) }
     ensures failed { IfErr result (λ fault. fault ≡ ShellFault.Output → has_failed output.new ≡ true) }
     ensures asked { input.new.source.reads ≤ input.old.source.reads }
 {

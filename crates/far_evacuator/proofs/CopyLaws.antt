@@ -5,7 +5,7 @@ use Rattle.std.specs.Option.{option_and_then, option_or}
 use Rattle.far_pointer.specs.declared.pointer.Pointer.{Pointer}
 use Rattle.far_pointer.specs.declared.pointer.Pointer.TheVariants.{Local, Remote}
 use Rattle.far_pointer.specs.Layout.{HasWord, is_dirty}
-use Rattle.far_scopes.specs.declared.entry.Entry.{Entry}
+use Rattle.far_scopes.specs.declared.object_record.ObjectRecord.{ObjectRecord}
 use Rattle.far_scopes.specs.Memory.{list_in}
 use Rattle.far_scopes.specs.Movement.{Movement, has_copy, word_of, entry_of, dirty, ticket_of, list_of, AreClean, IsTracked, AreTracked}
 use Rattle.far_scopes.proofs.Places.{cases_option}
@@ -26,25 +26,25 @@ mapped f None y is = cc
 mapped f (Some x) y is = let same : Some (f x) ≡ Some y = is in (x, refl, cc)
 
 module _ {X K : Type 0} (meaning : List ℕ → List X) (content : K → List ℕ) (spelled : List X → List ℕ → Type 0) (m : Movement X K) (tracked : AreTracked meaning content spelled m) (o : ℕ) (within : o < length m.entries) where
-  abbrev entry-there : (e : Entry K) × (entry_of m o ≡ Some e)
+  abbrev entry-there : (e : ObjectRecord K) × (entry_of m o ≡ Some e)
   entry-there = elim (cases_option (entry_of m o)) [
     | inl none ↦ absurd (not-within m.entries o within none)
     | inr some ↦ some
   ]
 
-  abbrev entry : Entry K
+  abbrev entry : ObjectRecord K
   entry = entry-there.0
 
   pub was : entry_of m o ≡ Some entry
   was = entry-there.1
 
   ticket-was : ticket_of m o ≡ entry.ticket
-  ticket-was = ap (λ e. option_and_then (λ (x : Entry K). x.ticket) e) was
+  ticket-was = ap (λ e. option_and_then (λ (x : ObjectRecord K). x.ticket) e) was
 
   abbrev word-was : (w : Pointer) × (slice_get m.memory.words o ≡ Some w)
-  word-was = word-there m.memory.words o (subst (λ n. o < n) tracked.even within)
+  word-was = word-there m.memory.words o (subst (λ n. o < n) tracked.same_length within)
 
-  of-entry : IsTracked meaning content spelled m.changes m.leavings word-was.0 (list_in m.memory o) entry
+  of-entry : IsTracked meaning content spelled m.max_writes m.leavings word-was.0 (list_in m.memory o) entry
   of-entry = tracked.each o word-was.0 entry word-was.1 was
 
   -- what a ticket means is spelled by its content
@@ -74,8 +74,8 @@ module _ {X K : Type 0} (meaning : List ℕ → List X) (content : K → List �
     away-long = subst (λ b. length (meaning b) ≡ entry.len) its.2 (subst (λ (t : Option K). IsSomeAnd t (λ k. length (meaning (content k)) ≡ entry.len)) (sym ticket-was ∙ its.1) ((tracked.each o Remote entry away was).away refl).1)
 
     -- its length is the one that was recorded
-    pub away-length : (len : ℕ) → option_map (λ (e : Entry K). e.len) (entry_of m o) ≡ Some len → length (meaning bytes) ≡ len
-    away-length len is = let same : Some entry.len ≡ Some len = sym (ap (λ e. option_map (λ (x : Entry K). x.len) e) was) ∙ is in away-long ∙ cc
+    pub away-length : (len : ℕ) → option_map (λ (e : ObjectRecord K). e.len) (entry_of m o) ≡ Some len → length (meaning bytes) ≡ len
+    away-length len is = let same : Some entry.len ≡ Some len = sym (ap (λ e. option_map (λ (x : ObjectRecord K). x.len) e) was) ∙ is in away-long ∙ cc
 
     -- the bytes are a far form of its kind and length
     pub away-form : IsFarForm spelled m o bytes

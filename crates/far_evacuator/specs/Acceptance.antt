@@ -42,7 +42,7 @@ module _ {X K : Type 0} (number_of : K → ℕ) where
       pub form : IsFarForm spelled m fetched.job.object fetched.bytes
 
 -- what an end of a job on object o leaves as it was: every list, and the word and the record of every other object. What
--- is clean stays so, and tickets stay those of the store of this name
+-- is clean stays so, and tickets stay those of the store with this id
 pub record LeavesRest {X K : Type 0} (meaning : List ℕ → List X) (content : K → List ℕ) (is_of : K → List ℕ → Type 0) (name : List ℕ) (old new : Movement X K) (o : ℕ) : Type 0 where
   pub lists : (p : ℕ) → list_of meaning content new p ≡ list_of meaning content old p
   pub others : ChangesObject old new o

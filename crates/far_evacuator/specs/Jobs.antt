@@ -48,7 +48,7 @@ module _ {K : Type 0} where
   IsFormTicket content (Dirty bytes) ticket = content ticket ≡ bytes
   IsFormTicket content (Clean own) ticket = ticket ≡ own
 
-  -- the ticket that the object had is of the store of this name
+  -- the ticket that the object had is of the store with this id
   abbrev pub IsFormOf : (K → List ℕ → Type 0) → List ℕ → EvacForm K → Type 0
   IsFormOf is_of name (Dirty bytes) = Unit {0}
   IsFormOf is_of name (Clean own) = is_of own name

@@ -31,8 +31,8 @@ pub enum Want {
 /// Begins to send an object away: takes its far form where it is dirty, and another of its ticket where it is clean. The
 /// object stays as it is.
 ///
-/// Refused with `StaleJob` (20) exactly where the coldest object is wanted and there is none; with `Absent` (16), which
-/// names the object, exactly where one is named that is away; else with `NoMemory` (1) alone.
+/// Refused with `StaleJob` (20) exactly if the coldest object is wanted and there is none; with `Absent` (16), which
+/// names the object, exactly if one is named that is away; else with `NoMemory` (1) alone.
 pub fn begin_evac<T: Elem, S: FarTickets>(
     alloc: Global,
     objects: &Objects<T, S>,
@@ -40,10 +40,10 @@ pub fn begin_evac<T: Elem, S: FarTickets>(
     want: Want,
 ) -> Result<EvacJob<T, S>, Refusal>
     requires within { IsWanted objects.now want }
-    requires here { AreHere S.is_of (S.name store.now) objects.now }
+    requires here { AreHere S.is_of (S.store_id store.now) objects.now }
     requires spelled { IfSome (taken objects.now want) (λ o. IfSome (list_in objects.now.memory o) T.has_spelling) }
     ensures begun { IfOk result (λ job. IsSomeAnd (taken objects.now want) (λ o. IsBegun T.spelling objects.now o job)) }
-    ensures here { IfOk result (λ job. IsFormOf S.is_of (S.name store.now) job.form) }
+    ensures here { IfOk result (λ job. IsFormOf S.is_of (S.store_id store.now) job.form) }
     ensures free { OnOk result (begin_refusal objects.now want ≡ None) }
     ensures refused { IfErr result (λ e. (begin_refusal objects.now want ≡ Some e) ⊎ ((begin_refusal objects.now want ≡ None) × (e ≡ Refusal.NoMemory))) }
 {
@@ -85,18 +85,18 @@ fn chosen<T: Elem, S: FarTickets>(objects: &Objects<T, S>, want: Want) -> Result
     }
 }
 
-/// Begins to bring an object back. Takes no memory.
+/// Begins to bring an object back. Allocates nothing.
 ///
-/// Refused with `StaleJob` (20) exactly where the object is local.
+/// Refused with `StaleJob` (20) exactly if the object is local.
 pub fn begin_fetch<T: Elem, S: FarTickets>(
     objects: &Objects<T, S>,
     store: &S,
     o: u32,
 ) -> Result<FetchJob<S>, Refusal>
     requires within { o < length objects.now.entries }
-    requires here { AreHere S.is_of (S.name store.now) objects.now }
+    requires here { AreHere S.is_of (S.store_id store.now) objects.now }
     ensures begun { IfOk result (λ job. IsFetch objects.now o job) }
-    ensures here { IfOk result (λ job. S.is_of job.ticket (S.name store.now)) }
+    ensures here { IfOk result (λ job. S.is_of job.ticket (S.store_id store.now)) }
     ensures refused { refusal_in result ≡ fetch_refusal objects.now o }
 {
     let Pointer::Remote = objects.word(o).read() else {

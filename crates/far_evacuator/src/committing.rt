@@ -3,7 +3,7 @@ ghost use Rattle.std.specs.Prelude.{◌≡◌, ◌≢◌, ℕ, ◌<◌, ◌↔�
 ghost use Rattle.far_codec.specs.Spelling.{IsSpelled};
 ghost use Rattle.far_scopes.specs.Memory.{list_in};
 ghost use Rattle.far_scopes.specs.Movement.{ChangesObject, list_of, pins_of, AreClean, AreHere, AreTracked};
-ghost use Rattle.far_scopes.specs.Effects.{departed};
+ghost use Rattle.far_scopes.specs.Effects.{after_leave};
 ghost use Rattle.far_evacuator.specs.Acceptance.{IsCommittable, IsStill, LeavesRest};
 
 use crate::evacuation::{Carried, EvacForm};
@@ -14,25 +14,25 @@ use far_store::FarTickets;
 use far_types::Refusal;
 
 /// Sends an object away whose far form was carried. The carried evacuation is kept; no second commit of it is accepted.
-/// Takes no memory.
+/// Allocates nothing.
 ///
-/// Refused with `StaleJob` (20) exactly where what it rests on does not hold any more (`IsCommittable`): it was begun on
+/// Refused with `StaleJob` (20) exactly if what it rests on does not hold any more (`IsCommittable`): it was begun on
 /// other objects, the object is away, was written or away since, has used up its leavings, or is no longer what was
-/// carried; and else with `Pinned` (19) exactly where the object has a pin. Then nothing is changed.
+/// carried; and else with `Pinned` (19) exactly if the object has a pin. Then nothing is changed.
 pub fn commit<T: Elem, S: FarTickets>(
     objects: &mut Objects<T, S>,
     store: &S,
     carried: &Carried<T, S>,
 ) -> Result<(), Refusal>
-    requires here { AreHere S.is_of (S.name store.now) objects.old }
-    requires carried_here { S.is_of carried.now.ticket (S.name store.now) }
+    requires here { AreHere S.is_of (S.store_id store.now) objects.old }
+    requires carried_here { S.is_of carried.now.ticket (S.store_id store.now) }
     requires clean { AreClean T.meaning S.content objects.old }
-    ensures committed { OnOk result (objects.new ≡ departed objects.old carried.now.job.object carried.now.ticket) }
+    ensures committed { OnOk result (objects.new ≡ after_leave objects.old carried.now.job.object carried.now.ticket) }
     ensures accepted { OnOk result (IsCommittable S.number_of T.spelling objects.old carried.now) }
     ensures stale { IsErrOf result Refusal.StaleJob ↔ (¬ IsCommittable S.number_of T.spelling objects.old carried.now) }
     ensures pinned { IsErrOf result Refusal.Pinned ↔ (IsCommittable S.number_of T.spelling objects.old carried.now × (pins_of objects.old carried.now.job.object ≢ 0)) }
     ensures refused { IfErr result (λ e. (e ≡ Refusal.StaleJob) ⊎ (e ≡ Refusal.Pinned)) }
-    ensures rest { LeavesRest T.meaning S.content S.is_of (S.name store.now) objects.old objects.new carried.now.job.object }
+    ensures rest { LeavesRest T.meaning S.content S.is_of (S.store_id store.now) objects.old objects.new carried.now.job.object }
     ensures err { OnErr result (objects.new ≡ objects.old) }
 {
     if !is_committable(objects, store, carried) {
@@ -47,14 +47,14 @@ pub fn commit<T: Elem, S: FarTickets>(
     Ok(())
 }
 
-// Whether what a carried evacuation rests on still holds. Takes no memory.
+// Whether what a carried evacuation rests on still holds. Allocates nothing.
 fn is_committable<T: Elem, S: FarTickets>(
     objects: &Objects<T, S>,
     store: &S,
     carried: &Carried<T, S>,
 ) -> bool
-    requires here { AreHere S.is_of (S.name store.now) objects.now }
-    requires carried_here { S.is_of carried.now.ticket (S.name store.now) }
+    requires here { AreHere S.is_of (S.store_id store.now) objects.now }
+    requires carried_here { S.is_of carried.now.ticket (S.store_id store.now) }
     requires clean { AreClean T.meaning S.content objects.now }
     ensures exact { IsTrue result ↔ IsCommittable S.number_of T.spelling objects.now carried.now }
     ensures within { IsTrue result → carried.now.job.object < length objects.now.entries }
@@ -74,7 +74,7 @@ fn is_committable<T: Elem, S: FarTickets>(
         && is_still(objects, store, carried, list)
 }
 
-// Whether an object, which has this list, is still what was carried. Takes no memory.
+// Whether an object, which has this list, is still what was carried. Allocates nothing.
 fn is_still<T: Elem, S: FarTickets>(
     objects: &Objects<T, S>,
     store: &S,
@@ -82,8 +82,8 @@ fn is_still<T: Elem, S: FarTickets>(
     list: &[T],
 ) -> bool
     requires within { carried.now.job.object < length objects.now.entries }
-    requires here { AreHere S.is_of (S.name store.now) objects.now }
-    requires carried_here { S.is_of carried.now.ticket (S.name store.now) }
+    requires here { AreHere S.is_of (S.store_id store.now) objects.now }
+    requires carried_here { S.is_of carried.now.ticket (S.store_id store.now) }
     requires clean { AreClean T.meaning S.content objects.now }
     requires tracked { AreTracked T.meaning S.content (IsSpelled T.in_range T.has_spelling T.spelling) objects.now }
     requires lent { list_in objects.now.memory carried.now.job.object ≡ Some list.now }

@@ -67,7 +67,7 @@ impl<T: Elem, S: FarStore> EvacJob<T, S> {
     /// Puts the far form that the job holds into the store. A job that was begun on a clean object asks the store for
     /// nothing, and is not refused.
     ///
-    /// Refused with `FarFault` (21) where the store fails in this call, exactly where the meter rises, by one; with
+    /// Refused with `FarFault` (21) if the store fails in this call, exactly if the meter rises, by one; with
     /// `FarFull` (22); and with `NoMemory` (1). The job then comes back whole.
     pub fn carry(
         self,
@@ -76,10 +76,10 @@ impl<T: Elem, S: FarStore> EvacJob<T, S> {
         meter: &mut Meter,
     ) -> Result<Carried<T, S>, (Refusal, EvacJob<T, S>)>
         requires few { meter.old < 2 ^ 63 }
-        requires here { IsFormOf S.is_of (S.name store.now) self.form }
+        requires here { IsFormOf S.is_of (S.store_id store.now) self.form }
         ensures job { IfOk result (λ carried. carried.job ≡ self) }
         ensures ticket { IfOk result (λ carried. IsFormTicket S.content self.form carried.ticket) }
-        ensures here { IfOk result (λ carried. S.is_of carried.ticket (S.name store.now)) }
+        ensures here { IfOk result (λ carried. S.is_of carried.ticket (S.store_id store.now)) }
         ensures back { IfErr result (λ refused. refused.1 ≡ self) }
         ensures dirty { IsErr result → IsDirtyForm self.form }
         ensures faults { meter.new ≡ meter.old + faults_in (outcome result) }
@@ -94,9 +94,9 @@ impl<T: Elem, S: FarStore> EvacJob<T, S> {
     // The ticket of the form, which is put if the store does not have it.
     fn put(&self, alloc: Global, store: &S, meter: &mut Meter) -> Result<S::Ticket, Refusal>
         requires few { meter.old < 2 ^ 63 }
-        requires here { IsFormOf S.is_of (S.name store.now) self.now.form }
+        requires here { IsFormOf S.is_of (S.store_id store.now) self.now.form }
         ensures ticket { IfOk result (λ ticket. IsFormTicket S.content self.now.form ticket) }
-        ensures here { IfOk result (λ ticket. S.is_of ticket (S.name store.now)) }
+        ensures here { IfOk result (λ ticket. S.is_of ticket (S.store_id store.now)) }
         ensures dirty { IsErr result → IsDirtyForm self.now.form }
         ensures faults { meter.new ≡ meter.old + faults_in result }
         ensures refused { RefusedBy (21 ∷ 22 ∷ 1 ∷ []) result }

@@ -47,7 +47,7 @@ impl<S: FarTickets> Model for Fetched<S> {
 impl<S: FarRead> FetchJob<S> {
     /// Reads the content of the job's ticket.
     ///
-    /// Refused with `FarFault` (21) where the store fails in this call, exactly where the meter rises, by one, and with
+    /// Refused with `FarFault` (21) if the store fails in this call, exactly if the meter rises, by one, and with
     /// `NoMemory` (1). The job then comes back whole.
     pub fn carry(
         self,
@@ -56,7 +56,7 @@ impl<S: FarRead> FetchJob<S> {
         meter: &mut Meter,
     ) -> Result<Fetched<S>, (Refusal, FetchJob<S>)>
         requires few { meter.old < 2 ^ 63 }
-        requires here { S.is_of self.ticket (S.name store.now) }
+        requires here { S.is_of self.ticket (S.store_id store.now) }
         ensures job { IfOk result (λ fetched. fetched.job ≡ self) }
         ensures bytes { IfOk result (λ fetched. fetched.bytes ≡ S.content self.ticket) }
         ensures back { IfErr result (λ refused. refused.1 ≡ self) }

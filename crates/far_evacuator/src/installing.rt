@@ -1,9 +1,9 @@
 // Fetches that end.
 ghost use Rattle.std.specs.Prelude.{◌≡◌, ℕ, List, ◌<◌, ◌↔◌, ◌⊎◌, length, false, Some, IsTrue, OnOk, OnErr, IfOk, IfErr, IsErrOf, IsSomeAnd, option_map};
-ghost use Rattle.far_log.specs.Room.{fits_in};
+ghost use Rattle.far_log.specs.RegionState.{fits_in};
 ghost use Rattle.far_codec.specs.Spelling.{IsSpelled};
 ghost use Rattle.far_scopes.specs.Movement.{ChangesObject, list_of, ticket_of, AreClean, AreHere};
-ghost use Rattle.far_scopes.specs.Effects.{arrived};
+ghost use Rattle.far_scopes.specs.Effects.{after_arrive};
 ghost use Rattle.far_evacuator.specs.Acceptance.{IsInstallable, LeavesRest};
 
 use crate::fetching::Fetched;
@@ -17,7 +17,7 @@ use std::alloc::Global;
 
 /// Brings an object back whose far form was read. The fetched bytes are kept; no second install of them is accepted.
 ///
-/// Refused with `StaleJob` (20) exactly where what the fetch rests on does not hold any more (`IsInstallable`): it was
+/// Refused with `StaleJob` (20) exactly if what the fetch rests on does not hold any more (`IsInstallable`): it was
 /// begun on other objects, or the object is local, or has been away again since; else with `RegionFull` (17) exactly where
 /// no segment has the space; else with `NoMemory` (1) alone. Then nothing is changed.
 pub fn install<T: Elem, S: FarTickets>(
@@ -26,14 +26,14 @@ pub fn install<T: Elem, S: FarTickets>(
     store: &S,
     fetched: &Fetched<S>,
 ) -> Result<(), Refusal>
-    requires here { AreHere S.is_of (S.name store.now) objects.old }
-    requires fetched_here { S.is_of fetched.now.job.ticket (S.name store.now) }
-    ensures installed { OnOk result (IsSomeAnd (list_of T.meaning S.content objects.old fetched.now.job.object) (λ list. objects.new ≡ arrived objects.old fetched.now.job.object list)) }
+    requires here { AreHere S.is_of (S.store_id store.now) objects.old }
+    requires fetched_here { S.is_of fetched.now.job.ticket (S.store_id store.now) }
+    ensures installed { OnOk result (IsSomeAnd (list_of T.meaning S.content objects.old fetched.now.job.object) (λ list. objects.new ≡ after_arrive objects.old fetched.now.job.object list)) }
     ensures accepted { OnOk result (IsInstallable S.number_of (IsSpelled T.in_range T.has_spelling T.spelling) objects.old fetched.now) }
     ensures stale { IsErrOf result Refusal.StaleJob ↔ (¬ IsInstallable S.number_of (IsSpelled T.in_range T.has_spelling T.spelling) objects.old fetched.now) }
-    ensures full { IsErrOf result Refusal.RegionFull ↔ (IsInstallable S.number_of (IsSpelled T.in_range T.has_spelling T.spelling) objects.old fetched.now × IsSomeAnd (list_of T.meaning S.content objects.old fetched.now.job.object) (λ list. fits_in objects.old.memory.room (length list) ≡ false)) }
+    ensures full { IsErrOf result Refusal.RegionFull ↔ (IsInstallable S.number_of (IsSpelled T.in_range T.has_spelling T.spelling) objects.old fetched.now × IsSomeAnd (list_of T.meaning S.content objects.old fetched.now.job.object) (λ list. fits_in objects.old.memory.state (length list) ≡ false)) }
     ensures refused { IfErr result (λ e. (e ≡ Refusal.StaleJob) ⊎ ((e ≡ Refusal.RegionFull) ⊎ (e ≡ Refusal.NoMemory))) }
-    ensures rest { LeavesRest T.meaning S.content S.is_of (S.name store.now) objects.old objects.new fetched.now.job.object }
+    ensures rest { LeavesRest T.meaning S.content S.is_of (S.store_id store.now) objects.old objects.new fetched.now.job.object }
     ensures err { OnErr result (objects.new ≡ objects.old) }
 {
     if !is_installable(objects, store, fetched) {
@@ -48,7 +48,7 @@ pub fn install<T: Elem, S: FarTickets>(
     objects.arrive(o, &list)
 }
 
-// The list of so many elements whose far form these bytes are. Refused with `StaleJob` (20) where they are the form of none, else
+// The list of so many elements whose far form these bytes are. Refused with `StaleJob` (20) if they are the form of none, else
 // with `NoMemory` (1) alone.
 //
 // An object's ticket has its form as content, so `install` meets no other bytes. A store whose contents change would break that, and
@@ -65,14 +65,14 @@ fn read_form<T: Elem>(alloc: Global, bytes: &[u8], len: usize) -> Result<Vec<T>,
     }
 }
 
-// Whether what a fetch rests on still holds. Takes no memory.
+// Whether what a fetch rests on still holds. Allocates nothing.
 fn is_installable<T: Elem, S: FarTickets>(
     objects: &Objects<T, S>,
     store: &S,
     fetched: &Fetched<S>,
 ) -> bool
-    requires here { AreHere S.is_of (S.name store.now) objects.now }
-    requires fetched_here { S.is_of fetched.now.job.ticket (S.name store.now) }
+    requires here { AreHere S.is_of (S.store_id store.now) objects.now }
+    requires fetched_here { S.is_of fetched.now.job.ticket (S.store_id store.now) }
     ensures exact { IsTrue result ↔ IsInstallable S.number_of (IsSpelled T.in_range T.has_spelling T.spelling) objects.now fetched.now }
     ensures content { IsTrue result → option_map S.content (ticket_of objects.now fetched.now.job.object) ≡ Some fetched.now.bytes }
 {

@@ -8,7 +8,7 @@ use far_codec::Elem;
 use far_scopes::Objects;
 use far_store::FarTickets;
 
-/// Whether an object's newest far copy is under the number of this ticket. Takes no memory.
+/// Whether an object's newest far copy is under the number of this ticket. Allocates nothing.
 pub(crate) fn is_under<T: Elem, S: FarTickets>(
     objects: &Objects<T, S>,
     store: &S,
@@ -16,8 +16,8 @@ pub(crate) fn is_under<T: Elem, S: FarTickets>(
     ticket: &S::Ticket,
 ) -> bool
     requires within { o < length objects.now.entries }
-    requires here { IfSome (ticket_of objects.now o) (λ own. S.is_of own (S.name store.now)) }
-    requires ticket_here { S.is_of ticket.now (S.name store.now) }
+    requires here { IfSome (ticket_of objects.now o) (λ own. S.is_of own (S.store_id store.now)) }
+    requires ticket_here { S.is_of ticket.now (S.store_id store.now) }
     ensures number { IsTrue result ↔ IsUnder S.number_of objects.now o ticket.now }
     ensures content { IsTrue result → option_map S.content (ticket_of objects.now o) ≡ Some (S.content ticket.now) }
 {
@@ -27,7 +27,7 @@ pub(crate) fn is_under<T: Elem, S: FarTickets>(
     }
 }
 
-/// The ticket of an object that has one. Takes no memory.
+/// The ticket of an object that has one. Allocates nothing.
 pub(crate) fn again_of<T: Elem, S: FarTickets>(
     objects: &Objects<T, S>,
     store: &S,
@@ -35,9 +35,9 @@ pub(crate) fn again_of<T: Elem, S: FarTickets>(
 ) -> S::Ticket
     requires within { o < length objects.now.entries }
     requires copy { option_map_or has_copy (word_of objects.now o) false ≡ true }
-    requires here { IfSome (ticket_of objects.now o) (λ own. S.is_of own (S.name store.now)) }
+    requires here { IfSome (ticket_of objects.now o) (λ own. S.is_of own (S.store_id store.now)) }
     ensures ticket { ticket_of objects.now o ≡ Some result }
-    ensures here { S.is_of result (S.name store.now) }
+    ensures here { S.is_of result (S.store_id store.now) }
 {
     let Some(ticket) = objects.ticket(o) else {
         unreachable!()

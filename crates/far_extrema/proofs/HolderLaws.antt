@@ -10,7 +10,7 @@ use Rattle.far_types.specs.declared.key.Key.{Key}
 use Rattle.far_types.specs.Keys.{line_cmp}
 use Rattle.far_types.specs.KeyOrder.{line_total}
 use Rattle.far_types.specs.Answers.{Extrema}
-use Rattle.far_types.specs.Changes.{together, join_spans, joined_extrema, widened, with_seen}
+use Rattle.far_types.specs.Effects.{merge_two, join_spans, joined_extrema, widened, with_observed}
 use Rattle.std.specs.Prelude.{◌≤ℤ◌}
 use Rattle.std.specs.Int.{int_min, int_max}
 use Rattle.std.proofs.lemmas.Int.{ints, int_min_is, int_max_is}
@@ -23,12 +23,12 @@ use Rattle.std.specs.BTreeMap.{is_at}
 use Rattle.std.specs.declared.cmp.Ordering.TheVariants.{Less}
 use Rattle.std.proofs.lemmas.List.{append-nil, append_assoc}
 use Rattle.far_types.specs.Answers.{extrema_lines}
-use Rattle.far_types.proofs.ByKeyMaps.{get_at, by_key, entries-by_key, AreApart, sorted_apart}
+use Rattle.far_types.proofs.ByKeyMaps.{get_at, by_key, entries-by_key, HaveDistinctKeys, sorted_distinct}
 use Rattle.far_types.proofs.ByKeyMaps as map_in
-use Rattle.far_extrema.proofs.GroupLaws.{past_room}
+use Rattle.far_extrema.proofs.GroupLaws.{past_reserved}
 use Rattle.far_extrema.specs.Spans.{put_span}
 use Rattle.far_extrema.specs.Live.{all_groups, group_at}
-use Rattle.far_extrema.specs.Holders.{Holding, Holders, holders_of, span_in, span_at, room_in, room_at, picked, group_in, groups_in, reserved_in, line_of, HaveRoom, IsTopped, IsPut, IsGroup, HaveSameSpans, HaveSameRoom}
+use Rattle.far_extrema.specs.Holders.{Holding, Holders, holders_of, span_in, span_at, reserved_in, reserved_at, picked, group_in, groups_in, reserved_keys, line_of, AreReserved, IsTopped, IsPut, IsGroup, HaveSameSpans, HaveSameReserved}
 use Rattle.far_extrema.proofs.SpreadLaws.{off, here, order}
 
 abbrev kept_keys : {V : Type 0} → (Option Key → Option V) → List (Option Key) → List (Option Key × V)
@@ -67,9 +67,9 @@ get-picked f m absent q =
 pub get-group_in : (m : Holders) (g : ℕ) (q : Option Key) → fin.get (group_in m g) q ≡ span_at m g q
 get-group_in m g = get-picked (span_at m g) m (λ q none. ap (λ o. span_in o g) none)
 
--- and its room
-pub get-reserved : (m : Holders) (q : Option Key) → fin.get (reserved_in m) q ≡ room_at m q
-get-reserved m = get-picked (room_at m) m (λ q none. ap room_in none)
+-- and whether it is reserved
+pub get-reserved : (m : Holders) (q : Option Key) → fin.get (reserved_keys m) q ≡ reserved_at m q
+get-reserved m = get-picked (reserved_at m) m (λ q none. ap reserved_in none)
 
 pub length-groups_in : (m : Holders) (n : ℕ) → length (groups_in m n) ≡ n
 length-groups_in m zero = refl
@@ -93,7 +93,7 @@ set-last : {X : Type 0} (xs : List X) (x y : X) → slice_set (xs ++ x ∷ []) (
 set-last [] x y = refl
 set-last (z ∷ xs) x y = ap (λ t. z ∷ t) (set-last xs x y)
 
--- a row group that has room
+-- a row group that is reserved
 pub group_at-in : (m : Holders) (n g : ℕ) → g < n → group_at (groups_in m n) g ≡ group_in m g
 group_at-in m zero g l = absurd (omega arith)
 group_at-in m (suc n) g l = elim (g == n) as (λ b. (g == n) ≡ b → group_at (groups_in m n ++ group_in m n ∷ []) g ≡ group_in m g) [
@@ -126,19 +126,19 @@ get-put_span e k None q = fin.get-remove line_total e k q
 get-put_span e k (Some x) q = fin.get-insert line_total e k x q
 
 -- a span that is put changes one row group under one key
-pub put-in : (m m' : Holders) (room g : ℕ) (k : Option Key) (o : Option (ℤ × ℤ)) → g < room → IsPut m g k o m' → groups_in m' room ≡ slice_set (groups_in m room) g (put_span (group_at (groups_in m room) g) k o)
-put-in m m' room g k o l put =
-    set_in m m' room g (put_span (group_in m g) k o) l
+pub put-in : (m m' : Holders) (count g : ℕ) (k : Option Key) (o : Option (ℤ × ℤ)) → g < count → IsPut m g k o m' → groups_in m' count ≡ slice_set (groups_in m count) g (put_span (group_at (groups_in m count) g) k o)
+put-in m m' count g k o l put =
+    set_in m m' count g (put_span (group_in m g) k o) l
     (same _ _ (λ q. get-group_in m' g q ∙ put g q ∙ ap (λ b. cond (b && eq_by_cmp line_cmp q k) o (span_at m g q)) own ∙ ap (cond (eq_by_cmp line_cmp q k) o) (sym (get-group_in m g q)) ∙ sym (get-put_span (group_in m g) k o q)))
     (λ h n. same _ _ (λ q. get-group_in m' h q ∙ put h q ∙ ap (λ b. cond (b && eq_by_cmp line_cmp q k) o (span_at m h q)) (off h g n) ∙ sym (get-group_in m h q)))
-    ∙ ap (λ e. slice_set (groups_in m room) g (put_span e k o)) (sym (group_at-in m room g l)) where
+    ∙ ap (λ e. slice_set (groups_in m count) g (put_span e k o)) (sym (group_at-in m count g l)) where
       own : (g == g) ≡ true
       own = grind (arith, nat_tests)
 
 -- a row group gets other spans
-pub put-group : (m m' : Holders) (room g : ℕ) (e : Extrema) → g < room → IsGroup m g e m' → groups_in m' room ≡ slice_set (groups_in m room) g e
-put-group m m' room g e l put =
-    set_in m m' room g e l
+pub put-group : (m m' : Holders) (count g : ℕ) (e : Extrema) → g < count → IsGroup m g e m' → groups_in m' count ≡ slice_set (groups_in m count) g e
+put-group m m' count g e l put =
+    set_in m m' count g e l
     (same _ _ (λ q. get-group_in m' g q ∙ put g q ∙ ap (λ b. cond b (fin.get e q) (span_at m g q)) own))
     (λ h n. same _ _ (λ q. get-group_in m' h q ∙ put h q ∙ ap (λ b. cond b (fin.get e q) (span_at m h q)) (off h g n) ∙ sym (get-group_in m h q))) where
       own : (g == g) ≡ true
@@ -148,9 +148,9 @@ put-group m m' room g e l put =
 pub same-groups : (m m' : Holders) (n : ℕ) → HaveSameSpans m m' → groups_in m' n ≡ groups_in m n
 same-groups m m' n alike_spans = alike m' m n (λ g l. same _ _ (λ q. get-group_in m' g q ∙ alike_spans g q ∙ sym (get-group_in m g q)))
 
--- and the same room the same keys that have it
-pub same-reserved : (m m' : Holders) → HaveSameRoom m m' → reserved_in m' ≡ reserved_in m
-same-reserved m m' alike_room = same _ _ (λ q. get-reserved m' q ∙ alike_room q ∙ sym (get-reserved m q))
+-- and the same reservations the same reserved keys
+pub same-reserved : (m m' : Holders) → HaveSameReserved m m' → reserved_keys m' ≡ reserved_keys m
+same-reserved m m' alike_reserved = same _ _ (λ q. get-reserved m' q ∙ alike_reserved q ∙ sym (get-reserved m q))
 
 -- what all row groups have under a key
 get-all : (m : Holders) (n : ℕ) (q : Option Key) → fin.get (all_groups (groups_in m n)) q ≡ joined_to n (λ g. span_at m g q)
@@ -158,11 +158,11 @@ get-all m zero q = fin.get-empty line_cmp q
 get-all m (suc n) q =
     ap (λ e. fin.get e q) (fold-append joined_extrema fin.empty (groups_in m n) (group_in m n ∷ []))
     ∙ get-joined join_spans (all_groups (groups_in m n)) (group_in m n) q
-    ∙ (λ i. together join_spans (get-all m n q i) (get-group_in m n q i))
+    ∙ (λ i. merge_two join_spans (get-all m n q i) (get-group_in m n q i))
 
 pub none_joined : (n : ℕ) → joined_to n (λ g. None) ≡ None
 none_joined zero = refl
-none_joined (suc n) = ap (λ o. together join_spans o None) (none_joined n)
+none_joined (suc n) = ap (λ o. merge_two join_spans o None) (none_joined n)
 
 -- no row group has no span
 pub top-none : IsTopOf [] None
@@ -188,10 +188,10 @@ topped_at (x ∷ es) q t h e = elim (is_at (line_cmp q) x.0) as (λ b. cond b (S
   some_is s t e = cc
 
 -- is that of all row groups
-pub get-tops : (es : Entries) (room : ℕ) (q : Option Key) → HaveRoom room (holders_of es) → AllByRecursion IsTopped es → fin.get (all_groups (groups_in (holders_of es) room)) q ≡ top_in (fin.get (holders_of es) q)
-get-tops es room q kept topped = get-all (holders_of es) room q ∙ elim (fin.get (holders_of es) q) as (λ o. fin.get (holders_of es) q ≡ o → joined_to room (λ g. span_in o g) ≡ top_in o) [
-  | None ↦ λ e. none_joined room
-  | Some spread ↦ λ e. topped_at es q spread topped (sym (get_at es q) ∙ e) room (λ g l. ap (λ o. span_in o g) (sym e) ∙ kept g q l)
+pub get-tops : (es : Entries) (count : ℕ) (q : Option Key) → AreReserved count (holders_of es) → AllByRecursion IsTopped es → fin.get (all_groups (groups_in (holders_of es) count)) q ≡ top_in (fin.get (holders_of es) q)
+get-tops es count q kept topped = get-all (holders_of es) count q ∙ elim (fin.get (holders_of es) q) as (λ o. fin.get (holders_of es) q ≡ o → joined_to count (λ g. span_in o g) ≡ top_in o) [
+  | None ↦ λ e. none_joined count
+  | Some spread ↦ λ e. topped_at es q spread topped (sym (get_at es q) ∙ e) count (λ g l. ap (λ o. span_in o g) (sym e) ∙ kept g q l)
 ] refl
 
 abbrev Lines : Type 0
@@ -204,7 +204,7 @@ top_of e = option_map (λ (top : ℤ × ℤ). (e.0, top)) e.1.top
 abbrev tops : Entries → List (Option Key × (ℤ × ℤ))
 tops es = filter_map top_of es
 
-tops_at : (es : Entries) (q : Option Key) → AreApart es → map_in.at (tops es) q ≡ top_in (map_in.at es q)
+tops_at : (es : Entries) (q : Option Key) → HaveDistinctKeys es → map_in.at (tops es) q ≡ top_in (map_in.at es q)
 tops_at [] q h = refl
 tops_at (e ∷ es) q h =
     elim e.1.top as (λ o. e.1.top ≡ o → map_in.at (cons_option (option_map (λ (top : ℤ × ℤ). (e.0, top)) o) (tops es)) q ≡ top_in (map_in.at (e ∷ es) q)) [
@@ -241,42 +241,42 @@ lines_tops (e ∷ es) = elim e.1.top as (λ o. map {B = Option Key × ℤ × ℤ
 ]
 
 -- the lines of the spans that are kept are those of all row groups joined
-pub lines-all : (es : Entries) (room : ℕ) → HaveRoom room (holders_of es) → AllByRecursion IsTopped es → IsStrictlySortedBy line_cmp (map (λ (e : Option Key × Holding). e.0) es)
-    → filter_map line_of es ≡ extrema_lines (all_groups (groups_in (holders_of es) room))
-lines-all es room kept topped sorted =
+pub lines-all : (es : Entries) (count : ℕ) → AreReserved count (holders_of es) → AllByRecursion IsTopped es → IsStrictlySortedBy line_cmp (map (λ (e : Option Key × Holding). e.0) es)
+    → filter_map line_of es ≡ extrema_lines (all_groups (groups_in (holders_of es) count))
+lines-all es count kept topped sorted =
     sym (lines_tops es)
     ∙ ap (map {B = Option Key × ℤ × ℤ} (λ (e : Option Key × (ℤ × ℤ)). (e.0, e.1.0, e.1.1))) (sym (entries-by_key (tops es) (sorted_tops es sorted)))
-    ∙ ap extrema_lines (same (by_key (tops es)) (all_groups (groups_in (holders_of es) room)) (λ q. get_at (tops es) q ∙ tops_at es q (sorted_apart es sorted) ∙ ap top_in (sym (get_at es q)) ∙ sym (get-tops es room q kept topped)))
+    ∙ ap extrema_lines (same (by_key (tops es)) (all_groups (groups_in (holders_of es) count)) (λ q. get_at (tops es) q ∙ tops_at es q (sorted_distinct es sorted) ∙ ap top_in (sym (get_at es q)) ∙ sym (get-tops es count q kept topped)))
 
--- a span that is put in a row group with room leaves none without
-pub room-put : (m m' : Holders) (room g : ℕ) (k : Option Key) (o : Option (ℤ × ℤ)) → HaveRoom room m → g < room → IsPut m g k o m' → HaveRoom room m'
-room-put m m' room g k o kept l put h q le = put h q ∙ ap (λ b. cond (b && eq_by_cmp line_cmp q k) o (span_at m h q)) (off h g (λ e. omega arith)) ∙ kept h q le
+-- a span that is put in a reserved row group leaves none in the others
+pub reserved-put : (m m' : Holders) (count g : ℕ) (k : Option Key) (o : Option (ℤ × ℤ)) → AreReserved count m → g < count → IsPut m g k o m' → AreReserved count m'
+reserved-put m m' count g k o kept l put h q le = put h q ∙ ap (λ b. cond (b && eq_by_cmp line_cmp q k) o (span_at m h q)) (off h g (λ e. omega arith)) ∙ kept h q le
 
 none_in : (m : Holders) (g : ℕ) → ((q : Option Key) → span_at m g q ≡ None) → group_in m g ≡ fin.empty
 none_in m g h = same _ _ (λ q. get-group_in m g q ∙ h q ∙ sym (fin.get-empty line_cmp q))
 
--- room is made for row groups without a row
-pub more-room : (m : Holders) (room more : ℕ) → HaveRoom room m → groups_in m (room + more) ≡ groups_in m room ++ replicate more fin.empty
-more-room m room zero kept = ap (groups_in m) none ∙ sym (append-nil (groups_in m room)) where
-  none : room + 0 ≡ room
+-- row groups without a row are reserved
+pub more-reserved : (m : Holders) (count more : ℕ) → AreReserved count m → groups_in m (count + more) ≡ groups_in m count ++ replicate more fin.empty
+more-reserved m count zero kept = ap (groups_in m) none ∙ sym (append-nil (groups_in m count)) where
+  none : count + 0 ≡ count
   none = omega arith
-more-room m room (suc more) kept =
+more-reserved m count (suc more) kept =
     ap (groups_in m) one
-    ∙ (λ i. more-room m room more kept i ++ none_in m (room + more) (λ q. kept (room + more) q (omega arith)) i ∷ [])
-    ∙ append_assoc (groups_in m room) (replicate more fin.empty) (fin.empty ∷ [])
-    ∙ ap (λ es. groups_in m room ++ es) (last_one more) where
-      one : room + suc more ≡ suc (room + more)
+    ∙ (λ i. more-reserved m count more kept i ++ none_in m (count + more) (λ q. kept (count + more) q (omega arith)) i ∷ [])
+    ∙ append_assoc (groups_in m count) (replicate more fin.empty) (fin.empty ∷ [])
+    ∙ ap (λ es. groups_in m count ++ es) (last_one more) where
+      one : count + suc more ≡ suc (count + more)
       one = omega arith
 
       last_one : (n : ℕ) → replicate n fin.empty ++ fin.empty ∷ [] ≡ replicate (suc n) (fin.empty {X = ℤ × ℤ} {R = line_cmp})
       last_one zero = refl
       last_one (suc n) = ap (λ es. fin.empty ∷ es) (last_one n)
 
--- without room nothing is there
-pub get-group_at : (m : Holders) (room g : ℕ) (q : Option Key) → HaveRoom room m → fin.get (group_at (groups_in m room) g) q ≡ span_at m g q
-get-group_at m room g q kept = elim (order g room) [
-  | inl l ↦ ap (λ e. fin.get e q) (group_at-in m room g l) ∙ get-group_in m g q
-  | inr l ↦ ap (λ e. fin.get e q) (past_room (groups_in m room) g (omega (arith, length-groups_in m room))) ∙ fin.get-empty line_cmp q ∙ sym (kept g q l)
+-- nothing is there where nothing is reserved
+pub get-group_at : (m : Holders) (count g : ℕ) (q : Option Key) → AreReserved count m → fin.get (group_at (groups_in m count) g) q ≡ span_at m g q
+get-group_at m count g q kept = elim (order g count) [
+  | inl l ↦ ap (λ e. fin.get e q) (group_at-in m count g l) ∙ get-group_in m g q
+  | inr l ↦ ap (λ e. fin.get e q) (past_reserved (groups_in m count) g (omega (arith, length-groups_in m count))) ∙ fin.get-empty line_cmp q ∙ sym (kept g q l)
 ]
 
 both_false : (b : Bool) → (b && false) ≡ false
@@ -327,14 +327,14 @@ put-own m g k x there h q = elim (h == g) as (λ a. (h == g) ≡ a → span_at m
 ] refl
 
 -- a value that is seen
-pub seen-in : (m m' : Holders) (room g : ℕ) (k : Option Key) (v : ℤ) (o : Option (ℤ × ℤ)) → HaveRoom room m → span_at m g k ≡ o → g < room → IsPut m g k (Some (widened v o)) m' → groups_in m' room ≡ slice_set (groups_in m room) g (with_seen (group_at (groups_in m room) g) (k, v))
-seen-in m m' room g k v o kept previous l put =
-    put-in m m' room g k (Some (widened v o)) l put
-    ∙ ap (λ p. slice_set (groups_in m room) g (put_span (group_at (groups_in m room) g) k (Some (widened v p)))) (sym (get-group_at m room g k kept ∙ previous))
+pub seen-in : (m m' : Holders) (count g : ℕ) (k : Option Key) (v : ℤ) (o : Option (ℤ × ℤ)) → AreReserved count m → span_at m g k ≡ o → g < count → IsPut m g k (Some (widened v o)) m' → groups_in m' count ≡ slice_set (groups_in m count) g (with_observed (group_at (groups_in m count) g) (k, v))
+seen-in m m' count g k v o kept previous l put =
+    put-in m m' count g k (Some (widened v o)) l put
+    ∙ ap (λ p. slice_set (groups_in m count) g (put_span (group_at (groups_in m count) g) k (Some (widened v p)))) (sym (get-group_at m count g k kept ∙ previous))
 
 -- nothing is there in an empty map
-pub room-empty : (m : Holders) (room : ℕ) → ((q : Option Key) → fin.get m q ≡ None) → HaveRoom room m
-room-empty m room none g q l = ap (λ o. span_in o g) (none q)
+pub reserved-empty : (m : Holders) (count : ℕ) → ((q : Option Key) → fin.get m q ≡ None) → AreReserved count m
+reserved-empty m count none g q l = ap (λ o. span_in o g) (none q)
 
 pub widened_within : (v : ℤ) (s : ℤ × ℤ) → s.0 ≤ℤ v → v ≤ℤ s.1 → widened v (Some s) ≡ s
 widened_within v s low high =

@@ -1,7 +1,7 @@
 pub mod GoneLaws
 pub mod GroupLaws
 pub mod HolderLaws
-pub mod RoomLaws
+pub mod ReserveLaws
 pub mod SlotLaws
 pub mod SpreadLaws
 pub mod TournamentLaws

@@ -5,7 +5,7 @@ use Rattle.std.proofs.Math.ListN.{set, take}
 use Rattle.std.proofs.lemmas.List.Sums.{fold_more}
 use Rattle.std.proofs.lemmas.List.{get_or-set_same, get_or-set_other}
 use Rattle.std.proofs.lemmas.Bool.Decides.{nat_tests}
-use Rattle.far_types.specs.Changes.{join_spans, together}
+use Rattle.far_types.specs.Effects.{join_spans, merge_two}
 use Rattle.far_extrema.specs.Blocks.{slotted}
 use Rattle.far_extrema.specs.Spreads.{at, IsFrom, IsBelow, IsTopOf, IsSet}
 use Rattle.far_extrema.proofs.SpreadLaws.{top-one, top-both, regroup, order, here, off}
@@ -57,21 +57,21 @@ set-slotted b os g o l h q = elim (q == g) as (λ t. (q == g) ≡ t → at (slot
 
 -- the spans of slots, joined
 abbrev pub all_slots : List (Option (ℤ × ℤ)) → Option (ℤ × ℤ)
-all_slots os = fold (together join_spans) None os
+all_slots os = fold (merge_two join_spans) None os
 
-with_none : (o : Option (ℤ × ℤ)) → together join_spans o None ≡ o
+with_none : (o : Option (ℤ × ℤ)) → merge_two join_spans o None ≡ o
 with_none None = refl
 with_none (Some x) = refl
 
-fold_from : (o : Option (ℤ × ℤ)) (os : List (Option (ℤ × ℤ))) → fold (together join_spans) o os ≡ together join_spans o (all_slots os)
+fold_from : (o : Option (ℤ × ℤ)) (os : List (Option (ℤ × ℤ))) → fold (merge_two join_spans) o os ≡ merge_two join_spans o (all_slots os)
 fold_from o [] = sym (with_none o)
-fold_from o (p ∷ os) = fold_from (together join_spans o p) os ∙ regroup o p (all_slots os) ∙ ap (together join_spans o) (sym (fold_from p os))
+fold_from o (p ∷ os) = fold_from (merge_two join_spans o p) os ∙ regroup o p (all_slots os) ∙ ap (merge_two join_spans o) (sym (fold_from p os))
 
 top-none : IsTopOf [] None
 top-none zero h = refl
-top-none (suc n) h = ap (λ o. together join_spans o None) (top-none n (λ q l. refl))
+top-none (suc n) h = ap (λ o. merge_two join_spans o None) (top-none n (λ q l. refl))
 
-one_slot : (b : ℕ) (os : List (Option (ℤ × ℤ))) (o : Option (ℤ × ℤ)) → IsTopOf (slotted (b + 1) os) (all_slots os) → IsTopOf (slotted b (o ∷ os)) (together join_spans o (all_slots os))
+one_slot : (b : ℕ) (os : List (Option (ℤ × ℤ))) (o : Option (ℤ × ℤ)) → IsTopOf (slotted (b + 1) os) (all_slots os) → IsTopOf (slotted b (o ∷ os)) (merge_two join_spans o (all_slots os))
 one_slot b os None t = t
 one_slot b os (Some x) t = top-both (b + 1) ((b, x) ∷ []) (slotted (b + 1) os) (Some x) (all_slots os) below (from-slotted (b + 1) os) (top-one b x) t where
   below : IsBelow (b + 1) ((b, x) ∷ [])
@@ -114,8 +114,8 @@ pub absent-slot : (g : ℕ) (o : Option (ℤ × ℤ)) (q : ℕ) → (q ≡ g →
 absent-slot g None q n = refl
 absent-slot g (Some x) q n = ap (λ t. cond t (Some x) None) (off q g n)
 
-pub more_slots : (os : List (Option (ℤ × ℤ))) (i : ℕ) → i < length os → all_slots (take (i + 1) os) ≡ together join_spans (all_slots (take i os)) (get_or os i None)
-more_slots os i l = fold_more (together join_spans) None os i None l
+pub more_slots : (os : List (Option (ℤ × ℤ))) (i : ℕ) → i < length os → all_slots (take (i + 1) os) ≡ merge_two join_spans (all_slots (take i os)) (get_or os i None)
+more_slots os i l = fold_more (merge_two join_spans) None os i None l
 
 -- what stands in one slot
 pub one-slot : (g : ℕ) (o : Option (ℤ × ℤ)) (q : ℕ) → at (slotted g (o ∷ [])) q ≡ cond (q == g) o None

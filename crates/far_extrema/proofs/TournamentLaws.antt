@@ -1,7 +1,7 @@
 -- How a branch changes with one of its parts, and one row group alone.
 use Rattle.std.proofs.Common.{◌≡◌, ℕ, ◌<◌, ◌≤◌, ◌+◌, true, false, [], ◌∷◌, ◌++◌, refl, sym, ap, ◌∙◌, arith, Option, None, Some, subst}
 use Rattle.std.specs.Prelude.{ℤ, Bool, not, is_some}
-use Rattle.far_types.specs.Changes.{join_spans, together}
+use Rattle.far_types.specs.Effects.{join_spans, merge_two}
 use Rattle.far_extrema.specs.declared.tournament.Branch.{Branch}
 use Rattle.far_extrema.specs.Spreads.{Spread, Spans, IsFrom, IsBelow, IsTopOf, IsSet}
 use Rattle.far_extrema.specs.Tournaments.{IsParted}
@@ -22,7 +22,7 @@ IsChanged old g o new top = (IsTopOf (whole new) top × AreParted new) × IsSet 
 pub branch-before : (old now new : Branch) (part : Spread) (top a b : Option (ℤ × ℤ)) (g : ℕ) (o : Option (ℤ × ℤ))
     → now ≡ old → AreParted old → old.first ≤ g → g < now.split → IsSet now.before.spans g o part.spans
     → new ≡ record { first = now.first; split = now.split; last = now.last; before = part; after = now.after }
-    → IsTopOf new.before.spans a → IsTopOf new.after.spans b → top ≡ together join_spans a b
+    → IsTopOf new.before.spans a → IsTopOf new.after.spans b → top ≡ merge_two join_spans a b
     → IsChanged old g o new top
 branch-before old now new part top a b g o same parted low high set is t u join =
     subst (λ (n : Branch). IsTopOf n.before.spans a → IsTopOf n.after.spans b → IsChanged old g o n top) (sym is)
@@ -33,7 +33,7 @@ branch-before old now new part top a b g o same parted low high set is t u join 
 pub branch-after : (old now new : Branch) (part : Spread) (top a b : Option (ℤ × ℤ)) (g : ℕ) (o : Option (ℤ × ℤ))
     → now ≡ old → AreParted old → now.split ≤ g → g ≤ old.last → IsSet now.after.spans g o part.spans
     → new ≡ record { first = now.first; split = now.split; last = now.last; before = now.before; after = part }
-    → IsTopOf new.before.spans a → IsTopOf new.after.spans b → top ≡ together join_spans a b
+    → IsTopOf new.before.spans a → IsTopOf new.after.spans b → top ≡ merge_two join_spans a b
     → IsChanged old g o new top
 branch-after old now new part top a b g o same parted low high set is t u join =
     subst (λ (n : Branch). IsTopOf n.before.spans a → IsTopOf n.after.spans b → IsChanged old g o n top) (sym is)
@@ -44,7 +44,7 @@ branch-after old now new part top a b g o same parted low high set is t u join =
 -- a row group more after all, in a part of its own
 pub branch-added-after : (rest old na : Spread) (top a : Option (ℤ × ℤ)) (x : ℤ × ℤ) (g first last mn s mx : ℕ)
     → rest ≡ old → na.spans ≡ (g, x) ∷ []
-    → mn ≤ first → g ≤ mx → last < s → s ≤ g → first ≤ last → IsFrom first old.spans → IsBelow (last + 1) old.spans → IsTopOf old.spans a → top ≡ together join_spans a (Some x)
+    → mn ≤ first → g ≤ mx → last < s → s ≤ g → first ≤ last → IsFrom first old.spans → IsBelow (last + 1) old.spans → IsTopOf old.spans a → top ≡ merge_two join_spans a (Some x)
     → (IsTopOf (rest.spans ++ na.spans) top × IsParted mn s mx rest.spans na.spans) × IsSet old.spans g (Some x) (rest.spans ++ na.spans)
 branch-added-after rest old na top a x g first last mn s mx is_old one l1 l2 l3 l4 l5 from below t join =
     subst (λ (r : Spread). (IsTopOf (r.spans ++ na.spans) top × IsParted mn s mx r.spans na.spans) × IsSet old.spans g (Some x) (r.spans ++ na.spans)) (sym is_old)
@@ -55,7 +55,7 @@ branch-added-after rest old na top a x g first last mn s mx is_old one l1 l2 l3 
 -- or before all
 pub branch-added-before : (rest old nb : Spread) (top a : Option (ℤ × ℤ)) (x : ℤ × ℤ) (g first last mn s mx : ℕ)
     → rest ≡ old → nb.spans ≡ (g, x) ∷ []
-    → mn ≤ g → last ≤ mx → g < s → s ≤ first → first ≤ last → IsFrom first old.spans → IsBelow (last + 1) old.spans → IsTopOf old.spans a → top ≡ together join_spans (Some x) a
+    → mn ≤ g → last ≤ mx → g < s → s ≤ first → first ≤ last → IsFrom first old.spans → IsBelow (last + 1) old.spans → IsTopOf old.spans a → top ≡ merge_two join_spans (Some x) a
     → (IsTopOf (nb.spans ++ rest.spans) top × IsParted mn s mx nb.spans rest.spans) × IsSet old.spans g (Some x) (nb.spans ++ rest.spans)
 branch-added-before rest old nb top a x g first last mn s mx is_old one l1 l2 l3 l4 l5 from below t join =
     subst (λ (r : Spread). (IsTopOf (nb.spans ++ r.spans) top × IsParted mn s mx nb.spans r.spans) × IsSet old.spans g (Some x) (nb.spans ++ r.spans)) (sym is_old)

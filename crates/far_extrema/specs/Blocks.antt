@@ -1,4 +1,5 @@
 -- What a block has of the spans of row groups that follow one another.
+-- Internal: no public contract cites it.
 use Rattle.std.specs.Prelude.{ℕ, ◌+◌, ℤ, List, [], ◌∷◌, Option, None, Some}
 use Rattle.far_extrema.specs.Spreads.{Spans}
 

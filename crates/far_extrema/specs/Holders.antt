@@ -8,15 +8,15 @@ use Rattle.far_types.specs.Keys.{line_cmp}
 use Rattle.far_types.specs.Answers.{ByKey, Extrema}
 use Rattle.far_extrema.specs.Spreads.{Spans, Spread, at, IsTopOf, IsSet}
 
--- the spans of the row groups in which a key occurs, their span together, and whether it has room for one more
+-- the spans of the row groups in which a key occurs, their span together, and whether it is reserved for one more
 pub record Holding : Type 0 where
   pub spans : Spans
   pub top : Option (ℤ × ℤ)
-  pub room : Bool
+  pub reserved : Bool
 
 abbrev pub held : Option Spread → Bool → Holding
-held None room = record { spans = []; top = None; room = room }
-held (Some spread) room = record { spans = spread.spans; top = spread.top; room = room }
+held None reserved = record { spans = []; top = None; reserved = reserved }
+held (Some spread) reserved = record { spans = spread.spans; top = spread.top; reserved = reserved }
 
 -- by key, the row groups in which it occurs
 abbrev pub Holders : Type 0
@@ -34,13 +34,13 @@ span_in (Some holding) group = at holding.spans group
 abbrev pub span_at : Holders → ℕ → Option Key → Option (ℤ × ℤ)
 span_at holders group key = span_in (fin.get holders key) group
 
-abbrev pub room_in : Option Holding → Option (Bool)
-room_in None = None
-room_in (Some holding) = cond holding.room (Some true) None
+abbrev pub reserved_in : Option Holding → Option (Bool)
+reserved_in None = None
+reserved_in (Some holding) = cond holding.reserved (Some true) None
 
--- the room of a key for a row group more
-abbrev pub room_at : Holders → Option Key → Option (Bool)
-room_at holders key = room_in (fin.get holders key)
+-- whether a key is reserved for a row group more
+abbrev pub reserved_at : Holders → Option Key → Option (Bool)
+reserved_at holders key = reserved_in (fin.get holders key)
 
 -- what these keys have, where they have something
 abbrev pub picked : {V : Type 0} → (Option Key → Option V) → List (Option Key) → ByKey V
@@ -55,13 +55,13 @@ abbrev pub groups_in : Holders → ℕ → List Extrema
 groups_in holders zero = []
 groups_in holders (suc n) = groups_in holders n ++ group_in holders n ∷ []
 
--- the keys for which room is reserved
-abbrev pub reserved_in : Holders → ByKey (Bool)
-reserved_in holders = picked (room_at holders) (fin.keys holders)
+-- the keys that are reserved for a row group more
+abbrev pub reserved_keys : Holders → ByKey (Bool)
+reserved_keys holders = picked (reserved_at holders) (fin.keys holders)
 
 -- no key occurs in a row group from this number on
-abbrev pub HaveRoom : ℕ → Holders → Type 0
-HaveRoom room holders = (g : ℕ) → (key : Option Key) → room ≤ g → span_at holders g key ≡ None
+abbrev pub AreReserved : ℕ → Holders → Type 0
+AreReserved count holders = (g : ℕ) → (key : Option Key) → count ≤ g → span_at holders g key ≡ None
 
 -- the span that is kept is that of all row groups together
 abbrev pub IsTopped : Option Key × Holding → Type 0
@@ -82,17 +82,17 @@ IsGroup old group extrema new = (g : ℕ) → (q : Option Key) → span_at new g
 abbrev pub HaveSameSpans : Holders → Holders → Type 0
 HaveSameSpans old new = (g : ℕ) → (q : Option Key) → span_at new g q ≡ span_at old g q
 
-abbrev pub HaveSameRoom : Holders → Holders → Type 0
-HaveSameRoom old new = (q : Option Key) → room_at new q ≡ room_at old q
+abbrev pub HaveSameReserved : Holders → Holders → Type 0
+HaveSameReserved old new = (q : Option Key) → reserved_at new q ≡ reserved_at old q
 
--- a key that has room keeps it
-abbrev pub KeepsRoom : Holders → Holders → Type 0
-KeepsRoom old new = (q : Option Key) → room_at old q ≢ None → room_at new q ≢ None
+-- a reserved key stays reserved
+abbrev pub KeepsReserved : Holders → Holders → Type 0
+KeepsReserved old new = (q : Option Key) → reserved_at old q ≢ None → reserved_at new q ≢ None
 
--- each key of these extrema has room
-abbrev pub HasRoomFor : Extrema → Holders → Type 0
-HasRoomFor extrema holders = (q : Option Key) → fin.get extrema q ≢ None → room_at holders q ≢ None
+-- each key of these extrema is reserved
+abbrev pub IsReservedFor : Extrema → Holders → Type 0
+IsReservedFor extrema holders = (q : Option Key) → fin.get extrema q ≢ None → reserved_at holders q ≢ None
 
--- a row group is cleared of an entry, which is kept while a row group or room is left to it
+-- a row group is cleared of an entry, which is kept while a row group is left to it, or it is reserved
 abbrev pub IsCleared : ℕ → Holding → Bool → Holding → Type 0
-IsCleared group old kept new = IsSet old.spans group None new.spans × (new.room ≡ old.room) × (kept ≡ false → (new.spans ≡ []) × (new.room ≡ false))
+IsCleared group old kept new = IsSet old.spans group None new.spans × (new.reserved ≡ old.reserved) × (kept ≡ false → (new.spans ≡ []) × (new.reserved ≡ false))

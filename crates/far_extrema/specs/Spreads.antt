@@ -1,6 +1,6 @@
 -- The spans of the row groups in which a key occurs.
 use Rattle.std.specs.Prelude.{◌≡◌, ◌<◌, ◌≤◌, ◌==◌, ℕ, zero, suc, ℤ, cond, List, [], ◌∷◌, Option, None, Some}
-use Rattle.far_types.specs.Changes.{join_spans, together}
+use Rattle.far_types.specs.Effects.{join_spans, merge_two}
 
 -- by row group, the span of the key there
 abbrev pub Spans : Type 0
@@ -31,9 +31,9 @@ IsBelow high spans = (q : ℕ) → high ≤ q → at spans q ≡ None
 -- what stands at the numbers below this one, joined
 abbrev pub joined_to : ℕ → (ℕ → Option (ℤ × ℤ)) → Option (ℤ × ℤ)
 joined_to zero f = None
-joined_to (suc n) f = together join_spans (joined_to n f) (f n)
+joined_to (suc n) f = merge_two join_spans (joined_to n f) (f n)
 
--- all their spans joined are this one, or none where there is no row group
+-- all their spans joined are this one, or none if there is no row group
 abbrev pub IsTopOf : Spans → Option (ℤ × ℤ) → Type 0
 IsTopOf spans top = (n : ℕ) → IsBelow n spans → joined_to n (at spans) ≡ top
 

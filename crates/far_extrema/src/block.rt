@@ -1,16 +1,16 @@
 // The spans of a key in some row groups that follow one another.
 ghost use Rattle.std.specs.Prelude.{◌≡◌, ◌+◌, ◌-◌, ◌%◌, ◌<◌, ◌≤◌, [], false, IsTrue};
 ghost use Rattle.std.specs.Option.{option_copied};
-ghost use Rattle.far_types.specs.Changes.{join_spans, together};
+ghost use Rattle.far_types.specs.Effects.{join_spans, merge_two};
 ghost use Rattle.far_extrema.specs.Spreads.{at, IsTopOf, IsFrom, IsBelow, IsSet};
 
-use super::spans::{MinMax, together};
+use super::spans::{MinMax, merge_two};
 use std::marker::Model;
 
 /// How many row groups a block holds.
 const SLOTS: u32 = 16;
 
-/// The spans of the row groups of an aligned range, or none where the key does not occur.
+/// The spans of the row groups of an aligned range, or none if the key does not occur.
 #[derive(Drop)]
 pub struct Block {
     first: u32,
@@ -29,7 +29,7 @@ impl Model for Block {
 }
 
 impl Block {
-    /// The block in whose range a row group is, with this span there and none elsewhere. Takes no memory.
+    /// The block in whose range a row group is, with this span there and none elsewhere. Allocates nothing.
     pub fn new(group: u32, span: Option<MinMax>) -> Block
         ensures spans { IsSet [] group span result.spans }
         ensures first { result.first ≡ group - group % 16 }
@@ -62,7 +62,7 @@ impl Block {
         self.first <= group && group - self.first < SLOTS
     }
 
-    /// The span of a row group where it stands, or `None` where the key does not occur in it.
+    /// The span of a row group where it stands, or `None` if the key does not occur in it.
     pub fn look_up(&self, group: u32) -> Option<&MinMax>
         ensures { option_copied result ≡ at self.now.spans group }
     {
@@ -76,7 +76,7 @@ impl Block {
         }
     }
 
-    /// A span, or none, in place of that of a row group of the range. Takes no memory.
+    /// A span, or none, in place of that of a row group of the range. Allocates nothing.
     pub fn put(&mut self, group: u32, span: Option<MinMax>)
         requires first { self.old.first ≤ group }
         requires last { group < self.old.first + 16 }
@@ -86,7 +86,7 @@ impl Block {
         self.slots[(group - self.first) as usize] = span;
     }
 
-    /// The span of all row groups together, or `None` where there is none.
+    /// The span of all row groups together, or `None` if there is none.
     pub fn joined(&self) -> Option<MinMax>
         ensures { IsTopOf self.now.spans result }
     {
@@ -111,10 +111,10 @@ pub fn range_of(group: u32) -> (u32, u32)
 
 /// The least and the greatest of two spans together, where they are there.
 pub fn either(span: Option<MinMax>, more: Option<MinMax>) -> Option<MinMax>
-    ensures { result ≡ together join_spans span more }
+    ensures { result ≡ merge_two join_spans span more }
 {
     match (span, more) {
-        (Some(span), Some(more)) => Some(together(span, more)),
+        (Some(span), Some(more)) => Some(merge_two(span, more)),
         (Some(span), None) => Some(span),
         (None, more) => more,
     }

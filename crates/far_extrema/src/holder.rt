@@ -1,17 +1,17 @@
 // What stands under one key.
 ghost use Rattle.std.specs.Prelude.{◌≡◌, ◌≢◌, ◌∷◌, [], None, Some, true, false, IsTrue, OnOk, OnErr, IfOk, IfErr};
-ghost use Rattle.far_types.specs.Changes.{widened};
+ghost use Rattle.far_types.specs.Effects.{widened};
 ghost use Rattle.far_extrema.specs.Spreads.{at, IsSet, IsTopOf};
 
 use super::rows_left::RowsLeft;
-use super::spans::{MinMax, is_inside, is_within, together};
+use super::spans::{MinMax, is_strictly_within, is_within, merge_two};
 use super::tournament::{Spare, Tournament};
 use far_types::Refusal;
 use std::alloc::Global;
 use std::marker::Model;
 
-/// The row groups in which a key occurs, and whether there is memory for one more of them. A key that only has room
-/// occurs in none.
+/// The row groups in which a key occurs, and whether there is memory for one more of them. A key that is only
+/// reserved occurs in none.
 #[derive(Drop)]
 pub struct Holder {
     groups: Option<Tournament>,
@@ -28,10 +28,10 @@ impl Model for Holder {
 }
 
 impl Holder {
-    /// One row group, and no room for another. Takes no memory.
+    /// One row group, and no memory for another. Allocates nothing.
     pub fn new(group: u32, span: MinMax) -> Holder
         ensures spans { result.spans ≡ (group, span) ∷ [] }
-        ensures room { result.room ≡ false }
+        ensures reserved { result.reserved ≡ false }
     {
         Holder {
             groups: Some(Tournament::new(group, span)),
@@ -39,10 +39,10 @@ impl Holder {
         }
     }
 
-    /// No row group, and room for one. Takes no memory.
-    pub fn with_room(spare: Spare) -> Holder
+    /// No row group, and memory for one. Allocates nothing.
+    pub fn with_spare(spare: Spare) -> Holder
         ensures spans { result.spans ≡ [] }
-        ensures room { result.room ≡ true }
+        ensures reserved { result.reserved ≡ true }
     {
         Holder {
             groups: None,
@@ -50,7 +50,7 @@ impl Holder {
         }
     }
 
-    /// The span of a row group, or `None` where the key does not occur in it.
+    /// The span of a row group, or `None` if the key does not occur in it.
     pub fn span(&self, group: u32) -> Option<MinMax>
         ensures { result ≡ at self.now.spans group }
     {
@@ -60,7 +60,7 @@ impl Holder {
         }
     }
 
-    /// The span of all row groups together, or `None` where there is none.
+    /// The span of all row groups together, or `None` if there is none.
     pub fn top(&self) -> Option<MinMax>
         ensures is { result ≡ self.now.top }
         ensures top { IsTopOf self.now.spans result }
@@ -71,18 +71,18 @@ impl Holder {
         }
     }
 
-    /// Whether neither a row group nor room is left.
+    /// Whether no row group is left, nor memory for one.
     pub fn is_vacant(&self) -> bool
         ensures spans { IsTrue result → self.now.spans ≡ [] }
-        ensures room { IsTrue result → self.now.room ≡ false }
+        ensures reserved { IsTrue result → self.now.reserved ≡ false }
     {
         self.groups.is_none() && self.spare.is_none()
     }
 
-    /// Reserves room for a row group more. Refused with `NoMemory` (1) alone, and then nothing is changed.
+    /// Reserves memory for a row group more. Refused with `NoMemory` (1) alone, and then nothing is changed.
     pub fn reserve(&mut self, alloc: Global) -> Result<(), Refusal>
         ensures spans { self.new.spans ≡ self.old.spans }
-        ensures room { OnOk result (self.new.room ≡ true) }
+        ensures reserved { OnOk result (self.new.reserved ≡ true) }
         ensures err { OnErr result (self.new ≡ self.old) }
         ensures memory { IfErr result (λ e. e ≡ Refusal.NoMemory) }
     {
@@ -92,11 +92,11 @@ impl Holder {
         Ok(())
     }
 
-    /// A row group more, which leaves the room as it is. Refused with `NoMemory` (1) alone, and then nothing is changed.
+    /// A row group more, which leaves what is reserved as it is. Refused with `NoMemory` (1) alone, and then nothing is changed.
     fn add(&mut self, alloc: Global, group: u32, span: MinMax) -> Result<(), Refusal>
         requires { at self.old.spans group ≡ None }
         ensures ok { OnOk result (IsSet self.old.spans group (Some span) self.new.spans) }
-        ensures room { self.new.room ≡ self.old.room }
+        ensures reserved { self.new.reserved ≡ self.old.reserved }
         ensures err { OnErr result (self.new ≡ self.old) }
         ensures memory { IfErr result (λ e. e ≡ Refusal.NoMemory) }
     {
@@ -111,25 +111,30 @@ impl Holder {
         Ok(())
     }
 
-    /// A value more in a row group whose span is known: a value within that changes nothing. Takes no memory.
+    /// A value more in a row group whose span is known: a value within that changes nothing. Allocates nothing.
     fn widen(&mut self, group: u32, previous: MinMax, value: i64)
         requires { at self.old.spans group ≡ Some previous }
         ensures spans { IsSet self.old.spans group (Some (widened value (Some previous))) self.new.spans }
-        ensures room { self.new.room ≡ self.old.room }
+        ensures reserved { self.new.reserved ≡ self.old.reserved }
     {
         if is_within(value, previous) {
             return;
         }
-        let wide = together((value, value), previous);
+        let wide = merge_two((value, value), previous);
         self.put(group, wide);
     }
 
-    /// A value more in a row group, which leaves the room as it is. Returns the previous span there, or `None` where the
-    /// key did not occur. Refused with `NoMemory` (1) alone, where the key is new there, and then nothing is changed.
-    pub fn see(&mut self, alloc: Global, group: u32, value: i64) -> Result<Option<MinMax>, Refusal>
+    /// A value more in a row group, which leaves what is reserved as it is. Returns the previous span there, or
+    /// `None` if the key did not occur. Refused with `NoMemory` (1) alone, where the key is new there, and then nothing is changed.
+    pub fn observe(
+        &mut self,
+        alloc: Global,
+        group: u32,
+        value: i64,
+    ) -> Result<Option<MinMax>, Refusal>
         ensures previous { IfOk result (λ previous. previous ≡ at self.old.spans group) }
         ensures ok { OnOk result (IsSet self.old.spans group (Some (widened value (at self.old.spans group))) self.new.spans) }
-        ensures room { self.new.room ≡ self.old.room }
+        ensures reserved { self.new.reserved ≡ self.old.reserved }
         ensures err { OnErr result (self.new ≡ self.old) }
         ensures only_new { OnErr result (at self.old.spans group ≡ None) }
         ensures memory { IfErr result (λ e. e ≡ Refusal.NoMemory) }
@@ -146,9 +151,9 @@ impl Holder {
         }
     }
 
-    /// A row group more, which takes the room. Takes no memory.
+    /// A row group more, which takes the memory that is reserved. Allocates nothing.
     pub fn fill(&mut self, group: u32, span: MinMax)
-        requires room { self.old.room ≡ true }
+        requires reserved { self.old.reserved ≡ true }
         requires new { at self.old.spans group ≡ None }
         ensures { IsSet self.old.spans group (Some span) self.new.spans }
     {
@@ -165,11 +170,11 @@ impl Holder {
         }
     }
 
-    /// A span in place of that of a row group in which the key occurs. Takes no memory.
+    /// A span in place of that of a row group in which the key occurs. Allocates nothing.
     pub fn put(&mut self, group: u32, span: MinMax)
         requires { at self.old.spans group ≢ None }
         ensures spans { IsSet self.old.spans group (Some span) self.new.spans }
-        ensures room { self.new.room ≡ self.old.room }
+        ensures reserved { self.new.reserved ≡ self.old.reserved }
     {
         match &mut self.groups {
             Some(groups) => {
@@ -181,11 +186,11 @@ impl Holder {
         }
     }
 
-    /// A row group in which the key occurs no more. Takes no memory.
+    /// A row group in which the key occurs no more. Allocates nothing.
     pub fn leave(&mut self, group: u32)
         requires { at self.old.spans group ≢ None }
         ensures spans { IsSet self.old.spans group None self.new.spans }
-        ensures room { self.new.room ≡ self.old.room }
+        ensures reserved { self.new.reserved ≡ self.old.reserved }
     {
         match &mut self.groups {
             Some(groups) => {
@@ -208,10 +213,10 @@ impl Holder {
         requires previous { at self.old.spans group ≡ Some (widened value (R.extremes rows.now)) }
         ensures left { result ≡ R.extremes rows.now }
         ensures spans { IsSet self.old.spans group (R.extremes rows.now) self.new.spans }
-        ensures room { self.new.room ≡ self.old.room }
+        ensures reserved { self.new.reserved ≡ self.old.reserved }
     {
         if let Some(span) = self.span(group) {
-            if is_inside(value, span) {
+            if is_strictly_within(value, span) {
                 return Some(span);
             }
         }
@@ -227,10 +232,10 @@ impl Holder {
         }
     }
 
-    /// A row group in which the key occurs no more, if it did. Takes no memory.
+    /// A row group in which the key occurs no more, if it did. Allocates nothing.
     pub fn clear(&mut self, group: u32)
         ensures spans { IsSet self.old.spans group None self.new.spans }
-        ensures room { self.new.room ≡ self.old.room }
+        ensures reserved { self.new.reserved ≡ self.old.reserved }
     {
         if self.span(group).is_some() {
             self.leave(group);

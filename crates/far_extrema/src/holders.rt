@@ -5,10 +5,10 @@ ghost use Rattle.std.specs.List.{AllByRecursion, filter_map};
 ghost use Rattle.std.specs.Ordering.{eq_by_cmp};
 ghost use Rattle.std.specs.FinMap as fin;
 ghost use Rattle.far_types.specs.declared.key.Key.{Key};
-ghost use Rattle.far_types.specs.Changes.{widened};
+ghost use Rattle.far_types.specs.Effects.{widened};
 ghost use Rattle.far_types.specs.Keys.{line_cmp};
 ghost use Rattle.far_extrema.specs.Spans.{extrema_of};
-ghost use Rattle.far_extrema.specs.Holders.{holders_of, span_at, room_at, line_of, IsPut, IsTopped, HaveSameRoom, HaveSameSpans, KeepsRoom, HasRoomFor, IsGroup, IsCleared};
+ghost use Rattle.far_extrema.specs.Holders.{holders_of, span_at, reserved_at, line_of, IsPut, IsTopped, HaveSameReserved, HaveSameSpans, KeepsReserved, IsReservedFor, IsGroup, IsCleared};
 
 use super::holder::Holder;
 use super::rows_left::RowsLeft;
@@ -21,7 +21,7 @@ use std::collections::BTreeMap;
 /// What stands by key.
 pub type Holders = BTreeMap<Option<Key>, Holder>;
 
-/// The span of a key in a row group. Takes no memory.
+/// The span of a key in a row group. Allocates nothing.
 pub fn span_in(holders: &Holders, group: u32, key: &Option<Key>) -> Option<MinMax>
     ensures { result ≡ span_at (holders_of holders.now.entries) group key.now }
 {
@@ -34,7 +34,7 @@ pub fn span_in(holders: &Holders, group: u32, key: &Option<Key>) -> Option<MinMa
 /// A value more under a key in a row group. One look-up brings it in where the key is known. Returns the previous
 /// span there, or `None`. A clone of the key is made where it is new. Refused with `NoMemory` (1) alone, where the key is new in the
 /// row group, and then nothing is changed.
-pub fn see_in(
+pub fn observe_in(
     holders: &mut Holders,
     alloc: Global,
     group: u32,
@@ -43,13 +43,13 @@ pub fn see_in(
 ) -> Result<Option<MinMax>, Refusal>
     ensures previous { IfOk result (λ previous. previous ≡ span_at (holders_of holders.old.entries) group key.now) }
     ensures ok { OnOk result (IsPut (holders_of holders.old.entries) group key.now (Some (widened value (span_at (holders_of holders.old.entries) group key.now))) (holders_of holders.new.entries)) }
-    ensures room { OnOk result (HaveSameRoom (holders_of holders.old.entries) (holders_of holders.new.entries)) }
+    ensures reserved { OnOk result (HaveSameReserved (holders_of holders.old.entries) (holders_of holders.new.entries)) }
     ensures err { OnErr result (holders_of holders.new.entries ≡ holders_of holders.old.entries) }
     ensures only_new { OnErr result (span_at (holders_of holders.old.entries) group key.now ≡ None) }
     ensures memory { IfErr result (λ e. e ≡ Refusal.NoMemory) }
 {
     match holders.get_mut(key) {
-        Some(holder) => holder.see(alloc, group, value),
+        Some(holder) => holder.observe(alloc, group, value),
         None => {
             holders.insert(clone_key(key)?, Holder::new(group, (value, value)))?;
             Ok(None)
@@ -57,11 +57,11 @@ pub fn see_in(
     }
 }
 
-/// A span in place of that of a key in a row group. Takes no memory.
+/// A span in place of that of a key in a row group. Allocates nothing.
 pub fn set_in(holders: &mut Holders, group: u32, key: &Option<Key>, span: MinMax)
     requires { span_at (holders_of holders.old.entries) group key.now ≢ None }
     ensures spans { IsPut (holders_of holders.old.entries) group key.now (Some span) (holders_of holders.new.entries) }
-    ensures room { HaveSameRoom (holders_of holders.old.entries) (holders_of holders.new.entries) }
+    ensures reserved { HaveSameReserved (holders_of holders.old.entries) (holders_of holders.new.entries) }
 {
     match holders.get_mut(key) {
         Some(holder) => holder.put(group, span),
@@ -69,11 +69,11 @@ pub fn set_in(holders: &mut Holders, group: u32, key: &Option<Key>, span: MinMax
     }
 }
 
-/// A row group in which a key occurs no more: the key goes with its last one, if it has no room. Takes no memory.
+/// A row group in which a key occurs no more: the key goes with its last one, if it is not reserved. Allocates nothing.
 pub fn leave_in(holders: &mut Holders, group: u32, key: &Option<Key>)
     requires { span_at (holders_of holders.old.entries) group key.now ≢ None }
     ensures spans { IsPut (holders_of holders.old.entries) group key.now None (holders_of holders.new.entries) }
-    ensures room { HaveSameRoom (holders_of holders.old.entries) (holders_of holders.new.entries) }
+    ensures reserved { HaveSameReserved (holders_of holders.old.entries) (holders_of holders.new.entries) }
 {
     match holders.get_mut(key) {
         Some(holder) => {
@@ -88,7 +88,7 @@ pub fn leave_in(holders: &mut Holders, group: u32, key: &Option<Key>)
 }
 
 /// A value less under a key in a row group, of which the rows are left. They are read only if the value was the least or the
-/// greatest. Returns the span that is left, or `None`; the key goes with its last row group, if it has no room. One look-up
+/// greatest. Returns the span that is left, or `None`; the key goes with its last row group, if it is not reserved. One look-up
 /// finds the key, and one more lets it go. Allocates nothing.
 pub fn shrink_in<R: RowsLeft>(
     holders: &mut Holders,
@@ -101,7 +101,7 @@ pub fn shrink_in<R: RowsLeft>(
     requires previous { span_at (holders_of holders.old.entries) group key.now ≡ Some (widened value (R.extremes rows.now)) }
     ensures left { result ≡ R.extremes rows.now }
     ensures spans { IsPut (holders_of holders.old.entries) group key.now (R.extremes rows.now) (holders_of holders.new.entries) }
-    ensures room { HaveSameRoom (holders_of holders.old.entries) (holders_of holders.new.entries) }
+    ensures reserved { HaveSameReserved (holders_of holders.old.entries) (holders_of holders.new.entries) }
 {
     match holders.get_mut(key) {
         Some(holder) => {
@@ -116,27 +116,28 @@ pub fn shrink_in<R: RowsLeft>(
     None
 }
 
-/// Reserves room for a row group more of a key. Refused with `NoMemory` (1) alone.
+/// Reserves memory for a row group more of a key. Refused with `NoMemory` (1) alone.
 fn reserve_in(holders: &mut Holders, alloc: Global, key: &Option<Key>) -> Result<(), Refusal>
     ensures spans { HaveSameSpans (holders_of holders.old.entries) (holders_of holders.new.entries) }
-    ensures kept { KeepsRoom (holders_of holders.old.entries) (holders_of holders.new.entries) }
-    ensures room { OnOk result (room_at (holders_of holders.new.entries) key.now ≢ None) }
+    ensures kept { KeepsReserved (holders_of holders.old.entries) (holders_of holders.new.entries) }
+    ensures reserved { OnOk result (reserved_at (holders_of holders.new.entries) key.now ≢ None) }
     ensures memory { IfErr result (λ e. e ≡ Refusal.NoMemory) }
 {
     match holders.get_mut(key) {
         Some(holder) => holder.reserve(alloc),
         None => {
             let spare = Spare::new(alloc)?;
-            holders.insert(clone_key(key)?, Holder::with_room(spare))?;
+            holders.insert(clone_key(key)?, Holder::with_spare(spare))?;
             Ok(())
         }
     }
 }
 
-/// Reserves room for a row group more of each of these keys. Refused with `NoMemory` (1) alone, and then some may have it.
+/// Reserves memory for a row group more of each of these keys. Refused with `NoMemory` (1) alone, and then some may be
+/// reserved.
 pub fn reserve_all(holders: &mut Holders, alloc: Global, spans: &Spans) -> Result<(), Refusal>
     ensures spans { HaveSameSpans (holders_of holders.old.entries) (holders_of holders.new.entries) }
-    ensures room { OnOk result (HasRoomFor (extrema_of spans.now.entries) (holders_of holders.new.entries)) }
+    ensures reserved { OnOk result (IsReservedFor (extrema_of spans.now.entries) (holders_of holders.new.entries)) }
     ensures memory { IfErr result (λ e. e ≡ Refusal.NoMemory) }
 {
     for (key, _) in spans {
@@ -145,12 +146,12 @@ pub fn reserve_all(holders: &mut Holders, alloc: Global, spans: &Spans) -> Resul
     Ok(())
 }
 
-/// A row group more for a key that has room. Takes no memory.
+/// A row group more for a reserved key. Allocates nothing.
 fn fill_in(holders: &mut Holders, group: u32, key: &Option<Key>, span: MinMax)
-    requires room { room_at (holders_of holders.old.entries) key.now ≢ None }
+    requires reserved { reserved_at (holders_of holders.old.entries) key.now ≢ None }
     requires new { span_at (holders_of holders.old.entries) group key.now ≡ None }
     ensures spans { IsPut (holders_of holders.old.entries) group key.now (Some span) (holders_of holders.new.entries) }
-    ensures room { (q : Option Key) → eq_by_cmp line_cmp q key.now ≡ false → room_at (holders_of holders.new.entries) q ≡ room_at (holders_of holders.old.entries) q }
+    ensures reserved { (q : Option Key) → eq_by_cmp line_cmp q key.now ≡ false → reserved_at (holders_of holders.new.entries) q ≡ reserved_at (holders_of holders.old.entries) q }
 {
     match holders.get_mut(key) {
         Some(holder) => holder.fill(group, span),
@@ -158,9 +159,9 @@ fn fill_in(holders: &mut Holders, group: u32, key: &Option<Key>, span: MinMax)
     }
 }
 
-/// These are the spans of a row group in which no key occurs yet; each of their keys has room. Takes no memory.
+/// These are the spans of a row group in which no key occurs yet; each of their keys is reserved. Allocates nothing.
 pub fn fill_all(holders: &mut Holders, group: u32, spans: &Spans)
-    requires room { HasRoomFor (extrema_of spans.now.entries) (holders_of holders.old.entries) }
+    requires reserved { IsReservedFor (extrema_of spans.now.entries) (holders_of holders.old.entries) }
     requires new { (q : Option Key) → span_at (holders_of holders.old.entries) group q ≡ None }
     ensures { IsGroup (holders_of holders.old.entries) group (extrema_of spans.now.entries) (holders_of holders.new.entries) }
 {
@@ -169,7 +170,7 @@ pub fn fill_all(holders: &mut Holders, group: u32, spans: &Spans)
     }
 }
 
-/// A row group in which a key occurs no more, if it did. Says whether a row group or room is left to the key.
+/// A row group in which a key occurs no more, if it did. Says whether a row group is left to the key, or it is reserved.
 fn clear(holder: &mut Holder, group: u32) -> bool
     ensures { IsCleared group holder.old result holder.new }
 {
@@ -177,10 +178,10 @@ fn clear(holder: &mut Holder, group: u32) -> bool
     !holder.is_vacant()
 }
 
-/// No key occurs in a row group any more. Takes no memory.
+/// No key occurs in a row group any more. Allocates nothing.
 pub fn clear_in(holders: &mut Holders, group: u32)
     ensures spans { IsGroup (holders_of holders.old.entries) group fin.empty (holders_of holders.new.entries) }
-    ensures room { HaveSameRoom (holders_of holders.old.entries) (holders_of holders.new.entries) }
+    ensures reserved { HaveSameReserved (holders_of holders.old.entries) (holders_of holders.new.entries) }
 {
     holders.retain(|_, holder| clear(holder, group));
 }
@@ -192,7 +193,7 @@ fn line(key: Option<Key>, span: MinMax) -> (Option<Key>, i64, i64)
     (key, span.0, span.1)
 }
 
-/// The lines of the spans of all row groups, by their keys, of which clones are made. A key that only has room has none.
+/// The lines of the spans of all row groups, by their keys, of which clones are made. A key that is only reserved has none.
 pub fn lines(alloc: Global, holders: &Holders) -> Result<Vec<(Option<Key>, i64, i64)>, Refusal>
     ensures ok { IfOk result (λ lines. lines.items ≡ filter_map line_of holders.now.entries) }
     ensures ordered { IsOrdered line_cmp holders.now }

@@ -15,4 +15,4 @@ mod tournament;
 pub use group_extrema::GroupExtrema;
 pub use live_extrema::LiveExtrema;
 pub use rows_left::RowsLeft;
-pub use spans::MinMax;
+pub use spans::{MinMax, is_strictly_within};

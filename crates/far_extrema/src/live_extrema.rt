@@ -5,10 +5,11 @@ ghost use Rattle.far_extrema.specs.Holders.{holders_of};
 
 use super::group_extrema::GroupExtrema;
 use super::holders::{
-    Holders, clear_in, fill_all, leave_in, lines, reserve_all, see_in, set_in, shrink_in, span_in,
+    Holders, clear_in, fill_all, leave_in, lines, observe_in, reserve_all, set_in, shrink_in,
+    span_in,
 };
 use super::rows_left::RowsLeft;
-use super::spans::{MinMax, is_within, together};
+use super::spans::{MinMax, is_within, merge_two};
 use far_types::{Answer, ExtremaLines, Key, Refusal};
 use std::alloc::Global;
 use std::collections::BTreeMap;
@@ -19,44 +20,44 @@ use std::marker::Model;
 /// costs a look-up by key and a few steps for each doubling of the row groups, and an answer costs nothing for a row
 /// group.
 ///
-/// Contracts see how many are pending, and for each row group for which room was made, in their order, the extrema of
-/// its rows.
+/// Contracts see how many are pending, and for each row group that is reserved, in their order, the extrema of its
+/// rows.
 #[derive(Drop)]
 pub struct LiveExtrema {
     left: u32,
-    room: usize,
+    reserved_groups: usize,
     holders: Holders,
     alloc: Global,
 }
 
 impl Model for LiveExtrema {
     ghost use Rattle.far_extrema.specs.Live.{Live, coded_live};
-    ghost use Rattle.far_extrema.specs.Holders.{holders_of, groups_in, reserved_in, HaveRoom};
+    ghost use Rattle.far_extrema.specs.Holders.{holders_of, groups_in, reserved_keys, AreReserved};
 
     ghost Value = { Live };
 
     ghost coded = { coded_live };
 
-    ghost view = { λ live. record { left = live.left; groups = groups_in (holders_of live.holders.entries) live.room; reserved = reserved_in (holders_of live.holders.entries) } };
+    ghost view = { λ live. record { left = live.left; groups = groups_in (holders_of live.holders.entries) live.reserved_groups; reserved = reserved_keys (holders_of live.holders.entries) } };
 
-    ghost invariant = { λ live. HaveRoom live.room (holders_of live.holders.entries) };
+    ghost invariant = { λ live. AreReserved live.reserved_groups (holders_of live.holders.entries) };
 }
 
 impl LiveExtrema {
     ghost use Rattle.std.specs.FinMap as fin;
     ghost use Rattle.far_types.specs.Answers.{extrema_lines};
-    ghost use Rattle.far_types.specs.Changes.{with_seen, widened};
-    ghost use Rattle.far_extrema.specs.Live.{with_room, group_at, HasRoomFor};
+    ghost use Rattle.far_types.specs.Effects.{with_observed, widened};
+    ghost use Rattle.far_extrema.specs.Live.{with_reserved, group_at, IsReservedFor};
     ghost use Rattle.far_extrema.specs.Spans.{put_span};
 
-    /// No row group has room, and so many are pending. Takes no memory.
+    /// No row group is reserved, and so many are pending. Allocates nothing.
     pub fn new(alloc: Global, left: u32) -> LiveExtrema
         ensures left { result.left ≡ left }
         ensures empty { result.groups ≡ [] }
     {
         LiveExtrema {
             left,
-            room: 0,
+            reserved_groups: 0,
             holders: BTreeMap::new(alloc),
             alloc,
         }
@@ -69,32 +70,32 @@ impl LiveExtrema {
         self.left
     }
 
-    /// Makes room for the row groups up to this one; those that are new have no row. Takes no memory.
-    pub fn make_room(&mut self, group: u32)
-        ensures { self.new ≡ record self.old { groups = with_room group self.old.groups } }
+    /// Reserves the row groups up to this one; those that are new have no row. Allocates nothing.
+    pub fn reserve(&mut self, group: u32)
+        ensures { self.new ≡ record self.old { groups = with_reserved group self.old.groups } }
     {
-        self.room = self.room.max(group as usize + 1);
+        self.reserved_groups = self.reserved_groups.max(group as usize + 1);
     }
 
-    /// Makes room as `make_room` does, and for each key of these extrema, so that they can stand for the row group. No key
-    /// is listed for having room alone. Refused with `NoMemory` (1) alone: then no row group has room that had none, and
-    /// some of the keys may have it.
-    pub fn make_room_for(&mut self, group: u32, extrema: &GroupExtrema) -> Result<(), Refusal>
+    /// Reserves as `reserve` does, and memory for each key of these extrema, so that they can stand for the row group. No key
+    /// is listed for being reserved alone. Refused with `NoMemory` (1) alone: then no other row group is reserved, but some of
+    /// the keys may be.
+    pub fn reserve_for(&mut self, group: u32, extrema: &GroupExtrema) -> Result<(), Refusal>
         ensures left { self.new.left ≡ self.old.left }
-        ensures groups { OnOk result (self.new.groups ≡ with_room group self.old.groups) }
-        ensures room { OnOk result (HasRoomFor extrema.now self.new) }
+        ensures groups { OnOk result (self.new.groups ≡ with_reserved group self.old.groups) }
+        ensures reserved { OnOk result (IsReservedFor extrema.now self.new) }
         ensures err { OnErr result (self.new.groups ≡ self.old.groups) }
         ensures memory { IfErr result (λ e. e ≡ Refusal.NoMemory) }
     {
         reserve_all(&mut self.holders, self.alloc, extrema.spans())?;
-        self.make_room(group);
+        self.reserve(group);
         Ok(())
     }
 
     /// One folded row more in a row group. Returns the previous span of its key there, or `None` if it did not occur:
     /// `put_span` of that undoes the row. Costs one look-up, where the key occurs in some row group. A clone of the key is made where
     /// it is new. Refused with `NoMemory` (1) alone, where the key is new in the row group, and then nothing is changed.
-    pub fn see_under(
+    pub fn observe_under(
         &mut self,
         group: u32,
         key: &Option<Key>,
@@ -102,30 +103,30 @@ impl LiveExtrema {
     ) -> Result<Option<MinMax>, Refusal>
         requires { group < length self.old.groups }
         ensures previous { IfOk result (λ previous. previous ≡ fin.get (group_at self.old.groups group) key.now) }
-        ensures ok { OnOk result (self.new ≡ record self.old { groups = slice_set self.old.groups group (with_seen (group_at self.old.groups group) (key.now, value)) }) }
+        ensures ok { OnOk result (self.new ≡ record self.old { groups = slice_set self.old.groups group (with_observed (group_at self.old.groups group) (key.now, value)) }) }
         ensures err { OnErr result (self.new ≡ self.old) }
         ensures only_new { OnErr result (fin.get (group_at self.old.groups group) key.now ≡ None) }
         ensures memory { IfErr result (λ e. e ≡ Refusal.NoMemory) }
     {
-        see_in(&mut self.holders, self.alloc, group, key, value)
+        observe_in(&mut self.holders, self.alloc, group, key, value)
     }
 
-    /// What `see_under` does, for a caller that knows what stands under the key in the row group: a value within that costs
-    /// no look-up. Takes no memory.
-    pub fn see_over(&mut self, group: u32, key: &Option<Key>, value: i64, previous: MinMax)
-        requires room { group < length self.old.groups }
+    /// What `observe_under` does, for a caller that knows what stands under the key in the row group: a value within that costs
+    /// no look-up. Allocates nothing.
+    pub fn observe_over(&mut self, group: u32, key: &Option<Key>, value: i64, previous: MinMax)
+        requires reserved { group < length self.old.groups }
         requires previous { fin.get (group_at self.old.groups group) key.now ≡ Some previous }
-        ensures { self.new ≡ record self.old { groups = slice_set self.old.groups group (with_seen (group_at self.old.groups group) (key.now, value)) } }
+        ensures { self.new ≡ record self.old { groups = slice_set self.old.groups group (with_observed (group_at self.old.groups group) (key.now, value)) } }
     {
         if is_within(value, previous) {
             return;
         }
-        let wide = together((value, value), previous);
+        let wide = merge_two((value, value), previous);
         set_in(&mut self.holders, group, key, wide);
     }
 
-    /// The least and the greatest value under a key in a row group, or `None` where it does not occur there, as in a
-    /// row group without room. Takes no memory.
+    /// The least and the greatest value under a key in a row group, or `None` if it does not occur there, as in a
+    /// row group that is not reserved. Allocates nothing.
     pub fn span(&self, group: u32, key: &Option<Key>) -> Option<MinMax>
         ensures { result ≡ fin.get (group_at self.now.groups group) key.now }
     {
@@ -133,9 +134,9 @@ impl LiveExtrema {
     }
 
     /// Puts a span in place of the one under a key that occurs in a row group; none makes the key go. With the
-    /// previous span there, this undoes `see_under`. Takes no memory.
+    /// previous span there, this undoes `observe_under`. Allocates nothing.
     pub fn put_span(&mut self, group: u32, key: &Option<Key>, span: Option<MinMax>)
-        requires room { group < length self.old.groups }
+        requires reserved { group < length self.old.groups }
         requires there { fin.get (group_at self.old.groups group) key.now ≢ None }
         ensures { self.new ≡ record self.old { groups = slice_set self.old.groups group (put_span (group_at self.old.groups group) key.now span) } }
     {
@@ -155,7 +156,7 @@ impl LiveExtrema {
         value: i64,
         rows: &R,
     ) -> Option<MinMax>
-        requires room { group < length self.old.groups }
+        requires reserved { group < length self.old.groups }
         requires at_hand { R.at_hand rows.now }
         requires previous { fin.get (group_at self.old.groups group) key.now ≡ Some (widened value (R.extremes rows.now)) }
         ensures left { result ≡ R.extremes rows.now }
@@ -165,10 +166,10 @@ impl LiveExtrema {
     }
 
     /// These are the rows of a row group, in place of those that stood for it. Costs a look at each key that occurs
-    /// anywhere, and a look-up for each that is given. Takes no memory.
+    /// anywhere, and a look-up for each that is given. Allocates nothing.
     pub fn set_group(&mut self, group: u32, extrema: GroupExtrema)
-        requires room { group < length self.old.groups }
-        requires keys { HasRoomFor extrema self.old }
+        requires reserved { group < length self.old.groups }
+        requires keys { IsReservedFor extrema self.old }
         ensures left { self.new.left ≡ self.old.left }
         ensures groups { self.new.groups ≡ slice_set self.old.groups group extrema }
     {
@@ -177,10 +178,10 @@ impl LiveExtrema {
     }
 
     /// These are the rows of a row group in which no key occurs yet, and one row group less is pending. Costs a look-up for
-    /// each key that is given. Takes no memory.
+    /// each key that is given. Allocates nothing.
     pub fn merge(&mut self, group: u32, extrema: GroupExtrema)
-        requires room { group < length self.old.groups }
-        requires keys { HasRoomFor extrema self.old }
+        requires reserved { group < length self.old.groups }
+        requires keys { IsReservedFor extrema self.old }
         requires new { group_at self.old.groups group ≡ fin.empty }
         requires left { self.old.left ≢ 0 }
         ensures left { self.new.left ≡ self.old.left - 1 }

@@ -4,7 +4,7 @@ ghost use Rattle.std.specs.BTreeMap.{IsOrdered};
 ghost use Rattle.std.specs.FinMap as fin;
 ghost use Rattle.far_types.specs.declared.key.Key.{Key};
 ghost use Rattle.far_types.specs.Keys.{line_cmp};
-ghost use Rattle.far_types.specs.Changes.{join_spans};
+ghost use Rattle.far_types.specs.Effects.{join_spans};
 ghost use Rattle.far_extrema.specs.Spans.{extrema_of, with_span, put_span};
 
 use far_types::{Key, Refusal, clone_key};
@@ -18,27 +18,28 @@ pub type MinMax = (i64, i64);
 pub type Spans = BTreeMap<Option<Key>, MinMax>;
 
 /// The least and the greatest of two spans together.
-pub fn together(span: MinMax, more: MinMax) -> MinMax
+pub fn merge_two(span: MinMax, more: MinMax) -> MinMax
     ensures { result ≡ join_spans span more }
 {
     (span.0.min(more.0), span.1.max(more.1))
 }
 
-/// Whether a value is within a span, so that it changes nothing there.
+/// Whether a value is within a span, its ends included, so that it changes nothing there.
 pub fn is_within(value: i64, span: MinMax) -> bool
     ensures { IsTrue result → (span.0 ≤ℤ value) × (value ≤ℤ span.1) }
 {
     span.0 <= value && value <= span.1
 }
 
-/// Whether a value is strictly within a span, so that the span stays without it.
-pub fn is_inside(value: i64, span: MinMax) -> bool
+/// Whether a value is strictly within a span, its ends left out, so that the span stays without it.
+#[inline(always)]
+pub fn is_strictly_within(value: i64, span: MinMax) -> bool
     ensures { IsTrue result → (span.0 <ℤ value) × (value <ℤ span.1) }
 {
     span.0 < value && value < span.1
 }
 
-/// A span more under a key that is there. Says whether it is. Takes no memory.
+/// A span more under a key that is there. Says whether it is. Allocates nothing.
 fn widen(spans: &mut Spans, key: &Option<Key>, more: MinMax) -> bool
     ensures there { result ≡ is_some (fin.get (extrema_of spans.old.entries) key.now) }
     ensures widened { IsTrue result → extrema_of spans.new.entries ≡ with_span (extrema_of spans.old.entries) key.now more }
@@ -46,7 +47,7 @@ fn widen(spans: &mut Spans, key: &Option<Key>, more: MinMax) -> bool
 {
     match spans.get_mut(key) {
         Some(span) => {
-            *span = together(*span, more);
+            *span = merge_two(*span, more);
             true
         }
         None => false,
@@ -54,7 +55,7 @@ fn widen(spans: &mut Spans, key: &Option<Key>, more: MinMax) -> bool
 }
 
 /// A span more under a key, which is dropped where it is there already.
-pub fn see(spans: &mut Spans, key: Option<Key>, more: MinMax) -> Result<(), Refusal>
+pub fn observe(spans: &mut Spans, key: Option<Key>, more: MinMax) -> Result<(), Refusal>
     ensures ok { OnOk result (extrema_of spans.new.entries ≡ with_span (extrema_of spans.old.entries) key more) }
     ensures err { OnErr result (spans.new.entries ≡ spans.old.entries) }
     ensures only_new { OnErr result (fin.get (extrema_of spans.old.entries) key ≡ None) }
@@ -67,7 +68,7 @@ pub fn see(spans: &mut Spans, key: Option<Key>, more: MinMax) -> Result<(), Refu
 }
 
 /// A span more under a key, of which a clone is made where it is new.
-pub fn see_under(spans: &mut Spans, key: &Option<Key>, more: MinMax) -> Result<(), Refusal>
+pub fn observe_under(spans: &mut Spans, key: &Option<Key>, more: MinMax) -> Result<(), Refusal>
     ensures ok { OnOk result (extrema_of spans.new.entries ≡ with_span (extrema_of spans.old.entries) key.now more) }
     ensures err { OnErr result (spans.new.entries ≡ spans.old.entries) }
     ensures only_new { OnErr result (fin.get (extrema_of spans.old.entries) key.now ≡ None) }
@@ -79,14 +80,14 @@ pub fn see_under(spans: &mut Spans, key: &Option<Key>, more: MinMax) -> Result<(
     Ok(())
 }
 
-/// What stands under a key. Takes no memory.
+/// What stands under a key. Allocates nothing.
 pub fn span_under(spans: &Spans, key: &Option<Key>) -> Option<MinMax>
     ensures { result ≡ fin.get (extrema_of spans.now.entries) key.now }
 {
     spans.get(key).copied()
 }
 
-/// A span in place of the one under a key that is there; none makes the key go. Takes no memory.
+/// A span in place of the one under a key that is there; none makes the key go. Allocates nothing.
 pub fn put(spans: &mut Spans, key: &Option<Key>, span: Option<MinMax>)
     requires { fin.get (extrema_of spans.old.entries) key.now ≢ None }
     ensures { extrema_of spans.new.entries ≡ put_span (extrema_of spans.old.entries) key.now span }

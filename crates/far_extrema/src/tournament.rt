@@ -21,7 +21,7 @@ pub struct Tournament {
     node: Node,
 }
 
-/// A node keeps the span of its row groups together; there is none where the last of them went.
+/// A node keeps the span of its row groups together; there is none if the last of them went.
 #[cycle(tournament)]
 #[derive(Drop)]
 enum Node {
@@ -97,7 +97,7 @@ impl Model for Tournament {
 }
 
 impl Tournament {
-    /// One row group alone. Takes no memory.
+    /// One row group alone. Allocates nothing.
     pub fn new(group: u32, span: MinMax) -> Tournament
         ensures { result.spans ≡ (group, span) ∷ [] }
     {
@@ -106,7 +106,7 @@ impl Tournament {
         }
     }
 
-    /// The span of all row groups together, or `None` where there is none.
+    /// The span of all row groups together, or `None` if there is none.
     pub fn top(&self) -> Option<MinMax>
         ensures is { result ≡ self.now.top }
         ensures top { IsTopOf self.now.spans result }
@@ -118,7 +118,7 @@ impl Tournament {
         }
     }
 
-    /// The span of a row group, or `None` where the key does not occur in it.
+    /// The span of a row group, or `None` if the key does not occur in it.
     pub fn span(&self, group: u32) -> Option<MinMax>
         ensures { result ≡ at self.now.spans group }
     {
@@ -217,7 +217,7 @@ impl Tournament {
         *self = rest;
     }
 
-    /// A row group more in which the key occurs, which gets a block or a branch that was made for it. Takes no memory.
+    /// A row group more in which the key occurs, which gets a block or a branch that was made for it. Allocates nothing.
     pub fn add(&mut self, spare: Spare, group: u32, span: MinMax)
         requires { at self.old.spans group ≡ None }
         ensures { IsSet self.old.spans group (Some span) self.new.spans }
@@ -316,7 +316,7 @@ impl Tournament {
     }
 }
 
-/// A row group alone, and one more in the range of its block. Takes no memory.
+/// A row group alone, and one more in the range of its block. Allocates nothing.
 fn widened(
     spare: Spare,
     holder: u32,

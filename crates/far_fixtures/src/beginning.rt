@@ -37,7 +37,7 @@ pub fn no_objects<T: Elem, S: FarTickets>(
 /// Puts the far form of a list into a store.
 pub fn put<T: Elem, S: FarStore>(alloc: Global, store: &S, list: &[T]) -> Result<S::Ticket, Refusal>
     requires { T.has_spelling list.now }
-    ensures here { IfOk result (λ ticket. S.is_of ticket (S.name store.now)) }
+    ensures here { IfOk result (λ ticket. S.is_of ticket (S.store_id store.now)) }
     ensures spelled { IfOk result (λ ticket. IsSpelled T.in_range T.has_spelling T.spelling list.now (S.content ticket)) }
 {
     let bytes = match T::spell(alloc, list) {

@@ -19,7 +19,7 @@ pub fn send_away<T: Element, S: FarStore>(
 ) -> Result<(), Refusal>
     requires within { o < length objects.old.entries }
     ensures lists { (p : ℕ) → list_of T.meaning S.content objects.new p ≡ list_of T.meaning S.content objects.old p }
-    ensures here { AreHere S.is_of (S.name store.now) objects.old → AreHere S.is_of (S.name store.now) objects.new }
+    ensures here { AreHere S.is_of (S.store_id store.now) objects.old → AreHere S.is_of (S.store_id store.now) objects.new }
 {
     let list = objects.lend(o)?;
     if !T::is_spelled(list) || objects.pins(o) > 0 || !objects.may_leave(o) {
@@ -38,9 +38,9 @@ pub fn bring_back<T: Element, S: FarStore>(
     o: u32,
 ) -> Result<(), Refusal>
     requires within { o < length objects.old.entries }
-    requires here { AreHere S.is_of (S.name store.now) objects.old }
+    requires here { AreHere S.is_of (S.store_id store.now) objects.old }
     ensures lists { (p : ℕ) → list_of T.meaning S.content objects.new p ≡ list_of T.meaning S.content objects.old p }
-    ensures here { AreHere S.is_of (S.name store.now) objects.new }
+    ensures here { AreHere S.is_of (S.store_id store.now) objects.new }
 {
     let Pointer::Remote = objects.word(o).read() else {
         return Err(Refusal::StaleJob);

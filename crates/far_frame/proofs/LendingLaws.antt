@@ -26,9 +26,9 @@ use Rattle.far_scopes.specs.Refusing.{refusal_in}
 use Rattle.far_vector.specs.Pieces.{pieces_of, touched as touched_groups, touched_count}
 use Rattle.far_vector.proofs.PieceLaws.{none-pieces, pieces-step, joined-pieces, end, further, ends}
 use Rattle.far_columns.specs.Numbers.{Numbers, with_flags}
-use Rattle.far_rows.specs.declared.slot.Slot.{Slot}
-use Rattle.far_rows.specs.declared.slot.Slot.TheVariants as slot
-use Rattle.far_rows.specs.Slots.{kind_of, column_in}
+use Rattle.far_rows.specs.declared.column_index.ColumnIndex.{ColumnIndex}
+use Rattle.far_rows.specs.declared.column_index.ColumnIndex.TheVariants as column_index
+use Rattle.far_rows.specs.ColumnIndexes.{kind_of, column_in}
 use Rattle.far_rows.specs.Rows.{Rows, AreRows, all_numbers, all_texts, cells_of}
 use Rattle.far_rows.specs.Places.{places_in, row_at}
 use Rattle.far_rows.specs.Refusing.{no_column, no_range, no_row, of_numbers, absent_in, absent_at, ints_refusal, text_refusal, texts_refusal}
@@ -43,7 +43,7 @@ use Rattle.far_table.specs.State.{State as LiveState}
 use Rattle.far_table.specs.TableRows.{TableRows}
 use Rattle.far_types.specs.declared.limits.Limits.{Limits}
 use Rattle.far_frame.specs.State.{State}
-use Rattle.far_frame.specs.Changes.{Replies}
+use Rattle.far_frame.specs.Effects.{Replies}
 use Rattle.far_frame.specs.Lending.{Piece, Gives, AreSeen, IsLent, piece_of, pieces_in, flags_of, ints_lent, texts_lent, text_piece, lent_part, lend_refusal}
 
 -- a part of some places in a column
@@ -186,7 +186,7 @@ module _ {K : Type 0} (content : K → List ℕ) (r : Rows K) (are : AreRows con
     -- the cells of a column are the places' of it
     column-read : (cells : List Cell) → slice_get (cells_of content r) column ≡ Some cells → column_of column places ≡ cells
     column-read cells lies =
-        let within : column < length r.slots = subst (λ (n : ℕ). column < n) (length-map r.slots (column_in (all_numbers content r) (all_texts content r))) (slice_get_within (cells_of content r) column cells lies) in
+        let within : column < length r.column_indexes = subst (λ (n : ℕ). column < n) (length-map r.column_indexes (column_in (all_numbers content r) (all_texts content r))) (slice_get_within (cells_of content r) column cells lies) in
         places-column (cells_of content r) r.alive column (column-long content r are column within) ∙ get_or_from_slice_get (cells_of content r) column cells [] lies
 
     pub part-read : (from to : ℕ) (cells : List Cell) → option_map (λ (all : List Cell). slice_range all from to) (slice_get (cells_of content r) column) ≡ Some cells → cells ≡ part column from to places
@@ -210,21 +210,21 @@ module _ {K : Type 0} (content : K → List ℕ) (r : Rows K) (are : AreRows con
     flags-read from to = ap (λ (flags : List Bool). slice_range flags from to) (sym place-flags)
 
     module _ (from to : ℕ) where
-      ints-by : (found : Option Slot) → slice_get r.slots column ≡ found
+      ints-by : (found : Option ColumnIndex) → slice_get r.column_indexes column ≡ found
           → first_of ((is_none found, refusal.NoColumn) ∷ (is_text (option_map kind_of found), refusal.WrongKind) ∷ no_range r from to ∷ map (λ g. option_map_or (absent_at r column g) found (false, refusal.StaleJob)) (touched_groups r.size from to)) ≡ None
-          → map ints_lent (option_map_or (λ (s : Slot). with_flags (pieces_of (numbers_of content r s) r.size from to) (slice_range r.alive from to)) found []) ≡ map (piece_of column) (pieces_of places r.size from to)
+          → map ints_lent (option_map_or (λ (s : ColumnIndex). with_flags (pieces_of (numbers_of content r s) r.size from to) (slice_range r.alive from to)) found []) ≡ map (piece_of column) (pieces_of places r.size from to)
       ints-by None lies none = absurd cc
-      ints-by (Some (slot.Text i)) lies none = absurd cc
-      ints-by (Some (slot.Number i)) lies none =
-          let s : Slot = slot.Number i in
+      ints-by (Some (column_index.Text i)) lies none = absurd cc
+      ints-by (Some (column_index.Number i)) lies none =
+          let s : ColumnIndex = column_index.Number i in
           let nums = numbers_of content r s in
-          let same = column-read (map int_cell nums) (slice_get-map (column_in (all_numbers content r) (all_texts content r)) r.slots column ∙ ap (option_map (column_in (all_numbers content r) (all_texts content r))) lies) in
+          let same = column-read (map int_cell nums) (slice_get-map (column_in (all_numbers content r) (all_texts content r)) r.column_indexes column ∙ ap (option_map (column_in (all_numbers content r) (all_texts content r))) lies) in
           let range = range-within from to (first-off (no_range r from to) (map (λ g. absent_at r column g s) (touched_groups r.size from to)) none).0 in
           ap (λ (flags : List Bool). map ints_lent (with_flags (pieces_of nums r.size from to) flags)) (flags-read from to) ∙ all-cut r.size are.some column nums places same from to range.0 range.1
 
       -- a part of a column of numbers is lent as the plain table has it
       pub ints-part : ints_refusal r column from to ≡ None → map ints_lent (lent_ints content r column from to) ≡ map (piece_of column) (pieces_of places r.size from to)
-      ints-part none = ints-by (slice_get r.slots column) refl none
+      ints-part none = ints-by (slice_get r.column_indexes column) refl none
 
 module _ {K : Type 0} (r : Rows K) (column from to : ℕ) where
   skips : (off : Bool) (cases : List (Bool × Refusal)) → off ≡ false → first_of (no_column r column ∷ (off, refusal.WrongKind) ∷ cases) ≡ first_of (no_column r column ∷ cases)
@@ -234,15 +234,15 @@ module _ {K : Type 0} (r : Rows K) (column from to : ℕ) where
   there = no_range r from to ∷ map (absent_in r column) (touched_groups r.size from to)
 
   -- a column of numbers is lent as numbers, one of texts as texts, and none as nothing
-  pub lends-ints : option_map kind_of (slice_get r.slots column) ≡ Some kind.Int → ints_refusal r column from to ≡ lend_refusal r column from to
-  lends-ints is = skips (is_text (option_map kind_of (slice_get r.slots column))) there (ap is_text is)
+  pub lends-ints : option_map kind_of (slice_get r.column_indexes column) ≡ Some kind.Int → ints_refusal r column from to ≡ lend_refusal r column from to
+  lends-ints is = skips (is_text (option_map kind_of (slice_get r.column_indexes column))) there (ap is_text is)
 
-  pub lends-texts : option_map kind_of (slice_get r.slots column) ≡ Some kind.Text → texts_refusal r column from to ≡ lend_refusal r column from to
-  lends-texts is = skips (is_int (option_map kind_of (slice_get r.slots column))) there (ap is_int is)
+  pub lends-texts : option_map kind_of (slice_get r.column_indexes column) ≡ Some kind.Text → texts_refusal r column from to ≡ lend_refusal r column from to
+  lends-texts is = skips (is_int (option_map kind_of (slice_get r.column_indexes column))) there (ap is_int is)
 
-  pub lends-none : option_map kind_of (slice_get r.slots column) ≡ None → lend_refusal r column from to ≡ Some refusal.NoColumn
-  lends-none is = by (slice_get r.slots column) is where
-    by : (found : Option Slot) → option_map kind_of found ≡ None → first_of ((is_none found, refusal.NoColumn) ∷ there) ≡ Some refusal.NoColumn
+  pub lends-none : option_map kind_of (slice_get r.column_indexes column) ≡ None → lend_refusal r column from to ≡ Some refusal.NoColumn
+  lends-none is = by (slice_get r.column_indexes column) is where
+    by : (found : Option ColumnIndex) → option_map kind_of found ≡ None → first_of ((is_none found, refusal.NoColumn) ∷ there) ≡ Some refusal.NoColumn
     by None none = refl
     by (Some s) none = absurd (none-some (kind_of s) (sym none))
 
@@ -310,10 +310,10 @@ pub record AreHeld {K : Type 0} (content : K → List ℕ) (held : Rows K) (tabl
 
 pub are-held : {K : Type 0} (content : K → List ℕ) (t : TableRows K) (held : Rows K) (inside s : LiveState K) → held ≡ t.held → AreRows content t.held → t.places ≡ places_in content t.held → t.held.size ≡ t.limits.group
     → t.limits ≡ inside.table.limits → t.places ≡ inside.table.places → inside ≡ s → AreHeld content held s.table
-are-held {K} content t held inside s is are places even limits of view = record {
+are-held {K} content t held inside s is are places same_length limits of view = record {
   rows = subst (AreRows content) (sym is) are;
   places = sym (ap (λ (u : LiveState K). u.table.places) view) ∙ sym of ∙ places ∙ ap (places_in content) (sym is);
-  size = ap (λ (r : Rows K). r.size) is ∙ even ∙ ap (λ (l : Limits). l.group) limits ∙ ap (λ (u : LiveState K). u.table.limits.group) view;
+  size = ap (λ (r : Rows K). r.size) is ∙ same_length ∙ ap (λ (l : Limits). l.group) limits ∙ ap (λ (u : LiveState K). u.table.limits.group) view;
 }
 
 -- what rows lend, told of the places that they hold

@@ -22,7 +22,7 @@ use Rattle.far_frame.specs.declared.step.Reply.{Reply}
 use Rattle.far_frame.specs.declared.step.Reply.TheVariants as reply
 use Rattle.far_frame.specs.declared.step.Step.{Step}
 use Rattle.far_frame.specs.declared.step.Step.TheVariants as step
-use Rattle.far_frame.specs.Changes.{Replies}
+use Rattle.far_frame.specs.Effects.{Replies}
 use Rattle.far_frame.specs.Jobs.{JobRecord, WorkOf, IsEvacJob, IsFetchJob, IsOffloadJob, Commits, CommitRefusal, Installs, InstallRefusal, Merges, MergeRefusal}
 use Rattle.far_frame.specs.Renewing.{IsMigratedTo}
 use Rattle.far_frame.specs.Runs.{end_of, job_of}

@@ -11,17 +11,17 @@ use Rattle.far_scopes.specs.Movement.{is_local}
 use Rattle.far_scopes.specs.Refusing.{absent}
 use Rattle.far_scopes.proofs.Framing.{entry-with_other}
 use Rattle.far_vector.specs.Pieces.{touched as touched_groups}
-use Rattle.far_rows.specs.declared.slot.Slot.{Slot}
-use Rattle.far_rows.specs.declared.slot.Slot.TheVariants as slot
+use Rattle.far_rows.specs.declared.column_index.ColumnIndex.{ColumnIndex}
+use Rattle.far_rows.specs.declared.column_index.ColumnIndex.TheVariants as column_index
 use Rattle.far_rows.specs.declared.object.Object.{Object}
 use Rattle.far_rows.specs.declared.object.Object.TheVariants as object
 use Rattle.far_rows.specs.Rows.{Rows, object_of}
 use Rattle.far_rows.specs.Coldest.{pins_at}
-use Rattle.far_rows.specs.Moving.{object_at, object_in, object_refusal, pinned, unpinned, pins_used, pin_refusal}
+use Rattle.far_rows.specs.Moving.{object_at, object_in, object_refusal, after_pin, after_unpin, pins_used, pin_refusal}
 use Rattle.far_rows.specs.Refusing.{absent_at, absent_in, no_column, no_range}
 use Rattle.far_frame.specs.Lending.{lend_refusal}
 use Rattle.far_frame.specs.Pins.{is_here, ArePinnedHere}
-use Rattle.far_scopes.specs.declared.entry.Entry.{Entry}
+use Rattle.far_scopes.specs.declared.object_record.ObjectRecord.{ObjectRecord}
 use Rattle.far_frame.proofs.PinLaws.{unpinned-some}
 use Rattle.far_frame.proofs.PinRows.{not-on, no-some, one-some, moves-pinned, moves-unpinned}
 
@@ -35,13 +35,13 @@ module _ {K : Type 0} (r : Rows K) (column group : ℕ) where
   away-text None o is = no-some o is
   away-text (Some p) o is = ap (λ (q : Object). not (is_here r q)) (one-some (object.Text p) o is)
 
-  away-slot : (found : Option Slot) (o : Object) → option_and_then (λ s. option_map (object_in s) (object_of r s group)) found ≡ Some o → (option_map_or (absent_at r column group) found (false, refusal.StaleJob)).0 ≡ not (is_here r o)
-  away-slot None o is = no-some o is
-  away-slot (Some (slot.Number i)) o is = away-number (object_of r (slot.Number i) group) o is
-  away-slot (Some (slot.Text i)) o is = away-text (object_of r (slot.Text i) group) o is
+  away-column_index : (found : Option ColumnIndex) (o : Object) → option_and_then (λ s. option_map (object_in s) (object_of r s group)) found ≡ Some o → (option_map_or (absent_at r column group) found (false, refusal.StaleJob)).0 ≡ not (is_here r o)
+  away-column_index None o is = no-some o is
+  away-column_index (Some (column_index.Number i)) o is = away-number (object_of r (column_index.Number i) group) o is
+  away-column_index (Some (column_index.Text i)) o is = away-text (object_of r (column_index.Text i) group) o is
 
   away-at : (o : Object) → object_at r column group ≡ Some o → (absent_in r column group).0 ≡ not (is_here r o)
-  away-at o is = away-slot (slice_get r.slots column) o is
+  away-at o is = away-column_index (slice_get r.column_indexes column) o is
 
   not-here : (b : Bool) → not b ≡ false → b ≡ true
   not-here true is = refl
@@ -70,34 +70,34 @@ module _ {K : Type 0} (r : Rows K) (column group : ℕ) where
   ]
 
   module _ (now : Rows K) where
-    same-or : (q o : Object) → (is_here r q ≡ true) → (pins_at r o ≢ 0 → is_here r o ≡ true) → pins_at (pinned r q) o ≢ 0 → is_here r o ≡ true
+    same-or : (q o : Object) → (is_here r q ≡ true) → (pins_at r o ≢ 0 → is_here r o ≡ true) → pins_at (after_pin r q) o ≢ 0 → is_here r o ≡ true
     same-or (object.Number q) (object.Number o) here rest some = elim (cases_eq o q) [
       | inl same ↦ subst (λ (p : ℕ). is_local r.number_objects p ≡ true) (sym same) here
-      | inr other ↦ rest (λ none. some (ap (λ (e : Option (Entry K)). option_map_or (λ e. e.pins) e 0) (entry-with_other r.number_objects.entries q _ o other) ∙ none))
+      | inr other ↦ rest (λ none. some (ap (λ (e : Option (ObjectRecord K)). option_map_or (λ e. e.pins) e 0) (entry-with_other r.number_objects.entries q _ o other) ∙ none))
     ]
     same-or (object.Text q) (object.Text o) here rest some = elim (cases_eq o q) [
       | inl same ↦ subst (λ (p : ℕ). is_local r.text_objects p ≡ true) (sym same) here
-      | inr other ↦ rest (λ none. some (ap (λ (e : Option (Entry K)). option_map_or (λ e. e.pins) e 0) (entry-with_other r.text_objects.entries q _ o other) ∙ none))
+      | inr other ↦ rest (λ none. some (ap (λ (e : Option (ObjectRecord K)). option_map_or (λ e. e.pins) e 0) (entry-with_other r.text_objects.entries q _ o other) ∙ none))
     ]
     same-or (object.Number q) (object.Text o) here rest some = rest some
     same-or (object.Text q) (object.Number o) here rest some = rest some
 
-    one-pinned : (found : Option Object) → object_at r column group ≡ found → pin_refusal r column group ≡ None → IsSomeAnd found (λ q. now ≡ pinned r q) → ArePinnedHere r → ArePinnedHere now
+    one-pinned : (found : Option Object) → object_at r column group ≡ found → pin_refusal r column group ≡ None → IsSomeAnd found (λ q. now ≡ after_pin r q) → ArePinnedHere r → ArePinnedHere now
     one-pinned None at none h all o some = absurd h
     one-pinned (Some q) at none h all o some =
         moves-pinned r now (Some q) h o ∙ same-or q o (pin-here none q at) (all o) (subst (λ (t : Rows K). pins_at t o ≢ 0) h some)
 
-    pub pinned-holds : pin_refusal r column group ≡ None → IsSomeAnd (object_at r column group) (λ q. now ≡ pinned r q) → ArePinnedHere r → ArePinnedHere now
+    pub pinned-holds : pin_refusal r column group ≡ None → IsSomeAnd (object_at r column group) (λ q. now ≡ after_pin r q) → ArePinnedHere r → ArePinnedHere now
     pinned-holds none h all = one-pinned (object_at r column group) refl none h all
 
 module _ {K : Type 0} (r now : Rows K) where
-  still-some : (q o : Object) → pins_at (unpinned r q) o ≢ 0 → pins_at r o ≢ 0
+  still-some : (q o : Object) → pins_at (after_unpin r q) o ≢ 0 → pins_at r o ≢ 0
   still-some (object.Number q) (object.Number o) some = unpinned-some r.number_objects q o some
   still-some (object.Text q) (object.Text o) some = unpinned-some r.text_objects q o some
   still-some (object.Number q) (object.Text o) some = some
   still-some (object.Text q) (object.Number o) some = some
 
-  pub unpinned-holds : (found : Option Object) → IsSomeAnd found (λ q. now ≡ unpinned r q) → ArePinnedHere r → ArePinnedHere now
+  pub unpinned-holds : (found : Option Object) → IsSomeAnd found (λ q. now ≡ after_unpin r q) → ArePinnedHere r → ArePinnedHere now
   unpinned-holds None h all o some = absurd h
   unpinned-holds (Some q) h all o some = moves-unpinned r now (Some q) h o ∙ all o (still-some q o (subst (λ (t : Rows K). pins_at t o ≢ 0) h some))
 
@@ -107,21 +107,21 @@ due-absent None c g h = absurd (let is : refusal.Absent c g ≡ refusal.NoMemory
 due-absent (Some d) c g h = ap Some (sym h)
 
 module _ {K : Type 0} (r : Rows K) (column c g : ℕ) where
-  absent-slot : (group : ℕ) (found : Option Slot) (rest : Option Refusal) → slice_get r.slots column ≡ found → cond (option_map_or (absent_at r column group) found (false, refusal.StaleJob)).0 (Some (option_map_or (absent_at r column group) found (false, refusal.StaleJob)).1) rest ≡ Some (refusal.Absent c g)
+  absent-column_index : (group : ℕ) (found : Option ColumnIndex) (rest : Option Refusal) → slice_get r.column_indexes column ≡ found → cond (option_map_or (absent_at r column group) found (false, refusal.StaleJob)).0 (Some (option_map_or (absent_at r column group) found (false, refusal.StaleJob)).1) rest ≡ Some (refusal.Absent c g)
       → (rest ≡ Some (refusal.Absent c g) → (absent_in r c g).0 ≡ true) → (absent_in r c g).0 ≡ true
-  absent-slot group None rest at is later = later is
-  absent-slot group (Some s) rest at is later = by (absent_at r column group s).0 refl is where
+  absent-column_index group None rest at is later = later is
+  absent-column_index group (Some s) rest at is later = by (absent_at r column group s).0 refl is where
     by : (b : Bool) → (absent_at r column group s).0 ≡ b → cond b (Some (refusal.Absent column group)) rest ≡ Some (refusal.Absent c g) → (absent_in r c g).0 ≡ true
     by false away is = later is
     by true away is =
         let same_column : column ≡ c = cc in
         let same_group : group ≡ g = cc in
-        let told : (absent_in r column group).0 ≡ true = ap (λ (f : Option Slot). (option_map_or (absent_at r column group) f (false, refusal.StaleJob)).0) at ∙ away in
+        let told : (absent_in r column group).0 ≡ true = ap (λ (f : Option ColumnIndex). (option_map_or (absent_at r column group) f (false, refusal.StaleJob)).0) at ∙ away in
         subst (λ (p : ℕ). (absent_in r p g).0 ≡ true) same_column (subst (λ (p : ℕ). (absent_in r column p).0 ≡ true) same_group told)
 
   absent-groups : (groups : List ℕ) → first_of (map (absent_in r column) groups) ≡ Some (refusal.Absent c g) → (absent_in r c g).0 ≡ true
   absent-groups [] is = no-some (refusal.Absent c g) is
-  absent-groups (group ∷ groups) is = absent-slot group (slice_get r.slots column) (first_of (map (absent_in r column) groups)) refl is (absent-groups groups)
+  absent-groups (group ∷ groups) is = absent-column_index group (slice_get r.column_indexes column) (first_of (map (absent_in r column) groups)) refl is (absent-groups groups)
 
   passed : (b : Bool) (e : Refusal) (rest : Option Refusal) → (e ≡ refusal.Absent c g → ⊥) → cond b (Some e) rest ≡ Some (refusal.Absent c g) → rest ≡ Some (refusal.Absent c g)
   passed true e rest other is = absurd (other (one-some e (refusal.Absent c g) is))

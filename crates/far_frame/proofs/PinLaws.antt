@@ -7,13 +7,13 @@ use Rattle.far_pointer.specs.declared.pointer.At.{At}
 use Rattle.far_pointer.specs.declared.pointer.Pointer.{Pointer}
 use Rattle.far_pointer.specs.declared.pointer.Pointer.TheVariants.{Local, Remote}
 use Rattle.far_pointer.specs.Layout.{with_dirty, with_hot, with_at}
-use Rattle.far_log.specs.Room.{Room, Part, segment_of}
-use Rattle.far_scopes.specs.declared.entry.Entry.{Entry}
+use Rattle.far_log.specs.RegionState.{RegionState, Part, segment_of}
+use Rattle.far_scopes.specs.declared.object_record.ObjectRecord.{ObjectRecord}
 use Rattle.far_scopes.specs.declared.replacement.Replacement.{Replacement}
 use Rattle.far_scopes.specs.Memory.{Memory, at_of}
 use Rattle.far_scopes.specs.Movement.{Movement, is_local, pins_of}
 use Rattle.far_scopes.specs.Compaction.{moved_word, hot_first, offset_after, IsCompacted}
-use Rattle.far_scopes.specs.Effects.{new_entry, with_entry, created, written, overwritten, replaced, with_lens, written_all, replaced_all, touched, pinned, unpinned, departed, arrived}
+use Rattle.far_scopes.specs.Effects.{new_entry, with_entry, after_create, written, overwritten, after_replace, with_lens, written_all, after_replace_all, after_touch, after_pin, after_unpin, after_leave, after_arrive}
 use Rattle.far_scopes.specs.Placing.{spot, with_new}
 use Rattle.far_scopes.specs.Replacing.{moved_all, replaced_all as replaced_all_in}
 use Rattle.far_vector.specs.Vector.{Vector, object_at}
@@ -38,12 +38,12 @@ module _ {X : Type 0} (change : X → X) where
     found (Some y) = refl
 
   -- what the change does not touch is seen as before, of every element
-  seen-same : {A : Type 0} (see : Option X → A) → ((x : X) → see (Some (change x)) ≡ see (Some x)) → (xs : List X) (o p : ℕ) → see (slice_get (with_changed xs o) p) ≡ see (slice_get xs p)
-  seen-same see same [] o p = refl
-  seen-same see same (x ∷ xs) zero zero = same x
-  seen-same see same (x ∷ xs) zero (suc p) = refl
-  seen-same see same (x ∷ xs) (suc o) zero = ap (λ (l : List X). see (slice_get l zero)) (changed-later x xs o)
-  seen-same see same (x ∷ xs) (suc o) (suc p) = ap (λ (l : List X). see (slice_get l (suc p))) (changed-later x xs o) ∙ seen-same see same xs o p
+  seen-same : {A : Type 0} (record_accesses : Option X → A) → ((x : X) → record_accesses (Some (change x)) ≡ record_accesses (Some x)) → (xs : List X) (o p : ℕ) → record_accesses (slice_get (with_changed xs o) p) ≡ record_accesses (slice_get xs p)
+  seen-same record_accesses same [] o p = refl
+  seen-same record_accesses same (x ∷ xs) zero zero = same x
+  seen-same record_accesses same (x ∷ xs) zero (suc p) = refl
+  seen-same record_accesses same (x ∷ xs) (suc o) zero = ap (λ (l : List X). record_accesses (slice_get l zero)) (changed-later x xs o)
+  seen-same record_accesses same (x ∷ xs) (suc o) (suc p) = ap (λ (l : List X). record_accesses (slice_get l (suc p))) (changed-later x xs o) ∙ seen-same record_accesses same xs o p
 
 -- whether a word, if there is one, says that its object is local
 abbrev says_local : Option Pointer → Bool
@@ -98,7 +98,7 @@ module _ {X : Type 0} (parts : List (Part X)) (order : List ℕ) (from to : ℕ)
   local-map (w ∷ words) (suc p) = local-map words p
 
 -- lists that are placed anew take none away
-moved-local : {X : Type 0} (rs : List (Replacement X)) (room : Room X) (words : List Pointer) (p : ℕ) → says_local (slice_get (moved_all room words rs) p) ≡ says_local (slice_get words p)
+moved-local : {X : Type 0} (rs : List (Replacement X)) (room : RegionState X) (words : List Pointer) (p : ℕ) → says_local (slice_get (moved_all room words rs) p) ≡ says_local (slice_get words p)
 moved-local [] room words p = refl
 moved-local (r ∷ rs) room words p =
     let to = spot room (length r.list.items) in
@@ -107,31 +107,31 @@ moved-local (r ∷ rs) room words p =
 
 module _ {K : Type 0} where
   -- how many pins a record, if there is one, says
-  abbrev says_pins : Option (Entry K) → ℕ
+  abbrev says_pins : Option (ObjectRecord K) → ℕ
   says_pins entry = option_map_or (λ e. e.pins) entry 0
 
-  pins-more : (entries : List (Entry K)) (name : Name) (n p : ℕ) → says_pins (slice_get (entries ++ new_entry name n ∷ []) p) ≡ says_pins (slice_get entries p)
+  pins-more : (entries : List (ObjectRecord K)) (name : Name) (n p : ℕ) → says_pins (slice_get (entries ++ new_entry name n ∷ []) p) ≡ says_pins (slice_get entries p)
   pins-more [] name n zero = refl
   pins-more [] name n (suc p) = refl
   pins-more (e ∷ entries) name n zero = refl
   pins-more (e ∷ entries) name n (suc p) = pins-more entries name n p
 
-  pins-lens : {X : Type 0} (rs : List (Replacement X)) (entries : List (Entry K)) (p : ℕ) → says_pins (slice_get (with_lens entries rs) p) ≡ says_pins (slice_get entries p)
+  pins-lens : {X : Type 0} (rs : List (Replacement X)) (entries : List (ObjectRecord K)) (p : ℕ) → says_pins (slice_get (with_lens entries rs) p) ≡ says_pins (slice_get entries p)
   pins-lens [] entries p = refl
   pins-lens (r ∷ rs) entries p =
       pins-lens rs (with_entry entries r.object (λ entry. record entry { len = length r.list.items })) p
-      ∙ seen-same (λ (entry : Entry K). record entry { len = length r.list.items }) says_pins (λ e. refl) entries r.object p
+      ∙ seen-same (λ (entry : ObjectRecord K). record entry { len = length r.list.items }) says_pins (λ e. refl) entries r.object p
 
-  abbrev one_less : Entry K → Entry K
+  abbrev one_less : ObjectRecord K → ObjectRecord K
   one_less entry = record entry { pins = entry.pins - 1 }
 
   -- where there is no pin none is taken off
-  pins-less : (entries : List (Entry K)) (o p : ℕ) → says_pins (slice_get entries p) ≡ 0 → says_pins (slice_get (with_entry entries o one_less) p) ≡ 0
+  pins-less : (entries : List (ObjectRecord K)) (o p : ℕ) → says_pins (slice_get entries p) ≡ 0 → says_pins (slice_get (with_entry entries o one_less) p) ≡ 0
   pins-less [] o p none = none
   pins-less (e ∷ entries) zero zero none = omega (arith, none)
   pins-less (e ∷ entries) zero (suc p) none = none
-  pins-less (e ∷ entries) (suc o) zero none = ap (λ (l : List (Entry K)). says_pins (slice_get l zero)) (changed-later one_less e entries o) ∙ none
-  pins-less (e ∷ entries) (suc o) (suc p) none = ap (λ (l : List (Entry K)). says_pins (slice_get l (suc p))) (changed-later one_less e entries o) ∙ pins-less entries o p none
+  pins-less (e ∷ entries) (suc o) zero none = ap (λ (l : List (ObjectRecord K)). says_pins (slice_get l zero)) (changed-later one_less e entries o) ∙ none
+  pins-less (e ∷ entries) (suc o) (suc p) none = ap (λ (l : List (ObjectRecord K)). says_pins (slice_get l (suc p))) (changed-later one_less e entries o) ∙ pins-less entries o p none
 
 module _ {X K : Type 0} where
   -- each object has the pins that it had, and those that have some and are local stay local
@@ -147,11 +147,11 @@ module _ {X K : Type 0} where
 
   keeps-written : (m : Movement X K) (o : ℕ) → KeepsPinned m (written m o)
   keeps-written m o = record {
-    pins = λ p. seen-same (λ (entry : Entry K). record entry { version = entry.version + 1 }) says_pins (λ e. refl) m.entries o p;
+    pins = λ p. seen-same (λ (entry : ObjectRecord K). record entry { version = entry.version + 1 }) says_pins (λ e. refl) m.entries o p;
     here = λ p some here. seen-same (λ (word : Pointer). with_hot (with_dirty word) true) says_local local-marked m.memory.words o p ∙ here;
   }
 
-  pub keeps-touched : (m : Movement X K) (o : ℕ) → KeepsPinned m (touched m o)
+  pub keeps-touched : (m : Movement X K) (o : ℕ) → KeepsPinned m (after_touch m o)
   keeps-touched m o = record {
     pins = λ p. refl;
     here = λ p some here. seen-same (λ (word : Pointer). with_hot word true) says_local local-heated m.memory.words o p ∙ here;
@@ -160,13 +160,13 @@ module _ {X K : Type 0} where
   keeps-overwritten : (m : Movement X K) (o i : ℕ) (ws : List X) → KeepsPinned m (overwritten m o i ws)
   keeps-overwritten m o i ws = record { pins = λ p. refl; here = λ p some here. here }
 
-  pub keeps-replaced : (m : Movement X K) (o : ℕ) (list : List X) → KeepsPinned m (replaced m o list)
+  pub keeps-replaced : (m : Movement X K) (o : ℕ) (list : List X) → KeepsPinned m (after_replace m o list)
   keeps-replaced m o list = record {
     pins = λ p.
-        seen-same (λ (entry : Entry K). record entry { version = entry.version + 1 }) says_pins (λ e. refl) (with_entry m.entries o (λ entry. record entry { len = length list })) o p
-        ∙ seen-same (λ (entry : Entry K). record entry { len = length list }) says_pins (λ e. refl) m.entries o p;
+        seen-same (λ (entry : ObjectRecord K). record entry { version = entry.version + 1 }) says_pins (λ e. refl) (with_entry m.entries o (λ entry. record entry { len = length list })) o p
+        ∙ seen-same (λ (entry : ObjectRecord K). record entry { len = length list }) says_pins (λ e. refl) m.entries o p;
     here = λ p some here.
-        let to = spot m.memory.room (length list) in
+        let to = spot m.memory.state (length list) in
         seen-same (λ (word : Pointer). with_hot (with_dirty word) true) says_local local-marked (with_changed (λ (word : Pointer). with_at word to) m.memory.words o) o p
         ∙ seen-same (λ (word : Pointer). with_at word to) says_local (local-moved to) m.memory.words o p
         ∙ here;
@@ -176,24 +176,24 @@ module _ {X K : Type 0} where
   keeps-written_all [] m = keeps-same m
   keeps-written_all (r ∷ rs) m = keeps-then m (written m r.object) (written_all (written m r.object) rs) (keeps-written m r.object) (keeps-written_all rs (written m r.object))
 
-  pub keeps-replaced_all : (m : Movement X K) (rs : List (Replacement X)) → KeepsPinned m (replaced_all m rs)
+  pub keeps-replaced_all : (m : Movement X K) (rs : List (Replacement X)) → KeepsPinned m (after_replace_all m rs)
   keeps-replaced_all m rs =
       let mid : Movement X K = record m { memory = replaced_all_in m.memory rs; entries = with_lens m.entries rs } in
-      keeps-then m mid (written_all mid rs) (record { pins = λ p. pins-lens rs m.entries p; here = λ p some here. moved-local rs m.memory.room m.memory.words p ∙ here }) (keeps-written_all rs mid)
+      keeps-then m mid (written_all mid rs) (record { pins = λ p. pins-lens rs m.entries p; here = λ p some here. moved-local rs m.memory.state m.memory.words p ∙ here }) (keeps-written_all rs mid)
 
-  keeps-created : (m : Movement X K) (name : Name) (list : List X) → KeepsPinned m (created m name list)
+  keeps-created : (m : Movement X K) (name : Name) (list : List X) → KeepsPinned m (after_create m name list)
   keeps-created m name list = record {
     pins = λ p. pins-more m.entries name (length list) p;
-    here = λ p some here. local-more m.memory.words (Local (spot m.memory.room (length list)) true true false) p here;
+    here = λ p some here. local-more m.memory.words (Local (spot m.memory.state (length list)) true true false) p here;
   }
 
-  pub keeps-arrived : (m : Movement X K) (o : ℕ) (list : List X) → KeepsPinned m (arrived m o list)
-  keeps-arrived m o list = record { pins = λ p. refl; here = λ p some here. local-back m.memory.words o (spot m.memory.room (length list)) false true true p here }
+  pub keeps-arrived : (m : Movement X K) (o : ℕ) (list : List X) → KeepsPinned m (after_arrive m o list)
+  keeps-arrived m o list = record { pins = λ p. refl; here = λ p some here. local-back m.memory.words o (spot m.memory.state (length list)) false true true p here }
 
   -- an object goes away that has no pin
-  pub keeps-departed : (m : Movement X K) (o : ℕ) (ticket : K) → pins_of m o ≡ 0 → KeepsPinned m (departed m o ticket)
+  pub keeps-departed : (m : Movement X K) (o : ℕ) (ticket : K) → pins_of m o ≡ 0 → KeepsPinned m (after_leave m o ticket)
   keeps-departed m o ticket free = record {
-    pins = λ p. seen-same (λ (entry : Entry K). record entry { leavings = entry.leavings + 1; ticket = Some ticket }) says_pins (λ e. refl) m.entries o p;
+    pins = λ p. seen-same (λ (entry : ObjectRecord K). record entry { leavings = entry.leavings + 1; ticket = Some ticket }) says_pins (λ e. refl) m.entries o p;
     here = λ p some here. local-gone m.memory.words o p (λ same. some (subst (λ (q : ℕ). pins_of m q ≡ 0) (sym same) free)) here;
   }
 
@@ -202,7 +202,7 @@ module _ {X K : Type 0} where
     pins = pins;
     here = λ p some here.
         ap (λ (memory : Memory X). says_local (slice_get memory.words p)) is.memory
-        ∙ local-map (segment_of m.memory.room segment).parts (hot_first m.memory segment) segment is.to m.memory.words p
+        ∙ local-map (segment_of m.memory.state segment).parts (hot_first m.memory segment) segment is.to m.memory.words p
         ∙ here;
   }
 
@@ -213,7 +213,7 @@ module _ {X K : Type 0} where
 
   pub keeps-pushed : (m : Movement X K) (v : Vector X) (x : X) → KeepsPinned m (pushed_in m v x)
   keeps-pushed m v x = by (is_full v) where
-    by : (b : Bool) → KeepsPinned m (if b then created m (next_name v) (next_group v x) else range_written m v v.len (x ∷ []))
+    by : (b : Bool) → KeepsPinned m (if b then after_create m (next_name v) (next_group v x) else range_written m v v.len (x ∷ []))
     by true = keeps-created m (next_name v) (next_group v x)
     by false = keeps-range m v v.len (x ∷ [])
 
@@ -221,10 +221,10 @@ module _ {X K : Type 0} where
   keeps-set m v i x = keeps-range m v i (x ∷ [])
 
   -- pins are put on and taken off where objects are
-  pub pinned-here : (m : Movement X K) (o p : ℕ) → is_local (pinned m o) p ≡ is_local m p
+  pub pinned-here : (m : Movement X K) (o p : ℕ) → is_local (after_pin m o) p ≡ is_local m p
   pinned-here m o p = refl
 
-  pub unpinned-some : (m : Movement X K) (o p : ℕ) → pins_of (unpinned m o) p ≢ 0 → pins_of m p ≢ 0
+  pub unpinned-some : (m : Movement X K) (o p : ℕ) → pins_of (after_unpin m o) p ≢ 0 → pins_of m p ≢ 0
   unpinned-some m o p some none = some (pins-less m.entries o p none)
 
 module _ {K : Type 0} where
@@ -240,5 +240,5 @@ module _ {K : Type 0} where
   keeps-all_created (c ∷ columns) m [] = keeps-same m
   keeps-all_created (c ∷ columns) m (form ∷ forms) =
       let name : Name = record { column = c.column; group = length c.objects } in
-      let mid = created m name form.1 in
+      let mid = after_create m name form.1 in
       keeps-then m mid (all_created mid columns forms) (keeps-created m name form.1) (keeps-all_created columns mid forms)

@@ -11,21 +11,21 @@ use Rattle.far_codec.specs.TextForm.{texts_form}
 use Rattle.far_vector.specs.Vector.{Vector}
 use Rattle.far_vector.specs.Effects.{range_written}
 use Rattle.far_texts.specs.Texts.{Texts, lists_of, object_at as text_at}
-use Rattle.far_texts.specs.Changes.{group_with, set_in as text_set_in}
+use Rattle.far_texts.specs.Effects.{group_with, set_in as text_set_in}
 use Rattle.far_columns.specs.Numbers.{number_lists}
 use Rattle.far_texts.specs.Together.{all_begin, next_forms}
 use Rattle.far_rows.specs.declared.job.ByKind.TheVariants.{Numbers, Texts as ByTexts}
-use Rattle.far_rows.specs.declared.slot.Slot.{Slot}
-use Rattle.far_rows.specs.declared.slot.Slot.TheVariants as slot
+use Rattle.far_rows.specs.declared.column_index.ColumnIndex.{ColumnIndex}
+use Rattle.far_rows.specs.declared.column_index.ColumnIndex.TheVariants as column_index
 use Rattle.far_rows.specs.declared.new_cell.NewCell.{NewCell}
 use Rattle.far_rows.specs.declared.new_cell.NewCell.TheVariants as new_cell
 use Rattle.far_rows.specs.declared.object.Object.{Object}
 use Rattle.far_rows.specs.declared.object.Object.TheVariants as object
 use Rattle.far_rows.specs.Rows.{Rows, TextsMoved}
 use Rattle.far_rows.specs.Coldest.{pins_at}
-use Rattle.far_rows.specs.Slots.{kind_of}
+use Rattle.far_rows.specs.ColumnIndexes.{kind_of}
 use Rattle.far_rows.specs.Setting.{set_in, kind_in}
-use Rattle.far_rows.specs.Moving.{object_at, touched, pinned, unpinned}
+use Rattle.far_rows.specs.Moving.{object_at, after_touch, after_pin, after_unpin}
 use Rattle.far_table.specs.Live.{Moves}
 use Rattle.far_table.specs.Moving.{IsCompactedOf}
 use Rattle.far_table.specs.State.{State as LiveState}
@@ -34,7 +34,7 @@ use Rattle.far_frame.specs.declared.job.Work.TheVariants as work
 use Rattle.far_frame.specs.Lending.{all_used}
 use Rattle.far_frame.specs.Jobs.{WorkOf, Commits, Installs, Merges}
 use Rattle.far_frame.specs.Pins.{is_here}
-use Rattle.far_scopes.specs.Effects.{arrived}
+use Rattle.far_scopes.specs.Effects.{after_arrive}
 use Rattle.far_frame.proofs.PinLaws.{KeepsPinned, keeps-same, keeps-then, keeps-touched, keeps-replaced, keeps-replaced_all, keeps-arrived, keeps-departed, keeps-compacted, keeps-set, keeps-all_pushed, keeps-all_created}
 
 pub not-on : {A : Type 0} → false ≡ true → A
@@ -68,21 +68,21 @@ module _ {K : Type 0} where
 
   -- an edit
   module _ (content : K → List ℕ) (r : Rows K) where
-    rows-slot : (s : Slot) (place : ℕ) (value : NewCell) → KeepsRows r (set_in content r s place value)
-    rows-slot (slot.Number i) place (new_cell.Number number) = by (slice_get r.numbers i) where
+    rows-column_index : (s : ColumnIndex) (place : ℕ) (value : NewCell) → KeepsRows r (set_in content r s place value)
+    rows-column_index (column_index.Number i) place (new_cell.Number number) = by (slice_get r.numbers i) where
       by : (found : Option (Vector (Option ℤ))) → KeepsRows r (record r { number_objects = option_map_or (λ c. range_written r.number_objects c place (number ∷ [])) found r.number_objects })
       by None = rows-same r
       by (Some c) = record { numbers = keeps-set r.number_objects c place number; texts = keeps-same r.text_objects }
-    rows-slot (slot.Text i) place (new_cell.Text text) = by (slice_get r.texts i) where
+    rows-column_index (column_index.Text i) place (new_cell.Text text) = by (slice_get r.texts i) where
       by : (found : Option Texts) → KeepsRows r (record r { text_objects = option_map_or (λ c. text_set_in content r.text_objects c place text) found r.text_objects })
       by None = rows-same r
       by (Some c) = record { numbers = keeps-same r.number_objects; texts = keeps-replaced r.text_objects (text_at c place) (texts_form (group_with (lists_of content r.text_objects) c place text)) }
-    rows-slot (slot.Number i) place (new_cell.Text text) = rows-same r
-    rows-slot (slot.Text i) place (new_cell.Number number) = rows-same r
+    rows-column_index (column_index.Number i) place (new_cell.Text text) = rows-same r
+    rows-column_index (column_index.Text i) place (new_cell.Number number) = rows-same r
 
-    rows-set : (new : Rows K) (place : ℕ) (value : NewCell) (found : Option Slot) → option_map kind_of found ≡ Some (kind_in value) → IfSome found (λ s. new ≡ set_in content r s place value) → KeepsRows r new
+    rows-set : (new : Rows K) (place : ℕ) (value : NewCell) (found : Option ColumnIndex) → option_map kind_of found ≡ Some (kind_in value) → IfSome found (λ s. new ≡ set_in content r s place value) → KeepsRows r new
     rows-set new place value None of moved = no-some (kind_in value) of
-    rows-set new place value (Some s) of moved = rows-are r (set_in content r s place value) new moved (rows-slot s place value)
+    rows-set new place value (Some s) of moved = rows-are r (set_in content r s place value) new moved (rows-column_index s place value)
 
     texts-moved : (texts : List (Option (List ℕ))) (now : Movement ℕ K) (b : Bool) → all_begin r.texts ≡ b → TextsMoved content r texts now → KeepsPinned r.text_objects now
     texts-moved texts now true is moved = subst (KeepsPinned r.text_objects) (sym (moved.begun is)) (keeps-all_created r.texts r.text_objects (next_forms (lists_of content r.text_objects) (length r.text_objects.entries) r.texts texts))
@@ -93,14 +93,14 @@ module _ {K : Type 0} where
       numbers = subst (KeepsPinned r.number_objects) (sym h.2.number_objects) (keeps-all_pushed r.numbers r.number_objects h.0.numbers);
       texts = texts-moved h.0.texts new.text_objects (all_begin r.texts) refl h.2.text_objects;
     }
-    rows-edited new (edit.Set place column cell) h = rows-set new place h.0 (slice_get r.slots column) h.2 h.3.moved
+    rows-edited new (edit.Set place column cell) h = rows-set new place h.0 (slice_get r.column_indexes column) h.2 h.3.moved
     rows-edited new (edit.Remove place) h = record {
       numbers = subst (KeepsPinned r.number_objects) (sym (ap (λ (t : Rows K). t.number_objects) h)) (keeps-same r.number_objects);
       texts = subst (KeepsPinned r.text_objects) (sym (ap (λ (t : Rows K). t.text_objects) h)) (keeps-same r.text_objects);
     }
 
   -- a lending
-  rows-touched : (r : Rows K) (o : Object) → KeepsRows r (touched r o)
+  rows-touched : (r : Rows K) (o : Object) → KeepsRows r (after_touch r o)
   rows-touched r (object.Number o) = record { numbers = keeps-touched r.number_objects o; texts = keeps-same r.text_objects }
   rows-touched r (object.Text o) = record { numbers = keeps-same r.number_objects; texts = keeps-touched r.text_objects o }
 
@@ -110,9 +110,9 @@ module _ {K : Type 0} where
   pub rows-used : (column : ℕ) (lent : List ℕ) (r : Rows K) → KeepsRows r (all_used r column lent)
   rows-used column [] r = rows-same r
   rows-used column (g ∷ lent) r =
-      let mid : Rows K = option_map_or (touched r) (object_at r column g) r in
+      let mid : Rows K = option_map_or (after_touch r) (object_at r column g) r in
       rows-then r mid (all_used mid column lent) (one (object_at r column g)) (rows-used column lent mid) where
-        one : (found : Option Object) → KeepsRows r (option_map_or (touched r) found r)
+        one : (found : Option Object) → KeepsRows r (option_map_or (after_touch r) found r)
         one None = rows-same r
         one (Some o) = rows-touched r o
 
@@ -145,11 +145,11 @@ module _ {K : Type 0} where
     module _ (content : K → List ℕ) where
       pub installs-rows : (w : WorkOf K) → Installs number_of old content w new → KeepsRows old.rows new.rows
       installs-rows (work.Fetched (Numbers fetched)) h = back (number_lists content old.rows.number_objects fetched.job.object) h.changed.rows.back where
-        back : (found : Option (List (Option ℤ))) → IsSomeAnd found (λ list. new.rows ≡ record old.rows { number_objects = arrived old.rows.number_objects fetched.job.object list }) → KeepsRows old.rows new.rows
+        back : (found : Option (List (Option ℤ))) → IsSomeAnd found (λ list. new.rows ≡ record old.rows { number_objects = after_arrive old.rows.number_objects fetched.job.object list }) → KeepsRows old.rows new.rows
         back None k = absurd k
         back (Some list) k = rows-are old.rows _ new.rows k (record { numbers = keeps-arrived old.rows.number_objects fetched.job.object list; texts = keeps-same old.rows.text_objects })
       installs-rows (work.Fetched (ByTexts fetched)) h = back (lists_of content old.rows.text_objects fetched.job.object) h.changed.rows.back where
-        back : (found : Option (List ℕ)) → IsSomeAnd found (λ list. new.rows ≡ record old.rows { text_objects = arrived old.rows.text_objects fetched.job.object list }) → KeepsRows old.rows new.rows
+        back : (found : Option (List ℕ)) → IsSomeAnd found (λ list. new.rows ≡ record old.rows { text_objects = after_arrive old.rows.text_objects fetched.job.object list }) → KeepsRows old.rows new.rows
         back None k = absurd k
         back (Some list) k = rows-are old.rows _ new.rows k (record { numbers = keeps-same old.rows.number_objects; texts = keeps-arrived old.rows.text_objects fetched.job.object list })
       installs-rows (work.Evac evac) h = absurd h
@@ -170,19 +170,19 @@ module _ {K : Type 0} where
   stays old new same = rows-are old.rows old.rows new.rows same (rows-same old.rows)
 
   -- what is pinned or unpinned stays where it is, as all others do
-  pub moves-pinned : (r now : Rows K) (found : Option Object) → IsSomeAnd found (λ q. now ≡ pinned r q) → (o : Object) → is_here now o ≡ is_here r o
+  pub moves-pinned : (r now : Rows K) (found : Option Object) → IsSomeAnd found (λ q. now ≡ after_pin r q) → (o : Object) → is_here now o ≡ is_here r o
   moves-pinned r now None h o = absurd h
   moves-pinned r now (Some q) h o = ap (λ (t : Rows K). is_here t o) h ∙ by q o where
-    by : (q o : Object) → is_here (pinned r q) o ≡ is_here r o
+    by : (q o : Object) → is_here (after_pin r q) o ≡ is_here r o
     by (object.Number q) (object.Number o) = refl
     by (object.Number q) (object.Text o) = refl
     by (object.Text q) (object.Number o) = refl
     by (object.Text q) (object.Text o) = refl
 
-  pub moves-unpinned : (r now : Rows K) (found : Option Object) → IsSomeAnd found (λ q. now ≡ unpinned r q) → (o : Object) → is_here now o ≡ is_here r o
+  pub moves-unpinned : (r now : Rows K) (found : Option Object) → IsSomeAnd found (λ q. now ≡ after_unpin r q) → (o : Object) → is_here now o ≡ is_here r o
   moves-unpinned r now None h o = absurd h
   moves-unpinned r now (Some q) h o = ap (λ (t : Rows K). is_here t o) h ∙ by q o where
-    by : (q o : Object) → is_here (unpinned r q) o ≡ is_here r o
+    by : (q o : Object) → is_here (after_unpin r q) o ≡ is_here r o
     by (object.Number q) (object.Number o) = refl
     by (object.Number q) (object.Text o) = refl
     by (object.Text q) (object.Number o) = refl

@@ -20,7 +20,7 @@ use Rattle.far_frame.specs.declared.step.Step.{Step}
 use Rattle.far_frame.specs.declared.step.Step.TheVariants as step
 use Rattle.far_frame.specs.declared.step.Reply.{Reply}
 use Rattle.far_frame.specs.declared.step.Reply.TheVariants as reply
-use Rattle.far_frame.specs.Changes.{Replies, Accepts, Refuses, Changes}
+use Rattle.far_frame.specs.Effects.{Replies, Accepts, Refuses, Changes}
 use Rattle.far_frame.specs.Lending.{lend_refusal}
 use Rattle.far_frame.specs.Jobs.{JobRecord, IsEvacJob, IsFetchJob, IsOffloadJob, Commits, CommitRefusal, Installs, InstallRefusal, Merges, MergeRefusal}
 use Rattle.far_frame.specs.Pins.{is_pinning, is_here, ArePinnedHere}

@@ -5,7 +5,7 @@ use Rattle.std.specs.List.{zip}
 use Rattle.std.specs.Option.{option_map_or}
 use Rattle.far_pointer.specs.declared.pointer.Pointer.{Pointer}
 use Rattle.far_pointer.specs.declared.pointer.Pointer.TheVariants.{Local, Remote}
-use Rattle.far_scopes.specs.declared.entry.Entry.{Entry}
+use Rattle.far_scopes.specs.declared.object_record.ObjectRecord.{ObjectRecord}
 use Rattle.far_scopes.specs.Memory.{at_of, place_of}
 use Rattle.far_scopes.specs.Renewal.{renewed_word, renewed_entry}
 use Rattle.far_rows.specs.declared.object.Object.{Object}
@@ -34,11 +34,11 @@ same-rest : (n m : ℕ) → suc n ≡ suc m → n ≡ m
 same-rest n m h = cc
 
 module _ {K L : Type 0} where
-  entry-pins : (entries : List (Entry K)) (tickets : List (Option L)) → length tickets ≡ length entries → (o : ℕ) → option_map_or (λ e. e.pins) (slice_get (map (λ (e : Entry K × Option L). renewed_entry e.0 e.1) (zip entries tickets)) o) 0 ≡ option_map_or (λ e. e.pins) (slice_get entries o) 0
-  entry-pins [] tickets even o = refl
-  entry-pins (e ∷ entries) [] even o = none-long (length entries) even
-  entry-pins (e ∷ entries) (t ∷ tickets) even zero = refl
-  entry-pins (e ∷ entries) (t ∷ tickets) even (suc o) = entry-pins entries tickets (same-rest (length tickets) (length entries) even) o
+  entry-pins : (entries : List (ObjectRecord K)) (tickets : List (Option L)) → length tickets ≡ length entries → (o : ℕ) → option_map_or (λ e. e.pins) (slice_get (map (λ (e : ObjectRecord K × Option L). renewed_entry e.0 e.1) (zip entries tickets)) o) 0 ≡ option_map_or (λ e. e.pins) (slice_get entries o) 0
+  entry-pins [] tickets same_length o = refl
+  entry-pins (e ∷ entries) [] same_length o = none-long (length entries) same_length
+  entry-pins (e ∷ entries) (t ∷ tickets) same_length zero = refl
+  entry-pins (e ∷ entries) (t ∷ tickets) same_length (suc o) = entry-pins entries tickets (same-rest (length tickets) (length entries) same_length) o
 
   rows-local : (r : Rows K) (tickets : RowsTickets L) (o : Object) → is_here (renewed_rows r tickets) o ≡ is_here r o
   rows-local r tickets (object.Number o) = ap is_some (place-renewed r.number_objects.memory.words o)
@@ -46,8 +46,8 @@ module _ {K L : Type 0} where
 
   module _ (content : K → List ℕ) (new_content : L → List ℕ) where
     rows-pinned : (r : Rows K) (tickets : RowsTickets L) → RenewsRows content new_content r tickets → (o : Object) → pins_at (renewed_rows r tickets) o ≡ pins_at r o
-    rows-pinned r tickets renews (object.Number o) = entry-pins r.number_objects.entries tickets.numbers renews.numbers.even o
-    rows-pinned r tickets renews (object.Text o) = entry-pins r.text_objects.entries tickets.texts renews.texts.even o
+    rows-pinned r tickets renews (object.Number o) = entry-pins r.number_objects.entries tickets.numbers renews.numbers.same_length o
+    rows-pinned r tickets renews (object.Text o) = entry-pins r.text_objects.entries tickets.texts renews.texts.same_length o
 
     -- after a migration each object has the pins that it had
     pub migrated-pins : (name : List ℕ) (old : World K) (new : World L) → IsMigratedTo content new_content name old new → (o : Object) → pins_at new.state.rows o ≡ pins_at old.state.rows o

@@ -21,7 +21,7 @@ use Rattle.far_frame.specs.Runs.{is_refused, is_movement, rows_after, plain_rows
 use Rattle.far_evacuator.specs.Jobs.{CarriedEvacuation}
 use Rattle.far_rows.specs.declared.job.ByKind.{ByKind}
 use Rattle.far_rows.specs.Jobs.{evac_refusal, fetch_refusal, pins_by}
-use Rattle.far_frame.specs.Changes.{Replies, Accepts, Refuses, Changes}
+use Rattle.far_frame.specs.Effects.{Replies, Accepts, Refuses, Changes}
 use Rattle.far_frame.specs.Lending.{IsLent, flags_of, pieces_in}
 use Rattle.far_frame.proofs.LendingLaws.{given-cells, given-flags, lends-low}
 use Rattle.far_table.specs.Offloading.{Build, offload_refusal}

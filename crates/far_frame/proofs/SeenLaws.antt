@@ -14,11 +14,11 @@ use Rattle.far_types.specs.FirstOf.{first_of}
 use Rattle.far_scopes.specs.Refusing.{refusal_in}
 use Rattle.far_vector.specs.Pieces.{touched as touched_groups, touched_count}
 use Rattle.far_vector.proofs.PieceLaws.{touched-step, rest, rows}
-use Rattle.far_prefetcher.specs.Strides.{history_of, with_seen}
-use Rattle.far_rows.specs.declared.slot.Slot.{Slot}
+use Rattle.far_prefetcher.specs.Strides.{history_of, with_access}
+use Rattle.far_rows.specs.declared.column_index.ColumnIndex.{ColumnIndex}
 use Rattle.far_rows.specs.declared.object.Object.{Object}
 use Rattle.far_rows.specs.Rows.{Rows, object_of}
-use Rattle.far_rows.specs.Moving.{object_at, object_in, object_refusal, touched}
+use Rattle.far_rows.specs.Moving.{object_at, object_in, object_refusal, after_touch}
 use Rattle.far_table.specs.State.{State as LiveState}
 use Rattle.far_table.specs.Moving.{IsMoved, IsTouched}
 use Rattle.far_frame.specs.State.{State, live}
@@ -49,26 +49,26 @@ touched-none size from to past = (let none : touched_count size from to ≡ 0 = 
 
 module _ {K : Type 0} (old : State K) (column group : ℕ) where
   abbrev used : Rows K
-  used = option_map_or (touched old.rows) (object_at old.rows column group) old.rows
+  used = option_map_or (after_touch old.rows) (object_at old.rows column group) old.rows
 
   -- an object that there is not is not used
   unused : (e : Refusal) → Some e ≡ object_refusal old.rows column group → used ≡ old.rows
-  unused e due = by (slice_get old.rows.slots column) due where
-    none-of : (at : Option Object) → Some e ≡ first_of ((is_none at, refusal.OutOfRange) ∷ []) → option_map_or (touched old.rows) at old.rows ≡ old.rows
+  unused e due = by (slice_get old.rows.column_indexes column) due where
+    none-of : (at : Option Object) → Some e ≡ first_of ((is_none at, refusal.OutOfRange) ∷ []) → option_map_or (after_touch old.rows) at old.rows ≡ old.rows
     none-of None due = refl
     none-of (Some object) due = absurd (none-some e (sym due))
 
-    by : (found : Option Slot) → Some e ≡ first_of ((is_none found, refusal.NoColumn) ∷ (is_none (option_and_then (λ (s : Slot). option_map (object_in s) (object_of old.rows s group)) found), refusal.OutOfRange) ∷ [])
-        → option_map_or (touched old.rows) (option_and_then (λ (s : Slot). option_map (object_in s) (object_of old.rows s group)) found) old.rows ≡ old.rows
+    by : (found : Option ColumnIndex) → Some e ≡ first_of ((is_none found, refusal.NoColumn) ∷ (is_none (option_and_then (λ (s : ColumnIndex). option_map (object_in s) (object_of old.rows s group)) found), refusal.OutOfRange) ∷ [])
+        → option_map_or (after_touch old.rows) (option_and_then (λ (s : ColumnIndex). option_map (object_in s) (object_of old.rows s group)) found) old.rows ≡ old.rows
     by None due = refl
     by (Some s) due = none-of (option_map (object_in s) (object_of old.rows s group)) due
 
-  is-used : (at : Option Object) (new : Rows K) → IsSomeAnd at (λ object. new ≡ touched old.rows object) → new ≡ option_map_or (touched old.rows) at old.rows
+  is-used : (at : Option Object) (new : Rows K) → IsSomeAnd at (λ object. new ≡ after_touch old.rows object) → new ≡ option_map_or (after_touch old.rows) at old.rows
   is-used None new is = absurd is
   is-used (Some object) new is = is
 
   abbrev now : LiveState K → State K
-  now table = record { table = table.table; rows = table.rows; seen = slice_set old.seen column (with_seen (history_of old.seen column) group) }
+  now table = record { table = table.table; rows = table.rows; seen = slice_set old.seen column (with_access (history_of old.seen column) group) }
 
   pub one-seen : (new : LiveState K) → IsMoved (IsTouched column group) (live old) new → AreSeen column (group ∷ []) old (now new)
   one-seen new moved = record { table = moved.table; rows = is-used (object_at old.rows column group) new.rows moved.rows; seen = refl }

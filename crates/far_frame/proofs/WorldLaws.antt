@@ -11,7 +11,7 @@ use Rattle.far_types.specs.declared.refusal.Refusal.TheVariants as refusal
 use Rattle.far_types.specs.MayRefuse.{MayRefuse}
 use Rattle.far_rows.specs.Jobs.{AreAt}
 use Rattle.far_frame.specs.State.{State}
-use Rattle.far_frame.specs.Changes.{Replies, done_or}
+use Rattle.far_frame.specs.Effects.{Replies, done_or}
 use Rattle.far_frame.specs.Jobs.{JobRecord, WorkOf, IsJobAt}
 use Rattle.far_frame.specs.Waiting.{Waiting, is_number, job_at, one_more, with_job, without_job, AreJobsAt, RefusalAt, spends}
 use Rattle.far_frame.specs.Worlds.{World, IsWorld, IsEnded, IsNotEnded}
@@ -33,7 +33,7 @@ no-stale e r is m s = (let same = sym is ∙ s in cc)
 no-full : {A : Type 0} (e : Refusal) (r : Result A Refusal) → r ≡ Err e → e ≡ refusal.NoMemory → r ≡ Err refusal.RegionFull → ⊥
 no-full e r is m s = (let same = sym is ∙ s in cc)
 
--- why an install is refused, want of memory too
+-- why an install is refused, lack of memory too
 pub install-refused : {A : Type 0} (r : Result A Refusal) (accepted roomless : Type 0) → (IsErrOf r refusal.StaleJob ↔ (¬ accepted)) → (IsErrOf r refusal.RegionFull ↔ (accepted × roomless)) → IfErr r (λ e. (e ≡ refusal.StaleJob) ⊎ ((e ≡ refusal.RegionFull) ⊎ (e ≡ refusal.NoMemory)))
     → IfErr r (λ e. ((e ≡ refusal.StaleJob) × ¬ accepted) ⊎ (((e ≡ refusal.RegionFull) × accepted × roomless) ⊎ ((e ≡ refusal.NoMemory) × ¬ (¬ accepted) × ¬ roomless)))
 install-refused (Ok done) accepted roomless stale full is = is

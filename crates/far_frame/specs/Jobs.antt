@@ -9,7 +9,7 @@ use Rattle.far_evacuator.specs.Jobs.{Evacuation, CarriedEvacuation, Fetch, Carri
 use Rattle.far_rows.specs.declared.job.ByKind.{ByKind}
 use Rattle.far_rows.specs.Rows.{Rows}
 use Rattle.far_rows.specs.Coldest.{coldest}
-use Rattle.far_rows.specs.Jobs.{of_either, IsCarriedEvac, IsCarriedFetch, IsEvacBegun, IsFetchBegun, IsEvacAccepted, IsFetchAccepted, evac_refusal, fetch_refusal, pins_by, HasNoRoom}
+use Rattle.far_rows.specs.Jobs.{of_either, IsCarriedEvac, IsCarriedFetch, IsEvacBegun, IsFetchBegun, IsEvacAccepted, IsFetchAccepted, evac_refusal, fetch_refusal, pins_by, HasNoSpace}
 use Rattle.far_table.specs.Offloading.{Build, AreTicketsOf, IsMergeable, IsMerged, IsOffloadBegun, offload_refusal}
 use Rattle.far_table.specs.Watching.{aggregate_at}
 use Rattle.far_frame.specs.State.{State, Alters, live}
@@ -60,7 +60,7 @@ module _ {K : Type 0} where
     IsWorkAt (work.Offload build) = AreTicketsOf is_of name build.job.tickets
     IsWorkAt (work.Offloaded build) = AreTicketsOf is_of name build.job.tickets
 
-    -- what a job holds is of the store of this name
+    -- what a job holds is of the store with this id
     abbrev pub IsJobAt : JobRecord K → Type 0
     IsJobAt job = IsWorkAt job.work
 
@@ -162,6 +162,6 @@ module _ {K : Type 0} where
       -- stale here
       abbrev pub InstallRefusal : WorkOf K → Refusal → Type 0
       InstallRefusal (work.Fetched fetched) given = ((given ≡ refusal.StaleJob) × ¬ (IsFetchAccepted number_of old.rows fetched))
-          ⊎ (((given ≡ refusal.RegionFull) × IsFetchAccepted number_of old.rows fetched × HasNoRoom content old.rows fetched)
-          ⊎ ((given ≡ refusal.NoMemory) × ¬ (¬ (IsFetchAccepted number_of old.rows fetched)) × ¬ (HasNoRoom content old.rows fetched)))
+          ⊎ (((given ≡ refusal.RegionFull) × IsFetchAccepted number_of old.rows fetched × HasNoSpace content old.rows fetched)
+          ⊎ ((given ≡ refusal.NoMemory) × ¬ (¬ (IsFetchAccepted number_of old.rows fetched)) × ¬ (HasNoSpace content old.rows fetched)))
       InstallRefusal _ given = given ≡ refusal.StaleJob

@@ -11,9 +11,9 @@ use Rattle.far_types.specs.FirstOf.{first_of}
 use Rattle.far_types.specs.Lent.{int_cell, text_cell}
 use Rattle.far_types.specs.Table.{Table, Place, column as column_of, groups}
 use Rattle.far_vector.specs.Pieces.{pieces_of, touched as touched_groups}
-use Rattle.far_prefetcher.specs.Strides.{history_of, with_seen, proposed}
+use Rattle.far_prefetcher.specs.Strides.{history_of, with_access, proposed}
 use Rattle.far_rows.specs.Rows.{Rows}
-use Rattle.far_rows.specs.Moving.{object_at, touched}
+use Rattle.far_rows.specs.Moving.{object_at, after_touch}
 use Rattle.far_rows.specs.Refusing.{no_column, no_range, absent_in}
 use Rattle.far_frame.specs.declared.piece.IntPiece.{IntPiece}
 use Rattle.far_frame.specs.declared.piece.TextPiece.{TextPiece}
@@ -66,7 +66,7 @@ Gives of pieces _ = ⊥
 
 -- the access histories, once some row groups of a column were accessed, in order
 abbrev pub all_seen : List (List ℕ) → ℕ → List ℕ → List (List ℕ)
-all_seen seen column lent = fold (λ histories g. slice_set histories column (with_seen (history_of histories column) g)) seen lent
+all_seen seen column lent = fold (λ histories g. slice_set histories column (with_access (history_of histories column) g)) seen lent
 
 -- there is no such column
 abbrev pub prefetch_refusal : Table → ℕ → Option Refusal
@@ -79,7 +79,7 @@ next_groups table seen column = proposed (groups table.limits.group (length tabl
 module _ {K : Type 0} where
   -- the objects of some row groups of a column are marked as recently used, in order
   abbrev pub all_used : Rows K → ℕ → List ℕ → Rows K
-  all_used r column lent = fold (λ rows g. option_map_or (touched rows) (object_at rows column g) rows) r lent
+  all_used r column lent = fold (λ rows g. option_map_or (after_touch rows) (object_at rows column g) rows) r lent
 
   -- why a part of a column is not lent: there is no such column; the places are not all there; the object of a row group that
   -- has some of them is away, the first such

@@ -1,7 +1,7 @@
 pub mod State
 pub mod Lending
 pub mod Steps
-pub mod Changes
+pub mod Effects
 pub mod Worlds
 pub mod Waiting
 pub mod Runs

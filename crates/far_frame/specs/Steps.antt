@@ -4,7 +4,7 @@ use Rattle.far_rows.specs.Jobs.{evac_refusal, fetch_refusal}
 use Rattle.far_frame.specs.declared.step.Step.{Step}
 use Rattle.far_frame.specs.declared.step.Step.TheVariants as step
 use Rattle.far_frame.specs.declared.step.Reply.{Reply}
-use Rattle.far_frame.specs.Changes.{Replies, Changes}
+use Rattle.far_frame.specs.Effects.{Replies, Changes}
 use Rattle.far_table.specs.Offloading.{offload_refusal}
 use Rattle.far_table.specs.Watching.{aggregate_at}
 use Rattle.far_frame.specs.State.{live}

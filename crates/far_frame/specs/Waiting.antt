@@ -40,7 +40,7 @@ module _ {K : Type 0} where
   abbrev pub without_job : Waiting K → ℕ → Waiting K
   without_job waiting n = remove_entry (is_number n) waiting
 
-  -- what the jobs hold is of the store of this name
+  -- what the jobs hold is of the store with this id
   abbrev pub AreJobsAt : (K → List ℕ → Type 0) → List ℕ → Waiting K → Type 0
   AreJobsAt is_of name waiting = All (λ job. IfSome job (IsJobAt is_of name)) (values_of waiting)
 

@@ -16,7 +16,7 @@ use Rattle.far_frame.specs.declared.step.Reply.TheVariants as reply
 use Rattle.far_frame.specs.Jobs.{JobRecord, WorkOf, CarryRefusal}
 use Rattle.far_frame.specs.Waiting.{Waiting, AreJobsAt, IsCarriedAt, RefusalAt, is_number, job_at, one_more, spends, without_job}
 
--- all that a step can see or change: the table and its objects, the name of the store that they go to, how many jobs were begun
+-- all that a step can see or change: the table and its objects, the id of the store that they go to, how many jobs were begun
 -- and which are not spent, and how many faults of the store were met
 pub record World (K : Type 0) : Type 0 where
   pub state : State K
@@ -66,7 +66,7 @@ module _ {K : Type 0} where
     pub ended : IsSomeAnd (job_at old.jobs n) (λ job. ends job.work new.state)
     pub world : new ≡ record old { state = new.state; jobs = without_job old.jobs n }
 
-  -- it is refused, and its number is spent exactly where it is stale
+  -- it is refused, and its number is spent exactly if it is stale
   pub record IsNotEnded (why : WorkOf K → Refusal → Type 0) (n : ℕ) (old : World K) (given : Refusal) (new : World K) : Type 0 where
     pub refused : RefusalAt (λ job. why job.work) (job_at old.jobs n) given
     pub world : new ≡ record old { jobs = cond (spends (Err given)) (without_job old.jobs n) old.jobs }

@@ -7,7 +7,7 @@ ghost use Rattle.far_aggregates.specs.Aggregates.{is_left};
 ghost use Rattle.far_aggregates.specs.Readings.{plain_in};
 ghost use Rattle.far_rows.specs.Jobs.{AreAt};
 ghost use Rattle.far_table.specs.Watching.{aggregate_at};
-ghost use Rattle.far_frame.specs.Changes.{Accepts, Refuses};
+ghost use Rattle.far_frame.specs.Effects.{Accepts, Refuses};
 ghost use Rattle.far_frame.specs.State.{empty_state, live};
 ghost use Rattle.far_frame.specs.declared.step.Step.TheVariants as step;
 ghost use Rattle.far_frame.specs.declared.step.Reply.TheVariants as reply;
@@ -30,6 +30,27 @@ use std::marker::Model;
 /// Contracts see its state: the plain table, the rows over objects that hold its places, and the access history of each column.
 ///
 /// All calls of one table that take a store are given the store to which its objects went.
+///
+/// A table without rows:
+///
+/// ```
+/// match schema(alloc, kinds) {
+///     Ok(schema) => Frame::open(alloc, schema, limits, number),
+///     Err(refusal) => Err(refusal),
+/// }
+/// ```
+///
+/// A row is inserted, which gets the next place:
+///
+/// ```
+/// match row_of(alloc, number) {
+///     Ok(row) => match frame.insert(row) {
+///         Ok(_) => Ok(()),
+///         Err(refusal) => Err(refusal),
+///     },
+///     Err(refusal) => Err(refusal),
+/// }
+/// ```
 #[derive(Drop)]
 pub struct Frame<S: FarTickets> {
     alloc: Global,
@@ -49,7 +70,7 @@ impl<S: FarTickets> Frame<S> {
     /// An empty table. The number tells the jobs of its objects from those of other tables. All memory for elements is taken
     /// here.
     ///
-    /// Refused with `BadSchema` (2) exactly where the limits are not what a table may have, else with `NoMemory` (1) alone.
+    /// Refused with `BadSchema` (2) exactly if the limits are not what a table may have, else with `NoMemory` (1) alone.
     pub fn open(
         alloc: Global,
         schema: Schema,
@@ -71,8 +92,15 @@ impl<S: FarTickets> Frame<S> {
         })
     }
 
-    /// Appends a row and gives its place. Refused with `WrongKind` (5) where a cell is of another kind than its column,
-    /// `RowWidth` (6), `TextTooLong` (7), `TableFull` (10), `Absent` (16) where the last row group is begun and an object of it
+    /// Cells that are needed no more: a row to come may be made in their memory. Allocates nothing.
+    pub fn spare_cells(&mut self) -> Vec<Cell>
+        ensures { self.new ≡ self.old }
+    {
+        self.table.spare_cells()
+    }
+
+    /// Appends a row and gives its place. Refused with `WrongKind` (5) if a cell is of another kind than its column,
+    /// `RowWidth` (6), `TextTooLong` (7), `TableFull` (10), `Absent` (16) if the last row group is begun and an object of it
     /// is away, `ChunkFull` (11), `RegionFull` (17), `EditsUsedUp` (24) and `NoMemory` (1): the first that applies.
     pub fn insert(&mut self, row: Row) -> Result<u32, Refusal>
         ensures ok { IfOk result (λ place. Accepts S.content self.old (step.Edit (edit.Insert row)) (reply.Place place) self.new) }
@@ -83,7 +111,7 @@ impl<S: FarTickets> Frame<S> {
     }
 
     /// Puts a cell in a place's column; the same cell again counts as an edit too. Refused with `NoColumn` (4), `WrongKind`
-    /// (5), `TextTooLong` (7), `NoRow` (8), `RemovedRow` (9), `Absent` (16) where an object of the place's row group is away,
+    /// (5), `TextTooLong` (7), `NoRow` (8), `RemovedRow` (9), `Absent` (16) if an object of the place's row group is away,
     /// `ChunkFull` (11), `RegionFull` (17), `EditsUsedUp` (24) and `NoMemory` (1): the first that applies.
     pub fn set(&mut self, place: u32, column: u32, cell: Cell) -> Result<(), Refusal>
         ensures ok { OnOk result (Accepts S.content self.old (step.Edit (edit.Set place column cell)) reply.Done self.new) }
@@ -93,7 +121,7 @@ impl<S: FarTickets> Frame<S> {
         self.table.set(column, place, cell)
     }
 
-    /// Marks a place dead; its cells stay. Refused with `NoRow` (8), `RemovedRow` (9), `Absent` (16) where an object of the
+    /// Marks a place dead; its cells stay. Refused with `NoRow` (8), `RemovedRow` (9), `Absent` (16) if an object of the
     /// place's row group is away, `EditsUsedUp` (24) and `NoMemory` (1): the first that applies.
     pub fn remove(&mut self, place: u32) -> Result<(), Refusal>
         ensures ok { OnOk result (Accepts S.content self.old (step.Edit (edit.Remove place)) reply.Done self.new) }
@@ -103,9 +131,9 @@ impl<S: FarTickets> Frame<S> {
         self.table.remove(place)
     }
 
-    /// Registers an aggregate under the lowest free number of 0 to 31, with all row groups that hold a place still to be
-    /// built in. Refused with `BadSpec` (3), `NoColumn` (4) or `WrongKind` (5) where the aggregate cannot be had over
-    /// this schema, `TooManyAggregates` (13) where 32 are registered or 2^32 were, and `NoMemory` (1).
+    /// Registers an aggregate under the lowest free number of 0 to 31, with all row groups that hold a place still
+    /// pending. Refused with `BadSpec` (3), `NoColumn` (4) or `WrongKind` (5) if the aggregate cannot be had over
+    /// this schema, `TooManyAggregates` (13) if 32 are registered or 2^32 were, and `NoMemory` (1).
     pub fn watch(&mut self, spec: Spec) -> Result<u32, Refusal>
         ensures ok { IfOk result (λ a. Accepts S.content self.old (step.Watch spec) (reply.Aggregate a) self.new) }
         ensures err { IfErr result (λ e. Refuses self.old (step.Watch spec) e self.new) }
@@ -113,7 +141,7 @@ impl<S: FarTickets> Frame<S> {
         self.table.watch(spec)
     }
 
-    /// Forgets the aggregate of a number. Refused with `NoAggregate` (12) exactly where there is none. Takes no memory.
+    /// Forgets the aggregate of a number. Refused with `NoAggregate` (12) exactly if there is none. Allocates nothing.
     pub fn unwatch(&mut self, a: u32) -> Result<(), Refusal>
         ensures ok { OnOk result (Accepts S.content self.old (step.Unwatch a) reply.Done self.new) }
         ensures err { IfErr result (λ e. Refuses self.old (step.Unwatch a) e self.new) }
@@ -121,8 +149,8 @@ impl<S: FarTickets> Frame<S> {
         self.table.unwatch(a)
     }
 
-    /// Builds the rows of a row group into an aggregate. Refused with `NoAggregate` (12), `OutOfRange` (14) where no place
-    /// is in the row group, `StaleJob` (20) where it is built in already, `Absent` (16) where the object of a column that the
+    /// Builds the rows of a row group into an aggregate. Refused with `NoAggregate` (12), `OutOfRange` (14) if no place
+    /// is in the row group, `StaleJob` (20) if it is built in already, `Absent` (16) if the object of a column that the
     /// aggregate needs is away, naming the lowest such column, and `NoMemory` (1).
     pub fn scan_group(&mut self, a: u32, group: u32) -> Result<(), Refusal>
         ensures ok { OnOk result (Accepts S.content self.old (step.ScanGroup a group) reply.Done self.new) }
@@ -140,21 +168,21 @@ impl<S: FarTickets> Frame<S> {
         self.table.ask(a)
     }
 
-    /// The rows, lent in place. Takes no memory.
+    /// The rows, lent in place. Allocates nothing.
     pub fn scope(&self) -> View<'_, S>
         ensures { result ≡ live self.now }
     {
         View::new(&self.table)
     }
 
-    /// The kinds of the columns. Takes no memory.
+    /// The kinds of the columns. Allocates nothing.
     pub fn schema(&self) -> &Schema
         ensures { result.now ≡ self.now.table.schema }
     {
         self.table.rows().schema()
     }
 
-    /// The limits of the table. Takes no memory.
+    /// The limits of the table. Allocates nothing.
     pub fn limits(&self) -> &Limits
         ensures same { result.now ≡ self.now.table.limits }
         ensures bounds { AreLimits self.now.table.limits }
@@ -162,7 +190,7 @@ impl<S: FarTickets> Frame<S> {
         self.table.rows().limits()
     }
 
-    /// How many places there are, dead ones too. Takes no memory.
+    /// How many places there are, dead ones too. Allocates nothing.
     pub fn places(&self) -> u32
         ensures { result ≡ length self.now.table.places }
     {
@@ -171,14 +199,14 @@ impl<S: FarTickets> Frame<S> {
         self.table.rows().len() as u32
     }
 
-    /// The specification of the aggregate of a number, or `None` where there is none. Takes no memory.
+    /// The specification of the aggregate of a number, or `None` if there is none. Allocates nothing.
     pub fn spec(&self, a: u32) -> Option<&Spec>
         ensures { option_copied result ≡ option_map (λ aggregate. aggregate.spec) (aggregate_at self.now.table a) }
     {
         self.table.spec(a)
     }
 
-    /// An aggregate and a row group that is still to be built into it, or `None` where there is none. Takes no memory.
+    /// An aggregate and a row group that is still pending in it, or `None` if there is none. Allocates nothing.
     pub fn unbuilt(&self) -> Option<(u32, u32)>
         ensures some { IfSome result (λ at. is_left (aggregate_at self.now.table at.0) at.1 ≡ true) }
         ensures none { IfNone result ((a : ℕ) → (g : ℕ) → is_left (aggregate_at self.now.table a) g ≡ false) }
@@ -186,8 +214,8 @@ impl<S: FarTickets> Frame<S> {
         self.table.unbuilt()
     }
 
-    /// How many rows an aggregate of totals without key column folds, and the sum of their values: `None` where there is
-    /// no such aggregate, and where row groups are still to be built in. Takes no memory.
+    /// How many rows an aggregate of totals without key column folds, and the sum of their values: `None` if there is
+    /// no such aggregate, and where row groups are still pending. Allocates nothing.
     pub fn plain(&self, a: u32) -> Option<(u64, i128)>
         ensures { result ≡ plain_in self.now.table.places (aggregate_at self.now.table a) }
     {

@@ -51,6 +51,35 @@ type JobWork<S> = Work<
 
 /// A job of a table. It owns all that it holds, so no table is borrowed between its beginning and its end, and any thread can carry
 /// it. Contracts see the name of its object, if it moves one, and its work.
+///
+/// A job is begun:
+///
+/// ```
+/// match end {
+///     End::Commit => frame.begin_evac(store, 0, 0),
+///     End::Install => frame.begin_fetch(store, 0, 0),
+///     End::Merge => frame.begin_offload(store, 0, 0),
+/// }
+/// ```
+///
+/// Then it is carried, and only that talks to the store:
+///
+/// ```
+/// match begun(frame, store, end) {
+///     Ok(job) => job.carry(alloc, store, &mut Meter::new()).map_err(why),
+///     Err(refusal) => Err(refusal),
+/// }
+/// ```
+///
+/// And it ends:
+///
+/// ```
+/// let reply = match end {
+///     End::Commit => frame.commit(store, job),
+///     End::Install => frame.install(store, job),
+///     End::Merge => frame.merge(store, job),
+/// };
+/// ```
 #[derive(Drop)]
 pub struct Job<S: FarTickets> {
     pub(crate) name: Option<Name>,
@@ -69,7 +98,7 @@ impl<S: FarTickets> Model for Job<S> {
 }
 
 impl<S: FarTickets> Job<S> {
-    /// What the job does. Takes no memory.
+    /// What the job does. Allocates nothing.
     pub fn kind(&self) -> JobKind
         ensures { result ≡ kind_of self.now }
     {
@@ -83,7 +112,7 @@ impl<S: FarTickets> Job<S> {
         }
     }
 
-    /// The column and the row group of the object that the job moves; `None` exactly for an offloaded build. Takes no memory.
+    /// The column and the row group of the object that the job moves; `None` exactly for an offloaded build. Allocates nothing.
     pub fn object(&self) -> Option<Name>
         ensures name { result ≡ self.now.name }
         ensures offload { is_none result ≡ is_offload self.now.work }
@@ -96,8 +125,8 @@ impl<S: FarStore> Job<S> {
     /// Carries the job: an evacuation puts its far form into the store, a fetch reads its ticket's content, an offloaded build those of
     /// its tickets. It borrows no table, so it may be done beside every other step.
     ///
-    /// Refused with `StaleJob` (20) exactly where the job was carried already; else with `FarFault` (21) where the store fails in
-    /// this call, exactly where the meter rises, by one; with `FarFull` (22), an evacuation alone; and with `NoMemory` (1). The job
+    /// Refused with `StaleJob` (20) exactly if the job was carried already; else with `FarFault` (21) if the store fails in
+    /// this call, exactly if the meter rises, by one; with `FarFull` (22), an evacuation alone; and with `NoMemory` (1). The job
     /// then comes back whole.
     pub fn carry(
         self,
@@ -106,9 +135,9 @@ impl<S: FarStore> Job<S> {
         meter: &mut Meter,
     ) -> Result<Job<S>, (Refusal, Job<S>)>
         requires few { meter.old < 2 ^ 63 }
-        requires here { IsJobAt S.is_of (S.name store.now) self }
+        requires here { IsJobAt S.is_of (S.store_id store.now) self }
         ensures carried { IfOk result (IsCarried S.content self) }
-        ensures here { IfOk result (IsJobAt S.is_of (S.name store.now)) }
+        ensures here { IfOk result (IsJobAt S.is_of (S.store_id store.now)) }
         ensures back { IfErr result (λ refused. refused.1 ≡ self) }
         ensures faults { meter.new ≡ meter.old + faults_in (outcome result) }
         ensures refused { IfErr result (λ refused. CarryRefusal self refused.0) }
@@ -129,9 +158,9 @@ fn carry_work<S: FarStore>(
     meter: &mut Meter,
 ) -> Result<JobWork<S>, (Refusal, JobWork<S>)>
     requires few { meter.old < 2 ^ 63 }
-    requires here { IsWorkAt S.is_of (S.name store.now) work }
+    requires here { IsWorkAt S.is_of (S.store_id store.now) work }
     ensures carried { IfOk result (IsWorkCarried S.content work) }
-    ensures here { IfOk result (IsWorkAt S.is_of (S.name store.now)) }
+    ensures here { IfOk result (IsWorkAt S.is_of (S.store_id store.now)) }
     ensures back { IfErr result (λ refused. refused.1 ≡ work) }
     ensures faults { meter.new ≡ meter.old + faults_in (outcome result) }
     ensures refused { IfErr result (λ refused. WorkRefusal work refused.0) }

@@ -45,8 +45,8 @@ pub fn rows_are_those_of_the_plain_list<S: FarTickets>()
     ensures { (old : World S.Ticket) → (steps : List Step) → (replies : List Reply) → (new : World S.Ticket) → IsRun S.content S.number_of old steps replies new → new.state.table.places ≡ plain_rows steps replies old.state.table.places }
 {}
 
-/// An aggregate that answers gives what folding it over the table's rows as they are now gives, and nothing is left to
-/// be built into it.
+/// An aggregate that answers gives what folding it over the table's rows as they are now gives, and nothing is still pending
+/// in it.
 pub fn an_answer_is_over_the_rows_now<S: FarTickets>()
     ensures answer { (old : World S.Ticket) → (a : ℕ) → (answer : Answer) → (new : World S.Ticket) → (aggregate : Registered) → aggregate_at old.state.table a ≡ Some aggregate → IsStep S.content S.number_of old (step.Ask a) (reply.Answer answer) new → answer ≡ answer_now aggregate.spec old.state.table }
     ensures built { (old : World S.Ticket) → (a : ℕ) → (answer : Answer) → (new : World S.Ticket) → (aggregate : Registered) → aggregate_at old.state.table a ≡ Some aggregate → IsStep S.content S.number_of old (step.Ask a) (reply.Answer answer) new → left aggregate.unbuilt ≡ 0 }
@@ -54,7 +54,7 @@ pub fn an_answer_is_over_the_rows_now<S: FarTickets>()
 {}
 
 /// An edit that is accepted does to the rows what it does to the plain list, and one that is refused is refused as the
-/// plain list refuses it, or because an object is away or finds no room, or for want of memory where nothing else refuses it.
+/// plain list refuses it, or because an object is away or finds no room, or for lack of memory where nothing else refuses it.
 pub fn an_edit_is_that_of_the_plain_list<S: FarTickets>()
     ensures inserted { (old : World S.Ticket) → (e : Edit) → (place : ℕ) → (new : World S.Ticket) → IsStep S.content S.number_of old (step.Edit e) (reply.Place place) new → new.state.table ≡ edited e old.state.table }
     ensures done { (old : World S.Ticket) → (e : Edit) → (new : World S.Ticket) → IsStep S.content S.number_of old (step.Edit e) reply.Done new → new.state.table ≡ edited e old.state.table }
@@ -62,7 +62,7 @@ pub fn an_edit_is_that_of_the_plain_list<S: FarTickets>()
 {}
 
 /// A recount that answers gives what folding the aggregate over the table's rows as they are now gives. This is said of every answer of
-/// `Frame::recount`: whichever row groups are left to be built in, whichever objects are away, and for every number of workers.
+/// `Frame::recount`: whichever row groups are still pending, whichever objects are away, and for every number of workers.
 pub fn a_recount_is_over_the_rows_now()
     ensures { (table : Table) → (a : ℕ) → (answer : Answer) → (aggregate : Registered) → aggregate_at table a ≡ Some aggregate → IsAnswerNow table a answer → answer ≡ answer_now aggregate.spec table }
 {}

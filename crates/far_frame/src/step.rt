@@ -1,6 +1,6 @@
 // Steps of a table, and their replies.
 ghost use Rattle.std.specs.Prelude.{◌≡◌};
-ghost use Rattle.far_frame.specs.Changes.{done_or};
+ghost use Rattle.far_frame.specs.Effects.{done_or};
 
 use super::piece::{IntPiece, TextPiece};
 use far_types::{Answer, Edit, Kind, Refusal, Spec};
@@ -100,7 +100,7 @@ pub enum Reply {
 }
 
 impl Reply {
-    /// The reply of a call that says nothing where it is done.
+    /// The reply of a call that says nothing if it is done.
     pub(crate) fn done_or(outcome: Result<(), Refusal>) -> Reply
         ensures { result ≡ done_or outcome }
     {

@@ -5,7 +5,7 @@ ghost use Rattle.far_scopes.specs.Refusing.{refusal_in};
 ghost use Rattle.far_types.specs.Lent.{text_cell};
 ghost use Rattle.far_types.specs.Table.{column as column_of, part};
 ghost use Rattle.far_rows.specs.Refusing.{absents, ints_refusal, text_refusal, texts_refusal};
-ghost use Rattle.far_rows.specs.Slots.{kind_of};
+ghost use Rattle.far_rows.specs.ColumnIndexes.{kind_of};
 ghost use Rattle.far_frame.specs.Lending.{flags_of, ints_lent, lent_part};
 ghost use Rattle.far_frame.specs.Views.{away};
 
@@ -19,6 +19,18 @@ use std::marker::Model;
 
 /// The rows of a table, lent where they lie: no object comes, goes or changes while a view is there. Contracts see the table's
 /// state.
+///
+/// A part of a column is lent piece by piece, and here each piece is copied:
+///
+/// ```
+/// let view = frame.scope();
+/// let mut lents = view.ints(column, from, to)?;
+/// let mut copies = Vec::with_capacity(alloc, lents.len())?;
+/// while let Some(lent) = lents.next() {
+///     copies.push(copy_ints(alloc, &lent)?)?;
+/// }
+/// Ok(copies)
+/// ```
 #[derive(Drop)]
 pub struct View<'a, S: FarTickets> {
     table: &'a LiveTable<S>,
@@ -33,23 +45,23 @@ impl<'a, S: FarTickets> Model for View<'a, S> {
 }
 
 impl<'a, S: FarTickets> View<'a, S> {
-    /// The rows of this table. Takes no memory.
+    /// The rows of this table. Allocates nothing.
     pub(crate) fn new(table: &'a LiveTable<S>) -> View<'a, S>
         ensures { result ≡ table.now }
     {
         View { table }
     }
 
-    /// Whether a place is alive; `None` where there is no such place. Takes no memory.
+    /// Whether a place is alive; `None` if there is no such place. Allocates nothing.
     pub fn is_alive(&self, place: u32) -> Option<bool>
         ensures { result ≡ option_map (λ p. p.alive) (slice_get self.now.table.places place) }
     {
         self.table.rows().is_alive(place as usize)
     }
 
-    /// Whether every place can be lent. Takes no memory.
+    /// Whether every place can be lent. Allocates nothing.
     ///
-    /// Refused with `Absent` (16) exactly where an object is away, naming the first: of the lowest row group, and there of the
+    /// Refused with `Absent` (16) exactly if an object is away, naming the first: of the lowest row group, and there of the
     /// lowest column.
     pub fn all(&self) -> Result<(), Refusal>
         ensures refused { refusal_in result ≡ away self.now }
@@ -66,9 +78,9 @@ impl<'a, S: FarTickets> View<'a, S> {
         Ok(())
     }
 
-    /// The row of a place, each cell lent in place. A dead place has its cells still. Takes no memory.
+    /// The row of a place, each cell lent in place. A dead place has its cells still. Allocates nothing.
     ///
-    /// Refused with `NoRow` (8) exactly past the places, else with `Absent` (16) exactly where an object of the place's row group
+    /// Refused with `NoRow` (8) exactly past the places, else with `Absent` (16) exactly if an object of the place's row group
     /// is away, naming the first in the order of the columns.
     pub fn row(&self, place: u32) -> Result<LentRow<'_>, Refusal>
         ensures row { IfOk result (λ row. option_map (λ p. p.cells) (slice_get self.now.table.places place) ≡ Some row) }
@@ -82,7 +94,7 @@ impl<'a, S: FarTickets> View<'a, S> {
         rows.row(place as usize)
     }
 
-    /// The row of a place, each cell lent in place once it is asked for, so that the row is not copied. Takes no memory.
+    /// The row of a place, each cell lent in place once it is asked for, so that the row is not copied. Allocates nothing.
     ///
     /// Refused as `row` is, with `NoRow` (8) and `Absent` (16).
     pub fn row_ref(&self, place: u32) -> Result<RowRef<'_, S>, Refusal>
@@ -97,10 +109,10 @@ impl<'a, S: FarTickets> View<'a, S> {
         rows.row_ref(place as usize)
     }
 
-    /// The kind of a column; `None` where there is no such column. Takes no memory.
+    /// The kind of a column; `None` if there is no such column. Allocates nothing.
     pub(crate) fn kind(&self, column: u32) -> Option<Kind>
         ensures schema { result ≡ slice_get self.now.table.schema column }
-        ensures slot { result ≡ option_map kind_of (slice_get self.now.rows.slots column) }
+        ensures column_index { result ≡ option_map kind_of (slice_get self.now.rows.column_indexes column) }
     {
         let rows = self.table.rows();
         // It tells that the kinds are those of the columns.
@@ -108,7 +120,7 @@ impl<'a, S: FarTickets> View<'a, S> {
         rows.schema().get(column as usize)
     }
 
-    /// How many places a row group has. Takes no memory.
+    /// How many places a row group has. Allocates nothing.
     pub fn size(&self) -> usize
         ensures rows { result ≡ self.now.rows.size }
         ensures limit { result ≡ self.now.table.limits.group }
@@ -122,10 +134,10 @@ impl<'a, S: FarTickets> View<'a, S> {
     }
 
     /// The numbers of the places `from` up to `to` of a column, lent in place with the flags of their places: a piece for each row
-    /// group that has some of them. Takes no memory.
+    /// group that has some of them. Allocates nothing.
     ///
-    /// Refused with `NoColumn` (4), `WrongKind` (5) where the column is of texts, `OutOfRange` (14) where `from` is above `to` or
-    /// `to` is past the places, `Absent` (16) where the object of a row group that has some of them is away, naming the first: the
+    /// Refused with `NoColumn` (4), `WrongKind` (5) if the column is of texts, `OutOfRange` (14) if `from` is above `to` or
+    /// `to` is past the places, `Absent` (16) if the object of a row group that has some of them is away, naming the first: the
     /// first that applies.
     pub fn ints(&self, column: u32, from: u32, to: u32) -> Result<Lents<'_, S>, Refusal>
         ensures lent { IfOk result (λ lents. map ints_lent lents ≡ lent_part self.now.table column from to) }
@@ -139,10 +151,10 @@ impl<'a, S: FarTickets> View<'a, S> {
             .ints(column as usize, from as usize, to as usize)
     }
 
-    /// The texts of the places `from` up to `to` of a column, lent in place, each with the flag of its place. Takes no memory.
+    /// The texts of the places `from` up to `to` of a column, lent in place, each with the flag of its place. Allocates nothing.
     ///
-    /// Refused with `NoColumn` (4), `WrongKind` (5) where the column is of numbers, `OutOfRange` (14) where `from` is above `to` or
-    /// `to` is past the places, `Absent` (16) where the object of a row group that has some of them is away, naming the first: the
+    /// Refused with `NoColumn` (4), `WrongKind` (5) if the column is of numbers, `OutOfRange` (14) if `from` is above `to` or
+    /// `to` is past the places, `Absent` (16) if the object of a row group that has some of them is away, naming the first: the
     /// first that applies.
     pub fn texts(&self, column: u32, from: u32, to: u32) -> Result<TextCells<'_, S>, Refusal>
         ensures cells { IfOk result (λ lent. map (λ cell. text_cell cell.0) lent ≡ part column from to self.now.table.places) }
@@ -156,9 +168,9 @@ impl<'a, S: FarTickets> View<'a, S> {
             .texts(column as usize, from as usize, to as usize)
     }
 
-    /// The text of a place, lent in place; `None` where it is missing. A dead place has its text still. Takes no memory.
+    /// The text of a place, lent in place; `None` if it is missing. A dead place has its text still. Allocates nothing.
     ///
-    /// Refused with `NoColumn` (4), `WrongKind` (5) where the column is of numbers, `NoRow` (8) past the places, `Absent` (16) where
+    /// Refused with `NoColumn` (4), `WrongKind` (5) if the column is of numbers, `NoRow` (8) past the places, `Absent` (16) where
     /// the object of the place's row group is away: the first that applies.
     pub fn text(&self, column: u32, place: u32) -> Result<Option<&str>, Refusal>
         ensures text { IfOk result (λ text. slice_get (column_of column self.now.table.places) place ≡ Some (text_cell (option_copied text))) }

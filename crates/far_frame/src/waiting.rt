@@ -27,7 +27,7 @@ impl<S: FarTickets> Model for Waiting<S> {
 }
 
 impl<S: FarTickets> Waiting<S> {
-    /// No job. Takes no memory.
+    /// No job. Allocates nothing.
     pub(crate) fn new(alloc: Global) -> Waiting<S>
         ensures { result ≡ [] }
     {
@@ -97,7 +97,7 @@ impl<S: FarTickets> Waiting<S> {
 }
 
 impl<S: FarStore> Waiting<S> {
-    /// Carries the job of a number. Refused as a carry is, and with `StaleJob` (20) where there is none; then nothing is changed.
+    /// Carries the job of a number. Refused as a carry is, and with `StaleJob` (20) if there is none; then nothing is changed.
     pub(crate) fn carry(
         &mut self,
         n: u64,
@@ -106,12 +106,12 @@ impl<S: FarStore> Waiting<S> {
         meter: &mut Meter,
     ) -> Result<(), Refusal>
         requires few { meter.old < 2 ^ 63 }
-        requires here { AreJobsAt S.is_of (S.name store.now) self.old }
+        requires here { AreJobsAt S.is_of (S.store_id store.now) self.old }
         ensures carried { OnOk result (IsCarriedAt S.content n self.old self.new) }
         ensures refused { IfErr result (RefusalAt CarryRefusal (job_at self.old n)) }
         ensures err { OnErr result (self.new ≡ self.old) }
         ensures faults { meter.new ≡ meter.old + faults_in result }
-        ensures here { AreJobsAt S.is_of (S.name store.now) self.new }
+        ensures here { AreJobsAt S.is_of (S.store_id store.now) self.new }
     {
         let Some(job) = self.take(n) else {
             return Err(Refusal::StaleJob);

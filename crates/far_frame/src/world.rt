@@ -15,7 +15,7 @@ use super::frame::Frame;
 use super::step::{Reply, Step};
 use super::waiting::Waiting;
 use far_store::{FarStore, Meter};
-use far_types::{Edit, Refusal};
+use far_types::{Cell, Edit, Refusal};
 use std::alloc::Global;
 use std::marker::Model;
 
@@ -23,6 +23,16 @@ use std::marker::Model;
 ///
 /// Jobs are numbered 0, 1, 2, .. in the order in which they are begun. A number is spent once its job was accepted at its end, or
 /// was stale there.
+///
+/// Steps are served in order, and each has a reply. Few faults were met before:
+///
+/// ```
+/// if world.faults() < 9 && steps.len() < 99 {
+///     run(world, steps)
+/// } else {
+///     Err(Refusal::FarFault)
+/// }
+/// ```
 #[derive(Drop)]
 pub struct World<S: FarStore> {
     alloc: Global,
@@ -38,18 +48,18 @@ impl<S: FarStore> Model for World<S> {
 
     ghost Value = { World S.Ticket };
 
-    ghost view = { λ w. record { state = w.frame; store = S.name w.store; begun = w.begun; jobs = w.jobs; faults = w.meter } };
+    ghost view = { λ w. record { state = w.frame; store = S.store_id w.store; begun = w.begun; jobs = w.jobs; faults = w.meter } };
 
-    ghost invariant = { λ w. IsWorld S.is_of (S.name w.store) w.frame w.jobs };
+    ghost invariant = { λ w. IsWorld S.is_of (S.store_id w.store) w.frame w.jobs };
 }
 
 impl<S: FarStore> World<S> {
-    /// A world with this table and this store, in which no job was begun and no fault was met. It takes no memory, so it is never
+    /// A world with this table and this store, in which no job was begun and no fault was met. It allocates nothing, so it is never
     /// refused: the frame and the store are given back to those who match on both outcomes.
     pub fn new(alloc: Global, frame: Frame<S>, store: S) -> Result<World<S>, (Refusal, Frame<S>, S)>
-        requires here { AreAt S.is_of (S.name store) frame.rows }
+        requires here { AreAt S.is_of (S.store_id store) frame.rows }
         ensures made { IsOk result }
-        ensures new { IfOk result (λ world. world ≡ record { state = frame; store = S.name store; begun = 0; jobs = []; faults = 0 }) }
+        ensures new { IfOk result (λ world. world ≡ record { state = frame; store = S.store_id store; begun = 0; jobs = []; faults = 0 }) }
     {
         Ok(World {
             alloc,
@@ -61,26 +71,33 @@ impl<S: FarStore> World<S> {
         })
     }
 
-    /// The table. Takes no memory.
+    /// The table. Allocates nothing.
     pub fn frame(&self) -> &Frame<S>
         ensures { result.now ≡ self.now.state }
     {
         &self.frame
     }
 
-    /// The store to which the table's objects go. All tickets of the rows are of it. Takes no memory.
+    /// The store to which the table's objects go. All tickets of the rows are of it. Allocates nothing.
     pub fn store(&self) -> &S
-        ensures name { S.name result.now ≡ self.now.store }
+        ensures name { S.store_id result.now ≡ self.now.store }
         ensures here { AreAt S.is_of self.now.store self.now.state.rows }
     {
         &self.store
     }
 
-    /// How many faults its stores answered since `new`. Takes no memory.
+    /// How many faults its stores answered since `new`. Allocates nothing.
     pub fn faults(&self) -> u64
         ensures { result ≡ self.now.faults }
     {
         self.meter.faults()
+    }
+
+    /// Cells that are needed no more: the row of an edit to come may be made in their memory. Allocates nothing.
+    pub fn spare_cells(&mut self) -> Vec<Cell>
+        ensures { self.new ≡ self.old }
+    {
+        self.frame.spare_cells()
     }
 
     /// Serves an edit, as its step is served. No fault is met.
@@ -93,9 +110,9 @@ impl<S: FarStore> World<S> {
 
     /// Records that a part of a column was lent, as serving the step `Lend` records it: for those who read the part in a view of the
     /// frame, where no value is copied. There is a reply that gives the part, and the world changes as by the step with this reply.
-    /// Takes no memory.
+    /// Allocates nothing.
     ///
-    /// Refused with `NoColumn` (4), `OutOfRange` (14) where `from` is above `to` or `to` is past the places, `Absent` (16) where the
+    /// Refused with `NoColumn` (4), `OutOfRange` (14) if `from` is above `to` or `to` is past the places, `Absent` (16) if the
     /// object of a row group that has some of them is away, naming the first: the first that applies. Then nothing is changed.
     pub fn record_lending(&mut self, column: u32, from: u32, to: u32) -> Result<(), Refusal>
         ensures ok { OnOk result ((given : Reply) × Gives (slice_get self.old.state.table.schema column) (lent_part self.old.state.table column from to) given × IsStep S.content S.number_of self.old (Step.Lend column from to) given self.new) }

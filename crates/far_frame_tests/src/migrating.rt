@@ -32,7 +32,7 @@ const BY_TEXT: Due<'static> = Due::Lines(&[
     (Text("plum"), 1, 7),
 ]);
 
-/// The first row group is away, and still to be built into the second aggregate. A job waits for its end.
+/// The first row group is away, and still pending in the second aggregate. A job waits for its end.
 const BEFORE: Calls = &[
     (Call::Watch(TOTALS_BY_TEXT), Due::Aggregate(0)),
     (Call::Insert(&[Int(4), Text("pear")]), Due::Place(0)),

@@ -47,8 +47,8 @@ const SAME: Calls = &[
 
 /// Sends the object of the first row group away.
 fn send_away<S: FarStore>(alloc: Global, frame: &mut Frame<S>, store: &S) -> Result<(), Refusal>
-    requires here { AreAt S.is_of (S.name store.now) frame.old.rows }
-    ensures { AreAt S.is_of (S.name store.now) frame.new.rows }
+    requires here { AreAt S.is_of (S.store_id store.now) frame.old.rows }
+    ensures { AreAt S.is_of (S.store_id store.now) frame.new.rows }
 {
     match carried(alloc, frame, store, End::Commit) {
         Ok(job) => {
@@ -71,8 +71,8 @@ fn insert_rows<S: FarTickets>(alloc: Global, frame: &mut Frame<S>) -> Result<(),
 
 /// Gives a table three rows and an aggregate of them. The first row group goes away. The second has no copy in the store.
 fn fill<S: FarStore>(alloc: Global, frame: &mut Frame<S>, store: &S) -> Result<(), Refusal>
-    requires here { AreAt S.is_of (S.name store.now) frame.old.rows }
-    ensures { AreAt S.is_of (S.name store.now) frame.new.rows }
+    requires here { AreAt S.is_of (S.store_id store.now) frame.old.rows }
+    ensures { AreAt S.is_of (S.store_id store.now) frame.new.rows }
 {
     let watched = watch_totals(alloc, frame);
     let inserted = insert_rows(alloc, frame);
@@ -86,7 +86,7 @@ fn first_wrong_on<S: FarStore, R: Threads + Sync>(
     frame: Frame<S>,
     store: S,
 ) -> Result<Option<usize>, Refusal>
-    requires here { AreAt S.is_of (S.name store) frame.rows }
+    requires here { AreAt S.is_of (S.store_id store) frame.rows }
 {
     let mut world = World::new(alloc, frame, store).unwrap();
     let wrong = first_wrong(rt, alloc, &mut world, SAME);
@@ -116,7 +116,7 @@ fn is_same_then<S: FarStore, N: FarStore, R: Threads + Sync>(
     to: N,
     due: Option<Refusal>,
 ) -> Told
-    requires here { AreAt S.is_of (S.name from) frame.rows }
+    requires here { AreAt S.is_of (S.store_id from) frame.rows }
 {
     match Frame::migrate(frame, &from, &to, &mut Meter::new()) {
         Ok(frame) => is_same(first_wrong_on(rt, alloc, frame, to), None, due),

@@ -37,7 +37,7 @@ impl<'a, E: Engine> Engine for Measured<'a, E> {
 
     ghost written = { E.written };
 
-    ghost name = { λ measured. E.name measured.engine };
+    ghost engine_id = { λ measured. E.engine_id measured.engine };
 
     ghost is_of = { E.is_of };
 
@@ -170,7 +170,7 @@ fn are_moved_into<R: Threads + Wait + Sync>(
     are_moved_between(rt, alloc, store(rt, alloc, SOUND), to)
 }
 
-/// The lengths of the contents that a world puts into a new log, in order; 0 where a call does not answer what it should.
+/// The lengths of the contents that a world puts into a new log, in order; 0 if a call does not answer what it should.
 fn lengths_once<R: Threads + Wait + Sync>(rt: &R, alloc: Global) -> Result<u64, Refusal> {
     let lengths = AtomicU64::new(0);
     let moved = match ByteLog::new(alloc, 200) {

@@ -236,7 +236,7 @@ fn is_due(refused: Option<Refusal>, due: Option<Refusal>, told: &mut u64) -> Res
     Ok(refused == due)
 }
 
-/// What is wrong so far: the first wrong step, or 0 where a world did not go on as it should.
+/// What is wrong so far: the first wrong step, or 0 if a world did not go on as it should.
 fn so_far(
     wrong: Result<Option<u32>, Refusal>,
     right: Result<bool, Refusal>,
@@ -249,7 +249,7 @@ fn so_far(
     }
 }
 
-/// Makes the steps of a run over one store after the other: the first over its store that is not right, 0 where a world does not go on as
+/// Makes the steps of a run over one store after the other: the first over its store that is not right, 0 if a world does not go on as
 /// it should.
 fn first_wrong_of<S: FarStore, R: Threads + Sync>(
     rt: &R,

@@ -1,4 +1,4 @@
-//! Every step of the table, in each way in which it allocates. A step that is refused for want of memory changes nothing, and the
+//! Every step of the table, in each way in which it allocates. A step that is refused for lack of memory changes nothing, and the
 //! player makes it again: so the script answers the same whichever allocation is refused.
 use crate::answers::Due;
 use crate::call::Value::{Int, Missing, Text};

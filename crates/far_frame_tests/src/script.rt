@@ -26,7 +26,7 @@ pub struct Script {
 /// The script and the index of the first of its calls that did not answer what it should.
 pub type Wrong = (&'static str, usize);
 
-/// Fails where a call of a script did not answer what it should, and names both.
+/// Fails if a call of a script did not answer what it should, and names both.
 pub fn answered(first_wrong: Result<Option<Wrong>, Refusal>) -> Result<(), Fail> {
     match first_wrong? {
         Some((name, at)) => Err(Fail::new(format_args!("{name}: call {at}"))),
@@ -309,7 +309,7 @@ fn is_object_due(object: Result<Option<Name>, Refusal>, due: Due<'_>) -> Result<
     }
 }
 
-// What a recount answers, on a meter of few faults. It meets one fault exactly where it is refused for one.
+// What a recount answers, on a meter of few faults. It meets one fault exactly if it is refused for one.
 fn recounted_on<S: FarStore, R: Threads + Sync>(
     rt: &R,
     frame: &Frame<S>,
@@ -318,7 +318,7 @@ fn recounted_on<S: FarStore, R: Threads + Sync>(
     a: u32,
     workers: u32,
 ) -> Reply
-    requires here { AreAt S.is_of (S.name store.now) frame.now.rows }
+    requires here { AreAt S.is_of (S.store_id store.now) frame.now.rows }
 {
     let before = meter.faults();
     if before >= 9 {
@@ -347,7 +347,7 @@ fn recounted_once_more<S: FarStore, R: Threads + Sync>(
     a: u32,
     workers: u32,
 ) -> Reply
-    requires here { AreAt S.is_of (S.name store.now) frame.now.rows }
+    requires here { AreAt S.is_of (S.store_id store.now) frame.now.rows }
 {
     match recounted_on(rt, frame, store, meter, a, workers) {
         Reply::Refused(Refusal::NoMemory) => recounted_on(rt, frame, store, meter, a, workers),
@@ -367,7 +367,7 @@ fn recounted_again<S: FarStore, R: Threads + Sync>(
     a: u32,
     workers: u32,
 ) -> Reply
-    requires here { AreAt S.is_of (S.name store.now) frame.now.rows }
+    requires here { AreAt S.is_of (S.store_id store.now) frame.now.rows }
 {
     let mut meter = Meter::new();
     let first = recounted_on(rt, frame, store, &mut meter, a, workers);
@@ -394,7 +394,7 @@ fn recounted<S: FarStore, R: Threads + Sync>(
     store: &S,
     call: Call,
 ) -> Reply
-    requires here { AreAt S.is_of (S.name store.now) frame.now.rows }
+    requires here { AreAt S.is_of (S.store_id store.now) frame.now.rows }
 {
     match call {
         Call::Recount(a, workers) => {

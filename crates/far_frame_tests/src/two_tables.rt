@@ -83,8 +83,8 @@ pub fn both(first: Told, second: Told) -> Told {
 
 /// Begins the job that ends so.
 fn begun<S: FarTickets>(frame: &Frame<S>, store: &S, end: End) -> Result<Job<S>, Refusal>
-    requires here { AreAt S.is_of (S.name store.now) frame.now.rows }
-    ensures { IfOk result (IsJobAt S.is_of (S.name store.now)) }
+    requires here { AreAt S.is_of (S.store_id store.now) frame.now.rows }
+    ensures { IfOk result (IsJobAt S.is_of (S.store_id store.now)) }
 {
     match end {
         End::Commit => frame.begin_evac(store, 0, 0),
@@ -100,8 +100,8 @@ pub fn carried<S: FarStore>(
     store: &S,
     end: End,
 ) -> Result<Job<S>, Refusal>
-    requires here { AreAt S.is_of (S.name store.now) frame.now.rows }
-    ensures { IfOk result (IsJobAt S.is_of (S.name store.now)) }
+    requires here { AreAt S.is_of (S.store_id store.now) frame.now.rows }
+    ensures { IfOk result (IsJobAt S.is_of (S.store_id store.now)) }
 {
     match begun(frame, store, end) {
         Ok(job) => job.carry(alloc, store, &mut Meter::new()).map_err(why),
@@ -122,9 +122,9 @@ fn ends_so<S: FarStore>(
     end: End,
     due: Result<(), Refusal>,
 ) -> Told
-    requires here { AreAt S.is_of (S.name store.now) frame.old.rows }
-    requires job_here { IsJobAt S.is_of (S.name store.now) job.now }
-    ensures { AreAt S.is_of (S.name store.now) frame.new.rows }
+    requires here { AreAt S.is_of (S.store_id store.now) frame.old.rows }
+    requires job_here { IsJobAt S.is_of (S.store_id store.now) job.now }
+    ensures { AreAt S.is_of (S.store_id store.now) frame.new.rows }
 {
     let reply = match end {
         End::Commit => frame.commit(store, job),
@@ -143,9 +143,9 @@ fn is_due(reply: Result<(), Refusal>, due: Result<(), Refusal>) -> Told {
 
 /// Whether a job is stale at a table, at whichever end.
 fn is_stale<S: FarStore>(frame: &mut Frame<S>, store: &S, job: &Job<S>) -> Told
-    requires here { AreAt S.is_of (S.name store.now) frame.old.rows }
-    requires job_here { IsJobAt S.is_of (S.name store.now) job.now }
-    ensures { AreAt S.is_of (S.name store.now) frame.new.rows }
+    requires here { AreAt S.is_of (S.store_id store.now) frame.old.rows }
+    requires job_here { IsJobAt S.is_of (S.store_id store.now) job.now }
+    ensures { AreAt S.is_of (S.store_id store.now) frame.new.rows }
 {
     let stale = Err(Refusal::StaleJob);
     let at_commit = ends_so(frame, store, job, End::Commit, stale);
@@ -165,9 +165,9 @@ fn next(end: End) -> End {
 
 /// Whether a job is stale at its table at the two ends that are not its own.
 fn is_of_one_kind<S: FarStore>(frame: &mut Frame<S>, store: &S, job: &Job<S>, end: End) -> Told
-    requires here { AreAt S.is_of (S.name store.now) frame.old.rows }
-    requires job_here { IsJobAt S.is_of (S.name store.now) job.now }
-    ensures { AreAt S.is_of (S.name store.now) frame.new.rows }
+    requires here { AreAt S.is_of (S.store_id store.now) frame.old.rows }
+    requires job_here { IsJobAt S.is_of (S.store_id store.now) job.now }
+    ensures { AreAt S.is_of (S.store_id store.now) frame.new.rows }
 {
     let stale = Err(Refusal::StaleJob);
     let at_next = ends_so(frame, store, job, next(end), stale);
@@ -177,8 +177,8 @@ fn is_of_one_kind<S: FarStore>(frame: &mut Frame<S>, store: &S, job: &Job<S>, en
 
 /// Whether a job that is begun is stale at its own table before it is carried.
 fn is_stale_uncarried<S: FarStore>(frame: &mut Frame<S>, store: &S, end: End) -> Told
-    requires here { AreAt S.is_of (S.name store.now) frame.old.rows }
-    ensures { AreAt S.is_of (S.name store.now) frame.new.rows }
+    requires here { AreAt S.is_of (S.store_id store.now) frame.old.rows }
+    ensures { AreAt S.is_of (S.store_id store.now) frame.new.rows }
 {
     match begun(frame, store, end) {
         Ok(job) => {
@@ -198,11 +198,11 @@ fn is_of_one_table<S: FarStore>(
     job: &Job<S>,
     end: End,
 ) -> Told
-    requires own { AreAt S.is_of (S.name store.now) own.old.rows }
-    requires other { AreAt S.is_of (S.name store.now) other.old.rows }
-    requires job_here { IsJobAt S.is_of (S.name store.now) job.now }
-    ensures own { AreAt S.is_of (S.name store.now) own.new.rows }
-    ensures other { AreAt S.is_of (S.name store.now) other.new.rows }
+    requires own { AreAt S.is_of (S.store_id store.now) own.old.rows }
+    requires other { AreAt S.is_of (S.store_id store.now) other.old.rows }
+    requires job_here { IsJobAt S.is_of (S.store_id store.now) job.now }
+    ensures own { AreAt S.is_of (S.store_id store.now) own.new.rows }
+    ensures other { AreAt S.is_of (S.store_id store.now) other.new.rows }
 {
     let before = both(
         is_stale(other, store, job),
@@ -220,10 +220,10 @@ fn is_told_at_its_end<S: FarStore>(
     store: &S,
     end: End,
 ) -> Told
-    requires own { AreAt S.is_of (S.name store.now) own.old.rows }
-    requires other { AreAt S.is_of (S.name store.now) other.old.rows }
-    ensures own { AreAt S.is_of (S.name store.now) own.new.rows }
-    ensures other { AreAt S.is_of (S.name store.now) other.new.rows }
+    requires own { AreAt S.is_of (S.store_id store.now) own.old.rows }
+    requires other { AreAt S.is_of (S.store_id store.now) other.old.rows }
+    ensures own { AreAt S.is_of (S.store_id store.now) own.new.rows }
+    ensures other { AreAt S.is_of (S.store_id store.now) other.new.rows }
 {
     match carried(alloc, own, store, end) {
         Ok(job) => {
@@ -243,10 +243,10 @@ fn is_told_apart<S: FarStore>(
     store: &S,
     end: End,
 ) -> Told
-    requires own { AreAt S.is_of (S.name store.now) own.old.rows }
-    requires other { AreAt S.is_of (S.name store.now) other.old.rows }
-    ensures own { AreAt S.is_of (S.name store.now) own.new.rows }
-    ensures other { AreAt S.is_of (S.name store.now) other.new.rows }
+    requires own { AreAt S.is_of (S.store_id store.now) own.old.rows }
+    requires other { AreAt S.is_of (S.store_id store.now) other.old.rows }
+    ensures own { AreAt S.is_of (S.store_id store.now) own.new.rows }
+    ensures other { AreAt S.is_of (S.store_id store.now) other.new.rows }
 {
     let is_stale = is_stale_uncarried(own, store, end);
     both(is_stale, is_told_at_its_end(alloc, own, other, store, end))
@@ -259,8 +259,8 @@ fn all_are_told_apart<S: FarStore>(
     other: &mut Frame<S>,
     store: &S,
 ) -> Told
-    requires own { AreAt S.is_of (S.name store.now) own.old.rows }
-    requires other { AreAt S.is_of (S.name store.now) other.old.rows }
+    requires own { AreAt S.is_of (S.store_id store.now) own.old.rows }
+    requires other { AreAt S.is_of (S.store_id store.now) other.old.rows }
 {
     let filled = fill(alloc, own).and(fill(alloc, other));
     let goes = is_told_apart(alloc, own, other, store, End::Commit);
@@ -272,7 +272,7 @@ fn all_are_told_apart<S: FarStore>(
 
 /// The same of an empty table and another.
 fn are_told_from_another<S: FarStore>(alloc: Global, own: &mut Frame<S>, store: &S) -> Told
-    requires own { AreAt S.is_of (S.name store.now) own.old.rows }
+    requires own { AreAt S.is_of (S.store_id store.now) own.old.rows }
 {
     match frame(alloc, &[Kind::Int], FOUR_SEGMENTS, 1) {
         Ok(mut other) => {

@@ -9,18 +9,18 @@ use Rattle.far_types.specs.Keys.{line_cmp}
 use Rattle.far_types.specs.KeyOrder.{line_total}
 use Rattle.far_types.specs.Pairs.{Pair, PairsFit}
 use Rattle.far_types.specs.Answers.{Totals, totals}
-use Rattle.far_types.specs.Changes.{raised, with_pair, together, joined_totals, add_tallies, count_in}
+use Rattle.far_types.specs.Effects.{raised, with_pair, merge_two, joined_totals, add_count_sums, count_in}
 use Rattle.far_types.proofs.Grouping.{same, same_key, get-joined}
 use Rattle.far_types.proofs.ByKeyMaps.{joined-empty, get_inserted}
 use Rattle.far_types.proofs.TotalLaws.{totals-cons}
 use Rattle.far_groups.specs.Live.{CanJoin}
-use Rattle.far_groups.specs.Tallies.{IsTally, AreTallies, LeavesTally, without_tally}
+use Rattle.far_groups.specs.CountSums.{IsCountSum, AreCountSums, LeavesCountSum, without_count_sum}
 use Rattle.far_groups.specs.Folds.{with_pairs, CanFoldAll}
-use Rattle.far_groups.proofs.TallyLaws.{with_tally-one, AreTallies-with}
-use Rattle.far_groups.proofs.JoinLaws.{leaves, with_back}
+use Rattle.far_groups.proofs.CountSumLaws.{with_count_sum-one, AreCountSums-with}
+use Rattle.far_groups.proofs.JoinLaws.{leaves, with_undone}
 
 -- a value comes to a count and a sum either way
-both_raised : (v : ℤ) (o t : Option (ℕ × ℤ)) → together add_tallies (Some (raised v o)) t ≡ together add_tallies o (Some (raised v t))
+both_raised : (v : ℤ) (o t : Option (ℕ × ℤ)) → merge_two add_count_sums (Some (raised v o)) t ≡ merge_two add_count_sums o (Some (raised v t))
 both_raised v None None = refl
 both_raised v None (Some y) = let n : 1 + y.0 ≡ y.0 + 1 = omega arith in let s : v +ℤ y.1 ≡ y.1 +ℤ v = omega (arith, ints) in λ i. Some (n i, s i)
 both_raised v (Some x) None = refl
@@ -32,22 +32,22 @@ both_raised v (Some x) (Some y) =
 -- one pair more in either is one more in both joined
 pair_moved : (m n : Totals) (p : Pair) → joined_totals (with_pair m p) n ≡ joined_totals m (with_pair n p)
 pair_moved m n p = same _ _ (λ q.
-    get-joined add_tallies (with_pair m p) n q
-    ∙ ap (λ o. together add_tallies o (fin.get n q)) (fin.get-insert line_total m p.0 (raised p.1 (fin.get m p.0)) q)
-    ∙ elim (eq_by_cmp line_cmp q p.0) as (λ b. eq_by_cmp line_cmp q p.0 ≡ b → together add_tallies (cond b (Some (raised p.1 (fin.get m p.0))) (fin.get m q)) (fin.get n q) ≡ together add_tallies (fin.get m q) (cond b (Some (raised p.1 (fin.get n p.0))) (fin.get n q))) [
+    get-joined add_count_sums (with_pair m p) n q
+    ∙ ap (λ o. merge_two add_count_sums o (fin.get n q)) (fin.get-insert line_total m p.0 (raised p.1 (fin.get m p.0)) q)
+    ∙ elim (eq_by_cmp line_cmp q p.0) as (λ b. eq_by_cmp line_cmp q p.0 ≡ b → merge_two add_count_sums (cond b (Some (raised p.1 (fin.get m p.0))) (fin.get m q)) (fin.get n q) ≡ merge_two add_count_sums (fin.get m q) (cond b (Some (raised p.1 (fin.get n p.0))) (fin.get n q))) [
       | true ↦ λ h.
           let key = same_key q p.0 h in
-          ap (λ k. together add_tallies (Some (raised p.1 (fin.get m p.0))) (fin.get n k)) key
+          ap (λ k. merge_two add_count_sums (Some (raised p.1 (fin.get m p.0))) (fin.get n k)) key
           ∙ both_raised p.1 (fin.get m p.0) (fin.get n p.0)
-          ∙ ap (λ k. together add_tallies (fin.get m k) (Some (raised p.1 (fin.get n p.0)))) (sym key)
+          ∙ ap (λ k. merge_two add_count_sums (fin.get m k) (Some (raised p.1 (fin.get n p.0)))) (sym key)
       | false ↦ λ h. refl
     ] refl
-    ∙ ap (together add_tallies (fin.get m q)) (sym (fin.get-insert line_total n p.0 (raised p.1 (fin.get n p.0)) q))
-    ∙ sym (get-joined add_tallies m (with_pair n p) q))
+    ∙ ap (merge_two add_count_sums (fin.get m q)) (sym (fin.get-insert line_total n p.0 (raised p.1 (fin.get n p.0)) q))
+    ∙ sym (get-joined add_count_sums m (with_pair n p) q))
 
 -- pairs that are folded one after another are joined
 pub with_pairs-joined : (m : Totals) (ps : List Pair) → with_pairs m ps ≡ joined_totals m (totals ps)
-with_pairs-joined m [] = sym (joined-empty add_tallies m)
+with_pairs-joined m [] = sym (joined-empty add_count_sums m)
 with_pairs-joined m (p ∷ ps) = with_pairs-joined (with_pair m p) ps ∙ pair_moved m (totals ps) p ∙ ap (joined_totals m) (sym (totals-cons p ps))
 
 count-raised : (v : ℤ) (o : Option (ℕ × ℤ)) → (raised v o).0 ≡ count_in o + 1
@@ -79,8 +79,8 @@ can_fold m (p ∷ ps) fits can =
     (fits.0, omega arith, can_fold (with_pair m p) ps fits.1 (rest_joins m (totals ps) p joins))
 
 -- the count and the sum of one value are some that rows can have
-tallied : (v : ℤ) → FitsSigned w64 v → IsTally (1, v)
-tallied v h = (omega arith, omega arith, (omega (arith, ints), omega (arith, ints)))
+valid_sums : (v : ℤ) → FitsSigned w64 v → IsCountSum (1, v)
+valid_sums v h = (omega arith, omega arith, (omega (arith, ints), omega (arith, ints)))
 
 same_some : (p q : Pair) → Some p ≡ Some q → p ≡ q
 same_some p q e = cc
@@ -119,17 +119,17 @@ fits_at m (q ∷ ps) n zero p here less can = absurd (omega arith)
 fits_at m (q ∷ ps) zero (suc c) p here less can = subst (λ (r : Pair). FitsSigned w64 r.1) (same_some q p here) can.0
 fits_at m (q ∷ ps) (suc n) (suc c) p here less can = fits_at (with_pair m q) ps n c p here (omega arith) can.2
 
-with_one : (m : Totals) (p : Pair) → FitsSigned w64 p.1 → count_in (fin.get m p.0) < 2 ^ 26 → AreTallies m → AreTallies (with_pair m p)
-with_one m p fits few all = subst AreTallies (with_tally-one m p.0 p.1) (AreTallies-with m p.0 (1, p.1) all (tallied p.1 fits) (omega arith))
+with_one : (m : Totals) (p : Pair) → FitsSigned w64 p.1 → count_in (fin.get m p.0) < 2 ^ 26 → AreCountSums m → AreCountSums (with_pair m p)
+with_one m p fits few all = subst AreCountSums (with_count_sum-one m p.0 p.1) (AreCountSums-with m p.0 (1, p.1) all (valid_sums p.1 fits) (omega arith))
 
 -- they all are counts and sums that rows can have
-pub folded_tallies : (m : Totals) (ps : List Pair) → AreTallies m → CanFoldAll m ps → AreTallies (with_pairs m ps)
-folded_tallies m [] all can = all
-folded_tallies m (p ∷ ps) all can = folded_tallies (with_pair m p) ps (with_one m p can.0 can.1 all) can.2
+pub folded_count_sums : (m : Totals) (ps : List Pair) → AreCountSums m → CanFoldAll m ps → AreCountSums (with_pairs m ps)
+folded_count_sums m [] all can = all
+folded_count_sums m (p ∷ ps) all can = folded_count_sums (with_pair m p) ps (with_one m p can.0 can.1 all) can.2
 
 -- the pair that came last can be taken, and then what was there before is left
-pub last_leaves : (m : Totals) (p : Pair) → AreTallies m → LeavesTally (1, p.1) (fin.get (with_pair m p) p.0)
-last_leaves m p all = subst (λ t. LeavesTally (1, p.1) (fin.get t p.0)) (with_tally-one m p.0 p.1) (subst (LeavesTally (1, p.1)) (sym (get_inserted m p.0 _)) (leaves (1, p.1) (fin.get m p.0) (all p.0)))
+pub last_leaves : (m : Totals) (p : Pair) → AreCountSums m → LeavesCountSum (1, p.1) (fin.get (with_pair m p) p.0)
+last_leaves m p all = subst (λ t. LeavesCountSum (1, p.1) (fin.get t p.0)) (with_count_sum-one m p.0 p.1) (subst (LeavesCountSum (1, p.1)) (sym (get_inserted m p.0 _)) (leaves (1, p.1) (fin.get m p.0) (all p.0)))
 
-pub last_goes_back : (m : Totals) (p : Pair) → AreTallies m → without_tally (with_pair m p) p.0 (1, p.1) ≡ m
-last_goes_back m p all = ap (λ t. without_tally t p.0 (1, p.1)) (sym (with_tally-one m p.0 p.1)) ∙ with_back m p.0 (1, p.1) (all p.0)
+pub last_undone : (m : Totals) (p : Pair) → AreCountSums m → without_count_sum (with_pair m p) p.0 (1, p.1) ≡ m
+last_undone m p all = ap (λ t. without_count_sum t p.0 (1, p.1)) (sym (with_count_sum-one m p.0 p.1)) ∙ with_undone m p.0 (1, p.1) (all p.0)

@@ -7,7 +7,7 @@ pub mod PairLaws
 pub mod PlaceLaws
 pub mod PlainLaws
 pub mod RaiseLaws
-pub mod RoomLaws
-pub mod TallyLaws
+pub mod ReserveLaws
+pub mod CountSumLaws
 pub mod WalkLaws
 pub mod WalkedJoin

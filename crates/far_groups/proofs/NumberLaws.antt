@@ -11,9 +11,9 @@ use Rattle.std.specs.FinMap as fin
 use Rattle.far_types.specs.declared.key.Key.{Key}
 use Rattle.far_types.specs.declared.key.Key.TheVariants.{Int, Text}
 use Rattle.far_types.specs.Keys.{line_cmp}
-use Rattle.far_types.specs.Changes.{add_tallies}
+use Rattle.far_types.specs.Effects.{add_count_sums}
 use Rattle.far_types.proofs.ByKeyMaps.{at, IsSet, get_at, set_inserts, inserted_new}
-use Rattle.far_groups.specs.Tallies.{with_tally}
+use Rattle.far_groups.specs.CountSums.{with_count_sum}
 use Rattle.far_groups.specs.Numbers.{numbered, by_number, number_key, number_of, number_line, number_lines}
 
 abbrev pub Numbers : Type 0
@@ -56,9 +56,9 @@ as_set old new n o h (Some (Text t)) = at_text new t ∙ sym (at_text old t)
 pub number_inserts : (old new : Numbers) (n : ℤ) (t : ℕ × ℤ) → IsPut old new n (Some t) → by_number new ≡ fin.insert (by_number old) (number_key n) t
 number_inserts old new n t h = set_inserts (numbered old) (numbered new) (number_key n) t (as_set old new n (Some t) h)
 
-pub number_new : (old mid new : Numbers) (k n : ℤ) (more : ℕ × ℤ) → mid ≡ old → k ≡ n → is_some (fin.get (by_number old) (number_key n)) ≡ false → IsPut mid new k (Some more) → by_number new ≡ with_tally (by_number old) (number_key n) more
+pub number_new : (old mid new : Numbers) (k n : ℤ) (more : ℕ × ℤ) → mid ≡ old → k ≡ n → is_some (fin.get (by_number old) (number_key n)) ≡ false → IsPut mid new k (Some more) → by_number new ≡ with_count_sum (by_number old) (number_key n) more
 number_new old mid new k n more same key absent put =
-    inserted_new add_tallies (numbered old) (numbered mid) (numbered new) (number_key k) (number_key n) more (ap numbered same) (ap number_key key) absent (as_set mid new k (Some more) put)
+    inserted_new add_count_sums (numbered old) (numbered mid) (numbered new) (number_key k) (number_key n) more (ap numbered same) (ap number_key key) absent (as_set mid new k (Some more) put)
 
 below : (n : ℤ) (es : Numbers) → AllByRecursion (λ m. int_cmp n m ≡ Less) (keys_of es) → AllByRecursion (λ k. line_cmp (number_key n) k ≡ Less) (keys_of (numbered es))
 below n [] h = tt

@@ -10,12 +10,12 @@ use Rattle.far_types.specs.declared.key.Key.{Key}
 use Rattle.far_types.specs.Keys.{line_cmp}
 use Rattle.far_types.specs.KeyOrder.{line_total}
 use Rattle.far_types.specs.Pairs.{Pair, PairsFit}
-use Rattle.far_types.specs.Answers.{Totals, totals, tally}
-use Rattle.far_types.specs.Changes.{raised, with_pair, count_in}
+use Rattle.far_types.specs.Answers.{Totals, totals, count_sum}
+use Rattle.far_types.specs.Effects.{raised, with_pair, count_in}
 use Rattle.far_types.proofs.TotalLaws.{totals-cons}
 use Rattle.far_types.proofs.ByKeyMaps.{get_inserted}
 use Rattle.far_types.proofs.LineLaws.{int_sum-low, int_sum-high}
-use Rattle.far_groups.specs.Tallies.{IsSumOf, IsTally}
+use Rattle.far_groups.specs.CountSums.{IsSumOf, IsCountSum}
 use Rattle.far_groups.specs.Live.{CanTake, CanJoin}
 
 get-with_pair : (p : Pair) (ps : List Pair) (k : Option Key) → fin.get (totals (p ∷ ps)) k ≡ cond (eq_by_cmp line_cmp k p.0) (Some (raised p.1 (fin.get (totals ps) p.0))) (fin.get (totals ps) k)
@@ -74,5 +74,5 @@ pub can_join : (ps qs : List Pair) → length ps + length qs ≤ 2 ^ 26 → CanJ
 can_join ps qs few k = let one = counted ps k in let other = counted qs k in omega arith
 
 -- what at most 2^26 numbers come to is a count and a sum that rows can have
-pub folded : (v : ℤ) (vs : List ℤ) → AllByRecursion (FitsSigned w64) (v ∷ vs) → length (v ∷ vs) ≤ 2 ^ 26 → IsTally (tally (v ∷ vs))
+pub folded : (v : ℤ) (vs : List ℤ) → AllByRecursion (FitsSigned w64) (v ∷ vs) → length (v ∷ vs) ≤ 2 ^ 26 → IsCountSum (count_sum (v ∷ vs))
 folded v vs fits few = (omega arith, few, (int_sum-low (v ∷ vs) fits, int_sum-high (v ∷ vs) fits))

@@ -7,14 +7,14 @@ use Rattle.std.proofs.lemmas.List.{map-append, length-take-le}
 use Rattle.std.proofs.lemmas.Bool.Decides.{nat_tests}
 use Rattle.far_types.specs.declared.key.Key.{Key}
 use Rattle.far_types.specs.Answers.{Totals}
-use Rattle.far_types.specs.Changes.{add_tallies, together, joined_totals, count_in}
+use Rattle.far_types.specs.Effects.{add_count_sums, merge_two, joined_totals, count_in}
 use Rattle.far_types.proofs.Grouping.{get-joined}
-use Rattle.far_types.proofs.ByKeyMaps.{IsSet, with_more, get_at, set_inserts, set_removes, joined-empty, together_none, moved_out}
+use Rattle.far_types.proofs.ByKeyMaps.{IsSet, with_more, get_at, set_inserts, set_removes, joined-empty, merge_two_none, moved_out}
 use Rattle.far_groups.specs.Live.{CanJoin}
-use Rattle.far_groups.specs.Tallies.{IsTally, AreTallies, with_tally, LeavesTally, without_less, without_tally}
+use Rattle.far_groups.specs.CountSums.{IsCountSum, AreCountSums, with_count_sum, LeavesCountSum, without_less, without_count_sum}
 use Rattle.far_groups.specs.Numbers.{number_line, number_lines}
 use Rattle.far_groups.specs.Dense.{place_key, standing, entries_from, by_place}
-use Rattle.far_groups.proofs.TallyLaws.{last_goes, rest_stays}
+use Rattle.far_groups.proofs.CountSumLaws.{last_goes, rest_stays}
 use Rattle.far_groups.proofs.DenseLaws.{Places, lines_from, none_behind, none_elsewhere, at_place, set_place, push_place, push_none, push_line}
 
 -- what is found at a place
@@ -44,22 +44,22 @@ by_count t P none some = at_test (t.0 == 0) refl where
   at_test false is = some (λ h. grind (arith, nat_tests))
 
 -- more at a place
-pub place_raised : (ts : Places) (k : ℕ) (t u more : ℕ × ℤ) → k < length ts → t ≡ get_or ts k t → u ≡ with_more add_tallies more (standing t) → IsTally u → by_place (slice_set ts k u) ≡ with_tally (by_place ts) (place_key k) more
-place_raised ts k t u more within is sum tallied =
+pub place_raised : (ts : Places) (k : ℕ) (t u more : ℕ × ℤ) → k < length ts → t ≡ get_or ts k t → u ≡ with_more add_count_sums more (standing t) → IsCountSum u → by_place (slice_set ts k u) ≡ with_count_sum (by_place ts) (place_key k) more
+place_raised ts k t u more within is sum valid_sums =
     set_inserts (lines_from 0 ts) (lines_from 0 (slice_set ts k u)) (place_key k) u
     (subst (IsSet (lines_from 0 ts) (lines_from 0 (slice_set ts k u)) (place_key k)) (stands u (λ h. omega arith)) (set_place 0 k k ts u (omega arith) within))
-    ∙ ap (fin.insert (by_place ts) (place_key k)) (sum ∙ ap (with_more add_tallies more) (sym (get_place ts k t within is)))
+    ∙ ap (fin.insert (by_place ts) (place_key k)) (sum ∙ ap (with_more add_count_sums more) (sym (get_place ts k t within is)))
 
 -- what can be taken stands
-pub taken_stands : (t less : ℕ × ℤ) → LeavesTally less (standing t) → standing t ≡ Some t
-taken_stands t less there = by_count t (standing t ≡ Some t) (λ none. absurd (subst (LeavesTally less) (gone t none) there)) (stands t)
+pub taken_stands : (t less : ℕ × ℤ) → LeavesCountSum less (standing t) → standing t ≡ Some t
+taken_stands t less there = by_count t (standing t ≡ Some t) (λ none. absurd (subst (LeavesCountSum less) (gone t none) there)) (stands t)
 
 -- less at a place
-pub place_lowered : (ts : Places) (k : ℕ) (t rest less : ℕ × ℤ) → k < length ts → t ≡ get_or ts k t → rest ≡ (t.0 - less.0, t.1 -ℤ less.1) → LeavesTally less (fin.get (by_place ts) (place_key k)) → by_place (slice_set ts k rest) ≡ without_tally (by_place ts) (place_key k) less
+pub place_lowered : (ts : Places) (k : ℕ) (t rest less : ℕ × ℤ) → k < length ts → t ≡ get_or ts k t → rest ≡ (t.0 - less.0, t.1 -ℤ less.1) → LeavesCountSum less (fin.get (by_place ts) (place_key k)) → by_place (slice_set ts k rest) ≡ without_count_sum (by_place ts) (place_key k) less
 place_lowered ts k t rest less within is left there =
     let found = get_place ts k t within is in
-    let some = found ∙ taken_stands t less (subst (LeavesTally less) found there) in
-    let has = subst (LeavesTally less) some there in
+    let some = found ∙ taken_stands t less (subst (LeavesCountSum less) found there) in
+    let has = subst (LeavesCountSum less) some there in
     let set = set_place 0 k k ts rest (omega arith) within in
     let put = IsSet (lines_from 0 ts) (lines_from 0 (slice_set ts k rest)) (place_key k) in
     by_count rest (by_place (slice_set ts k rest) ≡ without_less (by_place ts) (place_key k) less (Some t)) (λ none.
@@ -93,22 +93,22 @@ module _ (ts : Places) (k : ℕ) (t : ℕ × ℤ) (within : k < length ts) (is :
       ∙ set_inserts (lines_from 0 (take k ts)) (lines_from 0 (take k ts ++ t ∷ [])) (place_key k) t
       (subst (IsSet (lines_from 0 (take k ts)) (lines_from 0 (take k ts ++ t ∷ [])) (place_key k)) (stands t some) (push_place 0 k (take k ts) t (omega (arith, len))))
 
-  -- it is one tally more
-  pub next_more : with_tally (by_place (take k ts)) (place_key k) t ≡ by_place (take (k + 1) ts)
-  next_more = ap (λ o. fin.insert (by_place (take k ts)) (place_key k) (with_more add_tallies t o)) next_new ∙ sym next_inserts
+  -- it is one count and sum more
+  pub next_more : with_count_sum (by_place (take k ts)) (place_key k) t ≡ by_place (take (k + 1) ts)
+  next_more = ap (λ o. fin.insert (by_place (take k ts)) (place_key k) (with_more add_count_sums t o)) next_new ∙ sym next_inserts
 
   -- also to those with which the places are joined
-  pub next_joined : (m : Totals) → with_tally (joined_totals m (by_place (take k ts))) (place_key k) t ≡ joined_totals m (by_place (take (k + 1) ts))
-  next_joined m = sym (moved_out add_tallies m (by_place (take k ts)) (place_key k) t next_new) ∙ ap (joined_totals m) (sym next_inserts)
+  pub next_joined : (m : Totals) → with_count_sum (joined_totals m (by_place (take k ts))) (place_key k) t ≡ joined_totals m (by_place (take (k + 1) ts))
+  next_joined m = sym (moved_out add_count_sums m (by_place (take k ts)) (place_key k) t next_new) ∙ ap (joined_totals m) (sym next_inserts)
 
-  -- it is a tally
-  pub next_tally : AreTallies (by_place ts) → IsTally t
-  next_tally all = subst (λ o. IfSome o IsTally) (get_place ts k t within is ∙ stands t some) (all (place_key k))
+  -- it is a count and sum
+  pub next_count_sum : AreCountSums (by_place ts) → IsCountSum t
+  next_count_sum all = subst (λ o. IfSome o IsCountSum) (get_place ts k t within is ∙ stands t some) (all (place_key k))
 
   -- and there is room for it
   pub next_room : (m : Totals) → CanJoin m (by_place ts) → count_in (fin.get (joined_totals m (by_place (take k ts))) (place_key k)) + t.0 ≤ 2 ^ 26
   next_room m can =
-      let own = get-joined add_tallies m (by_place (take k ts)) (place_key k) ∙ ap (together add_tallies (fin.get m (place_key k))) next_new ∙ together_none add_tallies (fin.get m (place_key k)) in
+      let own = get-joined add_count_sums m (by_place (take k ts)) (place_key k) ∙ ap (merge_two add_count_sums (fin.get m (place_key k))) next_new ∙ merge_two_none add_count_sums (fin.get m (place_key k)) in
       subst (λ o. count_in o + t.0 ≤ 2 ^ 26) (sym own)
       (subst (λ o. count_in (fin.get m (place_key k)) + count_in o ≤ 2 ^ 26) (get_place ts k t within is ∙ stands t some) (can (place_key k)))
 
@@ -122,4 +122,4 @@ module _ (ts : Places) (k : ℕ) (t : ℕ × ℤ) (within : k < length ts) (is :
 
 -- nothing is joined by no places
 pub no_places : (m : Totals) (ts : Places) → joined_totals m (by_place (take 0 ts)) ≡ m
-no_places m ts = joined-empty add_tallies m
+no_places m ts = joined-empty add_count_sums m

@@ -7,18 +7,18 @@ use Rattle.std.specs.FinMap as fin
 use Rattle.far_types.specs.declared.key.Key.{Key}
 use Rattle.far_types.specs.Keys.{line_cmp}
 use Rattle.far_types.specs.Answers.{Totals}
-use Rattle.far_types.specs.Changes.{add_tallies, count_in, joined_totals}
+use Rattle.far_types.specs.Effects.{add_count_sums, count_in, joined_totals}
 use Rattle.far_types.proofs.ByKeyMaps.{Entries, with_more, IsSet, get_at, set_inserts, joined-empty, joined-one}
 use Rattle.far_groups.specs.Live.{CanJoin}
-use Rattle.far_groups.specs.Tallies.{totals_of, IsTally, AreTallies, with_tally, LeavesTally, without_tally}
+use Rattle.far_groups.specs.CountSums.{totals_of, IsCountSum, AreCountSums, with_count_sum, LeavesCountSum, without_count_sum}
 use Rattle.far_groups.specs.Numbers.{by_number}
 use Rattle.far_groups.specs.ByKey.{plain_totals}
-use Rattle.far_groups.proofs.TallyLaws.{if_found, AreTallies-empty, AreTallies-insert, taken_whole, taken_part}
+use Rattle.far_groups.proofs.CountSumLaws.{if_found, AreCountSums-empty, AreCountSums-insert, taken_whole, taken_part}
 use Rattle.far_groups.proofs.NumberLaws.{Numbers}
 
 -- the one line
 abbrev pub one_line : ℕ × ℤ → Entries (ℕ × ℤ)
-one_line tally = (None, tally) ∷ []
+one_line count_sum = (None, count_sum) ∷ []
 
 pub one_ascends : (t : ℕ × ℤ) → IsStrictlySortedBy line_cmp (keys_of (one_line t))
 unfolding IsStrictlySortedBy
@@ -42,17 +42,17 @@ gone_plain : (t : ℕ × ℤ) → IsSet (one_line t) [] None None
 gone_plain t None = refl
 gone_plain t (Some k) = refl
 
-pub plain_tallied : (t : ℕ × ℤ) → IsTally t → AreTallies (plain_totals t)
-plain_tallied t h = AreTallies-insert fin.empty None t AreTallies-empty h
+pub plain_valid_sums : (t : ℕ × ℤ) → IsCountSum t → AreCountSums (plain_totals t)
+plain_valid_sums t h = AreCountSums-insert fin.empty None t AreCountSums-empty h
 
-pub tally_there : (t : ℕ × ℤ) → AreTallies (plain_totals t) → IsTally t
-tally_there t all = if_found _ _ (get_plain t) (all None)
+pub count_sum_there : (t : ℕ × ℤ) → AreCountSums (plain_totals t) → IsCountSum t
+count_sum_there t all = if_found _ _ (get_plain t) (all None)
 
 -- what comes under no key
-pub plain_raised : (t more : ℕ × ℤ) → plain_totals (add_tallies t more) ≡ with_tally (plain_totals t) None more
+pub plain_raised : (t more : ℕ × ℤ) → plain_totals (add_count_sums t more) ≡ with_count_sum (plain_totals t) None more
 plain_raised t more =
-    set_inserts (one_line t) (one_line (add_tallies t more)) None (add_tallies t more) (set_plain t (add_tallies t more))
-    ∙ ap (λ o. fin.insert (plain_totals t) None (with_more add_tallies more o)) (sym (get_plain t))
+    set_inserts (one_line t) (one_line (add_count_sums t more)) None (add_count_sums t more) (set_plain t (add_count_sums t more))
+    ∙ ap (λ o. fin.insert (plain_totals t) None (with_more add_count_sums more o)) (sym (get_plain t))
 
 -- of numbers of which there are none
 none_there : (es : Numbers) → length es ≡ 0 → es ≡ []
@@ -64,39 +64,39 @@ no_key None h = refl
 no_key (Some k) h = cc
 
 -- what first comes under no key
-pub plain_first : (es : Numbers) (q : Option Key) (more : ℕ × ℤ) → length es ≡ 0 → is_some q ≡ false → plain_totals more ≡ with_tally (by_number es) q more
+pub plain_first : (es : Numbers) (q : Option Key) (more : ℕ × ℤ) → length es ≡ 0 → is_some q ≡ false → plain_totals more ≡ with_count_sum (by_number es) q more
 plain_first es q more empty none =
-    ap (λ o. fin.insert fin.empty None (with_more add_tallies more o)) (sym (get_at {V = ℕ × ℤ} [] None))
-    ∙ (λ i. with_tally (by_number (sym (none_there es empty) i)) (sym (no_key q none) i) more)
+    ap (λ o. fin.insert fin.empty None (with_more add_count_sums more o)) (sym (get_at {V = ℕ × ℤ} [] None))
+    ∙ (λ i. with_count_sum (by_number (sym (none_there es empty) i)) (sym (no_key q none) i) more)
 
 -- and what is joined by them
 pub joined_none : (m : Totals) (es : Numbers) → length es ≡ 0 → m ≡ joined_totals m (by_number es)
-joined_none m es empty = sym (joined-empty add_tallies m) ∙ ap (λ (lines : Numbers). joined_totals m (by_number lines)) (sym (none_there es empty))
+joined_none m es empty = sym (joined-empty add_count_sums m) ∙ ap (λ (lines : Numbers). joined_totals m (by_number lines)) (sym (none_there es empty))
 
 -- what can be taken stands under no key
-pub taken_key : (t less : ℕ × ℤ) (q : Option Key) → LeavesTally less (fin.get (plain_totals t) q) → q ≡ None
+pub taken_key : (t less : ℕ × ℤ) (q : Option Key) → LeavesCountSum less (fin.get (plain_totals t) q) → q ≡ None
 taken_key t less None h = refl
-taken_key t less (Some k) h = absurd (subst (LeavesTally less) (get_under_key t (Some k) refl) h)
+taken_key t less (Some k) h = absurd (subst (LeavesCountSum less) (get_under_key t (Some k) refl) h)
 
-pub taken_leaves : (t less : ℕ × ℤ) (q : Option Key) → LeavesTally less (fin.get (plain_totals t) q) → LeavesTally less (Some t)
-taken_leaves t less q h = subst (LeavesTally less) (ap (fin.get (plain_totals t)) (taken_key t less q h) ∙ get_plain t) h
+pub taken_leaves : (t less : ℕ × ℤ) (q : Option Key) → LeavesCountSum less (fin.get (plain_totals t) q) → LeavesCountSum less (Some t)
+taken_leaves t less q h = subst (LeavesCountSum less) (ap (fin.get (plain_totals t)) (taken_key t less q h) ∙ get_plain t) h
 
 -- where nothing is left of it, nothing is left
-pub plain_gone : (t less rest : ℕ × ℤ) (q : Option Key) → rest ≡ (t.0 - less.0, t.1 -ℤ less.1) → LeavesTally less (fin.get (plain_totals t) q) → rest.0 ≡ 0 → totals_of [] ≡ without_tally (plain_totals t) q less
+pub plain_gone : (t less rest : ℕ × ℤ) (q : Option Key) → rest ≡ (t.0 - less.0, t.1 -ℤ less.1) → LeavesCountSum less (fin.get (plain_totals t) q) → rest.0 ≡ 0 → totals_of [] ≡ without_count_sum (plain_totals t) q less
 plain_gone t less rest q is there none =
     taken_whole (one_line t) (one_line t) [] None less t rest refl (set_plain t t) (gone_plain t) is (taken_leaves t less q there) none
-    ∙ ap (λ k. without_tally (plain_totals t) k less) (sym (taken_key t less q there))
+    ∙ ap (λ k. without_count_sum (plain_totals t) k less) (sym (taken_key t less q there))
 
 -- and else the rest
-pub plain_lowered : (t less rest : ℕ × ℤ) (q : Option Key) → rest ≡ (t.0 - less.0, t.1 -ℤ less.1) → LeavesTally less (fin.get (plain_totals t) q) → (rest.0 ≡ 0 → ⊥) → plain_totals rest ≡ without_tally (plain_totals t) q less
+pub plain_lowered : (t less rest : ℕ × ℤ) (q : Option Key) → rest ≡ (t.0 - less.0, t.1 -ℤ less.1) → LeavesCountSum less (fin.get (plain_totals t) q) → (rest.0 ≡ 0 → ⊥) → plain_totals rest ≡ without_count_sum (plain_totals t) q less
 plain_lowered t less rest q is there some =
     taken_part (one_line t) (one_line rest) None less t rest refl (set_plain t rest) is some
-    ∙ ap (λ k. without_tally (plain_totals t) k less) (sym (taken_key t less q there))
+    ∙ ap (λ k. without_count_sum (plain_totals t) k less) (sym (taken_key t less q there))
 
 -- the room that a join has under no key
 pub plain_room : (m : Totals) (t : ℕ × ℤ) → CanJoin m (plain_totals t) → count_in (fin.get m None) + t.0 ≤ 2 ^ 26
 plain_room m t can = subst (λ o. count_in (fin.get m None) + count_in o ≤ 2 ^ 26) (get_plain t) (can None)
 
 -- and what comes of it
-pub plain_joined : (m : Totals) (t : ℕ × ℤ) → with_tally m None t ≡ joined_totals m (plain_totals t)
-plain_joined m t = joined-one add_tallies m None t
+pub plain_joined : (m : Totals) (t : ℕ × ℤ) → with_count_sum m None t ≡ joined_totals m (plain_totals t)
+plain_joined m t = joined-one add_count_sums m None t

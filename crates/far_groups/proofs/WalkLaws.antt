@@ -15,7 +15,7 @@ use denote.Ref.{Bor}
 use Rattle.far_types.specs.declared.key.Key.{Key}
 use Rattle.far_types.specs.Keys.{line_cmp}
 use Rattle.far_types.specs.KeyOrder.{line_total}
-use Rattle.far_groups.specs.Walks.{Lines, ahead, tally_at, new_lines}
+use Rattle.far_groups.specs.Walks.{Lines, ahead, count_sum_at, new_lines}
 
 -- keys ascend
 abbrev pub Ascend : Lines → Type 0
@@ -35,15 +35,15 @@ turned : (x y : Option Key) (o p : Ordering) → line_cmp x y ≡ o → ordering
 turned x y o p h k = line_total.antisymm y x ∙ ap ordering_reverse h ∙ k
 
 -- a key above the first is looked for in the rest
-pub passed : (e : Option Key × (ℕ × ℤ)) (es : Lines) (q : Option Key) → line_cmp e.0 q ≡ Less → tally_at (e ∷ es) q ≡ tally_at es q
+pub passed : (e : Option Key × (ℕ × ℤ)) (es : Lines) (q : Option Key) → line_cmp e.0 q ≡ Less → count_sum_at (e ∷ es) q ≡ count_sum_at es q
 passed e es q h = rw (turned e.0 q Less Greater h refl) refl
 
 -- that of the first is found
-pub met : (e : Option Key × (ℕ × ℤ)) (es : Lines) (q : Option Key) → line_cmp e.0 q ≡ Equal → tally_at (e ∷ es) q ≡ Some e.1
+pub met : (e : Option Key × (ℕ × ℤ)) (es : Lines) (q : Option Key) → line_cmp e.0 q ≡ Equal → count_sum_at (e ∷ es) q ≡ Some e.1
 met e es q h = rw (turned e.0 q Equal Equal h refl) refl
 
 -- and one below it is not there
-pub missed : (e : Option Key × (ℕ × ℤ)) (es : Lines) (q : Option Key) → Ascend (e ∷ es) → line_cmp e.0 q ≡ Greater → tally_at (e ∷ es) q ≡ None
+pub missed : (e : Option Key × (ℕ × ℤ)) (es : Lines) (q : Option Key) → Ascend (e ∷ es) → line_cmp e.0 q ≡ Greater → count_sum_at (e ∷ es) q ≡ None
 missed e es q up h = lookup-none _ (e ∷ es) (none_below_head line_total q e es up (turned e.0 q Greater Less h refl))
 
 -- what is above a key is above a lesser one
@@ -56,12 +56,12 @@ above_equal x k q h g = line_total.congr x k q h ∙ g
 -- of a walk that stands at the line n
 module _ {o : Option (Bor (Option Key) × Bor (ℕ × ℤ))} {n : Bor (Option Key) × Bor (ℕ × ℤ)} (is : o ≡ Some n) (s : Lines) (q : Option Key) where
   -- that line is found
-  pub found_here : line_cmp n.0.now q ≡ Equal → tally_at (ahead o s) q ≡ Some n.1.now
-  found_here h = ap (λ x. tally_at (ahead x s) q) is ∙ met (deref_pair n) s q h
+  pub found_here : line_cmp n.0.now q ≡ Equal → count_sum_at (ahead o s) q ≡ Some n.1.now
+  found_here h = ap (λ x. count_sum_at (ahead x s) q) is ∙ met (deref_pair n) s q h
 
   -- nothing below it is
-  pub not_ahead : Ascend (ahead o s) → line_cmp n.0.now q ≡ Greater → tally_at (ahead o s) q ≡ None
-  not_ahead up h = ap (λ x. tally_at (ahead x s) q) is ∙ missed (deref_pair n) s q (subst (λ x. Ascend (ahead x s)) is up) h
+  pub not_ahead : Ascend (ahead o s) → line_cmp n.0.now q ≡ Greater → count_sum_at (ahead o s) q ≡ None
+  not_ahead up h = ap (λ x. count_sum_at (ahead x s) q) is ∙ missed (deref_pair n) s q (subst (λ x. Ascend (ahead x s)) is up) h
 
 -- and after one step
 module _ {o : Option (Bor (Option Key) × Bor (ℕ × ℤ))} {n : Bor (Option Key) × Bor (ℕ × ℤ)} (is : o ≡ Some n) (s t : Lines) (r : Option (Bor (Option Key) × Bor (ℕ × ℤ))) (step : TakesFirst deref_pair s r t) where
@@ -69,12 +69,12 @@ module _ {o : Option (Bor (Option Key) × Bor (ℕ × ℤ))} {n : Bor (Option Ke
   still_ascend up = subst Ascend (sym (stepped s t r step)) (rest_ascend (deref_pair n) s (subst (λ x. Ascend (ahead x s)) is up))
 
   -- a key above that line is found as before
-  pub moved_past : (q : Option Key) → line_cmp n.0.now q ≡ Less → tally_at (ahead r t) q ≡ tally_at (ahead o s) q
-  moved_past q h = ap (λ es. tally_at es q) (stepped s t r step) ∙ sym (ap (λ x. tally_at (ahead x s) q) is ∙ passed (deref_pair n) s q h)
+  pub moved_past : (q : Option Key) → line_cmp n.0.now q ≡ Less → count_sum_at (ahead r t) q ≡ count_sum_at (ahead o s) q
+  moved_past q h = ap (λ es. count_sum_at es q) (stepped s t r step) ∙ sym (ap (λ x. count_sum_at (ahead x s) q) is ∙ passed (deref_pair n) s q h)
 
 -- a walk finds under each of some keys what the map has there
 abbrev pub Finds : Lines → Lines → Lines → Type 0
-Finds walk es for = AllByRecursion (λ (e : Option Key × (ℕ × ℤ)). tally_at walk e.0 ≡ tally_at es e.0) for
+Finds walk es for = AllByRecursion (λ (e : Option Key × (ℕ × ℤ)). count_sum_at walk e.0 ≡ count_sum_at es e.0) for
 
 -- a whole walk does
 pub finds_all : (es for : Lines) → Finds es es for
@@ -82,22 +82,22 @@ finds_all es [] = tt
 finds_all es (e ∷ for) = (refl, finds_all es for)
 
 -- and still does for greater keys when it has passed one
-still_finds : (walk after es for : Lines) (k : Option Key) → AllByRecursion (λ y. line_cmp k y ≡ Less) (keys_of for) → ((q : Option Key) → line_cmp k q ≡ Less → tally_at after q ≡ tally_at walk q) → Finds walk es for → Finds after es for
+still_finds : (walk after es for : Lines) (k : Option Key) → AllByRecursion (λ y. line_cmp k y ≡ Less) (keys_of for) → ((q : Option Key) → line_cmp k q ≡ Less → count_sum_at after q ≡ count_sum_at walk q) → Finds walk es for → Finds after es for
 still_finds walk after es [] k less same h = tt
 still_finds walk after es (e ∷ for) k less same h = (same e.0 less.0 ∙ h.0, still_finds walk after es for k less.1 same h.1)
 
-pub finds_rest : (walk after es : Lines) (e : Option Key × (ℕ × ℤ)) (for : Lines) → Ascend (e ∷ for) → ((q : Option Key) → line_cmp e.0 q ≡ Less → tally_at after q ≡ tally_at walk q) → Finds walk es (e ∷ for) → Finds after es for
+pub finds_rest : (walk after es : Lines) (e : Option Key × (ℕ × ℤ)) (for : Lines) → Ascend (e ∷ for) → ((q : Option Key) → line_cmp e.0 q ≡ Less → count_sum_at after q ≡ count_sum_at walk q) → Finds walk es (e ∷ for) → Finds after es for
 unfolding IsStrictlySortedBy
 finds_rest walk after es e for up same h = still_finds walk after es for e.0 up.0 same h.1
 
 -- a key that is not there makes a new line
-pub new_here : (es for : Lines) (e : Option Key × (ℕ × ℤ)) → tally_at es e.0 ≡ None → new_lines es (e ∷ for) ≡ (e.0, (0, pos 0)) ∷ new_lines es for
+pub new_here : (es for : Lines) (e : Option Key × (ℕ × ℤ)) → count_sum_at es e.0 ≡ None → new_lines es (e ∷ for) ≡ (e.0, (0, pos 0)) ∷ new_lines es for
 new_here es for e none = rw none refl
 
 -- and one that is there makes none
-pub known_here : (es for : Lines) (e : Option Key × (ℕ × ℤ)) → (tally_at es e.0 ≡ None → ⊥) → new_lines es (e ∷ for) ≡ new_lines es for
-known_here es for e some = at_key (tally_at es e.0) refl where
-  at_key : (o : Option (ℕ × ℤ)) → tally_at es e.0 ≡ o → new_lines es (e ∷ for) ≡ new_lines es for
+pub known_here : (es for : Lines) (e : Option Key × (ℕ × ℤ)) → (count_sum_at es e.0 ≡ None → ⊥) → new_lines es (e ∷ for) ≡ new_lines es for
+known_here es for e some = at_key (count_sum_at es e.0) refl where
+  at_key : (o : Option (ℕ × ℤ)) → count_sum_at es e.0 ≡ o → new_lines es (e ∷ for) ≡ new_lines es for
   at_key None is = absurd (some is)
   at_key (Some t) is = rw is refl
 

@@ -5,16 +5,16 @@ use Rattle.std.proofs.lemmas.Int.{ints}
 use Rattle.std.specs.FinMap as fin
 use Rattle.far_types.specs.declared.key.Key.{Key}
 use Rattle.far_types.specs.Answers.{Totals}
-use Rattle.far_types.specs.Changes.{add_tallies, together, joined_totals, count_in}
+use Rattle.far_types.specs.Effects.{add_count_sums, merge_two, joined_totals, count_in}
 use Rattle.far_types.proofs.Grouping.{same, get-joined}
 use Rattle.far_types.proofs.ByKeyMaps.{get_at}
 use Rattle.far_groups.specs.Live.{CanJoin}
-use Rattle.far_groups.specs.Tallies.{totals_of, IsTally, AreTallies, IsAddend, AreAddends}
-use Rattle.far_groups.specs.Walks.{Lines, tally_at, new_lines, raised_by}
-use Rattle.far_groups.proofs.TallyLaws.{sum_tallied}
-use Rattle.far_groups.proofs.NewLines.{new_tally, new_at}
+use Rattle.far_groups.specs.CountSums.{totals_of, IsCountSum, AreCountSums, IsAddend, AreAddends}
+use Rattle.far_groups.specs.Walks.{Lines, count_sum_at, new_lines, raised_by}
+use Rattle.far_groups.proofs.CountSumLaws.{sum_valid_sums}
+use Rattle.far_groups.proofs.NewLines.{new_count_sum, new_at}
 
-both : (a b : Option (ℕ × ℤ)) → raised_by b (together add_tallies a (new_tally a b)) ≡ together add_tallies a b
+both : (a b : Option (ℕ × ℤ)) → raised_by b (merge_two add_count_sums a (new_count_sum a b)) ≡ merge_two add_count_sums a b
 both None None = refl
 both None (Some u) =
     let count : 0 + u.0 ≡ u.0 = omega arith in
@@ -23,41 +23,41 @@ both None (Some u) =
 both (Some t) None = refl
 both (Some t) (Some u) = refl
 
-addend : (a b : Option (ℕ × ℤ)) → IfSome a IsTally → IfSome (together add_tallies a (new_tally a b)) IsAddend
+addend : (a b : Option (ℕ × ℤ)) → IfSome a IsCountSum → IfSome (merge_two add_count_sums a (new_count_sum a b)) IsAddend
 addend None None h = tt
 addend None (Some u) h = (omega arith, (omega (arith, ints), omega (arith, ints)))
 addend (Some t) None h = (h.1, h.2)
 addend (Some t) (Some u) h = (h.1, h.2)
 
-others_addend : (b : Option (ℕ × ℤ)) → IfSome b IsTally → IfSome b IsAddend
+others_addend : (b : Option (ℕ × ℤ)) → IfSome b IsCountSum → IfSome b IsAddend
 others_addend None h = tt
 others_addend (Some u) h = (h.1, h.2)
 
--- of a map in which there is room for the new keys
-module _ (old mid others : Lines) (room : totals_of mid ≡ joined_totals (totals_of old) (totals_of (new_lines old others))) where
-  mid_at : (q : Option Key) → tally_at mid q ≡ together add_tallies (tally_at old q) (new_tally (tally_at old q) (tally_at others q))
+-- of a map in which the new keys are reserved
+module _ (old mid others : Lines) (reserved : totals_of mid ≡ joined_totals (totals_of old) (totals_of (new_lines old others))) where
+  mid_at : (q : Option Key) → count_sum_at mid q ≡ merge_two add_count_sums (count_sum_at old q) (new_count_sum (count_sum_at old q) (count_sum_at others q))
   mid_at q =
-      sym (get_at mid q) ∙ ap (λ m. fin.get m q) room ∙ get-joined add_tallies (totals_of old) (totals_of (new_lines old others)) q
-      ∙ (λ i. together add_tallies (get_at old q i) (get_at (new_lines old others) q i))
-      ∙ ap (together add_tallies (tally_at old q)) (new_at old others q)
+      sym (get_at mid q) ∙ ap (λ m. fin.get m q) reserved ∙ get-joined add_count_sums (totals_of old) (totals_of (new_lines old others)) q
+      ∙ (λ i. merge_two add_count_sums (get_at old q i) (get_at (new_lines old others) q i))
+      ∙ ap (merge_two add_count_sums (count_sum_at old q)) (new_at old others q)
 
   -- sums under each key of both fit
-  pub addends_fit : AreTallies (totals_of old) → AreTallies (totals_of others) → (q : Option Key) → AreAddends (tally_at mid q) (tally_at others q)
+  pub addends_fit : AreCountSums (totals_of old) → AreCountSums (totals_of others) → (q : Option Key) → AreAddends (count_sum_at mid q) (count_sum_at others q)
   addends_fit all others_all q = (
-    subst (λ o. IfSome o IsAddend) (sym (mid_at q)) (addend (tally_at old q) (tally_at others q) (subst (λ o. IfSome o IsTally) (get_at old q) (all q))),
-    others_addend (tally_at others q) (subst (λ o. IfSome o IsTally) (get_at others q) (others_all q)),
+    subst (λ o. IfSome o IsAddend) (sym (mid_at q)) (addend (count_sum_at old q) (count_sum_at others q) (subst (λ o. IfSome o IsCountSum) (get_at old q) (all q))),
+    others_addend (count_sum_at others q) (subst (λ o. IfSome o IsCountSum) (get_at others q) (others_all q)),
   )
 
   -- and when all are raised, both are joined
-  pub walked_join : (now : Lines) → ((q : Option Key) → tally_at now q ≡ raised_by (tally_at others q) (tally_at mid q)) → totals_of now ≡ joined_totals (totals_of old) (totals_of others)
+  pub walked_join : (now : Lines) → ((q : Option Key) → count_sum_at now q ≡ raised_by (count_sum_at others q) (count_sum_at mid q)) → totals_of now ≡ joined_totals (totals_of old) (totals_of others)
   walked_join now raised = same _ _ (λ q.
-      get_at now q ∙ raised q ∙ ap (raised_by (tally_at others q)) (mid_at q) ∙ both (tally_at old q) (tally_at others q)
-      ∙ sym (get-joined add_tallies (totals_of old) (totals_of others) q ∙ (λ i. together add_tallies (get_at old q i) (get_at others q i))))
+      get_at now q ∙ raised q ∙ ap (raised_by (count_sum_at others q)) (mid_at q) ∙ both (count_sum_at old q) (count_sum_at others q)
+      ∙ sym (get-joined add_count_sums (totals_of old) (totals_of others) q ∙ (λ i. merge_two add_count_sums (get_at old q i) (get_at others q i))))
 
-together_tallied : (a b : Option (ℕ × ℤ)) → IfSome a IsTally → IfSome b IsTally → count_in a + count_in b ≤ 2 ^ 26 → IfSome (together add_tallies a b) IsTally
-together_tallied None b h k room = k
-together_tallied (Some t) None h k room = h
-together_tallied (Some t) (Some u) h k room = sum_tallied t u h k room
+together_valid_sums : (a b : Option (ℕ × ℤ)) → IfSome a IsCountSum → IfSome b IsCountSum → count_in a + count_in b ≤ 2 ^ 26 → IfSome (merge_two add_count_sums a b) IsCountSum
+together_valid_sums None b h k room = k
+together_valid_sums (Some t) None h k room = h
+together_valid_sums (Some t) (Some u) h k room = sum_valid_sums t u h k room
 
-pub AreTallies-joined : (m n : Totals) → AreTallies m → AreTallies n → CanJoin m n → AreTallies (joined_totals m n)
-AreTallies-joined m n all others_all can q = subst (λ o. IfSome o IsTally) (sym (get-joined add_tallies m n q)) (together_tallied (fin.get m q) (fin.get n q) (all q) (others_all q) (can q))
+pub AreCountSums-joined : (m n : Totals) → AreCountSums m → AreCountSums n → CanJoin m n → AreCountSums (joined_totals m n)
+AreCountSums-joined m n all others_all can q = subst (λ o. IfSome o IsCountSum) (sym (get-joined add_count_sums m n q)) (together_valid_sums (fin.get m q) (fin.get n q) (all q) (others_all q) (can q))

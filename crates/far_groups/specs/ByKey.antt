@@ -5,17 +5,17 @@ use Rattle.far_types.specs.Answers.{Totals}
 use Rattle.far_groups.specs.declared.by_key.ByKey.{ByKey}
 use Rattle.far_groups.specs.declared.by_key.Form.{Form}
 use Rattle.far_groups.specs.declared.by_key.Form.TheVariants.{Plain, Dense, Numbered, Keyed}
-use Rattle.far_groups.specs.Tallies.{totals_of}
+use Rattle.far_groups.specs.CountSums.{totals_of}
 use Rattle.far_groups.specs.Numbers.{by_number}
 use Rattle.far_groups.specs.Dense.{by_place}
 
 -- a count and a sum under no key
 abbrev pub plain_totals : ℕ × ℤ → Totals
-plain_totals tally = totals_of ((None, tally) ∷ [])
+plain_totals count_sum = totals_of ((None, count_sum) ∷ [])
 
 -- what a form has by key
 abbrev pub in_form : Form → Totals
-in_form (Plain tally) = plain_totals tally
+in_form (Plain count_sum) = plain_totals count_sum
 in_form (Dense dense) = by_place dense.items
 in_form (Numbered numbers) = by_number numbers.entries
 in_form (Keyed keys) = totals_of keys.entries
@@ -26,7 +26,7 @@ totals_in by_key = in_form by_key.form
 
 -- more under a key may be put elsewhere, unless both it and what is there stand under no key
 abbrev pub MayBeElsewhere : Form → Option Key → Type 0
-MayBeElsewhere (Plain tally) key = IsSome key
+MayBeElsewhere (Plain count_sum) key = IsSome key
 MayBeElsewhere (Dense dense) key = Unit {0}
 MayBeElsewhere (Numbered numbers) key = Unit {0}
 MayBeElsewhere (Keyed keys) key = Unit {0}

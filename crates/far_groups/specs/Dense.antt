@@ -10,13 +10,13 @@ place_key place = number_key (pos place)
 
 -- what stands at a place: nothing, where the count is 0
 abbrev pub standing : ℕ × ℤ → Option (ℕ × ℤ)
-standing tally = cond (tally.0 == 0) None (Some tally)
+standing count_sum = cond (count_sum.0 == 0) None (Some count_sum)
 
 -- counts and sums by number, where the first place is that of a number
 abbrev pub entries_from : ℕ → List (ℕ × ℤ) → List (ℤ × (ℕ × ℤ))
 entries_from first [] = []
-entries_from first (tally ∷ tallies) = cond (tally.0 == 0) (entries_from (first + 1) tallies) ((pos first, tally) ∷ entries_from (first + 1) tallies)
+entries_from first (count_sum ∷ count_sums) = cond (count_sum.0 == 0) (entries_from (first + 1) count_sums) ((pos first, count_sum) ∷ entries_from (first + 1) count_sums)
 
 -- what the places have by key
 abbrev pub by_place : List (ℕ × ℤ) → Totals
-by_place tallies = by_number (entries_from 0 tallies)
+by_place count_sums = by_number (entries_from 0 count_sums)

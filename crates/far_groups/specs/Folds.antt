@@ -1,11 +1,12 @@
 -- Totals into which pairs are folded one after another.
+-- Internal: no public contract cites it.
 use Rattle.std.specs.Prelude.{◌≡◌, ◌^◌, ◌<◌, List, [], ◌∷◌, FitsSigned}
 use Rattle.std.specs.Int.{w64}
 use Rattle.std.specs.FinMap as fin
 use Rattle.far_types.specs.Pairs.{Pair}
 use Rattle.far_types.specs.Answers.{Totals}
-use Rattle.far_types.specs.Changes.{with_pair, count_in}
-use Rattle.far_groups.specs.Tallies.{AreTallies}
+use Rattle.far_types.specs.Effects.{with_pair, count_in}
+use Rattle.far_groups.specs.CountSums.{AreCountSums}
 
 -- totals with some pairs more
 abbrev pub with_pairs : Totals → List Pair → Totals
@@ -19,4 +20,4 @@ CanFoldAll totals (pair ∷ pairs) = FitsSigned w64 pair.1 × (count_in (fin.get
 
 -- totals are those of a start into which some pairs were folded
 abbrev pub HasFolded : Totals → List Pair → Totals → Type 0
-HasFolded start pairs totals = AreTallies start × CanFoldAll start pairs × (totals ≡ with_pairs start pairs)
+HasFolded start pairs totals = AreCountSums start × CanFoldAll start pairs × (totals ≡ with_pairs start pairs)

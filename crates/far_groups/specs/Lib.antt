@@ -3,5 +3,5 @@ pub mod Dense
 pub mod Folds
 pub mod Live
 pub mod Numbers
-pub mod Tallies
+pub mod CountSums
 pub mod Walks

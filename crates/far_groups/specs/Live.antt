@@ -1,12 +1,12 @@
--- Live totals: how many row groups are still to be built in, and the totals of the pairs that are in.
+-- Live totals: how many row groups are still pending, and the totals of the pairs that are in.
 use Rattle.std.specs.Prelude.{ℕ, ◌+◌, ◌-◌, ◌^◌, ◌≤◌, ℤ, ◌-ℤ◌, Option, None, Some, refl}
 use Rattle.std.specs.Coded.{Coded, code_by, coded×, coded_ℕ}
 use Rattle.std.specs.FinMap as fin
 use Rattle.far_types.specs.declared.key.Key.{Key}
 use Rattle.far_types.specs.Codes.{coded_totals}
 use Rattle.far_types.specs.Answers.{Totals}
-use Rattle.far_types.specs.Changes.{count_in}
-use Rattle.far_groups.specs.Tallies.{IsSumOf}
+use Rattle.far_types.specs.Effects.{count_in}
+use Rattle.far_groups.specs.CountSums.{IsSumOf}
 
 pub record Live : Type 0 where
   pub left : ℕ
@@ -18,7 +18,7 @@ coded_live = code_by (ℕ × Totals) (coded× coded_ℕ coded_totals) (λ live. 
 -- a value can be taken from a count and a sum where the sum that is left is one that the pairs that are left can have
 abbrev pub CanTake : ℤ → Option (ℕ × ℤ) → Type 0
 CanTake value None = ⊥
-CanTake value (Some tally) = (1 ≤ tally.0) × IsSumOf (tally.0 - 1) (tally.1 -ℤ value)
+CanTake value (Some count_sum) = (1 ≤ count_sum.0) × IsSumOf (count_sum.0 - 1) (count_sum.1 -ℤ value)
 
 -- two totals can be joined where at most 2^26 pairs come to stand under each key
 abbrev pub CanJoin : Totals → Totals → Type 0

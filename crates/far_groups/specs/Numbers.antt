@@ -3,7 +3,7 @@ use Rattle.std.specs.Prelude.{ℕ, ℤ, List, map, Option, None, Some}
 use Rattle.far_types.specs.declared.key.Key.{Key}
 use Rattle.far_types.specs.declared.key.Key.TheVariants.{Int, Text}
 use Rattle.far_types.specs.Answers.{Totals}
-use Rattle.far_groups.specs.Tallies.{totals_of}
+use Rattle.far_groups.specs.CountSums.{totals_of}
 
 -- a number as a key
 abbrev pub number_key : ℤ → Option Key

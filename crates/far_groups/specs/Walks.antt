@@ -1,11 +1,12 @@
 -- What a walk along a map has before it, and what two maps are told apart by on the way.
+-- Internal: no public contract cites it.
 use Rattle.std.specs.Prelude.{ℕ, ℤ, pos, List, [], ◌∷◌, map, filter, not, is_some, Option, None, Some}
 use Rattle.std.specs.Map.{lookup}
 use Rattle.std.specs.BTreeMap.{is_at}
 use denote.Ref.{Bor}
 use Rattle.far_types.specs.declared.key.Key.{Key}
 use Rattle.far_types.specs.Keys.{line_cmp}
-use Rattle.far_types.specs.Changes.{add_tallies, together}
+use Rattle.far_types.specs.Effects.{add_count_sums, merge_two}
 
 -- keys, each with a count and a sum, as a map has them
 abbrev pub Lines : Type 0
@@ -17,14 +18,14 @@ ahead None rest = []
 ahead (Some next) rest = (next.0.now, next.1.now) ∷ rest
 
 -- what lines have under a key
-abbrev pub tally_at : Lines → Option Key → Option (ℕ × ℤ)
-tally_at lines key = lookup (is_at (line_cmp key)) lines
+abbrev pub count_sum_at : Lines → Option Key → Option (ℕ × ℤ)
+count_sum_at lines key = lookup (is_at (line_cmp key)) lines
 
 -- the keys that are only in the others, each with a count of 0 and a sum of 0
 abbrev pub new_lines : Lines → Lines → Lines
-new_lines lines others = map (λ line. (line.0, (0, pos 0))) (filter (λ line. not (is_some (tally_at lines line.0))) others)
+new_lines lines others = map (λ line. (line.0, (0, pos 0))) (filter (λ line. not (is_some (count_sum_at lines line.0))) others)
 
 -- what is there with what comes; what is not there stays away
 abbrev pub raised_by : Option (ℕ × ℤ) → Option (ℕ × ℤ) → Option (ℕ × ℤ)
 raised_by more None = None
-raised_by more (Some tally) = together add_tallies (Some tally) more
+raised_by more (Some count_sum) = merge_two add_count_sums (Some count_sum) more

@@ -3,17 +3,17 @@ ghost use Rattle.std.specs.Prelude.{ℕ, ◌≡◌, ◌+◌, ◌^◌, ◌≤◌,
 ghost use Rattle.std.specs.Option.{option_copied};
 ghost use Rattle.std.specs.FinMap as fin;
 ghost use Rattle.far_types.specs.Answers.{total_lines};
-ghost use Rattle.far_types.specs.Changes.{count_in, joined_totals};
+ghost use Rattle.far_types.specs.Effects.{count_in, joined_totals};
 ghost use Rattle.far_groups.specs.Live.{CanJoin};
-ghost use Rattle.far_groups.specs.Tallies.{totals_of, IsTally, AreTallies, with_tally, LeavesTally, without_tally};
+ghost use Rattle.far_groups.specs.CountSums.{totals_of, IsCountSum, AreCountSums, with_count_sum, LeavesCountSum, without_count_sum};
 ghost use Rattle.far_groups.specs.Numbers.{number_key, number_of, by_number};
 ghost use Rattle.far_groups.specs.Dense.{place_key, by_place};
 ghost use Rattle.far_groups.specs.ByKey.{plain_totals, in_form, totals_in, MayBeElsewhere};
 
+use super::count_sums::{self, CountSum, CountSums, merge_two, subtract};
 use super::dense::{self, Dense, may_place, numbers_of, place_of};
 use super::joins::join_all;
 use super::numbers::{self, Numbers, keyed};
-use super::tallies::{self, Tallies, Tally, apart, together};
 use far_types::{Key, Refusal};
 use std::alloc::Global;
 use std::collections::BTreeMap;
@@ -22,13 +22,13 @@ use std::collections::BTreeMap;
 #[derive(Drop)]
 enum Form {
     /// All under no key, as in an aggregate without key column. The count is not 0.
-    Plain(Tally),
+    Plain(CountSum),
     /// At the places of small numbers, where a look-up is an index.
     Dense(Dense),
     /// In a tree of bare numbers, where a look-up takes a third of the time.
     Numbered(Numbers),
     /// In a tree of keys.
-    Keyed(Tallies),
+    Keyed(CountSums),
 }
 
 /// Counts and sums by key, which begin as a list without places. What comes under no key then takes its place, and is
@@ -40,7 +40,7 @@ pub struct ByKey {
     form: Form,
 }
 
-/// Nothing stands under any key. Takes no memory.
+/// Nothing stands under any key. Allocates nothing.
 pub fn nothing(alloc: Global) -> ByKey
     ensures empty { totals_in result ≡ fin.empty }
 {
@@ -75,33 +75,33 @@ fn place_in(key: &Option<Key>) -> Option<usize>
 }
 
 /// What stands under no key, in a tree of keys.
-fn keyed_plain(alloc: Global, tally: Tally) -> Result<Tallies, Refusal>
-    ensures ok { IfOk result (λ keys. totals_of keys.entries ≡ plain_totals tally) }
+fn keyed_plain(alloc: Global, count_sum: CountSum) -> Result<CountSums, Refusal>
+    ensures ok { IfOk result (λ keys. totals_of keys.entries ≡ plain_totals count_sum) }
     ensures memory { IfErr result (λ e. e ≡ Refusal.NoMemory) }
 {
     let mut keys = BTreeMap::new(alloc);
-    keys.insert(None, tally)?;
+    keys.insert(None, count_sum)?;
     Ok(keys)
 }
 
 /// What stands under no key, with a count and a sum more under another key, in a tree of keys.
 fn plain_with_key(
     alloc: Global,
-    tally: Tally,
+    count_sum: CountSum,
     key: &Option<Key>,
-    more: Tally,
-) -> Result<Tallies, Refusal>
-    requires tallied { AreTallies (plain_totals tally) }
-    requires more_tallied { IsTally more }
-    requires room { count_in (fin.get (plain_totals tally) key.now) + more.0 ≤ 2 ^ 26 }
+    more: CountSum,
+) -> Result<CountSums, Refusal>
+    requires valid_sums { AreCountSums (plain_totals count_sum) }
+    requires more_valid_sums { IsCountSum more }
+    requires room { count_in (fin.get (plain_totals count_sum) key.now) + more.0 ≤ 2 ^ 26 }
     requires other { IsSome key.now }
-    ensures ok { IfOk result (λ keys. totals_of keys.entries ≡ with_tally (plain_totals tally) key.now more) }
-    ensures tallied { IfOk result (λ keys. AreTallies (totals_of keys.entries)) }
-    ensures new { fin.get (plain_totals tally) key.now ≡ None }
+    ensures ok { IfOk result (λ keys. totals_of keys.entries ≡ with_count_sum (plain_totals count_sum) key.now more) }
+    ensures valid_sums { IfOk result (λ keys. AreCountSums (totals_of keys.entries)) }
+    ensures new { fin.get (plain_totals count_sum) key.now ≡ None }
     ensures memory { IfErr result (λ e. e ≡ Refusal.NoMemory) }
 {
-    let mut keys = keyed_plain(alloc, tally)?;
-    tallies::add_under(&mut keys, key, more)?;
+    let mut keys = keyed_plain(alloc, count_sum)?;
+    count_sums::add_under(&mut keys, key, more)?;
     Ok(keys)
 }
 
@@ -110,19 +110,19 @@ fn with_key(
     alloc: Global,
     numbers: &Numbers,
     key: &Option<Key>,
-    more: Tally,
+    more: CountSum,
 ) -> Result<Form, Refusal>
-    requires tallied { AreTallies (by_number numbers.now.entries) }
-    requires more_tallied { IsTally more }
+    requires valid_sums { AreCountSums (by_number numbers.now.entries) }
+    requires more_valid_sums { IsCountSum more }
     requires room { count_in (fin.get (by_number numbers.now.entries) key.now) + more.0 ≤ 2 ^ 26 }
     requires other { number_of key.now ≡ None }
-    ensures ok { IfOk result (λ form. in_form form ≡ with_tally (by_number numbers.now.entries) key.now more) }
-    ensures tallied { IfOk result (λ form. AreTallies (in_form form)) }
+    ensures ok { IfOk result (λ form. in_form form ≡ with_count_sum (by_number numbers.now.entries) key.now more) }
+    ensures valid_sums { IfOk result (λ form. AreCountSums (in_form form)) }
     ensures new { fin.get (by_number numbers.now.entries) key.now ≡ None }
     ensures memory { IfErr result (λ e. e ≡ Refusal.NoMemory) }
 {
     let mut keys = keyed(alloc, numbers)?;
-    tallies::add_under(&mut keys, key, more)?;
+    count_sums::add_under(&mut keys, key, more)?;
     Ok(Form::Keyed(keys))
 }
 
@@ -131,13 +131,13 @@ fn in_tree(
     alloc: Global,
     mut numbers: Numbers,
     key: &Option<Key>,
-    more: Tally,
+    more: CountSum,
 ) -> Result<Form, Refusal>
-    requires tallied { AreTallies (by_number numbers.entries) }
-    requires more_tallied { IsTally more }
+    requires valid_sums { AreCountSums (by_number numbers.entries) }
+    requires more_valid_sums { IsCountSum more }
     requires room { count_in (fin.get (by_number numbers.entries) key.now) + more.0 ≤ 2 ^ 26 }
-    ensures ok { IfOk result (λ form. in_form form ≡ with_tally (by_number numbers.entries) key.now more) }
-    ensures tallied { IfOk result (λ form. AreTallies (in_form form)) }
+    ensures ok { IfOk result (λ form. in_form form ≡ with_count_sum (by_number numbers.entries) key.now more) }
+    ensures valid_sums { IfOk result (λ form. AreCountSums (in_form form)) }
     ensures memory { IfErr result (λ e. e ≡ Refusal.NoMemory) }
 {
     match number_of(key) {
@@ -155,13 +155,13 @@ fn with_new_key(
     alloc: Global,
     dense: &Dense,
     key: &Option<Key>,
-    more: Tally,
+    more: CountSum,
 ) -> Result<Form, Refusal>
-    requires tallied { AreTallies (by_place dense.now.items) }
-    requires more_tallied { IsTally more }
+    requires valid_sums { AreCountSums (by_place dense.now.items) }
+    requires more_valid_sums { IsCountSum more }
     requires new { fin.get (by_place dense.now.items) key.now ≡ None }
-    ensures ok { IfOk result (λ form. in_form form ≡ with_tally (by_place dense.now.items) key.now more) }
-    ensures tallied { IfOk result (λ form. AreTallies (in_form form)) }
+    ensures ok { IfOk result (λ form. in_form form ≡ with_count_sum (by_place dense.now.items) key.now more) }
+    ensures valid_sums { IfOk result (λ form. AreCountSums (in_form form)) }
     ensures memory { IfErr result (λ e. e ≡ Refusal.NoMemory) }
 {
     if dense.is_empty() && key.is_none() {
@@ -188,45 +188,45 @@ fn place_for(dense: &Dense, key: &Option<Key>) -> Option<usize>
 }
 
 /// A count and a sum more under a key, which is dropped where it is there already.
-pub fn add(by_key: &mut ByKey, key: Option<Key>, more: Tally) -> Result<(), Refusal>
-    requires tallied { AreTallies (totals_in by_key.old) }
-    requires more_tallied { IsTally more }
+pub fn add(by_key: &mut ByKey, key: Option<Key>, more: CountSum) -> Result<(), Refusal>
+    requires valid_sums { AreCountSums (totals_in by_key.old) }
+    requires more_valid_sums { IsCountSum more }
     requires room { count_in (fin.get (totals_in by_key.old) key) + more.0 ≤ 2 ^ 26 }
-    ensures tallied { AreTallies (totals_in by_key.new) }
-    ensures ok { OnOk result (totals_in by_key.new ≡ with_tally (totals_in by_key.old) key more) }
+    ensures valid_sums { AreCountSums (totals_in by_key.new) }
+    ensures ok { OnOk result (totals_in by_key.new ≡ with_count_sum (totals_in by_key.old) key more) }
     ensures err { OnErr result (totals_in by_key.new ≡ totals_in by_key.old) }
     ensures only_new { OnErr result (fin.get (totals_in by_key.old) key ≡ None) }
     ensures memory { IfErr result (λ e. e ≡ Refusal.NoMemory) }
 {
     match &mut by_key.form {
-        Form::Keyed(keys) => tallies::add(keys, key, more),
+        Form::Keyed(keys) => count_sums::add(keys, key, more),
         _ => add_under(by_key, &key, more),
     }
 }
 
 /// A count and a sum more under a key, of which a clone is made where it is new.
 #[inline(always)]
-pub fn add_under(by_key: &mut ByKey, key: &Option<Key>, more: Tally) -> Result<(), Refusal>
-    requires tallied { AreTallies (totals_in by_key.old) }
-    requires more_tallied { IsTally more }
+pub fn add_under(by_key: &mut ByKey, key: &Option<Key>, more: CountSum) -> Result<(), Refusal>
+    requires valid_sums { AreCountSums (totals_in by_key.old) }
+    requires more_valid_sums { IsCountSum more }
     requires room { count_in (fin.get (totals_in by_key.old) key.now) + more.0 ≤ 2 ^ 26 }
-    ensures tallied { AreTallies (totals_in by_key.new) }
-    ensures ok { OnOk result (totals_in by_key.new ≡ with_tally (totals_in by_key.old) key.now more) }
+    ensures valid_sums { AreCountSums (totals_in by_key.new) }
+    ensures ok { OnOk result (totals_in by_key.new ≡ with_count_sum (totals_in by_key.old) key.now more) }
     ensures err { OnErr result (totals_in by_key.new ≡ totals_in by_key.old) }
     ensures only_new { OnErr result (fin.get (totals_in by_key.old) key.now ≡ None) }
     ensures memory { IfErr result (λ e. e ≡ Refusal.NoMemory) }
 {
     match &mut by_key.form {
-        Form::Plain(tally) => match key {
+        Form::Plain(count_sum) => match key {
             None => {
-                *tally = together(*tally, more);
+                *count_sum = merge_two(*count_sum, more);
                 Ok(())
             }
             Some(_) => add_elsewhere(by_key, key, more.0, more.1),
         },
         Form::Dense(dense) => {
             if let Some(place) = place_in(key) {
-                if dense::raise(dense, place, more) {
+                if dense::add_existing(dense, place, more) {
                     return Ok(());
                 }
             }
@@ -246,20 +246,20 @@ fn add_elsewhere(
     count: u64,
     sum: i128,
 ) -> Result<(), Refusal>
-    requires tallied { AreTallies (totals_in by_key.old) }
-    requires more_tallied { IsTally (count, sum) }
+    requires valid_sums { AreCountSums (totals_in by_key.old) }
+    requires more_valid_sums { IsCountSum (count, sum) }
     requires room { count_in (fin.get (totals_in by_key.old) key.now) + count ≤ 2 ^ 26 }
     requires elsewhere { MayBeElsewhere by_key.old.form key.now }
-    ensures tallied { AreTallies (totals_in by_key.new) }
-    ensures ok { OnOk result (totals_in by_key.new ≡ with_tally (totals_in by_key.old) key.now (count, sum)) }
+    ensures valid_sums { AreCountSums (totals_in by_key.new) }
+    ensures ok { OnOk result (totals_in by_key.new ≡ with_count_sum (totals_in by_key.old) key.now (count, sum)) }
     ensures err { OnErr result (totals_in by_key.new ≡ totals_in by_key.old) }
     ensures only_new { OnErr result (fin.get (totals_in by_key.old) key.now ≡ None) }
     ensures memory { IfErr result (λ e. e ≡ Refusal.NoMemory) }
 {
     let more = (count, sum);
     match &mut by_key.form {
-        Form::Plain(tally) => {
-            by_key.form = Form::Keyed(plain_with_key(by_key.alloc, *tally, key, more)?);
+        Form::Plain(count_sum) => {
+            by_key.form = Form::Keyed(plain_with_key(by_key.alloc, *count_sum, key, more)?);
             Ok(())
         }
         Form::Dense(dense) => match place_for(dense, key) {
@@ -276,25 +276,25 @@ fn add_elsewhere(
                 Ok(())
             }
         },
-        Form::Keyed(keys) => tallies::add_under(keys, key, more),
+        Form::Keyed(keys) => count_sums::add_under(keys, key, more),
     }
 }
 
-/// A count and a sum less under a key. A key of which nothing is left goes. Takes no memory.
+/// A count and a sum less under a key. A key of which nothing is left goes. Allocates nothing.
 #[inline(always)]
-pub fn take(by_key: &mut ByKey, key: &Option<Key>, less: Tally)
-    requires tallied { AreTallies (totals_in by_key.old) }
-    requires there { LeavesTally less (fin.get (totals_in by_key.old) key.now) }
-    ensures tallied { AreTallies (totals_in by_key.new) }
-    ensures less { totals_in by_key.new ≡ without_tally (totals_in by_key.old) key.now less }
+pub fn take(by_key: &mut ByKey, key: &Option<Key>, less: CountSum)
+    requires valid_sums { AreCountSums (totals_in by_key.old) }
+    requires there { LeavesCountSum less (fin.get (totals_in by_key.old) key.now) }
+    ensures valid_sums { AreCountSums (totals_in by_key.new) }
+    ensures less { totals_in by_key.new ≡ without_count_sum (totals_in by_key.old) key.now less }
 {
     match &mut by_key.form {
-        Form::Plain(tally) => {
-            let rest = apart(*tally, less);
+        Form::Plain(count_sum) => {
+            let rest = subtract(*count_sum, less);
             if rest.0 == 0 {
                 by_key.form = Form::Dense(Vec::new(by_key.alloc));
             } else {
-                *tally = rest;
+                *count_sum = rest;
             }
         }
         Form::Dense(dense) => match place_in(key) {
@@ -305,17 +305,17 @@ pub fn take(by_key: &mut ByKey, key: &Option<Key>, less: Tally)
             Some(number) => numbers::take(numbers, number, less),
             None => {}
         },
-        Form::Keyed(keys) => tallies::take(keys, key, less),
+        Form::Keyed(keys) => count_sums::take(keys, key, less),
     }
 }
 
 /// A tree of keys to which another is joined.
-fn with_keys(alloc: Global, mut keys: Tallies, more: &Tallies) -> Result<Tallies, Refusal>
-    requires tallied { AreTallies (totals_of keys.entries) }
-    requires other_tallied { AreTallies (totals_of more.now.entries) }
+fn with_keys(alloc: Global, mut keys: CountSums, more: &CountSums) -> Result<CountSums, Refusal>
+    requires valid_sums { AreCountSums (totals_of keys.entries) }
+    requires other_valid_sums { AreCountSums (totals_of more.now.entries) }
     requires can_join { CanJoin (totals_of keys.entries) (totals_of more.now.entries) }
     ensures ok { IfOk result (λ all. totals_of all.entries ≡ joined_totals (totals_of keys.entries) (totals_of more.now.entries)) }
-    ensures tallied { IfOk result (λ all. AreTallies (totals_of all.entries)) }
+    ensures valid_sums { IfOk result (λ all. AreCountSums (totals_of all.entries)) }
     ensures memory { IfErr result (λ e. e ≡ Refusal.NoMemory) }
 {
     join_all(alloc, &mut keys, more)?;
@@ -323,18 +323,18 @@ fn with_keys(alloc: Global, mut keys: Tallies, more: &Tallies) -> Result<Tallies
 }
 
 /// Joins what stands in a tree of keys to what stands here.
-fn join_keys(by_key: &mut ByKey, more: &Tallies) -> Result<(), Refusal>
-    requires tallied { AreTallies (totals_in by_key.old) }
-    requires other_tallied { AreTallies (totals_of more.now.entries) }
+fn join_keys(by_key: &mut ByKey, more: &CountSums) -> Result<(), Refusal>
+    requires valid_sums { AreCountSums (totals_in by_key.old) }
+    requires other_valid_sums { AreCountSums (totals_of more.now.entries) }
     requires can_join { CanJoin (totals_in by_key.old) (totals_of more.now.entries) }
-    ensures tallied { AreTallies (totals_in by_key.new) }
+    ensures valid_sums { AreCountSums (totals_in by_key.new) }
     ensures ok { OnOk result (totals_in by_key.new ≡ joined_totals (totals_in by_key.old) (totals_of more.now.entries)) }
     ensures err { OnErr result (totals_in by_key.new ≡ totals_in by_key.old) }
     ensures memory { IfErr result (λ e. e ≡ Refusal.NoMemory) }
 {
     match &mut by_key.form {
-        Form::Plain(tally) => {
-            let keys = keyed_plain(by_key.alloc, *tally)?;
+        Form::Plain(count_sum) => {
+            let keys = keyed_plain(by_key.alloc, *count_sum)?;
             by_key.form = Form::Keyed(with_keys(by_key.alloc, keys, more)?);
             Ok(())
         }
@@ -355,10 +355,10 @@ fn join_keys(by_key: &mut ByKey, more: &Tallies) -> Result<(), Refusal>
 
 /// Joins what stands by number to what stands here.
 fn join_numbers(by_key: &mut ByKey, more: &Numbers) -> Result<(), Refusal>
-    requires tallied { AreTallies (totals_in by_key.old) }
-    requires other_tallied { AreTallies (by_number more.now.entries) }
+    requires valid_sums { AreCountSums (totals_in by_key.old) }
+    requires other_valid_sums { AreCountSums (by_number more.now.entries) }
     requires can_join { CanJoin (totals_in by_key.old) (by_number more.now.entries) }
-    ensures tallied { AreTallies (totals_in by_key.new) }
+    ensures valid_sums { AreCountSums (totals_in by_key.new) }
     ensures ok { OnOk result (totals_in by_key.new ≡ joined_totals (totals_in by_key.old) (by_number more.now.entries)) }
     ensures err { OnErr result (totals_in by_key.new ≡ totals_in by_key.old) }
     ensures memory { IfErr result (λ e. e ≡ Refusal.NoMemory) }
@@ -383,10 +383,10 @@ fn join_numbers(by_key: &mut ByKey, more: &Numbers) -> Result<(), Refusal>
 
 /// Joins what stands at places to what stands here.
 fn join_dense(by_key: &mut ByKey, more: &Dense) -> Result<(), Refusal>
-    requires tallied { AreTallies (totals_in by_key.old) }
-    requires other_tallied { AreTallies (by_place more.now.items) }
+    requires valid_sums { AreCountSums (totals_in by_key.old) }
+    requires other_valid_sums { AreCountSums (by_place more.now.items) }
     requires can_join { CanJoin (totals_in by_key.old) (by_place more.now.items) }
-    ensures tallied { AreTallies (totals_in by_key.new) }
+    ensures valid_sums { AreCountSums (totals_in by_key.new) }
     ensures ok { OnOk result (totals_in by_key.new ≡ joined_totals (totals_in by_key.old) (by_place more.now.items)) }
     ensures err { OnErr result (totals_in by_key.new ≡ totals_in by_key.old) }
     ensures memory { IfErr result (λ e. e ≡ Refusal.NoMemory) }
@@ -402,16 +402,16 @@ fn join_dense(by_key: &mut ByKey, more: &Dense) -> Result<(), Refusal>
 
 /// Joins what stands elsewhere to what stands here.
 pub fn join(by_key: &mut ByKey, other: &ByKey) -> Result<(), Refusal>
-    requires tallied { AreTallies (totals_in by_key.old) }
-    requires other_tallied { AreTallies (totals_in other.now) }
+    requires valid_sums { AreCountSums (totals_in by_key.old) }
+    requires other_valid_sums { AreCountSums (totals_in other.now) }
     requires can_join { CanJoin (totals_in by_key.old) (totals_in other.now) }
-    ensures tallied { AreTallies (totals_in by_key.new) }
+    ensures valid_sums { AreCountSums (totals_in by_key.new) }
     ensures ok { OnOk result (totals_in by_key.new ≡ joined_totals (totals_in by_key.old) (totals_in other.now)) }
     ensures err { OnErr result (totals_in by_key.new ≡ totals_in by_key.old) }
     ensures memory { IfErr result (λ e. e ≡ Refusal.NoMemory) }
 {
     match &other.form {
-        Form::Plain(tally) => add_under(by_key, &None, *tally),
+        Form::Plain(count_sum) => add_under(by_key, &None, *count_sum),
         Form::Dense(more) => join_dense(by_key, more),
         Form::Numbered(more) => join_numbers(by_key, more),
         Form::Keyed(more) => join_keys(by_key, more),
@@ -419,12 +419,12 @@ pub fn join(by_key: &mut ByKey, other: &ByKey) -> Result<(), Refusal>
 }
 
 /// The one line of what stands under no key.
-fn plain_line(alloc: Global, tally: Tally) -> Result<Vec<(Option<Key>, u64, i128)>, Refusal>
-    ensures ok { IfOk result (λ lines. lines.items ≡ (None, tally.0, tally.1) ∷ []) }
+fn plain_line(alloc: Global, count_sum: CountSum) -> Result<Vec<(Option<Key>, u64, i128)>, Refusal>
+    ensures ok { IfOk result (λ lines. lines.items ≡ (None, count_sum.0, count_sum.1) ∷ []) }
     ensures memory { IfErr result (λ e. e ≡ Refusal.NoMemory) }
 {
     let mut lines = Vec::with_capacity(alloc, 1)?;
-    lines.push((None, tally.0, tally.1))?;
+    lines.push((None, count_sum.0, count_sum.1))?;
     Ok(lines)
 }
 
@@ -434,19 +434,19 @@ pub fn lines(alloc: Global, by_key: &ByKey) -> Result<Vec<(Option<Key>, u64, i12
     ensures memory { IfErr result (λ e. e ≡ Refusal.NoMemory) }
 {
     match &by_key.form {
-        Form::Plain(tally) => plain_line(alloc, *tally),
+        Form::Plain(count_sum) => plain_line(alloc, *count_sum),
         Form::Dense(dense) => dense::lines(alloc, dense),
         Form::Numbered(numbers) => numbers::lines(alloc, numbers),
-        Form::Keyed(keys) => tallies::lines(alloc, keys),
+        Form::Keyed(keys) => count_sums::lines(alloc, keys),
     }
 }
 
-/// What stands under no key: 0 and 0 where nothing does. Takes no memory.
-pub fn plain(by_key: &ByKey) -> Tally
+/// What stands under no key: 0 and 0 if nothing does. Allocates nothing.
+pub fn plain(by_key: &ByKey) -> CountSum
     ensures { result ≡ unwrap_or (fin.get (totals_in by_key.now) None) (0, pos 0) }
 {
     match &by_key.form {
-        Form::Plain(tally) => *tally,
+        Form::Plain(count_sum) => *count_sum,
         Form::Dense(_) => (0, 0),
         Form::Numbered(_) => (0, 0),
         Form::Keyed(keys) => keys.get(&None).copied().unwrap_or((0, 0)),

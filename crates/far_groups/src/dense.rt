@@ -2,20 +2,20 @@
 ghost use Rattle.std.specs.Prelude.{◌≡◌, ◌+◌, ◌^◌, ◌≤◌, ◌<◌, ◌<ℤ◌, pos, None, false, true, IsTrue, IfSome, IfNone, IfOk, IfErr, OnOk, OnErr, length};
 ghost use Rattle.std.specs.Option.{option_map_or};
 ghost use Rattle.std.specs.FinMap as fin;
-ghost use Rattle.far_types.specs.Changes.{add_tallies, count_in, joined_totals};
+ghost use Rattle.far_types.specs.Effects.{add_count_sums, count_in, joined_totals};
 ghost use Rattle.far_groups.specs.Live.{CanJoin};
-ghost use Rattle.far_groups.specs.Tallies.{IsTally, AreTallies, with_tally, LeavesTally, without_tally};
+ghost use Rattle.far_groups.specs.CountSums.{IsCountSum, AreCountSums, with_count_sum, LeavesCountSum, without_count_sum};
 ghost use Rattle.far_groups.specs.Numbers.{by_number, number_lines};
 ghost use Rattle.far_groups.specs.Dense.{place_key, standing, entries_from, by_place};
 
+use super::count_sums::{CountSum, merge_two, subtract};
 use super::numbers::{self, Numbers};
-use super::tallies::{Tally, apart, together};
 use far_types::{Key, Refusal};
 use std::alloc::Global;
 use std::collections::BTreeMap;
 
 /// What stands by number, from 0 on. A count of 0 says that nothing stands at a place.
-pub type Dense = Vec<Tally>;
+pub type Dense = Vec<CountSum>;
 
 /// How many places a list gets for numbers that come: it takes 32 KB then.
 const PLACES: usize = 1024;
@@ -51,28 +51,28 @@ pub fn may_place(dense: &Dense, place: usize) -> bool
 
 /// What stands at a place, with more.
 #[inline(always)]
-fn raised(tally: Tally, more: Tally) -> Tally
-    requires tallied { IfSome (standing tally) IsTally }
-    requires more_tallied { IsTally more }
-    requires room { count_in (standing tally) + more.0 ≤ 2 ^ 26 }
-    ensures value { result ≡ option_map_or (λ there. add_tallies there more) (standing tally) more }
-    ensures tallied { IsTally result }
+fn raised(count_sum: CountSum, more: CountSum) -> CountSum
+    requires valid_sums { IfSome (standing count_sum) IsCountSum }
+    requires more_valid_sums { IsCountSum more }
+    requires room { count_in (standing count_sum) + more.0 ≤ 2 ^ 26 }
+    ensures value { result ≡ option_map_or (λ there. add_count_sums there more) (standing count_sum) more }
+    ensures valid_sums { IsCountSum result }
 {
-    if tally.0 == 0 {
+    if count_sum.0 == 0 {
         return more;
     }
-    together(tally, more)
+    merge_two(count_sum, more)
 }
 
-/// A count and a sum more at a place, if the list has it. Says whether it does. Takes no memory.
+/// A count and a sum more at a place, if the list has it. Says whether it does. Allocates nothing.
 #[inline(always)]
-pub fn raise(dense: &mut Dense, place: usize, more: Tally) -> bool
-    requires tallied { AreTallies (by_place dense.old.items) }
-    requires more_tallied { IsTally more }
+pub fn add_existing(dense: &mut Dense, place: usize, more: CountSum) -> bool
+    requires valid_sums { AreCountSums (by_place dense.old.items) }
+    requires more_valid_sums { IsCountSum more }
     requires room { count_in (fin.get (by_place dense.old.items) (place_key place)) + more.0 ≤ 2 ^ 26 }
-    ensures tallied { AreTallies (by_place dense.new.items) }
+    ensures valid_sums { AreCountSums (by_place dense.new.items) }
     ensures there { place < length dense.old.items → result ≡ true }
-    ensures raised { IsTrue result → by_place dense.new.items ≡ with_tally (by_place dense.old.items) (place_key place) more }
+    ensures raised { IsTrue result → by_place dense.new.items ≡ with_count_sum (by_place dense.old.items) (place_key place) more }
     ensures absent { result ≡ false → dense.new.items ≡ dense.old.items }
     ensures behind { result ≡ false → length dense.old.items ≤ place }
     ensures len { length dense.new.items ≡ length dense.old.items }
@@ -97,43 +97,43 @@ fn grow(dense: &mut Dense, len: usize) -> Result<(), Refusal>
 }
 
 /// A count and a sum more at a place, which comes to be where it was not.
-pub fn add(dense: &mut Dense, place: usize, more: Tally) -> Result<(), Refusal>
-    requires tallied { AreTallies (by_place dense.old.items) }
-    requires more_tallied { IsTally more }
+pub fn add(dense: &mut Dense, place: usize, more: CountSum) -> Result<(), Refusal>
+    requires valid_sums { AreCountSums (by_place dense.old.items) }
+    requires more_valid_sums { IsCountSum more }
     requires room { count_in (fin.get (by_place dense.old.items) (place_key place)) + more.0 ≤ 2 ^ 26 }
     requires fits { place < 2 ^ 63 }
-    ensures tallied { AreTallies (by_place dense.new.items) }
-    ensures ok { OnOk result (by_place dense.new.items ≡ with_tally (by_place dense.old.items) (place_key place) more) }
+    ensures valid_sums { AreCountSums (by_place dense.new.items) }
+    ensures ok { OnOk result (by_place dense.new.items ≡ with_count_sum (by_place dense.old.items) (place_key place) more) }
     ensures err { OnErr result (by_place dense.new.items ≡ by_place dense.old.items) }
     ensures only_new { OnErr result (fin.get (by_place dense.old.items) (place_key place) ≡ None) }
     ensures memory { IfErr result (λ e. e ≡ Refusal.NoMemory) }
 {
-    if !raise(dense, place, more) {
+    if !add_existing(dense, place, more) {
         grow(dense, place + 1)?;
-        let _there = raise(dense, place, more);
+        let _there = add_existing(dense, place, more);
     }
     Ok(())
 }
 
-/// A count and a sum less at a place. Takes no memory.
+/// A count and a sum less at a place. Allocates nothing.
 #[inline(always)]
-pub fn take(dense: &mut Dense, place: usize, less: Tally)
-    requires tallied { AreTallies (by_place dense.old.items) }
-    requires there { LeavesTally less (fin.get (by_place dense.old.items) (place_key place)) }
-    ensures tallied { AreTallies (by_place dense.new.items) }
-    ensures less { by_place dense.new.items ≡ without_tally (by_place dense.old.items) (place_key place) less }
+pub fn take(dense: &mut Dense, place: usize, less: CountSum)
+    requires valid_sums { AreCountSums (by_place dense.old.items) }
+    requires there { LeavesCountSum less (fin.get (by_place dense.old.items) (place_key place)) }
+    ensures valid_sums { AreCountSums (by_place dense.new.items) }
+    ensures less { by_place dense.new.items ≡ without_count_sum (by_place dense.old.items) (place_key place) less }
 {
     if place < dense.len() {
-        dense[place] = apart(dense[place], less);
+        dense[place] = subtract(dense[place], less);
     }
 }
 
 /// Joins what stands at the places of another list to these. The places come to be first, which alone can be refused.
 pub fn join(dense: &mut Dense, other: &Dense) -> Result<(), Refusal>
-    requires tallied { AreTallies (by_place dense.old.items) }
-    requires other_tallied { AreTallies (by_place other.now.items) }
+    requires valid_sums { AreCountSums (by_place dense.old.items) }
+    requires other_valid_sums { AreCountSums (by_place other.now.items) }
     requires can_join { CanJoin (by_place dense.old.items) (by_place other.now.items) }
-    ensures tallied { AreTallies (by_place dense.new.items) }
+    ensures valid_sums { AreCountSums (by_place dense.new.items) }
     ensures ok { OnOk result (by_place dense.new.items ≡ joined_totals (by_place dense.old.items) (by_place other.now.items)) }
     ensures err { OnErr result (by_place dense.new.items ≡ by_place dense.old.items) }
     ensures memory { IfErr result (λ e. e ≡ Refusal.NoMemory) }
@@ -142,7 +142,7 @@ pub fn join(dense: &mut Dense, other: &Dense) -> Result<(), Refusal>
     for place in 0..other.len() {
         let more = other[place];
         if more.0 != 0 {
-            let _there = raise(dense, place, more);
+            let _there = add_existing(dense, place, more);
         }
     }
     Ok(())
@@ -150,26 +150,26 @@ pub fn join(dense: &mut Dense, other: &Dense) -> Result<(), Refusal>
 
 /// What stands at the places, in a tree of numbers.
 pub fn numbers_of(alloc: Global, dense: &Dense) -> Result<Numbers, Refusal>
-    requires { AreTallies (by_place dense.now.items) }
+    requires { AreCountSums (by_place dense.now.items) }
     ensures ok { IfOk result (λ numbers. by_number numbers.entries ≡ by_place dense.now.items) }
     ensures memory { IfErr result (λ e. e ≡ Refusal.NoMemory) }
 {
     let mut numbers = BTreeMap::new(alloc);
     for place in 0..dense.len() {
-        let tally = dense[place];
-        if tally.0 != 0 {
-            numbers::add(&mut numbers, &number_at(place), tally)?;
+        let count_sum = dense[place];
+        if count_sum.0 != 0 {
+            numbers::add(&mut numbers, &number_at(place), count_sum)?;
         }
     }
     Ok(numbers)
 }
 
 /// The line of a place.
-fn line(place: usize, tally: Tally) -> (Option<Key>, u64, i128)
+fn line(place: usize, count_sum: CountSum) -> (Option<Key>, u64, i128)
     requires { place < 2 ^ 63 }
-    ensures { result ≡ (place_key place, tally.0, tally.1) }
+    ensures { result ≡ (place_key place, count_sum.0, count_sum.1) }
 {
-    (Some(Key::Int(number_at(place))), tally.0, tally.1)
+    (Some(Key::Int(number_at(place))), count_sum.0, count_sum.1)
 }
 
 /// The lines of the places at which something stands, by their numbers.
@@ -179,9 +179,9 @@ pub fn lines(alloc: Global, dense: &Dense) -> Result<Vec<(Option<Key>, u64, i128
 {
     let mut lines = Vec::with_capacity(alloc, dense.len())?;
     for place in 0..dense.len() {
-        let tally = dense[place];
-        if tally.0 != 0 {
-            lines.push(line(place, tally))?;
+        let count_sum = dense[place];
+        if count_sum.0 != 0 {
+            lines.push(line(place, count_sum))?;
         }
     }
     Ok(lines)

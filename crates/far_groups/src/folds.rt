@@ -1,45 +1,45 @@
-// Pairs that are folded into tallies one after another.
+// Pairs that are folded into counts and sums one after another.
 ghost use Rattle.std.specs.Prelude.{◌≡◌, ◌≤◌, length, take, OnOk, OnErr, IfErr};
 ghost use Rattle.far_types.specs.Answers.{Totals};
-ghost use Rattle.far_groups.specs.Tallies.{AreTallies};
+ghost use Rattle.far_groups.specs.CountSums.{AreCountSums};
 ghost use Rattle.far_groups.specs.ByKey.{totals_in};
 ghost use Rattle.far_groups.specs.Folds.{with_pairs, CanFoldAll, HasFolded};
 
 use super::by_key::{ByKey, add_under, take};
-use super::tallies::tally_of;
+use super::count_sums::count_sum_of;
 use far_types::{Key, Refusal};
 
 /// A folded row: its key, none in an aggregate without key column, and its value.
 pub type Pair = (Option<Key>, i64);
 
-/// Takes the first pairs out of the tallies into which they were folded, the last of them first. Takes no memory.
-fn take_back(tallies: &mut ByKey, pairs: &[Pair], count: usize)
+/// Undoes the folding of the first pairs into counts and sums, the last of them first. Allocates nothing.
+fn undo_first(count_sums: &mut ByKey, pairs: &[Pair], count: usize)
     requires within { count ≤ length pairs.now }
-    requires tallied { AreTallies (totals_in tallies.old) }
-    requires folded { (start : Totals) × HasFolded start (take count pairs.now) (totals_in tallies.old) }
-    ensures { (start : Totals) → HasFolded start (take count pairs.now) (totals_in tallies.old) → totals_in tallies.new ≡ start }
+    requires valid_sums { AreCountSums (totals_in count_sums.old) }
+    requires folded { (start : Totals) × HasFolded start (take count pairs.now) (totals_in count_sums.old) }
+    ensures { (start : Totals) → HasFolded start (take count pairs.now) (totals_in count_sums.old) → totals_in count_sums.new ≡ start }
 {
     for done in 0..count {
         let pair = &pairs[count - 1 - done];
-        take(tallies, &pair.0, tally_of(pair.1));
+        take(count_sums, &pair.0, count_sum_of(pair.1));
     }
 }
 
-/// Folds pairs into tallies. What a refusal cut short is taken back.
-pub fn fold_all(tallies: &mut ByKey, pairs: &[Pair]) -> Result<(), Refusal>
-    requires tallied { AreTallies (totals_in tallies.old) }
-    requires can { CanFoldAll (totals_in tallies.old) pairs.now }
-    ensures tallied { AreTallies (totals_in tallies.new) }
-    ensures ok { OnOk result (totals_in tallies.new ≡ with_pairs (totals_in tallies.old) pairs.now) }
-    ensures err { OnErr result (totals_in tallies.new ≡ totals_in tallies.old) }
+/// Folds pairs into counts and sums. What a refusal cut short is undone.
+pub fn fold_all(count_sums: &mut ByKey, pairs: &[Pair]) -> Result<(), Refusal>
+    requires valid_sums { AreCountSums (totals_in count_sums.old) }
+    requires can { CanFoldAll (totals_in count_sums.old) pairs.now }
+    ensures valid_sums { AreCountSums (totals_in count_sums.new) }
+    ensures ok { OnOk result (totals_in count_sums.new ≡ with_pairs (totals_in count_sums.old) pairs.now) }
+    ensures err { OnErr result (totals_in count_sums.new ≡ totals_in count_sums.old) }
     ensures memory { IfErr result (λ e. e ≡ Refusal.NoMemory) }
 {
     for i in 0..pairs.len() {
         let pair = &pairs[i];
-        match add_under(tallies, &pair.0, tally_of(pair.1)) {
+        match add_under(count_sums, &pair.0, count_sum_of(pair.1)) {
             Ok(()) => {}
             Err(refusal) => {
-                take_back(tallies, pairs, i);
+                undo_first(count_sums, pairs, i);
                 return Err(refusal);
             }
         }

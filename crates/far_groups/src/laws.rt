@@ -5,10 +5,10 @@ ghost use Rattle.std.specs.List.{AllByRecursion};
 ghost use Rattle.std.specs.FinMap as fin;
 ghost use Rattle.far_types.specs.declared.key.Key.{Key};
 ghost use Rattle.far_types.specs.Pairs.{Pair, PairsFit};
-ghost use Rattle.far_types.specs.Answers.{totals, tally};
-ghost use Rattle.far_types.specs.Changes.{count_in};
+ghost use Rattle.far_types.specs.Answers.{totals, count_sum};
+ghost use Rattle.far_types.specs.Effects.{count_in};
 ghost use Rattle.far_groups.specs.Live.{CanTake, CanJoin};
-ghost use Rattle.far_groups.specs.Tallies.{IsTally};
+ghost use Rattle.far_groups.specs.CountSums.{IsCountSum};
 
 /// Where the totals are those of some pairs whose values are numbers of 64 bits, a pair that is in can be taken; no
 /// more stand under a key than there are pairs; and the totals of at most 2^26 pairs can be joined.
@@ -21,6 +21,6 @@ pub fn pairs_meet_the_conditions()
 /// Rows that all stand under one key, as `add_rows` takes them: their totals are their count and their sum under that
 /// key, which are a count and a sum that rows can have.
 pub fn rows_under_one_key_are_folded()
-    ensures totals { (key : Option Key) → (value : ℤ) → (values : List ℤ) → totals (map (λ each. (key, each)) (value ∷ values)) ≡ fin.insert fin.empty key (tally (value ∷ values)) }
-    ensures tallied { (value : ℤ) → (values : List ℤ) → AllByRecursion (FitsSigned w64) (value ∷ values) → length (value ∷ values) ≤ 2 ^ 26 → IsTally (tally (value ∷ values)) }
+    ensures totals { (key : Option Key) → (value : ℤ) → (values : List ℤ) → totals (map (λ each. (key, each)) (value ∷ values)) ≡ fin.insert fin.empty key (count_sum (value ∷ values)) }
+    ensures valid_sums { (value : ℤ) → (values : List ℤ) → AllByRecursion (FitsSigned w64) (value ∷ values) → length (value ∷ values) ≤ 2 ^ 26 → IsCountSum (count_sum (value ∷ values)) }
 {}

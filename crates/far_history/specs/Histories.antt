@@ -4,7 +4,7 @@ use Rattle.far_types.specs.declared.cell.Kind.{Kind}
 use Rattle.far_types.specs.declared.limits.Limits.{Limits}
 use Rattle.far_types.specs.declared.spec.Spec.{Spec}
 use Rattle.far_types.specs.declared.spec.Fold.TheVariants as fold
-use Rattle.far_types.specs.Answers.{tally}
+use Rattle.far_types.specs.Answers.{count_sum}
 use Rattle.far_types.specs.Edits.{edited, edit_refusal}
 use Rattle.far_types.specs.Pairs.{Pair, pairs_of}
 use Rattle.far_types.specs.Table.{Place, Table, empty_table, rows_of}
@@ -37,7 +37,7 @@ IsLegal p log = IsLegalOn (empty_table p.schema p.limits) log
 
 -- how many rows an aggregate folds, and the sum of their values
 abbrev pub folded : Spec → List Place → ℕ × ℤ
-folded spec places = tally (map (λ (pair : Pair). pair.1) (pairs_of spec (rows_of places)))
+folded spec places = count_sum (map (λ (pair : Pair). pair.1) (pairs_of spec (rows_of places)))
 
 -- what a history leaves: how many edits it has, and the count and the sum of the gauge over the rows of its table
 abbrev pub gauge_of : Planned → List Entry → Reading

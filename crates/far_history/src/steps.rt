@@ -13,7 +13,7 @@ use std::marker::Brand;
 use std::snapshot::Snapshot;
 use std::sync::Wait;
 
-/// The cell of an empty history, and the pass that keeps it. Refused where memory is out.
+/// The cell of an empty history, and the pass that keeps it. Refused if memory is out.
 pub fn begin<N: Naming>(alloc: Global) -> Result<(Cell<N>, Pass), AllocError>
     ensures { IfOk result (λ made. (made.1.table_id ≡ made.0.table.shared.table_id) × (cell_view made.1 ≡ keeper [] 0)) }
 {

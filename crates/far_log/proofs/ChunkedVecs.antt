@@ -62,8 +62,8 @@ module _ {X Z : Type 0} (cs : List (Vec X Z)) (len : ℕ) where
       pub all-used : len ≡ length (joined cs)
       all-used = let last = last-chunk 64 cs number c h here (omega (arith, place.within, behind)) in omega (arith, last.0, place.index_is, next, behind, within)
 
-      pub has-room : length c.items < vec_capacity c
-      has-room = let last = last-chunk 64 cs number c h here (omega (arith, place.within, behind)) in omega (arith, last.1, place.within, behind)
+      pub has-size : length c.items < vec_capacity c
+      has-size = let last = last-chunk 64 cs number c h here (omega (arith, place.within, behind)) in omega (arith, last.1, place.within, behind)
 
       module _ (is : d.items ≡ c.items ++ x ∷ []) (capacity : vec_capacity d ≡ vec_capacity c) where
         pub kept-pushed : IsChunked (slice_set cs number d) (len + 1)

@@ -1,8 +1,8 @@
 -- The region once the parts of one segment lie in another.
 use Rattle.std.proofs.Common.{◌≡◌, ◌≢◌, ℕ, zero, suc, ◌+◌, ◌<◌, ◌≤◌, List, [], ◌∷◌, ◌++◌, length, get_or, map, Some, IsSome, refl, sym, ap, subst, ◌∙◌, inl, inr, arith}
 use Rattle.std.specs.Prelude.{slice_set, sum_by, Contains}
-use Rattle.far_log.specs.Room.{Part, SegmentRoom, Room, segment_of, space_in, fill_from, list_at, AreLaid, IsRegion}
-use Rattle.far_log.specs.Changes.{gathered, compacted, laid_from, list_or_none, IsOrder, IsEmptyOther, Compacts, with_segment}
+use Rattle.far_log.specs.RegionState.{Part, SegmentState, RegionState, segment_of, space_in, fill_from, list_at, IsLayoutFrom, IsRegion}
+use Rattle.far_log.specs.Effects.{gathered, compacted, laid_from, list_or_none, IsOrder, IsEmptyOther, Compacts, with_segment}
 use Rattle.std.proofs.Common.{get_or-set_same, get_or-set_other, length-set, take, drop}
 use Rattle.std.proofs.lemmas.List.{set-get_or, set-set}
 use Rattle.std.proofs.lemmas.Bool.{eq-eqb, ne_eqb, cases_eq}
@@ -10,7 +10,7 @@ use Rattle.std.proofs.lemmas.List.{take_at}
 use Rattle.std.proofs.lemmas.List.Sums.{sum_by-cons}
 use Rattle.std.proofs.lemmas.List.Elements.{All-get_or}
 use Rattle.far_log.proofs.Gathers.{list-there, lens-le-size, some-list}
-use Rattle.far_log.proofs.RoomLaws.{region-set, laid-segment, even-sizes}
+use Rattle.far_log.proofs.RegionLaws.{region-set, laid-segment, same_length-sizes}
 use Rattle.far_log.specs.declared.skip.Skip.{Skip}
 use Rattle.far_log.specs.Skipping.{IsSkip, IsSpaced}
 use Rattle.far_log.proofs.Skipped.{skip-set, skip-less}
@@ -31,7 +31,7 @@ module _ {X : Type 0} (pick : ℕ → List X) where
   rest-filled : (o : ℕ) (os : List ℕ) → AllFilled (o ∷ os) → AllFilled os
   rest-filled o os h = λ k lt. h (suc k) (omega arith)
 
-  laid-picked : (from size : ℕ) (order : List ℕ) → AllFilled order → from + sum_by (λ o. length (pick o)) order ≤ size → AreLaid from (laid-at from order) size
+  laid-picked : (from size : ℕ) (order : List ℕ) → AllFilled order → from + sum_by (λ o. length (pick o)) order ≤ size → IsLayoutFrom from (laid-at from order) size
   laid-picked from size [] h le = omega arith
   laid-picked from size (o ∷ os) h le =
       (omega arith, h zero (omega arith), laid-picked (from + length (pick o)) size os (rest-filled o os h) (omega (arith, sum_by-cons (λ n. length (pick n)) o os)))
@@ -55,27 +55,27 @@ some-offset (p ∷ ps) offset some =
           (suc later.0, omega (arith, later.1), later.2)
     ]
 
-module _ {X : Type 0} (old : Room X) (from to : ℕ) (order : List ℕ) (region : IsRegion old) (there : from < length old) (target : IsEmptyOther old from to) (listed : IsOrder (segment_of old from).parts order) where
-  source : SegmentRoom X
+module _ {X : Type 0} (old : RegionState X) (from to : ℕ) (order : List ℕ) (region : IsRegion old) (there : from < length old) (target : IsEmptyOther old from to) (listed : IsOrder (segment_of old from).parts order) where
+  source : SegmentState X
   source = segment_of old from
 
   filled : AllFilled (list_or_none (segment_of old from).parts) order
   filled k lt = some-list 0 (segment_of old from).size (segment_of old from).parts (get_or order k 0) (laid-segment old from region there) (All-get_or (λ o. IsSome (list_at (segment_of old from).parts o)) order k 0 lt listed.listed)
 
-  laid-gathered : AreLaid 0 (gathered (segment_of old from).parts order) (segment_of old to).size
+  laid-gathered : IsLayoutFrom 0 (gathered (segment_of old from).parts order) (segment_of old to).size
   laid-gathered =
       laid-picked (list_or_none (segment_of old from).parts) 0 (segment_of old to).size order filled
-      (omega (arith, lens-le-size (segment_of old from) order (laid-segment old from region there) listed, even-sizes old from region there, even-sizes old to region target.within))
+      (omega (arith, lens-le-size (segment_of old from) order (laid-segment old from region there) listed, same_length-sizes old from region there, same_length-sizes old to region target.within))
 
-  abbrev filled_room : Room X
-  filled_room = with_segment old to (record (segment_of old to) { parts = gathered (segment_of old from).parts order })
+  abbrev filled_state : RegionState X
+  filled_state = with_segment old to (record (segment_of old to) { parts = gathered (segment_of old from).parts order })
 
-  stays : (number : ℕ) → number ≢ to → segment_of filled_room number ≡ segment_of old number
+  stays : (number : ℕ) → number ≢ to → segment_of filled_state number ≡ segment_of old number
   stays number ne = get_or-set_other old to number _ _ ne
 
   pub compacted-region : IsRegion (compacted old from to order)
   compacted-region =
-      region-set filled_room from (record (segment_of old from) { parts = [] })
+      region-set filled_state from (record (segment_of old from) { parts = [] })
       (region-set old to (record (segment_of old to) { parts = gathered (segment_of old from).parts order }) region target.within refl laid-gathered)
       (omega (arith, there, length-set old to (record (segment_of old to) { parts = gathered (segment_of old from).parts order })))
       (ap (λ s. s.size) (sym (stays from (λ e. target.other (sym e)))))
@@ -84,24 +84,24 @@ module _ {X : Type 0} (old : Room X) (from to : ℕ) (order : List ℕ) (region 
   -- what is skipped, if that is told of the segment that is empty now
   pub compacted-skip : (known new : Skip) → IsSkip old known → IsSpaced known new from (segment_of old 0).size → IsSkip (compacted old from to order) new
   compacted-skip known new skip spaced =
-      let filled_one : SegmentRoom X = record (segment_of old to) { parts = gathered (segment_of old from).parts order } in
-      let empty_one : SegmentRoom X = record (segment_of old from) { parts = [] } in
+      let filled_one : SegmentState X = record (segment_of old to) { parts = gathered (segment_of old from).parts order } in
+      let empty_one : SegmentState X = record (segment_of old from) { parts = [] } in
       let empty : fill_from 0 (segment_of old to).parts ≡ 0 = ap (fill_from 0) target.empty in
-      let space : space_in empty_one ≡ (segment_of old 0).size = omega (arith, even-sizes old from region there) in
-      skip-set filled_room known (skip-less old known skip to filled_one target.within (omega (arith, empty))) from empty_one new
+      let space : space_in empty_one ≡ (segment_of old 0).size = omega (arith, same_length-sizes old from region there) in
+      skip-set filled_state known (skip-less old known skip to filled_one target.within (omega (arith, empty))) from empty_one new
       (omega (arith, there, length-set old to filled_one))
       (subst (IsSpaced known new from) (sym space) spaced)
 
   at-target : segment_of (compacted old from to order) to ≡ record (segment_of old to) { parts = gathered (segment_of old from).parts order }
-  at-target = get_or-set_other filled_room from to _ _ target.other ∙ get_or-set_same old to _ _ target.within
+  at-target = get_or-set_other filled_state from to _ _ target.other ∙ get_or-set_same old to _ _ target.within
 
   at-source : segment_of (compacted old from to order) from ≡ record (segment_of old from) { parts = [] }
-  at-source = get_or-set_same filled_room from _ _ (omega (arith, there, length-set old to (record (segment_of old to) { parts = gathered (segment_of old from).parts order })))
+  at-source = get_or-set_same filled_state from _ _ (omega (arith, there, length-set old to (record (segment_of old to) { parts = gathered (segment_of old from).parts order })))
 
-  pub compacts : (new : Room X) (offsets : List ℕ) → new ≡ compacted old from to order → offsets ≡ map (λ p. p.offset) (gathered (segment_of old from).parts order) → Compacts old new from to order offsets
+  pub compacts : (new : RegionState X) (offsets : List ℕ) → new ≡ compacted old from to order → offsets ≡ map (λ p. p.offset) (gathered (segment_of old from).parts order) → Compacts old new from to order offsets
   compacts new offsets is are = rw (is, are) (record {
     target = target;
-    room = refl;
+    state = refl;
     offsets_are = refl;
     moved = λ k lt.
         let o : ℕ = get_or order k 0 in
@@ -110,29 +110,29 @@ module _ {X : Type 0} (old : Room X) (from to : ℕ) (order : List ℕ) (region 
         ∙ sym (list-there (segment_of old from).parts o (All-get_or (λ n. IsSome (list_at (segment_of old from).parts n)) order k 0 lt listed.listed));
     only = λ offset some. some-offset (gathered (segment_of old from).parts order) offset (rw at-target at some);
     emptied = ap (λ s. s.parts) at-source;
-    others = λ number apart other. get_or-set_other filled_room from number _ _ apart ∙ stays number other;
+    others = λ number disjoint other. get_or-set_other filled_state from number _ _ disjoint ∙ stays number other;
   })
 
 -- a slice that goes back into its Vec is all that is left
 pub whole-back : {X : Type 0} (n : ℕ) (old new : List X) → n ≡ length new → take n (new ++ drop (length new) old) ≡ new
 whole-back n old new e = take_at new _ n (sym e)
 
-pub length-compacted : {X : Type 0} (old : Room X) (from to : ℕ) (order : List ℕ) → length (compacted old from to order) ≡ length old
+pub length-compacted : {X : Type 0} (old : RegionState X) (from to : ℕ) (order : List ℕ) → length (compacted old from to order) ≡ length old
 length-compacted old from to order =
     length-set (with_segment old to (record (segment_of old to) { parts = gathered (segment_of old from).parts order })) from (record (segment_of old from) { parts = [] })
     ∙ length-set old to (record (segment_of old to) { parts = gathered (segment_of old from).parts order })
 
 -- a segment without parts, once its parts are taken away
-pub emptied-back : {X : Type 0} (room : Room X) (to : ℕ) → (segment_of room to).parts ≡ [] → with_segment room to (record (segment_of room to) { parts = [] }) ≡ room
-emptied-back {X} room to none =
-    let s : SegmentRoom X = segment_of room to in
-    let same : (let r : SegmentRoom X = record { parts = []; size = s.size } in r) ≡ s = ap (λ ps. let r : SegmentRoom X = record { parts = ps; size = s.size } in r) (sym none) in
-    ap (slice_set room to) same ∙ set-get_or room to record { parts = []; size = 0 }
+pub emptied-back : {X : Type 0} (state : RegionState X) (to : ℕ) → (segment_of state to).parts ≡ [] → with_segment state to (record (segment_of state to) { parts = [] }) ≡ state
+emptied-back {X} state to none =
+    let s : SegmentState X = segment_of state to in
+    let same : (let r : SegmentState X = record { parts = []; size = s.size } in r) ≡ s = ap (λ ps. let r : SegmentState X = record { parts = ps; size = s.size } in r) (sym none) in
+    ap (slice_set state to) same ∙ set-get_or state to record { parts = []; size = 0 }
 
 -- and once they are, whatever came into it
-pub emptied-again : {X : Type 0} (room : Room X) (to : ℕ) (s : SegmentRoom X) → to < length room → (segment_of room to).parts ≡ [] → s.size ≡ (segment_of room to).size
-    → with_segment (with_segment room to s) to (record (segment_of (with_segment room to s) to) { parts = [] }) ≡ room
-emptied-again {X} room to s within none same =
-    let size : (segment_of (with_segment room to s) to).size ≡ (segment_of room to).size = ap (λ (r : SegmentRoom X). r.size) (get_or-set_same room to s record { parts = []; size = 0 } within) ∙ same in
-    ap (λ n. slice_set (slice_set room to s) to (let r : SegmentRoom X = record { parts = []; size = n } in r)) size
-    ∙ set-set room to s (record (segment_of room to) { parts = [] }) ∙ emptied-back room to none
+pub emptied-again : {X : Type 0} (state : RegionState X) (to : ℕ) (s : SegmentState X) → to < length state → (segment_of state to).parts ≡ [] → s.size ≡ (segment_of state to).size
+    → with_segment (with_segment state to s) to (record (segment_of (with_segment state to s) to) { parts = [] }) ≡ state
+emptied-again {X} state to s within none same =
+    let size : (segment_of (with_segment state to s) to).size ≡ (segment_of state to).size = ap (λ (r : SegmentState X). r.size) (get_or-set_same state to s record { parts = []; size = 0 } within) ∙ same in
+    ap (λ n. slice_set (slice_set state to s) to (let r : SegmentState X = record { parts = []; size = n } in r)) size
+    ∙ set-set state to s (record (segment_of state to) { parts = [] }) ∙ emptied-back state to none

@@ -4,7 +4,7 @@ use Rattle.std.specs.Prelude.{slice_set, slice_index, nat_le, All}
 use Rattle.std.specs.List.{list_all, position_or_len}
 use Rattle.std.specs.Option.{option_map_or}
 use Rattle.std.proofs.lemmas.Bool.{ne_eqb, eq-eqb, le-leb, lt-leb, lt-ltb, le-ltb, cases_eq, cases_lt}
-use Rattle.far_log.specs.Room.{lowest_for, fit_in_order}
+use Rattle.far_log.specs.RegionState.{lowest_for, fit_in_order}
 use Rattle.far_log.specs.Fitting.{once_filled, waiting_fit}
 
 -- the lowest segment, the first or one behind it

@@ -5,8 +5,8 @@ use Rattle.std.proofs.lemmas.Bool.{eq-eqb, ne_eqb, cases_eq}
 use Rattle.std.proofs.lemmas.Option.{same_Some}
 use Rattle.std.proofs.lemmas.List.{map_more}
 use Rattle.std.proofs.lemmas.List.Sums.{sum_by-cons, sum_by_more_le}
-use Rattle.far_log.specs.Room.{Part, SegmentRoom, end_of, fill_from, AreLaid, IsLaid, list_at}
-use Rattle.far_log.specs.Changes.{laid_from, list_or_none, gathered, IsOrder}
+use Rattle.far_log.specs.RegionState.{Part, SegmentState, end_of, fill_from, IsLayoutFrom, IsLayout, list_at}
+use Rattle.far_log.specs.Effects.{laid_from, list_or_none, gathered, IsOrder}
 use Rattle.far_log.proofs.Laid.{fill-le-size, list-others}
 
 -- no number of a list is this one
@@ -100,11 +100,11 @@ module _ {X : Type 0} where
       omega (arith, rest, lens-others ps o os h.0, used-split o ps, sum_by-cons (λ n. length (list_or_none ps n)) o os)
 
   -- the parts are no longer than the segment
-  used-le-fill : (from size : ℕ) (ps : List (Part X)) → AreLaid from ps size → from + used ps ≤ fill_from from ps
+  used-le-fill : (from size : ℕ) (ps : List (Part X)) → IsLayoutFrom from ps size → from + used ps ≤ fill_from from ps
   used-le-fill from size [] h = omega arith
   used-le-fill from size (p ∷ ps) h = omega (arith, used-le-fill (end_of p) size ps h.2, h.0, sum_by-cons (λ (q : Part X). length q.list) p ps)
 
-  pub lens-le-size : (s : SegmentRoom X) (order : List ℕ) → IsLaid s → IsOrder s.parts order → lens s.parts order ≤ s.size
+  pub lens-le-size : (s : SegmentState X) (order : List ℕ) → IsLayout s → IsOrder s.parts order → lens s.parts order ≤ s.size
   lens-le-size s order h o = omega (arith, lens-le-used s.parts order (once-from order o.once), used-le-fill 0 s.size s.parts h, fill-le-size 0 s.size s.parts h)
 
   -- the lengths of lists that are picked by offset
@@ -113,7 +113,7 @@ module _ {X : Type 0} where
   lens-of ps (o ∷ os) = omega (arith, lens-of ps os, sum_by-cons (λ (xs : List X). length xs) (list_or_none ps o) (map (list_or_none ps) os), sum_by-cons (λ n. length (list_or_none ps n)) o os)
 
   -- there is room for the next
-  pub next-fits : (s : SegmentRoom X) (order : List ℕ) (i size : ℕ) → IsLaid s → IsOrder s.parts order → i < length order → s.size ≤ size
+  pub next-fits : (s : SegmentState X) (order : List ℕ) (i size : ℕ) → IsLayout s → IsOrder s.parts order → i < length order → s.size ≤ size
       → length (list_or_none s.parts (get_or order i 0)) ≤ size - fill_from 0 (gathered s.parts (take i order))
   next-fits s order i size h o lt le =
       omega (arith, fill-laid_from 0 (map (list_or_none s.parts) (take i order)), lens-of s.parts (take i order), lens-le-size s order h o, sum_by_more_le (λ n. length (list_or_none s.parts n)) order i 0 lt)
@@ -124,7 +124,7 @@ module _ {X : Type 0} where
   gathered-more ps order i lt = ap (laid_from 0) (map_more (list_or_none ps) order i 0 lt) ∙ laid_from-push 0 (map (list_or_none ps) (take i order)) (list_or_none ps (get_or order i 0))
 
   -- parts are not empty
-  pub some-list : (from size : ℕ) (ps : List (Part X)) (offset : ℕ) → AreLaid from ps size → IsSome (list_at ps offset) → 0 < length (list_or_none ps offset)
+  pub some-list : (from size : ℕ) (ps : List (Part X)) (offset : ℕ) → IsLayoutFrom from ps size → IsSome (list_at ps offset) → 0 < length (list_or_none ps offset)
   some-list from size [] offset h some = absurd (cc)
   some-list from size (p ∷ ps) offset h some =
       elim (cases_eq p.offset offset) [

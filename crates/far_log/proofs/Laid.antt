@@ -4,21 +4,21 @@ use Rattle.std.specs.Prelude.{filter, not, slice_range, IsSomeAnd}
 use Rattle.std.proofs.lemmas.Bool.{eq-eqb, ne_eqb, cases_eq, cases_lt}
 use Rattle.std.proofs.lemmas.Option.{same_Some, none-some}
 use Rattle.std.proofs.lemmas.List.{take_all, take_at, drop_all}
-use Rattle.far_log.specs.Room.{Part, SegmentRoom, end_of, fill_from, fill_of, space_in, AreLaid, IsLaid, list_at}
-use Rattle.far_log.specs.Changes.{with_part, without_part, with_list, written, written_over, overwritten, replaced}
+use Rattle.far_log.specs.RegionState.{Part, SegmentState, end_of, fill_from, fill_of, space_in, IsLayoutFrom, IsLayout, list_at}
+use Rattle.far_log.specs.Effects.{with_part, without_part, with_list, written, written_over, overwritten, replaced}
 
 module _ {X : Type 0} where
   -- parts that are laid from some place on are laid from any place before it
-  pub laid-before : (f from size : ℕ) (ps : List (Part X)) → f ≤ from → AreLaid from ps size → AreLaid f ps size
+  pub laid-before : (f from size : ℕ) (ps : List (Part X)) → f ≤ from → IsLayoutFrom from ps size → IsLayoutFrom f ps size
   laid-before f from size [] le h = omega arith
   laid-before f from size (p ∷ ps) le h = (omega (arith, h.0), h.1, h.2)
 
   -- the fill is within the size, and the parts begin before it
-  pub from-le-fill : (from size : ℕ) (ps : List (Part X)) → AreLaid from ps size → from ≤ fill_from from ps
+  pub from-le-fill : (from size : ℕ) (ps : List (Part X)) → IsLayoutFrom from ps size → from ≤ fill_from from ps
   from-le-fill from size [] h = omega arith
   from-le-fill from size (p ∷ ps) h = let later = from-le-fill (end_of p) size ps h.2 in omega (arith, h.0)
 
-  pub fill-le-size : (from size : ℕ) (ps : List (Part X)) → AreLaid from ps size → fill_from from ps ≤ size
+  pub fill-le-size : (from size : ℕ) (ps : List (Part X)) → IsLayoutFrom from ps size → fill_from from ps ≤ size
   fill-le-size from size [] h = h
   fill-le-size from size (p ∷ ps) h = fill-le-size (end_of p) size ps h.2
 
@@ -27,28 +27,28 @@ module _ {X : Type 0} where
   fill-push from [] q = refl
   fill-push from (p ∷ ps) q = fill-push (end_of p) ps q
 
-  laid-push : (from size : ℕ) (ps : List (Part X)) (q : Part X) → AreLaid from ps size → fill_from from ps ≤ q.offset → 0 < length q.list → end_of q ≤ size → AreLaid from (ps ++ q ∷ []) size
+  laid-push : (from size : ℕ) (ps : List (Part X)) (q : Part X) → IsLayoutFrom from ps size → fill_from from ps ≤ q.offset → 0 < length q.list → end_of q ≤ size → IsLayoutFrom from (ps ++ q ∷ []) size
   laid-push from size [] q h le some within = (le, some, within)
   laid-push from size (p ∷ ps) q h le some within = (h.0, h.1, laid-push (end_of p) size ps q h.2 le some within)
 
-  pub laid-with_part : (s : SegmentRoom X) (list : List X) → IsLaid s → 0 < length list → length list ≤ space_in s → IsLaid (with_part s list)
+  pub laid-with_part : (s : SegmentState X) (list : List X) → IsLayout s → 0 < length list → length list ≤ space_in s → IsLayout (with_part s list)
   laid-with_part s list h some fits =
       laid-push 0 s.size s.parts record { offset = fill_of s; list = list } h (omega arith) some (omega (arith, fill-le-size 0 s.size s.parts h))
 
-  pub space-with_part : (s : SegmentRoom X) (list : List X) → space_in (with_part s list) ≡ space_in s - length list
+  pub space-with_part : (s : SegmentState X) (list : List X) → space_in (with_part s list) ≡ space_in s - length list
   space-with_part s list = omega (arith, fill-push 0 s.parts record { offset = fill_of s; list = list })
 
   -- without a part
-  laid-filter : (from size : ℕ) (ps : List (Part X)) (test : Part X → Bool) → AreLaid from ps size → AreLaid from (filter test ps) size
+  laid-filter : (from size : ℕ) (ps : List (Part X)) (test : Part X → Bool) → IsLayoutFrom from ps size → IsLayoutFrom from (filter test ps) size
   laid-filter from size [] test h = h
   laid-filter from size (p ∷ ps) test h =
       let later = laid-filter (end_of p) size ps test h.2 in
-      elim (test p) as (λ b. AreLaid from (cond b (p ∷ filter test ps) (filter test ps)) size) [
+      elim (test p) as (λ b. IsLayoutFrom from (cond b (p ∷ filter test ps) (filter test ps)) size) [
         | true ↦ (h.0, h.1, later)
         | false ↦ laid-before from (end_of p) size (filter test ps) (omega (arith, h.0)) later
       ]
 
-  pub laid-without_part : (s : SegmentRoom X) (offset : ℕ) → IsLaid s → IsLaid (without_part s offset)
+  pub laid-without_part : (s : SegmentState X) (offset : ℕ) → IsLayout s → IsLayout (without_part s offset)
   laid-without_part s offset h = laid-filter 0 s.size s.parts (λ p. not (eqb p.offset offset)) h
 
   -- under a write
@@ -56,7 +56,7 @@ module _ {X : Type 0} where
   length-over xs i ws =
       omega (arith, length-take (length xs) (take i xs ++ (ws ++ drop (i + length ws) xs)), length-append (take i xs) (ws ++ drop (i + length ws) xs), length-append ws (drop (i + length ws) xs), length-take i xs, length-drop (i + length ws) xs)
 
-  laid-overwritten : (from size at : ℕ) (ws : List X) (ps : List (Part X)) → AreLaid from ps size → AreLaid from (map (overwritten at ws) ps) size
+  laid-overwritten : (from size at : ℕ) (ws : List X) (ps : List (Part X)) → IsLayoutFrom from ps size → IsLayoutFrom from (map (overwritten at ws) ps) size
   laid-overwritten from size at ws [] h = h
   laid-overwritten from size at ws (p ∷ ps) h =
       let long : length (written_over p.list (at - p.offset) (drop (p.offset - at) ws)) ≡ length p.list = length-over p.list (at - p.offset) (drop (p.offset - at) ws) in
@@ -69,19 +69,19 @@ module _ {X : Type 0} where
       let long : length (written_over p.list (at - p.offset) (drop (p.offset - at) ws)) ≡ length p.list = length-over p.list (at - p.offset) (drop (p.offset - at) ws) in
       ap (λ n. fill_from (p.offset + n) (map (overwritten at ws) ps)) long ∙ fill-overwritten (end_of p) at ws ps
 
-  pub space-written : (s : SegmentRoom X) (at : ℕ) (ws : List X) → space_in (written s at ws) ≡ space_in s
+  pub space-written : (s : SegmentState X) (at : ℕ) (ws : List X) → space_in (written s at ws) ≡ space_in s
   space-written s at ws = ap (λ n. s.size - n) (fill-overwritten 0 at ws s.parts)
 
-  pub laid-written : (s : SegmentRoom X) (at : ℕ) (ws : List X) → IsLaid s → IsLaid (written s at ws)
+  pub laid-written : (s : SegmentState X) (at : ℕ) (ws : List X) → IsLayout s → IsLayout (written s at ws)
   laid-written s at ws h = laid-overwritten 0 s.size at ws s.parts h
 
   -- what lies at an offset
-  pub no-list-before : (from size : ℕ) (ps : List (Part X)) (offset : ℕ) → AreLaid from ps size → offset < from → list_at ps offset ≡ None
+  pub no-list-before : (from size : ℕ) (ps : List (Part X)) (offset : ℕ) → IsLayoutFrom from ps size → offset < from → list_at ps offset ≡ None
   no-list-before from size [] offset h lt = refl
   no-list-before from size (p ∷ ps) offset h lt =
       rw (ne_eqb p.offset offset (λ e. omega (arith, h.0))) (no-list-before (end_of p) size ps offset h.2 (omega (arith, h.0)))
 
-  pub no-list-at-fill : (from size : ℕ) (ps : List (Part X)) → AreLaid from ps size → list_at ps (fill_from from ps) ≡ None
+  pub no-list-at-fill : (from size : ℕ) (ps : List (Part X)) → IsLayoutFrom from ps size → list_at ps (fill_from from ps) ≡ None
   no-list-at-fill from size [] h = refl
   no-list-at-fill from size (p ∷ ps) h =
       let le = from-le-fill (end_of p) size ps h.2 in
@@ -132,12 +132,12 @@ module _ {X : Type 0} where
       ]
 
 -- the parts of a segment are as before, but that `now` lies at an offset
-pub record ChangesList {X : Type 0} (old new : SegmentRoom X) (offset : ℕ) (now : Option (List X)) : Type 0 where
+pub record ChangesList {X : Type 0} (old new : SegmentState X) (offset : ℕ) (now : Option (List X)) : Type 0 where
   pub here : list_at new.parts offset ≡ now
   pub others : (q : ℕ) → q ≢ offset → list_at new.parts q ≡ list_at old.parts q
 
-module _ {X : Type 0} (s : SegmentRoom X) where
-  pub changes-placed : (list : List X) → IsLaid s → ChangesList s (with_part s list) (fill_of s) (Some list)
+module _ {X : Type 0} (s : SegmentState X) where
+  pub changes-placed : (list : List X) → IsLayout s → ChangesList s (with_part s list) (fill_of s) (Some list)
   changes-placed list h = record {
     here = list-push-same s.parts record { offset = fill_of s; list = list } (no-list-at-fill 0 s.size s.parts h);
     others = λ q ne. list-push-other s.parts record { offset = fill_of s; list = list } q (λ e. ne (sym e));
@@ -157,7 +157,7 @@ module _ {X : Type 0} where
   pub written-none : (xs ws : List X) (i n : ℕ) → i ≡ 0 → length ws ≤ n → written_over xs i (drop n ws) ≡ xs
   written-none xs ws i n z le = rw (z, drop_all n ws le) (take_all (length xs) xs (omega arith))
 
-  later-same : (f size o i : ℕ) (ws list : List X) (ps : List (Part X)) → AreLaid f ps size → o + i + length ws ≤ f → o < f → map (overwritten (o + i) ws) ps ≡ map (replaced o list) ps
+  later-same : (f size o i : ℕ) (ws list : List X) (ps : List (Part X)) → IsLayoutFrom f ps size → o + i + length ws ≤ f → o < f → map (overwritten (o + i) ws) ps ≡ map (replaced o list) ps
   later-same f size o i ws list [] h le lt = refl
   later-same f size o i ws list (p ∷ ps) h le lt =
       let same : written_over p.list (o + i - p.offset) (drop (p.offset - (o + i)) ws) ≡ p.list = written-none p.list ws (o + i - p.offset) (p.offset - (o + i)) (omega (arith, h.0)) (omega (arith, h.0)) in
@@ -166,7 +166,7 @@ module _ {X : Type 0} where
       rw (same, no, later) refl
 
   -- a write within a part changes that part alone
-  parts-written-one : (f size o i : ℕ) (ws xs : List X) (ps : List (Part X)) → AreLaid f ps size → list_at ps o ≡ Some xs → i + length ws ≤ length xs
+  parts-written-one : (f size o i : ℕ) (ws xs : List X) (ps : List (Part X)) → IsLayoutFrom f ps size → list_at ps o ≡ Some xs → i + length ws ≤ length xs
       → map (overwritten (o + i) ws) ps ≡ map (replaced o (written_over xs i ws)) ps
   parts-written-one f size o i ws xs [] h e le = absurd (cc)
   parts-written-one f size o i ws xs (p ∷ ps) h e le =
@@ -189,12 +189,12 @@ module _ {X : Type 0} where
             rw (no, none, same, later) refl
       ]
 
-  pub written-one : (s : SegmentRoom X) (o i : ℕ) (ws xs : List X) → IsLaid s → list_at s.parts o ≡ Some xs → i + length ws ≤ length xs → written s (o + i) ws ≡ with_list s o (take i xs ++ (ws ++ drop (i + length ws) xs))
+  pub written-one : (s : SegmentState X) (o i : ℕ) (ws xs : List X) → IsLayout s → list_at s.parts o ≡ Some xs → i + length ws ≤ length xs → written s (o + i) ws ≡ with_list s o (take i xs ++ (ws ++ drop (i + length ws) xs))
   written-one s o i ws xs h e le =
       let whole : written_over xs i ws ≡ take i xs ++ (ws ++ drop (i + length ws) xs) =
       take_all (length xs) (take i xs ++ (ws ++ drop (i + length ws) xs))
       (omega (arith, length-append (take i xs) (ws ++ drop (i + length ws) xs), length-append ws (drop (i + length ws) xs), length-take i xs, length-drop (i + length ws) xs)) in
-      ap (λ ps. let r : SegmentRoom X = record { parts = ps; size = s.size } in r) (parts-written-one 0 s.size o i ws xs s.parts h e le ∙ ap (λ ys. map (replaced o ys) s.parts) whole)
+      ap (λ ps. let r : SegmentState X = record { parts = ps; size = s.size } in r) (parts-written-one 0 s.size o i ws xs s.parts h e le ∙ ap (λ ys. map (replaced o ys) s.parts) whole)
 
   -- the range of a list from its beginning to its end
   pub whole-range : (o : Option (List X)) (xs lent : List X) → o ≡ Some xs → IsSomeAnd o (λ list. lent ≡ slice_range list 0 (length xs)) → o ≡ Some lent
@@ -203,7 +203,7 @@ module _ {X : Type 0} where
       e ∙ ap Some (sym (is ∙ take_all (length xs - 0) xs (omega arith)))
 
   -- no part begins behind the segment
-  pub no-list-behind : (from size : ℕ) (ps : List (Part X)) (offset : ℕ) → AreLaid from ps size → size ≤ offset → list_at ps offset ≡ None
+  pub no-list-behind : (from size : ℕ) (ps : List (Part X)) (offset : ℕ) → IsLayoutFrom from ps size → size ≤ offset → list_at ps offset ≡ None
   no-list-behind from size [] offset h le = refl
   no-list-behind from size (p ∷ ps) offset h le =
       let within = from-le-fill (end_of p) size ps h.2 in

@@ -2,13 +2,13 @@ pub mod Chunks
 pub mod ChunkedVecs
 pub mod Entries
 pub mod StoredParts
-pub mod SlotOf
+pub mod ExtentOf
 pub mod Linked
 pub mod PartChanges
 pub mod PartDrops
 pub mod Writes
 pub mod Laid
-pub mod RoomLaws
+pub mod RegionLaws
 pub mod Gathers
 pub mod Fits
 pub mod Skipped

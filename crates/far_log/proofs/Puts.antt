@@ -48,12 +48,12 @@ module _ {X : Type 0} (old gap xs : List X) (at : ℕ) (filled : length gap ≡ 
   put-is = record {
     long = omega (arith, length-put);
     reach = omega (arith, length-put);
-    others = λ from n le apart.
+    others = λ from n le disjoint.
         let was = length-in old from n le in
         let is = length-in put_at from n (omega (arith, le, length-put)) in
         same_lists (take n (drop from put_at)) (take n (drop from old)) (omega (arith, was, is)) (λ k d lt.
         let within : k < n = omega (arith, lt, is) in
-        let same : get_or put_at (from + k) d ≡ get_or old (from + k) d = elim apart [
+        let same : get_or put_at (from + k) d ≡ get_or old (from + k) d = elim disjoint [
           | inl before ↦ at-front (from + k) d (omega (arith, before, within)) (omega (arith, le, within))
           | inr behind ↦ at-behind (from + k) d (omega (arith, behind))
         ] in
@@ -106,7 +106,7 @@ module _ {X : Type 0} (old xs : List X) (at : ℕ) where
       record {
         long = omega (arith, h.long, long);
         reach = h.reach;
-        others = λ from n le apart. h.others from n (omega (arith, le, long)) apart ∙ same-grown more from n le;
+        others = λ from n le disjoint. h.others from n (omega (arith, le, long)) disjoint ∙ same-grown more from n le;
         here = λ from n ends le. h.here from n ends (omega (arith, le, long)) ∙ ap (λ ys. ys ++ xs) (same-grown more from n le);
       }
 

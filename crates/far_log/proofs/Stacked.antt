@@ -4,9 +4,9 @@ use Rattle.std.specs.Prelude.{slice_set, sum_by, true}
 use Rattle.std.proofs.lemmas.Bool.{cases_lt}
 use Rattle.std.proofs.lemmas.List.{take-take, take_all, take-append-le, take-append-drop, append-nil, append_assoc, drop_all}
 use Rattle.std.proofs.lemmas.List.Sums.{sum_by-cons}
-use Rattle.far_log.specs.declared.slots.Slot.{Slot}
-use Rattle.far_log.specs.Room.{Part}
-use Rattle.far_log.specs.Changes.{written_over}
+use Rattle.far_log.specs.declared.extents.Extent.{Extent}
+use Rattle.far_log.specs.RegionState.{Part}
+use Rattle.far_log.specs.Effects.{written_over}
 use Rattle.far_log.specs.Stacking.{Stacked, stack_of, stacks_from, AreWithin, IsStacked, IsPut}
 use Rattle.far_log.proofs.Writes.{block_over, part-written}
 use Rattle.far_log.proofs.Laid.{written-before, written-none}
@@ -97,12 +97,12 @@ module _ {X : Type 0} (block : List X) (at : ℕ) (ws : List X) (there : at ≤ 
   over-part : (o n : ℕ) → n ≤ length block - o → take n (drop o (block_over block at ws)) ≡ written_over (take n (drop o block)) (at - o) (drop (o - at) ws)
   over-part o zero le = refl
   over-part o (suc n) le =
-      let s : Slot = record { offset = o; len = suc n; live = true } in
+      let s : Extent = record { offset = o; len = suc n; live = true } in
       ap (λ (p : Part X). p.list) (part-written block at ws s there (omega (arith, le)))
 
   over-other : (o n : ℕ) → n ≤ length block - o → (o + n ≤ at) ⊎ (at + length ws ≤ o) → take n (drop o (block_over block at ws)) ≡ take n (drop o block)
-  over-other o n le apart =
-      let stays : written_over (take n (drop o block)) (at - o) (drop (o - at) ws) ≡ take n (drop o block) = elim apart [
+  over-other o n le disjoint =
+      let stays : written_over (take n (drop o block)) (at - o) (drop (o - at) ws) ≡ take n (drop o block) = elim disjoint [
         | inl before ↦ written-before (take n (drop o block)) (drop (o - at) ws) (at - o) (omega (arith, before, length-take n (drop o block)))
         | inr behind ↦ written-none (take n (drop o block)) ws (at - o) (o - at) (omega (arith, behind)) (omega (arith, behind))
       ] in

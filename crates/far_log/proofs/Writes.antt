@@ -4,13 +4,13 @@ use Rattle.std.specs.Prelude.{filter, sum_by, slice_range, IsSome, IsSomeAnd, Op
 use Rattle.std.proofs.lemmas.Bool.{cases_lt}
 use Rattle.std.proofs.lemmas.List.{get_or_append_left, get_or-append_right, same_lists, drop-take, take-take, take-append-le, drop-drop}
 use Rattle.std.proofs.lemmas.List.Sums.{sum_by-cons}
-use Rattle.far_log.specs.declared.slots.Slot.{Slot}
-use Rattle.far_log.specs.Room.{Part, SegmentRoom, list_at}
-use Rattle.far_log.specs.Changes.{written, written_over, overwritten}
-use Rattle.far_log.specs.Storage.{AreLined, slots_end, part_in, parts_in, IsStored}
+use Rattle.far_log.specs.declared.extents.Extent.{Extent}
+use Rattle.far_log.specs.RegionState.{Part, SegmentState, list_at}
+use Rattle.far_log.specs.Effects.{written, written_over, overwritten}
+use Rattle.far_log.specs.Storage.{AreAdjacent, extents_end, part_in, parts_in, IsStored}
 use Rattle.far_log.proofs.StoredParts.{head-within, length-part}
 use Rattle.far_log.proofs.PartChanges.{shown}
-use Rattle.far_log.proofs.SlotOf.{some-slot, slot-within}
+use Rattle.far_log.proofs.ExtentOf.{some-extent, extent-within}
 
 module _ {X : Type 0} where
   -- elements of a list whose front is followed by another list
@@ -92,7 +92,7 @@ module _ {X : Type 0} where
         ]
 
   -- a part after a write to the block
-  pub part-written : (items : List X) (from : ℕ) (ws : List X) (s : Slot) → from ≤ length items → s.offset + s.len ≤ length items → part_in (block_over items from ws) s ≡ overwritten from ws (part_in items s)
+  pub part-written : (items : List X) (from : ℕ) (ws : List X) (s : Extent) → from ≤ length items → s.offset + s.len ≤ length items → part_in (block_over items from ws) s ≡ overwritten from ws (part_in items s)
   part-written items from ws s le within =
       let old = length-part items s within in
       let new = length-part (block_over items from ws) s (omega (arith, length-block_over items from ws le)) in
@@ -101,7 +101,7 @@ module _ {X : Type 0} where
       (omega (arith, old, new, length-written_over (take s.len (drop s.offset items)) (from - s.offset) (drop (s.offset - from) ws)))
       (λ k d lt. same-at items from ws s.offset s.len k d le within (omega (arith, new))))
 
-  pub parts-written : (items : List X) (at : ℕ) (ws : List X) (from : ℕ) (ss : List Slot) → at ≤ length items → AreLined from ss → slots_end from ss ≤ length items
+  pub parts-written : (items : List X) (at : ℕ) (ws : List X) (from : ℕ) (ss : List Extent) → at ≤ length items → AreAdjacent from ss → extents_end from ss ≤ length items
       → parts_in (block_over items at ws) ss ≡ map (overwritten at ws) (parts_in items ss)
   parts-written items at ws from [] le h end = refl
   parts-written items at ws from (s ∷ ss) le h end =
@@ -118,7 +118,7 @@ module _ {X : Type 0} where
       ap (λ ys. take (length items) (take at items ++ (ws ++ ys))) (sym (drop-drop (length ws) at items))
       ∙ sym (take-append-le (length items) (over items at ws) (drop (length (over items at ws)) items) (over-long items at ws le))
 
-  parts-over : (items : List X) (at : ℕ) (ws : List X) (ss : List Slot) → at ≤ length items → AreLined 0 ss → slots_end 0 ss ≤ length items → parts_in (written_over items at ws) ss ≡ map (overwritten at ws) (parts_in items ss)
+  parts-over : (items : List X) (at : ℕ) (ws : List X) (ss : List Extent) → at ≤ length items → AreAdjacent 0 ss → extents_end 0 ss ≤ length items → parts_in (written_over items at ws) ss ≡ map (overwritten at ws) (parts_in items ss)
   parts-over items at ws ss le h end = ap (λ ys. parts_in ys ss) (over-is items at ws le) ∙ parts-written items at ws 0 ss le h end
 
   -- a range of a part, read from the block
@@ -130,20 +130,20 @@ module _ {X : Type 0} where
       ∙ take-take (to - from) (n - from) (drop from (drop o items)) (omega (arith, length-take n (drop o items)))
       ∙ ap (take (to - from)) (drop-drop from o items)
 
-  pub record IsRange (items : List X) (ss : List Slot) (o from to : ℕ) : Type 0 where
+  pub record IsRange (items : List X) (ss : List Extent) (o from to : ℕ) : Type 0 where
     pub within : o + to ≤ length items
     pub value : IsSomeAnd (list_at (parts_in items ss) o) (λ list. take (to - from) (drop (o + from) items) ≡ slice_range list from to)
 
-  pub range-of : (items : List X) (ss : List Slot) (o from to : ℕ) → AreLined 0 ss → slots_end 0 ss ≤ length items → from ≤ to → IsSomeAnd (list_at (parts_in items ss) o) (λ list. to ≤ length list) → IsRange items ss o from to
+  pub range-of : (items : List X) (ss : List Extent) (o from to : ℕ) → AreAdjacent 0 ss → extents_end 0 ss ≤ length items → from ≤ to → IsSomeAnd (list_at (parts_in items ss) o) (λ list. to ≤ length list) → IsRange items ss o from to
   range-of items ss o from to h end le some =
-      let found = some-slot items ss o (some-from (λ (list : List X). to ≤ length list) (list_at (parts_in items ss) o) some) in
-      let s : Slot = found.1.0 in
+      let found = some-extent items ss o (some-from (λ (list : List X). to ≤ length list) (list_at (parts_in items ss) o) some) in
+      let s : Extent = found.1.0 in
       let shows = found.1.1.shows in
       let long : to ≤ length (take s.len (drop s.offset items)) = rw shows at some in
       let value : take (to - from) (drop (s.offset + from) items) ≡ slice_range (take s.len (drop s.offset items)) from to = sym (range-at items s.offset s.len from to le long) in
       let begins : s.offset ≡ o = found.1.1.begins in
       record {
-        within = omega (arith, slot-within 0 ss found.0 s h found.1.1.here, long, length-take s.len (drop s.offset items), begins);
+        within = omega (arith, extent-within 0 ss found.0 s h found.1.1.here, long, length-take s.len (drop s.offset items), begins);
         value = rw shows (ap (λ n. take (to - from) (drop (n + from) items)) (sym begins) ∙ value);
       }
     where
@@ -159,19 +159,19 @@ module _ {X : Type 0} where
       omega (arith, same, sum-overwritten at ws ps, sum_by-cons (λ (q : Part X). length q.list) (overwritten at ws p) (map (overwritten at ws) ps), sum_by-cons (λ (q : Part X). length q.list) p ps)
 
   -- a stack of which a range was lent
-  pub stored-written : (items : List X) (ss : List Slot) (used size at : ℕ) (ws : List X) → IsStored items ss used size → at ≤ length items → IsStored (written_over items at ws) ss used size
+  pub stored-written : (items : List X) (ss : List Extent) (used size at : ℕ) (ws : List X) → IsStored items ss used size → at ≤ length items → IsStored (written_over items at ws) ss used size
   stored-written items ss used size at ws h le =
       let long = length-written_over items at ws in
-      let parts = parts-over items at ws ss le h.lined (omega (arith, h.end)) in
+      let parts = parts-over items at ws ss le h.adjacent (omega (arith, h.end)) in
       record {
-        lined = h.lined;
+        adjacent = h.adjacent;
         end = omega (arith, long, h.end);
         live = h.live;
         sum = omega (arith, h.sum, ap (sum_by (λ (p : Part X). length p.list)) parts, sum-overwritten at ws (parts_in items ss));
-        room = omega (arith, h.room, long);
+        enough = omega (arith, h.enough, long);
         small = h.small;
       }
 
-  pub shown-written : (items : List X) (ss : List Slot) (used size at : ℕ) (ws : List X) → IsStored items ss used size → at ≤ length items → shown (written_over items at ws) ss size ≡ written (shown items ss size) at ws
+  pub shown-written : (items : List X) (ss : List Extent) (used size at : ℕ) (ws : List X) → IsStored items ss used size → at ≤ length items → shown (written_over items at ws) ss size ≡ written (shown items ss size) at ws
   shown-written items ss used size at ws h le =
-      ap (λ ps. let r : SegmentRoom X = record { parts = ps; size = size } in r) (parts-over items at ws ss le h.lined (omega (arith, h.end)))
+      ap (λ ps. let r : SegmentState X = record { parts = ps; size = size } in r) (parts-over items at ws ss le h.adjacent (omega (arith, h.end)))

@@ -1,21 +1,22 @@
 -- A list that is kept in chunks, each with twice the room of the one before it.
+-- Internal: no public contract cites it.
 use Rattle.std.specs.Prelude.{◌≡◌, ℕ, zero, suc, ◌+◌, ◌≤◌, ◌<◌, ◌^◌, List, [], ◌∷◌, ◌++◌, length, vec_capacity}
 use Rattle.std.specs.declared.vec.Vec.{Vec}
 
--- how many elements the chunk with this number takes, where the first takes `room`
-abbrev pub room_at : ℕ → ℕ → ℕ
-room_at room zero = room
-room_at room (suc number) = room_at (room + room) number
+-- how many elements the chunk with this number takes, where the first takes `size`
+abbrev pub capacity_at : ℕ → ℕ → ℕ
+capacity_at size zero = size
+capacity_at size (suc number) = capacity_at (size + size) number
 
 -- how many elements lie in front of that chunk
 abbrev pub start_at : ℕ → ℕ → ℕ
-start_at room zero = 0
-start_at room (suc number) = room + start_at (room + room) number
+start_at size zero = 0
+start_at size (suc number) = size + start_at (size + size) number
 
 -- the element with this index lies in this chunk, at this place in it; the first chunk takes 64
 pub record IsPlaceOf (index chunk at : ℕ) : Type 0 where
   pub index_is : start_at 64 chunk + at ≡ index
-  pub within : at < room_at 64 chunk
+  pub within : at < capacity_at 64 chunk
 
 module _ {X Z : Type 0} where
   -- the elements of chunks, one chunk behind the other
@@ -23,11 +24,11 @@ module _ {X Z : Type 0} where
   joined [] = []
   joined (c ∷ cs) = c.items ++ joined cs
 
-  -- each chunk but the last is full, and the last has its room reserved; the first takes `room`
+  -- each chunk but the last is full, and the last has its room reserved; the first takes `size`
   abbrev pub AreChunks : ℕ → List (Vec X Z) → Type 0
-  AreChunks room [] = Unit {0}
-  AreChunks room (c ∷ []) = (length c.items ≤ room) × (room ≤ vec_capacity c)
-  AreChunks room (c ∷ (d ∷ cs)) = (length c.items ≡ room) × AreChunks (room + room) (d ∷ cs)
+  AreChunks size [] = Unit {0}
+  AreChunks size (c ∷ []) = (length c.items ≤ size) × (size ≤ vec_capacity c)
+  AreChunks size (c ∷ (d ∷ cs)) = (length c.items ≡ size) × AreChunks (size + size) (d ∷ cs)
 
   -- the first `len` elements of the chunks are the list; what lies behind them is from before a cut
   pub record IsChunked (cs : List (Vec X Z)) (len : ℕ) : Type 0 where

@@ -1,7 +1,8 @@
 -- Several lists that find room, seen segment by segment.
+-- Internal: no public contract cites it.
 use Rattle.std.specs.Prelude.{ℕ, ◌-◌, ◌==◌, nat_le, if◌then◌else◌, Bool, true, false, List, [], ◌∷◌, slice_set, slice_index}
 use Rattle.std.specs.Option.{option_map_or}
-use Rattle.far_log.specs.Room.{lowest_for}
+use Rattle.far_log.specs.RegionState.{lowest_for}
 
 -- the lengths that wait once a segment has taken those that it can, in their order: each that it took is then 0
 abbrev pub once_filled : ℕ → List ℕ → List ℕ

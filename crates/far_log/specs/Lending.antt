@@ -2,8 +2,8 @@
 use Rattle.std.specs.Prelude.{ℕ, List, ◌++◌, length, take, drop}
 use Rattle.std.specs.Borrow.{Lends, Fml, RattleType, MutBor, Array}
 use Rattle.std.specs.Vec.{with_items}
-use Rattle.far_log.specs.Room.{Room}
-use Rattle.far_log.specs.Changes.{written_over, written_at}
+use Rattle.far_log.specs.RegionState.{RegionState}
+use Rattle.far_log.specs.Effects.{written_over, written_at}
 use Rattle.far_log.specs.Stacking.{Stacked, stack_of, with_stack}
 use Rattle.far_pointer.specs.declared.pointer.At.{At}
 use Rattle.far_log.specs.declared.block.Block.{Block}
@@ -30,7 +30,7 @@ module _ (T : RattleType) (s : MutBor (Stacked T.Denot)) where
   abbrev pub lends_stack : ℕ → ℕ → MutBor (List T.Denot) → Fml
   lends_stack number from r = Lends (stacks.the_row T) (Array T 0) s r (λ ws. with_stack s.now number (written_over (stack_of s.now number) from ws))
 
-module _ (T : RattleType) (s : MutBor (Room T.Denot)) where
+module _ (T : RattleType) (s : MutBor (RegionState T.Denot)) where
   -- internal: what the borrow r leaves is written over the elements from the i-th behind a location on
   abbrev pub lends_range : At → ℕ → MutBor (List T.Denot) → Fml
   lends_range at i r = Lends (segments.the_row T) (Array T 0) s r (written_at s.now at i)

@@ -1,5 +1,5 @@
-pub mod Room
-pub mod Changes
+pub mod RegionState
+pub mod Effects
 pub mod Storage
 pub mod Lending
 pub mod Fitting

@@ -1,18 +1,19 @@
--- internal: what a region knows of its segments, so that a search for space need not look at them.
+-- What a region knows of its segments, so that a search for space need not look at them.
+-- Internal: no public contract cites it.
 use Rattle.std.specs.Prelude.{◌≡◌, ◌≢◌, ℕ, ◌<◌, ◌≤◌}
 use Rattle.far_log.specs.declared.skip.Skip.{Skip}
-use Rattle.far_log.specs.Room.{Room, space_in, segment_of, IsRegion}
+use Rattle.far_log.specs.RegionState.{RegionState, space_in, segment_of, IsRegion}
 
 module _ {X : Type 0} where
   -- no segment below `next`, but `first`, has the space for `len` elements
-  pub record IsSkip (room : Room X) (skip : Skip) : Type 0 where
+  pub record IsSkip (state : RegionState X) (skip : Skip) : Type 0 where
     pub ordered : skip.first ≤ skip.next
-    pub full : (k : ℕ) → k < skip.next → k ≢ skip.first → space_in (segment_of room k) < skip.len
+    pub full : (k : ℕ) → k < skip.next → k ≢ skip.first → space_in (segment_of state k) < skip.len
 
   -- the segments, and what a search skips of them
-  pub record IsSearched (room : Room X) (skip : Skip) : Type 0 where
-    pub region : IsRegion room
-    pub skipped : IsSkip room skip
+  pub record IsSearched (state : RegionState X) (skip : Skip) : Type 0 where
+    pub region : IsRegion state
+    pub skipped : IsSkip state skip
 
 -- what is skipped once the segment with this number has this space: what was skipped before, or this segment without the
 -- space

@@ -1,4 +1,5 @@
--- internal: stacks that share one block. Each has a stretch of it for so many elements, one behind the other.
+-- Stacks that share one block. Each has a stretch of it for so many elements, one behind the other.
+-- Internal: no public contract cites it.
 use Rattle.std.specs.Prelude.{◌≡◌, ℕ, ◌+◌, ◌-◌, ◌*◌, ◌≤◌, ◌<◌, ◌^◌, ◌⊎◌, List, [], ◌∷◌, ◌++◌, length, take, drop, slice_set, slice_index_or}
 
 -- the lists of some stacks, and how many elements each may have

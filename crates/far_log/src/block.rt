@@ -10,10 +10,10 @@ pub struct Block<T> {
 }
 
 impl<T: Copy + Drop> Block<T> {
-    /// Writes a list at a place. A gap between the list's end and the place is filled with the first element. Takes no memory.
+    /// Writes a list at a place. A gap between the list's end and the place is filled with the first element. Allocates nothing.
     pub fn write_at(&mut self, at: usize, list: &[T])
         requires some { 0 < length list.now }
-        requires room { at + length list.now ≤ vec_capacity self.old.items }
+        requires enough { at + length list.now ≤ vec_capacity self.old.items }
         ensures put { IsPut self.old.items.items self.new.items.items at list.now }
         ensures capacity { vec_capacity self.old.items ≤ vec_capacity self.new.items }
     {
@@ -45,11 +45,11 @@ impl<T: Copy + Drop> Block<T> {
         };
     }
 
-    /// Copies a list of the block to a place. Takes no memory.
+    /// Copies a list of the block to a place. Allocates nothing.
     pub fn copy_to(&mut self, from: usize, len: usize, to: usize)
         requires some { 0 < len }
         requires within { from + len ≤ length self.old.items.items }
-        requires room { to + len ≤ vec_capacity self.old.items }
+        requires enough { to + len ≤ vec_capacity self.old.items }
         ensures put { IsPut self.old.items.items self.new.items.items to (take len (drop from self.old.items.items)) }
         ensures capacity { vec_capacity self.old.items ≤ vec_capacity self.new.items }
     {
@@ -88,7 +88,7 @@ impl<T> Block<T> {
     pub fn lend(&mut self, begin: usize, end: usize, most: usize) -> &mut [T]
         requires ordered { begin ≤ end }
         requires within { end ≤ vec_len self.old.items }
-        requires room { end - begin ≤ most }
+        requires enough { end - begin ≤ most }
         ensures* writes_back { sem 𝓛 (lends_bounded T.row self.entry begin most result) }
         ensures value { result.now ≡ slice_range self.old.items.items begin end }
     {

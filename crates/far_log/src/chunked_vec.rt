@@ -1,6 +1,6 @@
 // A list in chunks that double.
 ghost use Rattle.std.specs.Prelude.{◌≡◌, ℕ, ◌+◌, ◌<◌, ◌≤◌, ◌^◌, List, [], ◌∷◌, ◌++◌, length, take, drop, vec_len, slice_get, slice_set, Some, OnOk, OnErr, IfErr};
-ghost use Rattle.far_log.specs.Chunking.{room_at, start_at, joined, AreChunks, IsPlaceOf};
+ghost use Rattle.far_log.specs.Chunking.{capacity_at, start_at, joined, AreChunks, IsPlaceOf};
 
 use far_types::Refusal;
 use std::alloc::Global;
@@ -19,9 +19,9 @@ struct Place {
 }
 
 // How many elements a chunk takes.
-fn room_of(chunk: usize) -> usize
+fn chunk_capacity(chunk: usize) -> usize
     requires { chunk ≤ 26 }
-    ensures room { result ≡ room_at 64 chunk }
+    ensures size { result ≡ capacity_at 64 chunk }
     ensures start { result ≡ start_at 64 chunk + 64 }
     ensures small { result ≤ 2 ^ 32 }
 {
@@ -39,7 +39,7 @@ fn place_of(index: usize) -> Place
     let chunk = sum.ilog2() as usize - FIRST_LEVEL;
     Place {
         chunk,
-        at: sum - room_of(chunk),
+        at: sum - chunk_capacity(chunk),
     }
 }
 
@@ -47,7 +47,7 @@ fn place_of(index: usize) -> Place
 pub fn chunk_of(index: usize) -> usize
     requires { index ≤ 2 ^ 32 }
     ensures from { start_at 64 result ≤ index }
-    ensures to { index < start_at 64 result + room_at 64 result }
+    ensures to { index < start_at 64 result + capacity_at 64 result }
     ensures few { result ≤ 26 }
 {
     // A short list has one chunk, and this choice spares it the logarithm.
@@ -64,7 +64,7 @@ pub fn start_of(chunk: usize) -> usize
     ensures start { result ≡ start_at 64 chunk }
     ensures small { result < 2 ^ 32 }
 {
-    room_of(chunk) - FIRST
+    chunk_capacity(chunk) - FIRST
 }
 
 // Makes a chunk, unless it is there. Refused, the chunks are as before.
@@ -80,7 +80,7 @@ fn make_chunk<T: Drop>(chunks: &mut Vec<Vec<T>>, chunk: usize) -> Result<(), Ref
 {
     if chunk == chunks.len() {
         let alloc = *chunks.allocator();
-        chunks.push(Vec::with_capacity(alloc, room_of(chunk))?)?;
+        chunks.push(Vec::with_capacity(alloc, chunk_capacity(chunk))?)?;
     }
     Ok(())
 }
@@ -108,7 +108,7 @@ impl<T> Model for ChunkedVec<T> {
 }
 
 impl<T: Copy + Drop> ChunkedVec<T> {
-    /// An empty list, which takes no memory.
+    /// An empty list, which allocates nothing.
     pub fn new(alloc: Global) -> ChunkedVec<T>
         ensures { result ≡ [] }
     {
@@ -140,7 +140,7 @@ impl<T: Copy + Drop> ChunkedVec<T> {
     pub fn chunk(&self, chunk: usize) -> &[T]
         requires few { chunk ≤ 26 }
         requires there { start_at 64 chunk < length self.now }
-        ensures { result.now ≡ take (room_at 64 chunk) (drop (start_at 64 chunk) self.now) }
+        ensures { result.now ≡ take (capacity_at 64 chunk) (drop (start_at 64 chunk) self.now) }
     {
         let left = self.len - start_of(chunk);
         let chunk = &self.chunks[chunk];

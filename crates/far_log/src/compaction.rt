@@ -1,7 +1,7 @@
 // The move of a segment's parts into another segment.
 ghost use Rattle.std.specs.Prelude.{◌≡◌, ◌≢◌, ◌<◌, ◌≤◌, [], length, map, OnOk, OnErr, IfOk, IfErr};
-ghost use Rattle.far_log.specs.Room.{segment_of, IsLaid};
-ghost use Rattle.far_log.specs.Changes.{gathered, compacted, with_segment, IsOrder};
+ghost use Rattle.far_log.specs.RegionState.{segment_of, IsLayout};
+ghost use Rattle.far_log.specs.Effects.{gathered, compacted, with_segment, IsOrder};
 
 use super::segments::Segments;
 use far_pointer::At;
@@ -32,7 +32,7 @@ impl<T: Copy + Drop> Segments<T> {
         requires other { to ≢ from }
         requires empty { (segment_of self.old to).parts ≡ [] }
         requires size { (segment_of self.old from).size ≤ (segment_of self.old to).size }
-        requires laid { IsLaid (segment_of self.old from) }
+        requires laid { IsLayout (segment_of self.old from) }
         requires order { IsOrder (segment_of self.old from).parts order.now }
         ensures gathered { OnOk result (self.new ≡ with_segment self.old to (record (segment_of self.old to) { parts = gathered (segment_of self.old from).parts order.now })) }
         ensures offsets { IfOk result (λ offsets. offsets.items ≡ map (λ p. p.offset) (gathered (segment_of self.old from).parts order.now)) }
@@ -65,7 +65,7 @@ impl<T: Copy + Drop> Segments<T> {
         requires other { to ≢ from }
         requires empty { (segment_of self.old to).parts ≡ [] }
         requires size { (segment_of self.old from).size ≤ (segment_of self.old to).size }
-        requires laid { IsLaid (segment_of self.old from) }
+        requires laid { IsLayout (segment_of self.old from) }
         requires order { IsOrder (segment_of self.old from).parts order.now }
         ensures moved { OnOk result (self.new ≡ compacted self.old from to order.now) }
         ensures offsets { IfOk result (λ offsets. offsets.items ≡ map (λ p. p.offset) (gathered (segment_of self.old from).parts order.now)) }

@@ -6,18 +6,18 @@
 //! between parts is not used again until `compact` moves a segment's parts into an empty one.
 //!
 //! Contracts see a region as the list of its segments, each as its parts (where a part begins, and its elements) and its
-//! size: `specs/Room.antt`. How it changes is in `specs/Changes.antt`.
+//! size: `specs/RegionState.antt`. How it changes is in `specs/Effects.antt`.
 
 mod block;
 mod chunked_vec;
 mod compaction;
-mod entry;
+mod extents;
 mod fitting;
 mod links;
+mod part_entry;
 mod region;
 mod segments;
 mod skip;
-mod slots;
 mod stacks;
 mod table;
 

@@ -1,25 +1,25 @@
-// How the live slots of a table name one another, so that the last part is found at once when the one behind it goes.
+// How the live extents of a table name one another, so that the last part is found at once when the one behind it goes.
 ghost use Rattle.std.specs.Prelude.{◌≡◌, ◌+◌, ◌<◌, ◌≤◌, ◌^◌, ◌++◌, [], ◌∷◌, true, List, length, take, filter, slice_get, IsSomeAnd, OnOk, OnErr, IfErr};
-ghost use Rattle.far_log.specs.Storage.{AreLinked, EndsLive, emptied_at, with_behind, with_before, slots_of, links_of};
+ghost use Rattle.far_log.specs.Storage.{AreLinked, EndsLive, emptied_at, with_behind, with_before, extents_of, links_of};
 
 use super::chunked_vec::ChunkedVec;
-use super::entry::Entry;
-use super::slots::Slot;
+use super::extents::Extent;
+use super::part_entry::PartEntry;
 use far_types::Refusal;
 
-/// The nearest live slots of a live one. Those of another slot mean nothing.
+/// The nearest live extents of a live one. Those of another extent mean nothing.
 #[derive(Clone, Copy)]
 pub struct Link {
-    /// How many slots there are up to the live one before it; 0 where there is none.
+    /// How many extents there are up to the live one before it; 0 if there is none.
     pub before: u32,
     /// The number of the live one behind it, where there is one.
     pub behind: u32,
 }
 
-// Writes which live slot is behind a slot.
-fn set_behind(table: &mut ChunkedVec<Entry>, number: usize, behind: u32)
+// Writes which live extent is behind an extent.
+fn set_behind(table: &mut ChunkedVec<PartEntry>, number: usize, behind: u32)
     requires { number < length table.old }
-    ensures slots { slots_of table.new ≡ slots_of table.old }
+    ensures extents { extents_of table.new ≡ extents_of table.old }
     ensures links { links_of table.new ≡ with_behind (links_of table.old) number behind }
 {
     let entry = table.get(number);
@@ -27,13 +27,13 @@ fn set_behind(table: &mut ChunkedVec<Entry>, number: usize, behind: u32)
         behind,
         ..entry.link
     };
-    table.set(number, Entry { link, ..entry });
+    table.set(number, PartEntry { link, ..entry });
 }
 
-// Writes how many slots there are up to the live one before a slot.
-fn set_before(table: &mut ChunkedVec<Entry>, number: usize, before: u32)
+// Writes how many extents there are up to the live one before an extent.
+fn set_before(table: &mut ChunkedVec<PartEntry>, number: usize, before: u32)
     requires { number < length table.old }
-    ensures slots { slots_of table.new ≡ slots_of table.old }
+    ensures extents { extents_of table.new ≡ extents_of table.old }
     ensures links { links_of table.new ≡ with_before (links_of table.old) number before }
 {
     let entry = table.get(number);
@@ -41,18 +41,18 @@ fn set_before(table: &mut ChunkedVec<Entry>, number: usize, before: u32)
         before,
         ..entry.link
     };
-    table.set(number, Entry { link, ..entry });
+    table.set(number, PartEntry { link, ..entry });
 }
 
-/// Puts a live slot behind the last, which is live where there is one, and links the two. Refused with `NoMemory` (1) alone;
+/// Puts a live extent behind the last, which is live where there is one, and links the two. Refused with `NoMemory` (1) alone;
 /// then the table is as before.
-pub fn push_linked(table: &mut ChunkedVec<Entry>, slot: Slot) -> Result<(), Refusal>
-    requires linked { AreLinked 0 0 0 (slots_of table.old) (links_of table.old) }
-    requires ends { EndsLive (slots_of table.old) }
+pub fn push_linked(table: &mut ChunkedVec<PartEntry>, extent: Extent) -> Result<(), Refusal>
+    requires linked { AreLinked 0 0 0 (extents_of table.old) (links_of table.old) }
+    requires ends { EndsLive (extents_of table.old) }
     requires few { length table.old < 2 ^ 32 }
-    requires live { slot.live ≡ true }
-    ensures slots { OnOk result (slots_of table.new ≡ slots_of table.old ++ slot ∷ []) }
-    ensures linked { OnOk result (AreLinked 0 0 0 (slots_of table.new) (links_of table.new)) }
+    requires live { extent.live ≡ true }
+    ensures extents { OnOk result (extents_of table.new ≡ extents_of table.old ++ extent ∷ []) }
+    ensures linked { OnOk result (AreLinked 0 0 0 (extents_of table.new) (links_of table.new)) }
     ensures memory { IfErr result (λ e. e ≡ Refusal.NoMemory) }
     ensures err { OnErr result (table.new ≡ table.old) }
 {
@@ -61,25 +61,25 @@ pub fn push_linked(table: &mut ChunkedVec<Entry>, slot: Slot) -> Result<(), Refu
         before: number as u32,
         behind: 0,
     };
-    table.push(Entry { slot, link })?;
+    table.push(PartEntry { extent, link })?;
     if number > 0 {
         set_behind(table, number - 1, number as u32);
     }
     Ok(())
 }
 
-/// Takes a live slot out of the links, and answers how many slots are left once those behind the last part are taken
-/// off. Looks at the slot's neighbours alone.
-pub fn unlink(table: &mut ChunkedVec<Entry>, number: usize) -> usize
-    requires linked { AreLinked 0 0 0 (slots_of table.old) (links_of table.old) }
-    requires ends { EndsLive (slots_of table.old) }
+/// Takes a live extent out of the links, and answers how many extents are left once those behind the last part are taken
+/// off. Looks at the extent's neighbours alone.
+pub fn unlink(table: &mut ChunkedVec<PartEntry>, number: usize) -> usize
+    requires linked { AreLinked 0 0 0 (extents_of table.old) (links_of table.old) }
+    requires ends { EndsLive (extents_of table.old) }
     requires few { length table.old < 2 ^ 32 }
-    requires there { IsSomeAnd (slice_get (slots_of table.old) number) (λ s. s.live ≡ true) }
-    ensures slots { slots_of table.new ≡ slots_of table.old }
+    requires there { IsSomeAnd (slice_get (extents_of table.old) number) (λ s. s.live ≡ true) }
+    ensures extents { extents_of table.new ≡ extents_of table.old }
     ensures within { result ≤ length table.old }
-    ensures kept { filter (λ s. s.live) (take result (emptied_at (slots_of table.old) number)) ≡ filter (λ s. s.live) (emptied_at (slots_of table.old) number) }
-    ensures last { EndsLive (take result (emptied_at (slots_of table.old) number)) }
-    ensures linked { AreLinked 0 0 0 (take result (emptied_at (slots_of table.old) number)) (take result (links_of table.new)) }
+    ensures kept { filter (λ s. s.live) (take result (emptied_at (extents_of table.old) number)) ≡ filter (λ s. s.live) (emptied_at (extents_of table.old) number) }
+    ensures last { EndsLive (take result (emptied_at (extents_of table.old) number)) }
+    ensures linked { AreLinked 0 0 0 (take result (emptied_at (extents_of table.old) number)) (take result (links_of table.new)) }
 {
     let count = table.len();
     let Link { before, behind } = table.get(number).link;

@@ -1,9 +1,9 @@
 // The local region.
 ghost use Rattle.std.specs.Prelude.{◌≡◌, ◌≢◌, ℕ, ◌+◌, ◌-◌, ◌<◌, ◌≤◌, ◌^◌, ◌↔◌, ◌⊎◌, List, [], ◌++◌, length, take, drop, replicate, true, false, Some, IsSome, IsSomeAnd, IsTrue, IfOk, IfErr, IfSome, OnOk, OnErr, IfNone, IsErrOf, slice_index, slice_range, slice_set, option_map, All};
 ghost use Rattle.std.specs.Borrow.{sem};
-ghost use Rattle.far_log.specs.Room.{part_of, used_of, spaces_of, space_of, capacity_of, fits_in, target_of, fit_in_order, segment_of, IsRegion};
+ghost use Rattle.far_log.specs.RegionState.{part_of, used_of, spaces_of, space_of, capacity_of, fits_in, target_of, fit_in_order, segment_of, IsRegion};
 ghost use Rattle.far_log.specs.Skipping.{IsSkip};
-ghost use Rattle.far_log.specs.Changes.{ChangesOnly, WritesPart, written_at, IsPlaced, IsEmptyOther, HasNoEmptyOther, IsOrder, Compacts, with_segment, without_part};
+ghost use Rattle.far_log.specs.Effects.{ChangesOnly, WritesPart, written_at, IsPlaced, IsEmptyOther, HasNoEmptyOther, IsOrder, Compacts, with_segment, without_part};
 
 use super::compaction::Moved;
 use super::fitting::{fill, none_waits};
@@ -17,7 +17,7 @@ use std::marker::Model;
 /// Parts of elements in segments, after the log-structured local memory of AIFM (Ruan et al., OSDI 2020).
 ///
 /// A part is a list of elements that is not empty and lies in one segment, in one piece. A segment's fill is where its
-/// last part ends, 0 where it has none: it falls when the last part is taken away. A location says the segment and where
+/// last part ends, 0 if it has none: it falls when the last part is taken away. A location says the segment and where
 /// in it the part begins, counted in elements.
 #[derive(Drop)]
 pub struct Region<T> {
@@ -26,9 +26,9 @@ pub struct Region<T> {
 }
 
 impl<T> Model for Region<T> {
-    ghost use Rattle.far_log.specs.Room.{Room};
+    ghost use Rattle.far_log.specs.RegionState.{RegionState};
 
-    ghost Value = { Room T };
+    ghost Value = { RegionState T };
 
     ghost use Rattle.far_log.specs.Skipping.{IsSearched};
 
@@ -40,8 +40,8 @@ impl<T> Model for Region<T> {
 impl<T: Copy + Drop> Region<T> {
     /// A region of so many segments, each for `size` elements, without parts.
     ///
-    /// All memory for elements is taken here. It is reserved and not written, so that it costs what is used of it.
-    /// Refused with `NoMemory` (1) alone.
+    /// All memory for elements is allocated here, as one block, and none of it is written. A later `place` writes up to its
+    /// own list, gaps in front of that included. Refused with `NoMemory` (1) alone.
     pub fn new(alloc: Global, segments: u32, size: u32) -> Result<Region<T>, Refusal>
         requires { segments ≤ 65536 }
         ensures empty { IfOk result (λ region. region ≡ replicate segments record { parts = []; size = size }) }
@@ -79,7 +79,7 @@ impl<T: Copy + Drop> Region<T> {
         None
     }
 
-    /// Whether some segment has the space for a list of `len` elements behind its fill. Takes no memory.
+    /// Whether some segment has the space for a list of `len` elements behind its fill. Allocates nothing.
     pub fn fits(&self, len: usize) -> bool
         ensures fits { result ≡ fits_in self.now len }
         ensures sound { IsRegion self.now }
@@ -97,8 +97,8 @@ impl<T: Copy + Drop> Region<T> {
         requires some { All (λ len. 0 < len) lens.now }
         ensures { result ≡ fit_in_order (spaces_of self.now) lens.now }
     {
-        let mut room = [0; 16];
-        let waiting = &mut room[..lens.len()];
+        let mut lengths = [0; 16];
+        let waiting = &mut lengths[..lens.len()];
         waiting.copy_from_slice(lens);
         let skip = self.skip.for_lists(lens);
         let mut number = skip.first;
@@ -112,14 +112,14 @@ impl<T: Copy + Drop> Region<T> {
         none_waits(waiting)
     }
 
-    /// The lengths of all parts together, in elements. Takes no memory.
+    /// The lengths of all parts together, in elements. Allocates nothing.
     pub fn used(&self) -> u64
         ensures { result ≡ used_of self.now }
     {
         self.segments.used()
     }
 
-    /// How many elements the segments take behind their fills, all together. Takes no memory.
+    /// How many elements the segments take behind their fills, all together. Allocates nothing.
     ///
     /// A list needs its space in one segment, so one that is no longer than this need not fit.
     pub fn space(&self) -> usize
@@ -128,14 +128,14 @@ impl<T: Copy + Drop> Region<T> {
         self.capacity() - self.segments.filled()
     }
 
-    /// For how many elements all segments are made together. Takes no memory.
+    /// For how many elements all segments are made together. Allocates nothing.
     pub fn capacity(&self) -> usize
         ensures { result ≡ capacity_of self.now }
     {
         self.segments.len() * self.size() as usize
     }
 
-    /// For how many elements each segment is made; 0 where there is no segment. Takes no memory.
+    /// For how many elements each segment is made; 0 if there is no segment. Allocates nothing.
     pub fn size(&self) -> u32
         ensures size { result ≡ (segment_of self.now 0).size }
         ensures sound { IsRegion self.now }
@@ -146,14 +146,14 @@ impl<T: Copy + Drop> Region<T> {
         self.segments.size()
     }
 
-    /// Whether a part begins at a location. Takes no memory.
+    /// Whether a part begins at a location. Allocates nothing.
     pub fn holds(&self, at: At) -> bool
         ensures { IsTrue result ↔ IsSome (part_of self.now at) }
     {
         (at.segment as usize) < self.segments.len() && self.segments.holds(at)
     }
 
-    /// The part at a location, lent in place. Takes no memory.
+    /// The part at a location, lent in place. Allocates nothing.
     pub fn part(&self, at: At) -> &[T]
         requires { IsSome (part_of self.now at) }
         ensures { part_of self.now at ≡ Some result.now }
@@ -161,8 +161,8 @@ impl<T: Copy + Drop> Region<T> {
         self.segments.part(at)
     }
 
-    /// The part at a location, which has so many elements, lent in place. Takes no memory, and looks at nothing but the
-    /// segment's block: the length tells where the part ends.
+    /// The part at a location, which has so many elements, lent in place. Allocates nothing, and looks at no segment's table:
+    /// the length tells where the part ends.
     pub fn part_long(&self, at: At, len: usize) -> &[T]
         requires { IsSomeAnd (part_of self.now at) (λ list. length list ≡ len) }
         ensures { part_of self.now at ≡ Some result.now }
@@ -170,10 +170,10 @@ impl<T: Copy + Drop> Region<T> {
         self.segments.part_long(at, len)
     }
 
-    /// Takes the part at a location away, and moves no other. Takes no memory.
+    /// Takes the part at a location away, and moves no other. Allocates nothing.
     pub fn drop_at(&mut self, at: At)
         requires { IsSome (part_of self.old at) }
-        ensures room { self.new ≡ with_segment self.old at.segment (without_part (segment_of self.old at.segment) at.offset) }
+        ensures state { self.new ≡ with_segment self.old at.segment (without_part (segment_of self.old at.segment) at.offset) }
         ensures change { ChangesOnly self.old self.new at None }
         ensures sound { IsRegion self.new }
     {
@@ -185,7 +185,7 @@ impl<T: Copy + Drop> Region<T> {
 
     /// Places a list as a new part in the lowest segment that has the space, at its fill, and answers where it lies.
     ///
-    /// It takes no memory for elements. Refused with `RegionFull` (17) exactly where `fits` is false, else with `NoMemory`
+    /// It allocates nothing for elements. Refused with `RegionFull` (17) exactly if `fits` is false, else with `NoMemory`
     /// (1) alone, where the table of parts cannot grow; then nothing is changed.
     pub fn place(&mut self, items: &[T]) -> Result<At, Refusal>
         requires some { 0 < length items.now }
@@ -224,9 +224,9 @@ impl<T: Copy + Drop> Region<T> {
         None
     }
 
-    /// Whether segment `from` may be compacted. Takes no memory.
+    /// Whether segment `from` may be compacted. Allocates nothing.
     ///
-    /// Refused with `OutOfRange` (14) exactly where there is no segment `from`, and with `RegionFull` (17) exactly where
+    /// Refused with `OutOfRange` (14) exactly if there is no segment `from`, and with `RegionFull` (17) exactly where
     /// there is one and no other is without parts.
     pub fn may_compact(&self, from: u32) -> Result<(), Refusal>
         ensures missing { IsErrOf result Refusal.OutOfRange ↔ (length self.now ≤ from) }
@@ -246,9 +246,9 @@ impl<T: Copy + Drop> Region<T> {
     /// Moves the parts of segment `from` into the lowest other segment without parts, in the order in which `order`
     /// lists where they begin, and answers where they lie now. Segment `from` is left without parts.
     ///
-    /// Reads the one segment while it writes the other, and copies each element once. Refused with `OutOfRange` (14)
-    /// exactly where there is no segment `from`, with `RegionFull` (17) exactly where there is one and no other is without
-    /// parts, else with `NoMemory` (1) alone; then nothing is changed.
+    /// Copies each element once, from one place of the block to another. Refused with `OutOfRange` (14) exactly if there
+    /// is no segment `from`, with `RegionFull` (17) exactly if there is one and no other is without parts, else with
+    /// `NoMemory` (1) alone, where the tables cannot grow; then nothing is changed.
     pub fn compact(&mut self, alloc: Global, from: u32, order: &[u32]) -> Result<Moved, Refusal>
         requires { IsOrder (segment_of self.old from).parts order.now }
         ensures compacted { IfOk result (λ moved. Compacts self.old self.new from moved.segment order.now moved.offsets.items) }
@@ -278,7 +278,7 @@ impl<T: Copy + Drop> Region<T> {
 impl<T: Copy + Drop> Region<T> {
     ghost use Rattle.far_log.specs.Lending.{lends_part};
 
-    /// The part at a location, lent in place to be written. Takes no memory.
+    /// The part at a location, lent in place to be written. Allocates nothing.
     ///
     /// What the borrow leaves is the part's list, and no other part changes (`alone`).
     pub fn part_mut(&mut self, at: At) -> &mut [T]
@@ -291,8 +291,8 @@ impl<T: Copy + Drop> Region<T> {
         self.part_long_mut(at, len)
     }
 
-    /// The part at a location, which has so many elements, lent in place to be written. Takes no memory, and looks at nothing
-    /// but the segment's block.
+    /// The part at a location, which has so many elements, lent in place to be written. Allocates nothing, and looks at no
+    /// segment's table.
     ///
     /// What the borrow leaves is the part's list, and no other part changes (`alone`).
     pub fn part_long_mut(&mut self, at: At, len: usize) -> &mut [T]
@@ -304,7 +304,7 @@ impl<T: Copy + Drop> Region<T> {
         self.segments.range_mut(at, 0, len)
     }
 
-    /// The elements `from` to `to` of the part at a location, lent in place to be written. Takes no memory.
+    /// The elements `from` to `to` of the part at a location, lent in place to be written. Allocates nothing.
     pub fn range_mut(&mut self, at: At, from: usize, to: usize) -> &mut [T]
         requires ordered { from ≤ to }
         requires within { IsSomeAnd (part_of self.old at) (λ list. to ≤ length list) }

@@ -1,11 +1,11 @@
 // The segments of the region.
 ghost use Rattle.std.specs.Prelude.{◌≡◌, ℕ, ◌+◌, ◌-◌, ◌<◌, ◌≤◌, ◌^◌, ◌↔◌, List, [], length, take, drop, replicate, slice_range, sum_by, Some, IsSome, IsSomeAnd, IsTrue, IfOk, IfErr, OnOk, OnErr};
 ghost use Rattle.std.specs.Borrow.{sem};
-ghost use Rattle.far_log.specs.Room.{list_at, part_of, segment_of, fill_of, space_in, used_of};
-ghost use Rattle.far_log.specs.Changes.{with_segment, with_part, without_part, list_or_none};
+ghost use Rattle.far_log.specs.RegionState.{list_at, part_of, segment_of, fill_of, space_in, used_of};
+ghost use Rattle.far_log.specs.Effects.{with_segment, with_part, without_part, list_or_none};
 
+use super::extents::{end_of, extent_at, number_at};
 use super::links::unlink;
-use super::slots::{end_of, number_at, slot_at};
 use super::stacks::Stacks;
 use super::table::{Table, used_by};
 use far_pointer::At;
@@ -21,13 +21,13 @@ pub struct Segments<T> {
 }
 
 impl<T> Model for Segments<T> {
-    ghost use Rattle.far_log.specs.Room.{Room};
+    ghost use Rattle.far_log.specs.RegionState.{RegionState};
 
-    ghost Value = { Room T };
+    ghost Value = { RegionState T };
 
-    ghost use Rattle.far_log.specs.Storage.{rooms_in, AreKept};
+    ghost use Rattle.far_log.specs.Storage.{segment_states, AreKept};
 
-    ghost view = { λ s. rooms_in s.stacks.size s.stacks.stacks s.tables.items };
+    ghost view = { λ s. segment_states s.stacks.size s.stacks.stacks s.tables.items };
 
     ghost invariant = { λ s. AreKept s.stacks.size s.stacks.stacks s.tables.items };
 }
@@ -37,7 +37,7 @@ impl<T: Copy + Drop> Segments<T> {
     /// `NoMemory` (1) alone.
     pub fn new(alloc: Global, count: u32, size: u32) -> Result<Segments<T>, Refusal>
         requires { count ≤ 65536 }
-        ensures empty { IfOk result (λ room. room ≡ replicate count record { parts = []; size = size }) }
+        ensures empty { IfOk result (λ state. state ≡ replicate count record { parts = []; size = size }) }
         ensures memory { IfErr result (λ e. e ≡ Refusal.NoMemory) }
     {
         let stacks = Stacks::new(alloc, count, size)?;
@@ -100,8 +100,8 @@ impl<T: Copy + Drop> Segments<T> {
         ensures { IsTrue result ↔ IsSome (part_of self.now at) }
     {
         let table = &self.tables[at.segment as usize];
-        match slot_at(&table.entries, at.offset) {
-            Some(slot) => slot.live && slot.offset == at.offset,
+        match extent_at(&table.entries, at.offset) {
+            Some(extent) => extent.live && extent.offset == at.offset,
             None => false,
         }
     }
@@ -113,11 +113,11 @@ impl<T: Copy + Drop> Segments<T> {
     {
         let number = at.segment as usize;
         let table = &self.tables[number];
-        let Some(slot) = slot_at(&table.entries, at.offset) else {
+        let Some(extent) = extent_at(&table.entries, at.offset) else {
             unreachable!();
         };
         self.stacks
-            .slice(number, slot.offset as usize, slot.len as usize)
+            .slice(number, extent.offset as usize, extent.len as usize)
     }
 
     /// The part at a location, which has so many elements.
@@ -130,7 +130,7 @@ impl<T: Copy + Drop> Segments<T> {
     }
 
     /// Places a list behind the last part of a segment, and answers where it begins. Refused with `NoMemory` (1) alone, where
-    /// the table of parts cannot grow; it takes no memory for elements.
+    /// the table of parts cannot grow; it allocates nothing for elements.
     pub fn place(&mut self, number: usize, items: &[T]) -> Result<u32, Refusal>
         requires there { number < length self.old }
         requires some { 0 < length items.now }
@@ -148,7 +148,7 @@ impl<T: Copy + Drop> Segments<T> {
     }
 
     /// Places a copy of the part at a location behind the last part of a segment, and answers where it begins. Refused with
-    /// `NoMemory` (1) alone, where the table of parts cannot grow; it takes no memory for elements.
+    /// `NoMemory` (1) alone, where the table of parts cannot grow; it allocates nothing for elements.
     pub fn place_copy(&mut self, from: At, number: usize) -> Result<u32, Refusal>
         requires there { number < length self.old }
         requires part { IsSome (part_of self.old from) }
@@ -177,9 +177,9 @@ impl<T: Copy + Drop> Segments<T> {
         let number = number_at(&table.entries, at.offset);
         let left = unlink(&mut table.entries, number);
         let mut entry = table.entries.get(number);
-        entry.slot.live = false;
+        entry.extent.live = false;
         table.entries.set(number, entry);
-        table.used -= entry.slot.len;
+        table.used -= entry.extent.len;
         table.entries.truncate(left);
         let end = end_of(&table.entries);
         self.stacks.truncate(segment, end);

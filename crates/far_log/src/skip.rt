@@ -56,7 +56,7 @@ impl Skip {
     /// What is skipped once a search for a list of `len` elements ended with `found`.
     ///
     /// After a search through many segments that is `found`, so that the next one need not look at them again. After a short
-    /// one it is that only where no list is the worse for it, which is so of each where nothing was skipped yet.
+    /// one it is that only if no list is the worse for it, which is so of each where nothing was skipped yet.
     pub fn after_search(self, found: Skip, len: usize) -> Skip
         ensures { (result ≡ self) ⊎ (result ≡ found) }
     {

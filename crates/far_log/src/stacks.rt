@@ -89,11 +89,11 @@ impl<T: Copy + Drop> Stacks<T> {
         self.block.slice(begin, begin + len)
     }
 
-    /// Puts a list on a stack. Takes no memory.
+    /// Puts a list on a stack. Allocates nothing.
     pub fn push_slice(&mut self, number: usize, list: &[T])
         requires there { number < length self.old.stacks }
         requires some { 0 < length list.now }
-        requires room { length (stack_of self.old number) + length list.now ≤ self.old.size }
+        requires enough { length (stack_of self.old number) + length list.now ≤ self.old.size }
         ensures { self.new ≡ with_stack self.old number (stack_of self.old number ++ list.now) }
     {
         let len = self.lens[number];
@@ -102,13 +102,13 @@ impl<T: Copy + Drop> Stacks<T> {
         self.lens[number] = len + list.len() as u32;
     }
 
-    /// Puts a list of one stack's elements on a stack, this one or another. Takes no memory, and copies each element once.
+    /// Puts a list of one stack's elements on a stack, this one or another. Allocates nothing, and copies each element once.
     pub fn push_from(&mut self, source: usize, from: usize, len: usize, number: usize)
         requires source { source < length self.old.stacks }
         requires there { number < length self.old.stacks }
         requires some { 0 < len }
         requires within { from + len ≤ length (stack_of self.old source) }
-        requires room { length (stack_of self.old number) + len ≤ self.old.size }
+        requires enough { length (stack_of self.old number) + len ≤ self.old.size }
         ensures { self.new ≡ with_stack self.old number (stack_of self.old number ++ take len (drop from (stack_of self.old source))) }
     {
         let begin = begin_of(source, self.size) + from;

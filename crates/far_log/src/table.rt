@@ -1,11 +1,11 @@
 // The table of a segment's parts.
 ghost use Rattle.std.specs.Prelude.{◌≡◌, ◌+◌, ◌<◌, ◌≤◌, ◌^◌, [], ◌∷◌, ◌++◌, true, length, sum_by, OnOk, OnErr, IfOk, IfErr};
-ghost use Rattle.far_log.specs.Storage.{AreLinked, EndsLive, slots_of, links_of};
+ghost use Rattle.far_log.specs.Storage.{AreLinked, EndsLive, extents_of, links_of};
 
 use super::chunked_vec::ChunkedVec;
-use super::entry::Entry;
+use super::extents::Extent;
 use super::links::push_linked;
-use super::slots::Slot;
+use super::part_entry::PartEntry;
 use far_types::Refusal;
 use std::alloc::Global;
 
@@ -20,12 +20,12 @@ pub fn used_by(tables: &[Table]) -> u64
 /// Where the parts of a segment lie, and how long they are together.
 #[derive(Drop)]
 pub struct Table {
-    pub entries: ChunkedVec<Entry>,
+    pub entries: ChunkedVec<PartEntry>,
     pub used: u32,
 }
 
 impl Table {
-    /// No part. Takes no memory.
+    /// No part. Allocates nothing.
     pub fn new(alloc: Global) -> Table
         ensures { result ≡ record { entries = []; used = 0 } }
     {
@@ -38,26 +38,26 @@ impl Table {
     /// Notes a part of so many elements behind the last, and answers where it begins. Refused with `NoMemory` (1) alone,
     /// where the table cannot grow; then it is as before.
     pub fn push(&mut self, offset: usize, len: usize) -> Result<u32, Refusal>
-        requires linked { AreLinked 0 0 0 (slots_of self.old.entries) (links_of self.old.entries) }
-        requires ends { EndsLive (slots_of self.old.entries) }
+        requires linked { AreLinked 0 0 0 (extents_of self.old.entries) (links_of self.old.entries) }
+        requires ends { EndsLive (extents_of self.old.entries) }
         requires few { length self.old.entries < 2 ^ 32 }
         requires small { offset < 2 ^ 32 }
         requires sum { self.old.used + len < 2 ^ 32 }
-        ensures slots { OnOk result (slots_of self.new.entries ≡ slots_of self.old.entries ++ record { offset = offset; len = len; live = true } ∷ []) }
-        ensures linked { OnOk result (AreLinked 0 0 0 (slots_of self.new.entries) (links_of self.new.entries)) }
+        ensures extents { OnOk result (extents_of self.new.entries ≡ extents_of self.old.entries ++ record { offset = offset; len = len; live = true } ∷ []) }
+        ensures linked { OnOk result (AreLinked 0 0 0 (extents_of self.new.entries) (links_of self.new.entries)) }
         ensures used { OnOk result (self.new.used ≡ self.old.used + len) }
         ensures offset { IfOk result (λ begin. begin ≡ offset) }
         ensures memory { IfErr result (λ e. e ≡ Refusal.NoMemory) }
         ensures err { OnErr result (self.new ≡ self.old) }
     {
-        let slot = Slot {
+        let extent = Extent {
             offset: offset as u32,
             len: len as u32,
             live: true,
         };
-        push_linked(&mut self.entries, slot)?;
-        self.used += slot.len;
-        Ok(slot.offset)
+        push_linked(&mut self.entries, extent)?;
+        self.used += extent.len;
+        Ok(extent.offset)
     }
 
     /// Forgets all parts.

@@ -16,10 +16,10 @@ use Rattle.far_types.specs.declared.spec.Fold.TheVariants as fold
 use Rattle.far_types.specs.Cells.{number_in, key_in}
 use Rattle.far_types.specs.Filters.{keeps}
 use Rattle.far_types.specs.Pairs.{Pair, PairsFit, key_under, paired}
-use Rattle.far_types.specs.Answers.{tally, int_sum, span, totals, extrema}
-use Rattle.far_types.specs.Changes.{widened, joined_totals, joined_extrema}
+use Rattle.far_types.specs.Answers.{count_sum, int_sum, span, totals, extrema}
+use Rattle.far_types.specs.Effects.{widened, joined_totals, joined_extrema}
 use Rattle.far_types.proofs.ByKeyMaps.{grouped-one}
-use Rattle.far_types.proofs.Values.{tally-among, span-among, span-cons}
+use Rattle.far_types.proofs.Values.{count_sum-among, span-among, span-cons}
 use Rattle.far_types.proofs.TotalLaws.{totals-cons, totals-among, totals-append, extrema-cons, extrema-among, extrema-append}
 use Rattle.far_extrema.proofs.HolderLaws.{widened_within}
 use Rattle.far_groups.proofs.PairLaws.{counted}
@@ -51,11 +51,11 @@ over-few h n (flag ∷ flags) = few (h (n, flag)) (filter_map h (enumerate_from 
     few None ys h = omega arith
     few (Some y) ys h = omega arith
 
-pub tally-more : (values : List ℤ) (value : ℤ) → tally (values ++ value ∷ []) ≡ ((tally values).0 + 1, (tally values).1 +ℤ value)
-tally-more values value =
+pub count_sum-more : (values : List ℤ) (value : ℤ) → count_sum (values ++ value ∷ []) ≡ ((count_sum values).0 + 1, (count_sum values).1 +ℤ value)
+count_sum-more values value =
     let count : length (value ∷ values) ≡ length values + 1 = omega arith in
     let sum : value +ℤ int_sum values ≡ int_sum values +ℤ value = omega (arith, ints) in
-    tally-among values value [] ∙ ap (λ l. tally (value ∷ l)) (append-nil values) ∙ (λ i. (count i, sum i))
+    count_sum-among values value [] ∙ ap (λ l. count_sum (value ∷ l)) (append-nil values) ∙ (λ i. (count i, sum i))
 
 pub span-more : (values : List ℤ) (value : ℤ) → span_in (values ++ value ∷ []) ≡ Some (widened value (span_in values))
 span-more [] value = refl
@@ -86,13 +86,13 @@ values-same spec columns flags i flag within is none =
 
 -- a value that is within what there is leaves it as it is
 pub within-kept : (value : ℤ) (span there : Option (ℤ × ℤ)) → span ≡ there → IsWithin span (Some value) → Some (widened value there) ≡ there
-within-kept value None there stood h = absurd h
-within-kept value (Some s) there stood h = ap (λ o. Some (widened value o)) (sym stood) ∙ ap Some (widened_within value s h.0 h.1) ∙ stood
+within-kept value None there before h = absurd h
+within-kept value (Some s) there before h = ap (λ o. Some (widened value o)) (sym before) ∙ ap Some (widened_within value s h.0 h.1) ∙ before
 
 pub values-within : (spec : Spec) (columns : Columns) (flags : List Bool) (i : ℕ) (flag : Bool) (seen : Option (ℤ × ℤ)) → i < length flags → get_or flags i false ≡ flag → seen ≡ span_in (values_over spec columns (take i flags)) → IsWithin seen (value_at spec columns (i, flag)) → span_in (values_over spec columns (take (i + 1) flags)) ≡ span_in (values_over spec columns (take i flags))
-values-within spec columns flags i flag seen within is stood = elim (value_at spec columns (i, flag)) as (λ (o : Option ℤ). o ≡ value_at spec columns (i, flag) → IsWithin seen o → span_in (values_over spec columns (take (i + 1) flags)) ≡ span_in (values_over spec columns (take i flags))) [
+values-within spec columns flags i flag seen within is before = elim (value_at spec columns (i, flag)) as (λ (o : Option ℤ). o ≡ value_at spec columns (i, flag) → IsWithin seen o → span_in (values_over spec columns (take (i + 1) flags)) ≡ span_in (values_over spec columns (take i flags))) [
   | None ↦ λ e h. ap span_in (values-same spec columns flags i flag within is e)
-  | Some value ↦ λ e h. ap span_in (values-with spec columns flags i flag value within is e) ∙ span-more (values_over spec columns (take i flags)) value ∙ within-kept value seen (span_in (values_over spec columns (take i flags))) stood h
+  | Some value ↦ λ e h. ap span_in (values-with spec columns flags i flag value within is e) ∙ span-more (values_over spec columns (take i flags)) value ∙ within-kept value seen (span_in (values_over spec columns (take i flags))) before h
 ] refl
 
 -- a place with a value gives a pair where it has a key
@@ -180,9 +180,9 @@ plain-pairs spec columns (place ∷ places) plain =
     each (Some value) values = refl
 
 -- the totals of values that all stand under no key
-plain-totals : (values : List ℤ) → (length values ≡ 0 → ⊥) → totals (map (λ value. (None, value)) values) ≡ fin.insert fin.empty None (tally values)
+plain-totals : (values : List ℤ) → (length values ≡ 0 → ⊥) → totals (map (λ value. (None, value)) values) ≡ fin.insert fin.empty None (count_sum values)
 plain-totals [] some = absurd (some refl)
-plain-totals (value ∷ values) some = grouped-one tally None value values
+plain-totals (value ∷ values) some = grouped-one count_sum None value values
 
 pub no-totals : (values : List ℤ) → length values ≡ 0 → totals (map (λ value. (None, value)) values) ≡ fin.empty
 no-totals [] none = refl
@@ -199,8 +199,8 @@ pub no-extrema : (values : List ℤ) → None ≡ span_in values → extrema (ma
 no-extrema [] h = refl
 no-extrema (value ∷ values) h = absurd cc
 
--- what `add_rows` and `see_rows` make of them, where nothing is in yet
-pub added-totals : (values : List ℤ) → (length values ≡ 0 → ⊥) → joined_totals fin.empty (fin.insert fin.empty None (tally values)) ≡ totals (map (λ value. (None, value)) values)
+-- what `add_rows` and `observe_rows` make of them, where nothing is in yet
+pub added-totals : (values : List ℤ) → (length values ≡ 0 → ⊥) → joined_totals fin.empty (fin.insert fin.empty None (count_sum values)) ≡ totals (map (λ value. (None, value)) values)
 added-totals values some = ap (joined_totals fin.empty) (sym (plain-totals values some)) ∙ sym (totals-append [] (map (λ value. (None, value)) values))
 
 pub seen-extrema : (values : List ℤ) (least greatest : ℤ) → Some (least, greatest) ≡ span_in values → joined_extrema fin.empty (fin.insert fin.empty None (least, greatest)) ≡ extrema (map (λ value. (None, value)) values)

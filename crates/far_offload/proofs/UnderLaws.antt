@@ -18,7 +18,7 @@ use Rattle.far_types.specs.Keys.{line_cmp}
 use Rattle.far_types.specs.KeyOrder.{line_total}
 use Rattle.far_types.specs.Pairs.{Pair, key_under}
 use Rattle.far_types.specs.Answers.{Extrema, extrema}
-use Rattle.far_types.specs.Changes.{widened, with_seen}
+use Rattle.far_types.specs.Effects.{widened, with_observed}
 use Rattle.far_types.proofs.Grouping.{same_key}
 use Rattle.far_types.proofs.ByKeyMaps.{get_inserted}
 use Rattle.far_types.proofs.TotalLaws.{extrema-cons, extrema-among}
@@ -26,11 +26,11 @@ use Rattle.far_offload.specs.Columns.{Columns, column_of, cell_of, cells_at, Are
 use Rattle.far_offload.specs.Partials.{pairs_over, value_at, IsWithin}
 use Rattle.far_offload.proofs.FoldLaws.{within-kept, pair-is, pairs-next, pairs-valueless}
 
-extrema-more : (pairs : List Pair) (pair : Pair) → extrema (pairs ++ pair ∷ []) ≡ with_seen (extrema pairs) pair
+extrema-more : (pairs : List Pair) (pair : Pair) → extrema (pairs ++ pair ∷ []) ≡ with_observed (extrema pairs) pair
 extrema-more pairs pair = extrema-among pairs pair [] ∙ ap (λ l. extrema (pair ∷ l)) (append-nil pairs) ∙ extrema-cons pair pairs
 
 -- a pair under another key leaves what stands under this one
-elsewhere : (m : Extrema) (pair : Pair) (key : Option Key) → (pair.0 ≡ key → ⊥) → fin.get (with_seen m pair) key ≡ fin.get m key
+elsewhere : (m : Extrema) (pair : Pair) (key : Option Key) → (pair.0 ≡ key → ⊥) → fin.get (with_observed m pair) key ≡ fin.get m key
 elsewhere m pair key h =
     fin.get-insert line_total m pair.0 (widened pair.1 (fin.get m pair.0)) key
     ∙ elim (eq_by_cmp line_cmp key pair.0) as (λ b. eq_by_cmp line_cmp key pair.0 ≡ b → cond b (Some (widened pair.1 (fin.get m pair.0))) (fin.get m key) ≡ fin.get m key) [
@@ -68,9 +68,9 @@ module _ (spec : Spec) (columns : Columns) (flags : List Bool) (i : ℕ) (flag :
 
   -- or one whose value is within what stands there
   pub span-within : (span : Option (ℤ × ℤ)) → span ≡ fin.get (extrema pairs) key → key_under spec.key (cells_at columns i) ≡ Some key → IsWithin span (value_at spec columns (i, flag)) → fin.get (extrema (pairs_over spec columns (take (i + 1) flags))) key ≡ fin.get (extrema pairs) key
-  span-within span stood under = elim (value_at spec columns (i, flag)) as (λ (o : Option ℤ). o ≡ value_at spec columns (i, flag) → IsWithin span o → fin.get (extrema (pairs_over spec columns (take (i + 1) flags))) key ≡ fin.get (extrema pairs) key) [
+  span-within span before under = elim (value_at spec columns (i, flag)) as (λ (o : Option ℤ). o ≡ value_at spec columns (i, flag) → IsWithin span o → fin.get (extrema (pairs_over spec columns (take (i + 1) flags))) key ≡ fin.get (extrema pairs) key) [
     | None ↦ λ e h. ap (λ l. fin.get (extrema l) key) (pairs-valueless spec columns flags i flag within is e)
-    | Some value ↦ λ e h. span-there value under e ∙ within-kept value span (fin.get (extrema pairs) key) stood h
+    | Some value ↦ λ e h. span-there value under e ∙ within-kept value span (fin.get (extrema pairs) key) before h
   ] refl
 
 -- a cell that gives a number as its key is that number

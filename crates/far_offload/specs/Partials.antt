@@ -11,7 +11,7 @@ use Rattle.far_types.specs.Cells.{number_in}
 use Rattle.far_types.specs.Filters.{keeps}
 use Rattle.far_types.specs.Pairs.{Pair, pair_of}
 use Rattle.far_types.specs.Answers.{span, totals, extrema}
-use Rattle.far_types.specs.Changes.{with_pair, with_seen, count_in}
+use Rattle.far_types.specs.Effects.{with_pair, with_observed, count_in}
 use Rattle.far_offload.specs.declared.partial.PartialDone.{PartialDone}
 use Rattle.far_offload.specs.declared.partial.PartialDone.TheVariants.{Totals, Extrema}
 use Rattle.far_offload.specs.Columns.{Columns, cells_at}
@@ -55,7 +55,7 @@ partial_of fold.Extrema pairs = Extrema (extrema pairs)
 -- one pair more
 abbrev pub with_folded : PartialDone → Pair → PartialDone
 with_folded (Totals live) pair = Totals (record live { totals = with_pair live.totals pair })
-with_folded (Extrema seen) pair = Extrema (with_seen seen pair)
+with_folded (Extrema seen) pair = Extrema (with_observed seen pair)
 
 -- a pair more can be counted under the key
 abbrev pub CanFold : PartialDone → Option Key → Type 0

@@ -43,7 +43,7 @@ impl<'a> Model for Column<'a> {
 }
 
 impl<'a> Column<'a> {
-    /// The column of this number with these numbers, read where they lie. Takes no memory.
+    /// The column of this number with these numbers, read where they lie. Allocates nothing.
     pub fn of_numbers(number: u32, values: &'a [Option<i64>]) -> Column<'a>
         ensures { result ≡ (number, map int_cell values.now) }
     {
@@ -54,7 +54,7 @@ impl<'a> Column<'a> {
     }
 
     /// The column of this number with the values of a far form, read where they lie. The form must be one of the
-    /// caller's own: it is not tested. Takes no memory, and looks at the head alone.
+    /// caller's own: it is not tested. Allocates nothing, and looks at the head alone.
     pub fn of_form(number: u32, form: &'a [u8]) -> Column<'a>
         requires { IsForm form.now }
         ensures { result ≡ (number, cells_meant form.now) }
@@ -67,7 +67,7 @@ impl<'a> Column<'a> {
 
     /// The column of this number with the values of a content, read where they lie. The bytes came from a store, so they are
     /// tested, once and in one pass, before a value is read. Bytes that are no far form, which only a store that breaks its
-    /// contract gives, are a column without values. Takes no memory.
+    /// contract gives, are a column without values. Allocates nothing.
     pub fn of_content(number: u32, bytes: &'a [u8]) -> Column<'a>
         ensures form { IsForm bytes.now → result ≡ (number, cells_meant bytes.now) }
         ensures other { (¬ IsForm bytes.now) → result ≡ (number, []) }
@@ -153,7 +153,7 @@ fn values_in(values: LentValues<'_>) -> ColumnValues<'_>
     }
 }
 
-/// The values of bytes that are a far form; `None` where they are none.
+/// The values of bytes that are a far form; `None` if they are none.
 fn tested(bytes: &[u8]) -> Option<LentValues<'_>>
     ensures form { IsForm bytes.now → result ≡ Some (lent_in bytes.now) }
     ensures other { (¬ IsForm bytes.now) → result ≡ None }

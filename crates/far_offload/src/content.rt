@@ -49,7 +49,7 @@ fn content_under<S: FarRead>(
     ticket: &S::Ticket,
 ) -> Result<Content, Refusal>
     requires few { meter.old < 2 ^ 63 }
-    requires here { S.is_of ticket.now (S.name store.now) }
+    requires here { S.is_of ticket.now (S.store_id store.now) }
     requires form { IsForm (S.content ticket.now) }
     ensures content { IfOk result (λ content. content ≡ (number, cells_meant (S.content ticket.now))) }
     ensures faults { meter.new ≡ meter.old + faults_in result }
@@ -68,7 +68,7 @@ pub(crate) fn contents_under<S: FarRead>(
     tickets: &[(u32, S::Ticket)],
 ) -> Result<Vec<Content>, Refusal>
     requires few { meter.old < 2 ^ 63 }
-    requires here { All (λ ticket. S.is_of ticket.1 (S.name store.now)) tickets.now }
+    requires here { All (λ ticket. S.is_of ticket.1 (S.store_id store.now)) tickets.now }
     requires forms { AreForms S.content tickets.now }
     ensures contents { IfOk result (λ contents. contents.items ≡ columns_under S.content tickets.now) }
     ensures faults { meter.new ≡ meter.old + faults_in result }

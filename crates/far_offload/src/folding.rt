@@ -5,10 +5,10 @@ ghost use Rattle.far_types.specs.Answers.{totals, extrema};
 ghost use Rattle.far_offload.specs.Partials.{partial_of, pairs_over};
 
 use crate::column::{Column, find};
-use crate::kept::value_at;
+use crate::filtering::value_at;
 use crate::keys::key_at;
 use crate::partial::PartialDone;
-use crate::plain::{span_of, tally_of};
+use crate::plain::{count_sum_of, span_of};
 use far_extrema::GroupExtrema;
 use far_groups::LiveTotals;
 use far_types::{Fold, Refusal, Spec};
@@ -27,7 +27,7 @@ fn plain_totals(
     ensures memory { IfErr result (λ e. e ≡ Refusal.NoMemory) }
 {
     let mut live = LiveTotals::new(alloc, 0);
-    let (count, sum) = tally_of(spec, columns, alive);
+    let (count, sum) = count_sum_of(spec, columns, alive);
     if count != 0 {
         live.add_rows(None, count, sum)?;
     }
@@ -47,7 +47,7 @@ fn plain_extrema(
 {
     let mut seen = GroupExtrema::new(alloc);
     if let Some((least, greatest)) = span_of(spec, columns, alive) {
-        seen.see_rows(None, least, greatest)?;
+        seen.observe_rows(None, least, greatest)?;
     }
     Ok(seen)
 }

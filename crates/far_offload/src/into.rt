@@ -2,7 +2,7 @@
 ghost use Rattle.std.specs.Prelude.{◌≡◌, ◌≢◌, ◌-◌, ◌≤◌, ◌^◌, length, OnOk, OnErr, IfErr};
 ghost use Rattle.far_types.specs.declared.spec.Fold.TheVariants as folds;
 ghost use Rattle.far_types.specs.Answers.{totals};
-ghost use Rattle.far_types.specs.Changes.{joined_totals};
+ghost use Rattle.far_types.specs.Effects.{joined_totals};
 ghost use Rattle.far_groups.specs.Live.{CanJoin};
 ghost use Rattle.far_offload.specs.Partials.{pairs_over};
 
@@ -15,7 +15,7 @@ use far_types::{Refusal, Spec};
 use std::alloc::Global;
 
 /// The live places of a row group come into totals in which a row group is left. There is a place for each flag, at most
-/// 2^26. What a place gives is as in `fold`; a partial of the row group is made only where the keys are texts or there
+/// 2^26. What a place gives is as in `fold`; a partial of the row group is made only if the keys are texts or there
 /// are none, since a key that is a number costs no memory.
 ///
 /// Refused with `NoMemory` (1) alone, and then the totals are not changed.

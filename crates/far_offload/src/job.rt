@@ -39,7 +39,7 @@ impl<S: FarTickets> Model for OffloadJob<S> {
 impl<S: FarTickets> OffloadJob<S> {
     /// A job over these columns: for each column that the aggregate needs, its number and a ticket whose content is a
     /// far form. There is a place for each flag, at most 2^26. A column without a ticket, and a place past the end of a
-    /// content, have no value. Takes no memory.
+    /// content, have no value. Allocates nothing.
     pub fn new(spec: Spec, tickets: Vec<(u32, S::Ticket)>, alive: Vec<bool>) -> OffloadJob<S>
         requires forms { AreForms S.content tickets.items }
         requires few { length alive.items ≤ 2 ^ 26 }
@@ -77,7 +77,7 @@ impl<S: FarTickets> OffloadJob<S> {
 impl<S: FarRead> OffloadJob<S> {
     /// What the live places come to: the aggregate over the rows that the contents mean, in the words of the plain
     /// table. Nothing enters the local region: the contents are read into buffers of their own, which are let go.
-    /// Refused with `FarFault` (21) where the store fails in this call, exactly where the meter rises, by one, and
+    /// Refused with `FarFault` (21) if the store fails in this call, exactly if the meter rises, by one, and
     /// with `NoMemory` (1). The job then comes back whole.
     pub fn carry(
         self,
@@ -86,7 +86,7 @@ impl<S: FarRead> OffloadJob<S> {
         meter: &mut Meter,
     ) -> Result<PartialDone, (Refusal, OffloadJob<S>)>
         requires few { meter.old < 2 ^ 63 }
-        requires here { All (λ ticket. S.is_of ticket.1 (S.name store.now)) self.tickets }
+        requires here { All (λ ticket. S.is_of ticket.1 (S.store_id store.now)) self.tickets }
         ensures partial { IfOk result (λ done. done ≡ partial_of self.spec.fold (pairs_over self.spec (columns_under S.content self.tickets) self.alive)) }
         ensures back { IfErr result (λ refused. refused.1 ≡ self) }
         ensures faults { meter.new ≡ meter.old + faults_in (outcome result) }
@@ -106,7 +106,7 @@ impl<S: FarRead> OffloadJob<S> {
         meter: &mut Meter,
     ) -> Result<PartialDone, Refusal>
         requires few { meter.old < 2 ^ 63 }
-        requires here { All (λ ticket. S.is_of ticket.1 (S.name store.now)) self.now.tickets }
+        requires here { All (λ ticket. S.is_of ticket.1 (S.store_id store.now)) self.now.tickets }
         ensures partial { IfOk result (λ done. done ≡ partial_of self.now.spec.fold (pairs_over self.now.spec (columns_under S.content self.now.tickets) self.now.alive)) }
         ensures faults { meter.new ≡ meter.old + faults_in result }
         ensures refused { RefusedBy (21 ∷ 1 ∷ []) result }

@@ -5,10 +5,10 @@
 
 mod column;
 mod content;
+mod filtering;
 mod folding;
 mod into;
 mod job;
-mod kept;
 mod keys;
 mod laws;
 mod pairs;

@@ -4,7 +4,7 @@ ghost use Rattle.far_types.specs.Pairs.{PairsFit};
 ghost use Rattle.far_offload.specs.Partials.{pairs_over};
 
 use crate::column::{Column, find};
-use crate::kept::value_at;
+use crate::filtering::value_at;
 use crate::keys::key_at;
 use far_groups::Pair;
 use far_types::{Refusal, Spec};

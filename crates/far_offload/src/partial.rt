@@ -17,7 +17,7 @@ pub enum PartialDone {
 }
 
 impl PartialDone {
-    /// No place is folded yet. Takes no memory.
+    /// No place is folded yet. Allocates nothing.
     pub(crate) fn new(alloc: Global, fold: Fold) -> PartialDone
         ensures { result ≡ partial_of fold [] }
     {
@@ -35,7 +35,7 @@ impl PartialDone {
     {
         match self {
             PartialDone::Totals(live) => live.add_under(key, value),
-            PartialDone::Extrema(seen) => seen.see_under(key, value),
+            PartialDone::Extrema(seen) => seen.observe_under(key, value),
         }
     }
 }

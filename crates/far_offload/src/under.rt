@@ -13,7 +13,7 @@ ghost use Rattle.far_offload.specs.Columns.{column_of, cell_of, cells_at, AreKey
 ghost use Rattle.far_offload.specs.Partials.{pairs_over, SpanFits};
 
 use crate::column::{Column, find};
-use crate::kept::{value_at, value_beyond};
+use crate::filtering::{value_at, value_beyond};
 use crate::plain::widened;
 use far_codec::LentInts;
 use far_types::{Key, Spec};
@@ -140,7 +140,7 @@ fn span_under_key(
 }
 
 /// The least and the greatest value of the live places that stand under a key, where there is one: what the extrema of
-/// `fold` have under it. Takes no memory.
+/// `fold` have under it. Allocates nothing.
 pub fn span_under(
     spec: &Spec,
     columns: &[Column<'_>],

@@ -65,7 +65,7 @@ impl Word {
     ghost use Rattle.far_pointer.specs.declared.pointer.Pointer.{Pointer};
     ghost use Rattle.far_pointer.specs.Layout.{bits_of, HasWord, is_dirty, is_hot, with_dirty, with_hot, with_at};
 
-    /// The word of a local object. `None` exactly where the object is neither dirty nor has a far copy: no
+    /// The word of a local object. `None` exactly if the object is neither dirty nor has a far copy: no
     /// object is in such a state, since what is clean equals its far copy.
     pub fn local(at: At, dirty: bool, hot: bool, far: bool) -> Option<Word>
         ensures { result ≡ (if dirty || far then Some (Pointer.Local at dirty hot far) else None) }
@@ -86,7 +86,7 @@ impl Word {
         Word { bits: REMOTE }
     }
 
-    /// The word whose bits these are; `None` exactly where no word has them.
+    /// The word whose bits these are; `None` exactly if no word has them.
     pub fn from_bits(bits: u64) -> Option<Word>
         ensures found { IfSome result (λ word. bits_of word ≡ bits) }
         ensures only { (p : Pointer) → HasWord p → bits_of p ≡ bits → result ≡ Some p }

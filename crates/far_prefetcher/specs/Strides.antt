@@ -8,8 +8,8 @@ abbrev pub history_of : List (List ℕ) → ℕ → List ℕ
 history_of histories column = slice_index_or histories column []
 
 -- a history after one more group was seen: the last eight groups, oldest first
-abbrev pub with_seen : List ℕ → ℕ → List ℕ
-with_seen history group = keep_last 8 (history ++ group ∷ [])
+abbrev pub with_access : List ℕ → ℕ → List ℕ
+with_access history group = keep_last 8 (history ++ group ∷ [])
 
 -- how far it is from one group to another, as a signed number
 abbrev pub difference : ℕ → ℕ → ℤ

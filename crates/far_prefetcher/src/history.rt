@@ -2,7 +2,7 @@
 ghost use Rattle.std.specs.Prelude.{◌≡◌, ◌≤◌, ◌<◌, [], ◌++◌, length, IfOk, IfErr, IfNone, IfSome, OnOk};
 ghost use Rattle.std.specs.Option.{option_to_list};
 ghost use Rattle.circular_buffer.specs.Buffer.{keep_last};
-ghost use Rattle.far_prefetcher.specs.Strides.{difference, existing, is_stride, next_two, proposed, with_seen};
+ghost use Rattle.far_prefetcher.specs.Strides.{difference, existing, is_stride, next_two, proposed, with_access};
 
 use circular_buffer::HeapCircularBuffer;
 use far_types::Refusal;
@@ -39,14 +39,14 @@ impl History {
         Ok(History { groups })
     }
 
-    /// Remembers one more group, and forgets the oldest where 8 are remembered. Takes no memory.
+    /// Remembers one more group, and forgets the oldest where 8 are remembered. Allocates nothing.
     pub fn saw(&mut self, group: u32)
-        ensures { self.new ≡ with_seen self.old group }
+        ensures { self.new ≡ with_access self.old group }
     {
         self.groups.push_back(group);
     }
 
-    /// The row groups, of those below `groups`, that go on the stride of the last four; none where these have no
+    /// The row groups, of those below `groups`, that go on the stride of the last four; none if these have no
     /// stride. Refused with `NoMemory` (1) alone.
     #[tactic(auto, using(crate::proofs::LastFour::proposed_by_four))]
     pub fn proposals(&self, alloc: Global, groups: u32) -> Result<Vec<u32>, Refusal>

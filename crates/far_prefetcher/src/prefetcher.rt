@@ -1,6 +1,6 @@
 // The access histories of all columns.
 ghost use Rattle.std.specs.Prelude.{◌≡◌, [], replicate, slice_set, IfOk, IfErr};
-ghost use Rattle.far_prefetcher.specs.Strides.{history_of, proposed, with_seen};
+ghost use Rattle.far_prefetcher.specs.Strides.{history_of, proposed, with_access};
 
 use super::history::History;
 use far_types::Refusal;
@@ -39,9 +39,9 @@ impl Prefetcher {
     }
 
     /// Remembers that a row group of a column was read, and forgets the oldest of that column where 8 are
-    /// remembered; of a column that is not there, nothing. Takes no memory.
+    /// remembered; of a column that is not there, nothing. Allocates nothing.
     pub fn saw(&mut self, column: u32, group: u32)
-        ensures { self.new ≡ slice_set self.old column (with_seen (history_of self.old column) group) }
+        ensures { self.new ≡ slice_set self.old column (with_access (history_of self.old column) group) }
     {
         if let Some(history) = self.histories.get_mut(column as usize) {
             history.saw(group);

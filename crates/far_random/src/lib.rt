@@ -1,6 +1,6 @@
 #![tactic(auto)]
 //! Numbers for tests that make random calls. They follow from a seed, so a test that fails once fails each time.
-ghost use Rattle.std.specs.Prelude.{◌<◌, ◌≤◌};
+ghost use Rattle.std.specs.Prelude.{◌≡◌, ◌<◌, ◌≤◌};
 
 /// Numbers that follow from a seed: Knuth's linear congruential generator (MMIX), of which the upper 31 bits are used.
 #[derive(Drop)]
@@ -10,7 +10,9 @@ pub struct Draws {
 
 impl Draws {
     /// The numbers that follow from this seed.
-    pub fn new(seed: u64) -> Draws {
+    pub fn new(seed: u64) -> Draws
+        ensures { result ≡ record { state = seed } }
+    {
         Draws { state: seed }
     }
 

@@ -15,7 +15,7 @@ pub struct Reciprocal {
 }
 
 impl Reciprocal {
-    /// The hint for divisions by a number. Takes no memory.
+    /// The hint for divisions by a number. Allocates nothing.
     pub fn new(divisor: usize) -> Reciprocal
         requires { 0 < divisor }
         ensures { result.factor ≡ 2 ^ 40 / divisor + 1 }
@@ -25,21 +25,25 @@ impl Reciprocal {
         }
     }
 
-    /// How often a divisor goes into a number, rounded down. Takes no memory.
+    /// How often a divisor goes into a number, rounded down. Allocates nothing.
     #[inline(always)]
     pub fn quotient(self, number: usize, divisor: usize) -> usize
         requires { 0 < divisor }
         ensures { result ≡ number / divisor }
     {
         let guess = ((number as u64).wrapping_mul(self.factor) >> 40) as usize;
-        if let Some(product) = guess.checked_mul(divisor) {
-            if product <= number && number - product < divisor {
+        // The guess has 24 bits, so its product with such a divisor has at most 56. Where that is more than the number, what is
+        // left wraps around to more than the divisor.
+        if divisor <= 0xffff_ffff {
+            let left = number.wrapping_sub(guess * divisor);
+            if left < divisor {
                 return guess;
             }
         }
         number / divisor
     }
-    /// What is left of a number once a divisor is taken from it as often as it goes. Takes no memory.
+
+    /// What is left of a number once a divisor is taken from it as often as it goes. Allocates nothing.
     #[inline(always)]
     pub fn remainder(self, number: usize, divisor: usize) -> usize
         requires { 0 < divisor }

@@ -7,19 +7,19 @@ use Rattle.far_types.specs.declared.name.Name.{Name}
 use Rattle.far_types.specs.declared.refusal.Refusal.{Refusal}
 use Rattle.far_types.specs.declared.refusal.Refusal.TheVariants as refusal
 use Rattle.far_types.specs.FirstOf.{first_of}
-use Rattle.far_scopes.specs.declared.entry.Entry.{Entry}
+use Rattle.far_scopes.specs.declared.object_record.ObjectRecord.{ObjectRecord}
 use Rattle.far_scopes.specs.Movement.{Movement, entry_of}
 use Rattle.far_scopes.specs.Refusing.{absent}
 use Rattle.far_vector.specs.Vector.{Vector}
 use Rattle.far_texts.specs.Texts.{Texts}
-use Rattle.far_rows.specs.declared.slot.Slot.{Slot}
-use Rattle.far_rows.specs.declared.slot.Slot.TheVariants as slot
+use Rattle.far_rows.specs.declared.column_index.ColumnIndex.{ColumnIndex}
+use Rattle.far_rows.specs.declared.column_index.ColumnIndex.TheVariants as column_index
 use Rattle.far_rows.specs.Naming.{names_of, AreNamed}
 use Rattle.far_rows.specs.Rows.{Rows, AreRows}
 use Rattle.far_rows.specs.Refusing.{told_at, absent_at, absents, absents_from, no_range}
 
 -- the refusal of an object with this name
-told-by : {K : Type 0} (entry : Option (Entry K)) (name : Name) → option_map (λ e. e.name) entry ≡ Some name → option_map_or (λ e. refusal.Absent e.name.column e.name.group) entry refusal.StaleJob ≡ refusal.Absent name.column name.group
+told-by : {K : Type 0} (entry : Option (ObjectRecord K)) (name : Name) → option_map (λ e. e.name) entry ≡ Some name → option_map_or (λ e. refusal.Absent e.name.column e.name.group) entry refusal.StaleJob ≡ refusal.Absent name.column name.group
 told-by None name is = absurd (none-some name is)
 told-by (Some e) name is = ap (λ (n : Name). refusal.Absent n.column n.group) (same_Some e.name name is)
 
@@ -43,40 +43,40 @@ one-more (true, f) e later last due same = ap Some (due refl)
 one-more (false, f) e later last due same = same
 
 module _ {K : Type 0} (content : K → List ℕ) (r : Rows K) (are : AreRows content r) (g : ℕ) where
-  pub away-named : (k : ℕ) (s : Slot) → slice_get r.slots k ≡ Some s → (told_at r g s).0 ≡ true → (told_at r g s).1 ≡ refusal.Absent k g
-  away-named k (slot.Number i) at away =
-      let known = number-known (λ (d : Vector (Option ℤ)). AreNamed (names_of r.number_objects) d.column d.objects) (λ d. d.column) r.numbers i k (are.numbered k (slot.Number i) at) are.number_names in
+  pub away-named : (k : ℕ) (s : ColumnIndex) → slice_get r.column_indexes k ≡ Some s → (told_at r g s).0 ≡ true → (told_at r g s).1 ≡ refusal.Absent k g
+  away-named k (column_index.Number i) at away =
+      let known = number-known (λ (d : Vector (Option ℤ)). AreNamed (names_of r.number_objects) d.column d.objects) (λ d. d.column) r.numbers i k (are.numbered k (column_index.Number i) at) are.number_names in
       let c = known.0 in
       let case : Option (Vector (Option ℤ)) → Bool × Refusal = λ d. option_map_or (absent r.number_objects) (option_and_then (λ (v : Vector (Option ℤ)). slice_get v.objects g) d) (false, refusal.StaleJob) in
-      let is : told_at r g (slot.Number i) ≡ case (Some c) = ap case known.1 in
+      let is : told_at r g (column_index.Number i) ≡ case (Some c) = ap case known.1 in
       ap (λ (p : Bool × Refusal). p.1) is
       ∙ told-of r.number_objects c.column g c.objects known.3 (slice_get c.objects g) refl (sym (ap (λ (p : Bool × Refusal). p.0) is) ∙ away)
       ∙ ap (λ n. refusal.Absent n g) known.2
-  away-named k (slot.Text i) at away =
-      let known = number-known (λ (d : Texts). AreNamed (names_of r.text_objects) d.column d.objects) (λ d. d.column) r.texts i k (are.numbered k (slot.Text i) at) are.text_names in
+  away-named k (column_index.Text i) at away =
+      let known = number-known (λ (d : Texts). AreNamed (names_of r.text_objects) d.column d.objects) (λ d. d.column) r.texts i k (are.numbered k (column_index.Text i) at) are.text_names in
       let c = known.0 in
       let case : Option Texts → Bool × Refusal = λ d. option_map_or (absent r.text_objects) (option_and_then (λ (v : Texts). slice_get v.objects g) d) (false, refusal.StaleJob) in
-      let is : told_at r g (slot.Text i) ≡ case (Some c) = ap case known.1 in
+      let is : told_at r g (column_index.Text i) ≡ case (Some c) = ap case known.1 in
       ap (λ (p : Bool × Refusal). p.1) is
       ∙ told-of r.text_objects c.column g c.objects known.3 (slice_get c.objects g) refl (sym (ap (λ (p : Bool × Refusal). p.0) is) ∙ away)
       ∙ ap (λ n. refusal.Absent n g) known.2
 
   -- one column's is
-  pub one-named : (k : ℕ) (s : Slot) → slice_get r.slots k ≡ Some s → (later last : Option Refusal) → later ≡ last → cond (told_at r g s).0 (Some (told_at r g s).1) later ≡ cond (told_at r g s).0 (Some (refusal.Absent k g)) last
+  pub one-named : (k : ℕ) (s : ColumnIndex) → slice_get r.column_indexes k ≡ Some s → (later last : Option Refusal) → later ≡ last → cond (told_at r g s).0 (Some (told_at r g s).1) later ≡ cond (told_at r g s).0 (Some (refusal.Absent k g)) last
   one-named k s at later last same = one-more (told_at r g s) (refusal.Absent k g) later last (away-named k s at) same
 
-  first-named : (slots : List Slot) (n : ℕ) → ((k : ℕ) (s : Slot) → slice_get slots k ≡ Some s → (told_at r g s).0 ≡ true → (told_at r g s).1 ≡ refusal.Absent (n + k) g) → first_of (map (told_at r g) slots) ≡ first_of (absents_from r g n slots)
+  first-named : (column_indexes : List ColumnIndex) (n : ℕ) → ((k : ℕ) (s : ColumnIndex) → slice_get column_indexes k ≡ Some s → (told_at r g s).0 ≡ true → (told_at r g s).1 ≡ refusal.Absent (n + k) g) → first_of (map (told_at r g) column_indexes) ≡ first_of (absents_from r g n column_indexes)
   first-named [] n named = refl
-  first-named (s ∷ slots) n named =
-      let rest = first-named slots (n + 1) (λ k t at away. named (suc k) t at away ∙ ap (λ j. refusal.Absent j g) (omega arith)) in
-      one-more (told_at r g s) (refusal.Absent n g) (first_of (map (told_at r g) slots)) (first_of (absents_from r g (n + 1) slots)) (λ away. named 0 s refl away ∙ ap (λ j. refusal.Absent j g) (omega arith)) rest
+  first-named (s ∷ column_indexes) n named =
+      let rest = first-named column_indexes (n + 1) (λ k t at away. named (suc k) t at away ∙ ap (λ j. refusal.Absent j g) (omega arith)) in
+      one-more (told_at r g s) (refusal.Absent n g) (first_of (map (told_at r g) column_indexes)) (first_of (absents_from r g (n + 1) column_indexes)) (λ away. named 0 s refl away ∙ ap (λ j. refusal.Absent j g) (omega arith)) rest
 
   -- the first column whose object of a row group is away is told by its number and that of the row group
-  pub absents-named : first_of (map (told_at r g) r.slots) ≡ first_of (absents r g)
-  absents-named = first-named r.slots 0 (λ k s at away. away-named k s at away ∙ ap (λ j. refusal.Absent j g) (omega arith))
+  pub absents-named : first_of (map (told_at r g) r.column_indexes) ≡ first_of (absents r g)
+  absents-named = first-named r.column_indexes 0 (λ k s at away. away-named k s at away ∙ ap (λ j. refusal.Absent j g) (omega arith))
 
 -- several row groups of one column
-module _ {K : Type 0} (content : K → List ℕ) (r : Rows K) (are : AreRows content r) (column : ℕ) (s : Slot) (lies : slice_get r.slots column ≡ Some s) where
+module _ {K : Type 0} (content : K → List ℕ) (r : Rows K) (are : AreRows content r) (column : ℕ) (s : ColumnIndex) (lies : slice_get r.column_indexes column ≡ Some s) where
   pub groups-named : (groups : List ℕ) → first_of (map (λ g. told_at r g s) groups) ≡ first_of (map (λ g. absent_at r column g s) groups)
   groups-named [] = refl
   groups-named (g ∷ groups) = one-named content r are g column s lies (first_of (map (λ h. told_at r h s) groups)) (first_of (map (λ h. absent_at r column h s) groups)) (groups-named groups)

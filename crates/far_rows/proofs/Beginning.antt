@@ -9,7 +9,7 @@ use Rattle.std.proofs.lemmas.List.Sums.{AllPass-from_list_all, list_all-from_All
 use Rattle.far_vector.specs.Vector.{Vector, IsShaped}
 use Rattle.far_vector.specs.Effects.{is_full}
 use Rattle.far_texts.specs.Texts.{Texts, HasGroups}
-use Rattle.far_texts.specs.Changes.{begins_group}
+use Rattle.far_texts.specs.Effects.{begins_group}
 use Rattle.far_columns.specs.NumbersTogether.{NumberColumns, all_begin}
 use Rattle.far_texts.specs.Together.{all_begin as all_texts_begin}
 
@@ -38,19 +38,19 @@ module _ (len k size : ℕ) (some : 0 < size) (enough : len ≤ k * size) (neede
 -- a column of numbers with rows of this table
 pub record IsNumbers (size len : ℕ) (c : Vector (Option ℤ)) : Type 0 where
   pub shaped : IsShaped c
-  pub even : (c.size ≡ size) × (c.len ≡ len)
+  pub same_length : (c.size ≡ size) × (c.len ≡ len)
 
 pub record IsTexts (size len : ℕ) (c : Texts) : Type 0 where
   pub grouped : HasGroups c
-  pub even : (c.size ≡ size) × (c.len ≡ len)
+  pub same_length : (c.size ≡ size) × (c.len ≡ len)
 
 pub number-begins : (size len : ℕ) → 0 < size → len % size ≡ 0 → (c : Vector (Option ℤ)) → IsNumbers size len c → is_full c ≡ true
 number-begins size len some divides c is =
     let k = length c.objects in
     let on : c.len ≡ k * c.size =
-    is.even.1
-    ∙ full-at len k size some (omega (arith, is.shaped.enough, is.even.1, ap (λ s. k * s) is.even.0)) (omega (arith, is.shaped.needed, is.even.0, is.even.1, ap (λ s. k * s) is.even.0)) divides
-    ∙ sym (ap (λ s. k * s) is.even.0) in
+    is.same_length.1
+    ∙ full-at len k size some (omega (arith, is.shaped.enough, is.same_length.1, ap (λ s. k * s) is.same_length.0)) (omega (arith, is.shaped.needed, is.same_length.0, is.same_length.1, ap (λ s. k * s) is.same_length.0)) divides
+    ∙ sym (ap (λ s. k * s) is.same_length.0) in
     eq-eqb c.len (k * c.size) on
 
 pub number-begun : (size len : ℕ) → 0 < size → len % size ≢ 0 → (c : Vector (Option ℤ)) → IsNumbers size len c → is_full c ≡ false
@@ -58,7 +58,7 @@ number-begun size len some not_divides c is =
     let k = length c.objects in
     elim (cases_Bool (is_full c)) [
       | inl full ↦
-          absurd (begun-at len k size some (omega (arith, is.shaped.enough, is.even.1, ap (λ s. k * s) is.even.0)) (omega (arith, is.shaped.needed, is.even.0, is.even.1, ap (λ s. k * s) is.even.0)) not_divides (sym is.even.1 ∙ eqb-true c.len (k * c.size) full ∙ ap (λ s. k * s) is.even.0))
+          absurd (begun-at len k size some (omega (arith, is.shaped.enough, is.same_length.1, ap (λ s. k * s) is.same_length.0)) (omega (arith, is.shaped.needed, is.same_length.0, is.same_length.1, ap (λ s. k * s) is.same_length.0)) not_divides (sym is.same_length.1 ∙ eqb-true c.len (k * c.size) full ∙ ap (λ s. k * s) is.same_length.0))
       | inr begun ↦ begun
     ]
 
@@ -66,9 +66,9 @@ pub text-begins : (size len : ℕ) → 0 < size → len % size ≡ 0 → (c : Te
 text-begins size len some divides c is =
     let k = length c.objects in
     let on : c.len ≡ k * c.size =
-    is.even.1
-    ∙ full-at len k size some (omega (arith, is.grouped.held, is.even.1, ap (λ s. k * s) is.even.0)) (omega (arith, is.grouped.begun, is.even.0, is.even.1, ap (λ s. k * s) is.even.0)) divides
-    ∙ sym (ap (λ s. k * s) is.even.0) in
+    is.same_length.1
+    ∙ full-at len k size some (omega (arith, is.grouped.held, is.same_length.1, ap (λ s. k * s) is.same_length.0)) (omega (arith, is.grouped.begun, is.same_length.0, is.same_length.1, ap (λ s. k * s) is.same_length.0)) divides
+    ∙ sym (ap (λ s. k * s) is.same_length.0) in
     eq-eqb c.len (k * c.size) on
 
 pub text-begun : (size len : ℕ) → 0 < size → len % size ≢ 0 → (c : Texts) → IsTexts size len c → begins_group c ≡ false
@@ -76,7 +76,7 @@ text-begun size len some not_divides c is =
     let k = length c.objects in
     elim (cases_Bool (begins_group c)) [
       | inl full ↦
-          absurd (begun-at len k size some (omega (arith, is.grouped.held, is.even.1, ap (λ s. k * s) is.even.0)) (omega (arith, is.grouped.begun, is.even.0, is.even.1, ap (λ s. k * s) is.even.0)) not_divides (sym is.even.1 ∙ eqb-true c.len (k * c.size) full ∙ ap (λ s. k * s) is.even.0))
+          absurd (begun-at len k size some (omega (arith, is.grouped.held, is.same_length.1, ap (λ s. k * s) is.same_length.0)) (omega (arith, is.grouped.begun, is.same_length.0, is.same_length.1, ap (λ s. k * s) is.same_length.0)) not_divides (sym is.same_length.1 ∙ eqb-true c.len (k * c.size) full ∙ ap (λ s. k * s) is.same_length.0))
       | inr begun ↦ begun
     ]
 
@@ -112,10 +112,10 @@ few-more entries n k size len count all below some few =
     omega (arith, count, sum, all_groups, columns)
 
 pub are-numbers : (size len : ℕ) (columns : NumberColumns) → All IsShaped columns → All (λ c. (c.size ≡ size) × (c.len ≡ len)) columns → All (IsNumbers size len) columns
-are-numbers size len columns shaped even k d below = record { shaped = shaped k d below; even = even k d below }
+are-numbers size len columns shaped same_length k d below = record { shaped = shaped k d below; same_length = same_length k d below }
 
 pub are-texts : (size len : ℕ) (columns : List Texts) → All HasGroups columns → All (λ c. (c.size ≡ size) × (c.len ≡ len)) columns → All (IsTexts size len) columns
-are-texts size len columns grouped even k d below = record { grouped = grouped k d below; even = even k d below }
+are-texts size len columns grouped same_length k d below = record { grouped = grouped k d below; same_length = same_length k d below }
 
 module _ (size len entries : ℕ) (some : 0 < size) (below : len < 2 ^ 24) (few : entries ≤ 2 ^ 28) where
   pub numbers-few : (columns : NumberColumns) → length columns ≤ 16 → All (IsNumbers size len) columns → All (λ c. entries ≡ length columns * length c.objects) columns → all_begin columns ≡ true → entries + length columns ≤ 2 ^ 28
@@ -124,7 +124,7 @@ module _ (size len entries : ℕ) (some : 0 < size) (below : len < 2 ^ 24) (few 
       let n = length (c ∷ columns) in
       let here = All-head (IsNumbers size len) c columns are in
       let full = All-head (λ c. is_full c ≡ true) c columns (AllPass-from_list_all is_full (c ∷ columns) begin) in
-      let all : length c.objects * size ≡ len = ap (λ s. length c.objects * s) (sym here.even.0) ∙ sym (eqb-true c.len (length c.objects * c.size) full) ∙ here.even.1 in
+      let all : length c.objects * size ≡ len = ap (λ s. length c.objects * s) (sym here.same_length.0) ∙ sym (eqb-true c.len (length c.objects * c.size) full) ∙ here.same_length.1 in
       few-more entries n (length c.objects) size len (All-head (λ c. entries ≡ n * length c.objects) c columns count) all below some small
 
   pub texts-few : (columns : List Texts) → length columns ≤ 16 → All (IsTexts size len) columns → All (λ c. entries ≡ length columns * length c.objects) columns → all_texts_begin columns ≡ true → entries + length columns ≤ 2 ^ 28
@@ -133,7 +133,7 @@ module _ (size len entries : ℕ) (some : 0 < size) (below : len < 2 ^ 24) (few 
       let n = length (c ∷ columns) in
       let here = All-head (IsTexts size len) c columns are in
       let full = All-head (λ c. begins_group c ≡ true) c columns (AllPass-from_list_all begins_group (c ∷ columns) begin) in
-      let all : length c.objects * size ≡ len = ap (λ s. length c.objects * s) (sym here.even.0) ∙ sym (eqb-true c.len (length c.objects * c.size) full) ∙ here.even.1 in
+      let all : length c.objects * size ≡ len = ap (λ s. length c.objects * s) (sym here.same_length.0) ∙ sym (eqb-true c.len (length c.objects * c.size) full) ∙ here.same_length.1 in
       few-more entries n (length c.objects) size len (All-head (λ c. entries ≡ n * length c.objects) c columns count) all below some small
 
 -- neither of two refusals is due

@@ -10,7 +10,7 @@ use Rattle.far_scopes.specs.Movement.{is_local}
 use Rattle.far_scopes.specs.Refusing.{lend_refusal}
 use Rattle.far_scopes.proofs.Places.{cases_option}
 use Rattle.far_evacuator.specs.Beginning.{fetch_refusal as fetch_refusal_in}
-use Rattle.far_rows.specs.declared.slot.Slot.{Slot}
+use Rattle.far_rows.specs.declared.column_index.ColumnIndex.{ColumnIndex}
 use Rattle.far_rows.specs.declared.object.Object.{Object}
 use Rattle.far_rows.specs.declared.object.Object.TheVariants as object
 use Rattle.far_rows.specs.Rows.{Rows, AreRows, object_of}
@@ -25,21 +25,21 @@ not-not true = refl
 not-not false = refl
 
 module _ {K : Type 0} (content : K → List ℕ) (r : Rows K) (are : AreRows content r) (column group o : ℕ) where
-  -- the column has a slot where the object is found
-  pub lies : (found : Object) → object_at r column group ≡ Some found → (s : Slot) × (slice_get r.slots column ≡ Some s)
-  lies found at = elim (cases_option (slice_get r.slots column)) [
-    | inl none ↦ absurd (none-some found (sym (ap (option_and_then (λ (t : Slot). option_map (object_in t) (object_of r t group))) none) ∙ at))
+  -- the column has an index where the object is found
+  pub lies : (found : Object) → object_at r column group ≡ Some found → (s : ColumnIndex) × (slice_get r.column_indexes column ≡ Some s)
+  lies found at = elim (cases_option (slice_get r.column_indexes column)) [
+    | inl none ↦ absurd (none-some found (sym (ap (option_and_then (λ (t : ColumnIndex). option_map (object_in t) (object_of r t group))) none) ∙ at))
     | inr (s, is) ↦ (s, is)
   ]
 
   -- it is away: the refusal says its column and its row group
-  away-told : (found : Object) (at : object_at r column group ≡ Some found) (s : Slot) (is : slice_get r.slots column ≡ Some s) → first_of (told_at r group s ∷ []) ≡ evac_refusal r column group
+  away-told : (found : Object) (at : object_at r column group ≡ Some found) (s : ColumnIndex) (is : slice_get r.column_indexes column ≡ Some s) → first_of (told_at r group s ∷ []) ≡ evac_refusal r column group
   away-told found at s is =
       one-named content r are group column s is None None refl
       ∙ sym (λ k. option_or (first_of ((is_none (is k), refusal.NoColumn) ∷ (is_none (at k), refusal.OutOfRange) ∷ [])) (first_of (option_map_or (absent_at r column group) (is k) (false, refusal.StaleJob) ∷ [])))
 
   -- it is local
-  local-told : (found : Object) (at : object_at r column group ≡ Some found) (s : Slot) (is : slice_get r.slots column ≡ Some s) → first_of ((not (told_at r group s).0, refusal.StaleJob) ∷ []) ≡ fetch_refusal r column group
+  local-told : (found : Object) (at : object_at r column group ≡ Some found) (s : ColumnIndex) (is : slice_get r.column_indexes column ≡ Some s) → first_of ((not (told_at r group s).0, refusal.StaleJob) ∷ []) ≡ fetch_refusal r column group
   local-told found at s is =
       sym (λ k. option_or (first_of ((is_none (is k), refusal.NoColumn) ∷ (is_none (at k), refusal.OutOfRange) ∷ [])) (first_of ((not (option_map_or (absent_at r column group) (is k) (false, refusal.StaleJob)).0, refusal.StaleJob) ∷ [])))
 

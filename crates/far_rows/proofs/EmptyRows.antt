@@ -7,7 +7,7 @@ use Rattle.far_types.specs.declared.cell.Kind.{Kind}
 use Rattle.far_types.specs.declared.cell.Kind.TheVariants as kind
 use Rattle.far_types.specs.declared.limits.Limits.{Limits}
 use Rattle.far_types.specs.Bounds.{IsSchema, AreLimits}
-use Rattle.far_vector.specs.Vector.{Vector, IsVector, IsShaped, AreApart}
+use Rattle.far_vector.specs.Vector.{Vector, IsVector, IsShaped, AreDisjoint}
 use Rattle.far_texts.specs.Texts as texts
 use Rattle.far_texts.specs.Texts.{Texts, Lists, HasGroups, IsTextColumn}
 use Rattle.far_columns.specs.NumbersTogether.{NumberLists, AreNumberColumns}
@@ -15,7 +15,7 @@ use Rattle.far_texts.specs.Together.{AreColumns}
 use Rattle.far_rows.specs.Naming.{AreNamed}
 use Rattle.far_rows.specs.Rows.{AreRows}
 use Rattle.far_rows.specs.Opening.{numbers_from, texts_from, empty_rows}
-use Rattle.far_rows.proofs.EmptySlots.{slots-are, columns-count, are-numbered, numbers-placed, texts-placed}
+use Rattle.far_rows.proofs.EmptyColumnIndexes.{column_indexes-are, columns-count, are-numbered, numbers-placed, texts-placed}
 
 mul-zero : (n : ℕ) → n * 0 ≡ 0
 mul-zero n = omega arith
@@ -25,25 +25,25 @@ zero-times n = omega arith
 
 -- a column of numbers without a number, and one of texts without a text
 record IsEmptyNumbers (size : ℕ) (c : Vector (Option ℤ)) : Type 0 where
-  pub even : c.size ≡ size
+  pub same_length : c.size ≡ size
   pub len : c.len ≡ 0
   pub objects : c.objects ≡ []
 
 record IsEmptyTexts (size limit : ℕ) (c : Texts) : Type 0 where
-  pub even : c.size ≡ size
+  pub same_length : c.size ≡ size
   pub bound : c.limit ≡ limit
   pub len : c.len ≡ 0
   pub objects : c.objects ≡ []
 
 numbers-empty : (size n : ℕ) (kinds : List Kind) → All (IsEmptyNumbers size) (numbers_from size n kinds)
 numbers-empty size n [] = All-nil (IsEmptyNumbers size)
-numbers-empty size n (kind.Int ∷ kinds) = All-cons (IsEmptyNumbers size) _ _ record { even = refl; len = refl; objects = refl } (numbers-empty size (n + 1) kinds)
+numbers-empty size n (kind.Int ∷ kinds) = All-cons (IsEmptyNumbers size) _ _ record { same_length = refl; len = refl; objects = refl } (numbers-empty size (n + 1) kinds)
 numbers-empty size n (kind.Text ∷ kinds) = numbers-empty size (n + 1) kinds
 
 texts-empty : (size limit n : ℕ) (kinds : List Kind) → All (IsEmptyTexts size limit) (texts_from size limit n kinds)
 texts-empty size limit n [] = All-nil (IsEmptyTexts size limit)
 texts-empty size limit n (kind.Int ∷ kinds) = texts-empty size limit (n + 1) kinds
-texts-empty size limit n (kind.Text ∷ kinds) = All-cons (IsEmptyTexts size limit) _ _ record { even = refl; bound = refl; len = refl; objects = refl } (texts-empty size limit (n + 1) kinds)
+texts-empty size limit n (kind.Text ∷ kinds) = All-cons (IsEmptyTexts size limit) _ _ record { same_length = refl; bound = refl; len = refl; objects = refl } (texts-empty size limit (n + 1) kinds)
 
 -- what holds of all holds of each pair
 pairs-of : {X : Type 0} (P : X → Type 0) (R : X → X → Type 0) (xs : List X) → ((x y : X) → P x → P y → R x y) → All P xs → AllPairs R xs
@@ -54,18 +54,18 @@ number-is lists size c empty =
     let none : length c.objects ≡ 0 = ap length empty.objects in
     record {
       whole = λ k o within. absurd (omega arith);
-      unused = rw (empty.objects, empty.len) (ap (λ n. replicate n c.blank) (sym (zero-times c.size)));
+      unused = rw (empty.objects, empty.len) (ap (λ n. replicate n c.default_value) (sym (zero-times c.size)));
     }
 
 numbers-are : (lists : NumberLists) (size n : ℕ) (kinds : List Kind) → AreNumberColumns lists (numbers_from size n kinds)
 numbers-are lists size n kinds =
     let empty = numbers-empty size n kinds in
     record {
-      beside = record {
+      all_disjoint = record {
         each = All-weaker (IsEmptyNumbers size) (IsVector lists) (number-is lists size) (numbers_from size n kinds) empty;
-        apart = pairs-of (IsEmptyNumbers size) AreApart (numbers_from size n kinds) (λ c d of_c of_d. let none : length c.objects ≡ 0 = ap length of_c.objects in λ k o within. absurd (omega arith)) empty;
+        disjoint = pairs-of (IsEmptyNumbers size) AreDisjoint (numbers_from size n kinds) (λ c d of_c of_d. let none : length c.objects ≡ 0 = ap length of_c.objects in λ k o within. absurd (omega arith)) empty;
       };
-      even = pairs-of (IsEmptyNumbers size) (λ c d. (c.size ≡ d.size) × (c.len ≡ d.len)) (numbers_from size n kinds) (λ c d of_c of_d. (of_c.even ∙ sym of_d.even, of_c.len ∙ sym of_d.len)) empty;
+      same_length = pairs-of (IsEmptyNumbers size) (λ c d. (c.size ≡ d.size) × (c.len ≡ d.len)) (numbers_from size n kinds) (λ c d of_c of_d. (of_c.same_length ∙ sym of_d.same_length, of_c.len ∙ sym of_d.len)) empty;
     }
 
 text-is : (lists : Lists) (size limit : ℕ) (c : Texts) → IsEmptyTexts size limit c → IsTextColumn lists c
@@ -80,11 +80,11 @@ texts-are : (lists : Lists) (size limit n : ℕ) (kinds : List Kind) → AreColu
 texts-are lists size limit n kinds =
     let empty = texts-empty size limit n kinds in
     record {
-      beside = record {
+      all_disjoint = record {
         each = All-weaker (IsEmptyTexts size limit) (IsTextColumn lists) (text-is lists size limit) (texts_from size limit n kinds) empty;
-        apart = pairs-of (IsEmptyTexts size limit) texts.AreApart (texts_from size limit n kinds) (λ c d of_c of_d. let none : length c.objects ≡ 0 = ap length of_c.objects in λ group other o here. absurd (none-some o (sym (slice_get_past c.objects group (omega arith)) ∙ here))) empty;
+        disjoint = pairs-of (IsEmptyTexts size limit) texts.AreDisjoint (texts_from size limit n kinds) (λ c d of_c of_d. let none : length c.objects ≡ 0 = ap length of_c.objects in λ group other o here. absurd (none-some o (sym (slice_get_past c.objects group (omega arith)) ∙ here))) empty;
       };
-      even = pairs-of (IsEmptyTexts size limit) (λ c d. (c.size ≡ d.size) × (c.len ≡ d.len)) (texts_from size limit n kinds) (λ c d of_c of_d. (of_c.even ∙ sym of_d.even, of_c.len ∙ sym of_d.len)) empty;
+      same_length = pairs-of (IsEmptyTexts size limit) (λ c d. (c.size ≡ d.size) × (c.len ≡ d.len)) (texts_from size limit n kinds) (λ c d of_c of_d. (of_c.same_length ∙ sym of_d.same_length, of_c.len ∙ sym of_d.len)) empty;
     }
 
 number-shaped : (size : ℕ) → 1 ≤ size → size ≤ 65536 → (c : Vector (Option ℤ)) → IsEmptyNumbers size c → IsShaped c
@@ -93,12 +93,12 @@ number-shaped size low high c empty =
     let nothing : 0 * c.size ≡ 0 = omega arith in
     let room : length c.objects * c.size ≡ 0 = ap (λ n. n * c.size) none ∙ nothing in
     record {
-      some = omega (arith, empty.even, low);
-      short = omega (arith, empty.even, high);
+      some = omega (arith, empty.same_length, low);
+      short = omega (arith, empty.same_length, high);
       few = omega (arith, none);
       rising = λ i j d early within. absurd (omega (arith, none, early, within));
       enough = omega (arith, empty.len, room);
-      needed = omega (arith, empty.len, empty.even, room, low);
+      needed = omega (arith, empty.len, empty.same_length, room, low);
     }
 
 text-grouped : (size limit : ℕ) → 1 ≤ size → size ≤ 65536 → limit ≤ 2 ^ 24 → (c : Texts) → IsEmptyTexts size limit c → HasGroups c
@@ -107,12 +107,12 @@ text-grouped size limit low high short c empty =
     let nothing : 0 * c.size ≡ 0 = omega arith in
     let room : length c.objects * c.size ≡ 0 = ap (λ n. n * c.size) none ∙ nothing in
     record {
-      some = omega (arith, empty.even, low);
-      small = omega (arith, empty.even, high);
+      some = omega (arith, empty.same_length, low);
+      small = omega (arith, empty.same_length, high);
       short = omega (arith, empty.bound, short);
       few = omega (arith, none);
       held = omega (arith, empty.len, room);
-      begun = omega (arith, empty.len, empty.even, room, low);
+      begun = omega (arith, empty.len, empty.same_length, room, low);
     }
 
 no-objects : (n : ℕ) (objects : List ℕ) → objects ≡ [] → n * length objects ≡ 0
@@ -125,7 +125,7 @@ rows-are content schema limits number few are =
     let numbers = numbers-empty size 0 schema in
     let texts = texts-empty size limit 0 schema in
     record {
-      slots = slots-are size limit schema;
+      column_indexes = column_indexes-are size limit schema;
       few = omega (arith, columns-count size limit 0 schema, few.1);
       some = are.group_low;
       small = are.group_high;
@@ -134,8 +134,8 @@ rows-are content schema limits number few are =
       texts = texts-are _ size limit 0 schema;
       shaped = All-weaker (IsEmptyNumbers size) IsShaped (number-shaped size are.group_low are.group_high) (numbers_from size 0 schema) numbers;
       grouped = All-weaker (IsEmptyTexts size limit) HasGroups (text-grouped size limit are.group_low are.group_high (omega (arith, are.text_size_high))) (texts_from size limit 0 schema) texts;
-      even_numbers = All-weaker (IsEmptyNumbers size) (λ (c : Vector (Option ℤ)). (c.size ≡ size) × (c.len ≡ 0)) (λ c empty. (empty.even, empty.len)) (numbers_from size 0 schema) numbers;
-      even_texts = All-weaker (IsEmptyTexts size limit) (λ (c : Texts). (c.size ≡ size) × (c.len ≡ 0)) (λ c empty. (empty.even, empty.len)) (texts_from size limit 0 schema) texts;
+      same_length_numbers = All-weaker (IsEmptyNumbers size) (λ (c : Vector (Option ℤ)). (c.size ≡ size) × (c.len ≡ 0)) (λ c empty. (empty.same_length, empty.len)) (numbers_from size 0 schema) numbers;
+      same_length_texts = All-weaker (IsEmptyTexts size limit) (λ (c : Texts). (c.size ≡ size) × (c.len ≡ 0)) (λ c empty. (empty.same_length, empty.len)) (texts_from size limit 0 schema) texts;
       number_objects = All-weaker (IsEmptyNumbers size) _ (λ c empty. sym (no-objects (length (numbers_from size 0 schema)) c.objects empty.objects)) (numbers_from size 0 schema) numbers;
       text_objects = All-weaker (IsEmptyTexts size limit) _ (λ c empty. sym (no-objects (length (texts_from size limit 0 schema)) c.objects empty.objects)) (texts_from size limit 0 schema) texts;
       numbered = are-numbered size limit schema;

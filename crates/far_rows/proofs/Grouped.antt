@@ -16,10 +16,10 @@ use Rattle.far_vector.proofs.VectorLaws.{length-elements}
 use Rattle.far_texts.specs.Texts.{Texts, HasGroups, IsTextColumn, IsGroupForm, lists_of, texts_in}
 use Rattle.far_columns.specs.Numbers.{Numbers, number_lists, numbers_in}
 use Rattle.far_texts.proofs.RowGroups.{texts-of-group}
-use Rattle.far_rows.specs.declared.slot.Slot.{Slot}
-use Rattle.far_rows.specs.declared.slot.Slot.TheVariants as slot
+use Rattle.far_rows.specs.declared.column_index.ColumnIndex.{ColumnIndex}
+use Rattle.far_rows.specs.declared.column_index.ColumnIndex.TheVariants as column_index
 use Rattle.far_rows.specs.declared.object.Object.TheVariants as object
-use Rattle.far_rows.specs.Slots.{IsWithin, column_in}
+use Rattle.far_rows.specs.ColumnIndexes.{IsWithin, column_in}
 use Rattle.far_rows.specs.Rows.{Rows, AreRows, all_numbers, all_texts, cells_of, object_of}
 use Rattle.far_rows.specs.Moving.{object_at}
 use Rattle.far_rows.proofs.Begun.{lies}
@@ -46,46 +46,46 @@ option-list (Some ys) xs P is all = subst P (same_Some ys xs is) all
 option-list None xs P is all = absurd all
 
 module _ {K : Type 0} (content : K → List ℕ) (r : Rows K) (are : AreRows content r) (column group o : ℕ) where
-  inside : (s : Slot) → slice_get r.slots column ≡ Some s → IsWithin (length r.numbers) (length r.texts) s
-  inside s is = subst (IsWithin (length r.numbers) (length r.texts)) (get_or_from_slice_get r.slots column s s is) (are.slots.within column s (slice_get_within r.slots column s is))
+  inside : (s : ColumnIndex) → slice_get r.column_indexes column ≡ Some s → IsWithin (length r.numbers) (length r.texts) s
+  inside s is = subst (IsWithin (length r.numbers) (length r.texts)) (get_or_from_slice_get r.column_indexes column s s is) (are.column_indexes.within column s (slice_get_within r.column_indexes column s is))
 
   -- how many places of the row group are used
   abbrev pub used : ℕ
   used = length (in_group r.size group r.alive)
 
-  cells-at : (s : Slot) → slice_get r.slots column ≡ Some s → option_map (in_group r.size group) (slice_get (cells_of content r) column) ≡ Some (in_group r.size group (column_in (all_numbers content r) (all_texts content r) s))
-  cells-at s is = ap (option_map (in_group r.size group)) (slice_get-map (column_in (all_numbers content r) (all_texts content r)) r.slots column ∙ ap (option_map (column_in (all_numbers content r) (all_texts content r))) is)
+  cells-at : (s : ColumnIndex) → slice_get r.column_indexes column ≡ Some s → option_map (in_group r.size group) (slice_get (cells_of content r) column) ≡ Some (in_group r.size group (column_in (all_numbers content r) (all_texts content r) s))
+  cells-at s is = ap (option_map (in_group r.size group)) (slice_get-map (column_in (all_numbers content r) (all_texts content r)) r.column_indexes column ∙ ap (option_map (column_in (all_numbers content r) (all_texts content r))) is)
 
   pub record HasNumbers (list : Numbers) : Type 0 where
     pub enough : used ≤ length list
     pub cells : option_map (in_group r.size group) (slice_get (cells_of content r) column) ≡ Some (map int_cell (take used list))
 
-  numbers-in : (s : Slot) → slice_get r.slots column ≡ Some s → object_at r column group ≡ Some (object.Number o) → (list : Numbers) → list_in r.number_objects.memory o ≡ Some list → HasNumbers list
-  numbers-in (slot.Text i) is at list here = no-number (object_of r (slot.Text i) group) o (sym (found-in content r are column group o (slot.Text i) is) ∙ at)
-  numbers-in (slot.Number i) is at list here =
-      let within : i < length r.numbers = inside (slot.Number i) is in
+  numbers-in : (s : ColumnIndex) → slice_get r.column_indexes column ≡ Some s → object_at r column group ≡ Some (object.Number o) → (list : Numbers) → list_in r.number_objects.memory o ≡ Some list → HasNumbers list
+  numbers-in (column_index.Text i) is at list here = no-number (object_of r (column_index.Text i) group) o (sym (found-in content r are column group o (column_index.Text i) is) ∙ at)
+  numbers-in (column_index.Number i) is at list here =
+      let within : i < length r.numbers = inside (column_index.Number i) is in
       let found = found-at r.numbers i within in
       let c : Vector (Option ℤ) = found.0 in
       let same = get_or_from_slice_get r.numbers i c c found.1 in
       let lists = number_lists content r.number_objects in
-      let even = subst (λ (d : Vector (Option ℤ)). (d.size ≡ r.size) × (d.len ≡ length r.alive)) same (are.even_numbers i c within) in
+      let same_length = subst (λ (d : Vector (Option ℤ)). (d.size ≡ r.size) × (d.len ≡ length r.alive)) same (are.same_length_numbers i c within) in
       let shaped = subst IsShaped same (are.shaped i c within) in
-      let vector = subst (IsVector lists) same (are.numbers.beside.each i c within) in
+      let vector = subst (IsVector lists) same (are.numbers.all_disjoint.each i c within) in
       let numbers : Numbers = numbers_in content r.number_objects c in
       let read : get_or (all_numbers content r) i [] ≡ numbers = get_or_from_slice_get (all_numbers content r) i numbers [] (slice_get-map (numbers_in content r.number_objects) r.numbers i ∙ ap (option_map (numbers_in content r.number_objects)) found.1) in
-      let object : slice_get c.objects group ≡ Some o = sym (ap (option_and_then (λ (v : Vector (Option ℤ)). slice_get v.objects group)) found.1) ∙ number-of (object_of r (slot.Number i) group) o (sym (found-in content r are column group o (slot.Number i) is) ∙ at) in
+      let object : slice_get c.objects group ≡ Some o = sym (ap (option_and_then (λ (v : Vector (Option ℤ)). slice_get v.objects group)) found.1) ∙ number-of (object_of r (column_index.Number i) group) o (sym (found-in content r are column group o (column_index.Number i) is) ∙ at) in
       let list_there : lists o ≡ Some list = ap (λ l. option_or l (option_map (meant ints_meaning content) (ticket_of r.number_objects o))) here in
       let held : list ≡ group_list c numbers group = same_Some list (group_list c numbers group) (sym list_there ∙ list-of-group lists c group o shaped vector object) in
       let front : List (Option ℤ) = in_group c.size group numbers in
-      let count : length front ≡ used = group-long c.size group numbers r.alive (length-elements lists c shaped vector ∙ even.1) ∙ ap (λ n. length (in_group n group r.alive)) even.0 in
+      let count : length front ≡ used = group-long c.size group numbers r.alive (length-elements lists c shaped vector ∙ same_length.1) ∙ ap (λ n. length (in_group n group r.alive)) same_length.0 in
       let cut : take used list ≡ in_group r.size group numbers =
       ap (take used) held
       ∙ ap (λ n. take n (group_list c numbers group)) (sym count)
-      ∙ take-front front (replicate (c.size - length front) c.blank)
-      ∙ ap (λ n. in_group n group numbers) even.0 in
+      ∙ take-front front (replicate (c.size - length front) c.default_value)
+      ∙ ap (λ n. in_group n group numbers) same_length.0 in
       record {
-        enough = omega (arith, count, ap length held, length-append front (replicate (c.size - length front) c.blank));
-        cells = cells-at (slot.Number i) is
+        enough = omega (arith, count, ap length held, length-append front (replicate (c.size - length front) c.default_value));
+        cells = cells-at (column_index.Number i) is
             ∙ ap Some (ap (λ ns. in_group r.size group (map int_cell ns)) read ∙ group-map int_cell r.size group numbers ∙ ap (map int_cell) (sym cut));
       }
 
@@ -96,29 +96,29 @@ module _ {K : Type 0} (content : K → List ℕ) (r : Rows K) (are : AreRows con
     pub form : IsTextsForm bytes
     pub cells : option_map (in_group r.size group) (slice_get (cells_of content r) column) ≡ Some (map text_cell (texts_meaning bytes))
 
-  texts-of : (s : Slot) → slice_get r.slots column ≡ Some s → object_at r column group ≡ Some (object.Text o) → (form : List ℕ) → list_in r.text_objects.memory o ≡ Some form → HasTexts form
-  texts-of (slot.Number i) is at form here = no-text (object_of r (slot.Number i) group) o (sym (found-in content r are column group o (slot.Number i) is) ∙ at)
-  texts-of (slot.Text i) is at form here =
-      let within : i < length r.texts = inside (slot.Text i) is in
+  texts-of : (s : ColumnIndex) → slice_get r.column_indexes column ≡ Some s → object_at r column group ≡ Some (object.Text o) → (form : List ℕ) → list_in r.text_objects.memory o ≡ Some form → HasTexts form
+  texts-of (column_index.Number i) is at form here = no-text (object_of r (column_index.Number i) group) o (sym (found-in content r are column group o (column_index.Number i) is) ∙ at)
+  texts-of (column_index.Text i) is at form here =
+      let within : i < length r.texts = inside (column_index.Text i) is in
       let found = found-at r.texts i within in
       let c : Texts = found.0 in
       let same = get_or_from_slice_get r.texts i c c found.1 in
       let lists = lists_of content r.text_objects in
-      let even = subst (λ (d : Texts). (d.size ≡ r.size) × (d.len ≡ length r.alive)) same (are.even_texts i c within) in
+      let same_length = subst (λ (d : Texts). (d.size ≡ r.size) × (d.len ≡ length r.alive)) same (are.same_length_texts i c within) in
       let has = subst HasGroups same (are.grouped i c within) in
-      let column_is = subst (IsTextColumn lists) same (are.texts.beside.each i c within) in
+      let column_is = subst (IsTextColumn lists) same (are.texts.all_disjoint.each i c within) in
       let texts : List (Option (List ℕ)) = texts_in lists c in
       let read : get_or (all_texts content r) i [] ≡ texts = get_or_from_slice_get (all_texts content r) i texts [] (slice_get-map (texts_in lists) r.texts i ∙ ap (option_map (texts_in lists)) found.1) in
-      let object : slice_get c.objects group ≡ Some o = sym (ap (option_and_then (λ (v : Texts). slice_get v.objects group)) found.1) ∙ text-of (object_of r (slot.Text i) group) o (sym (found-in content r are column group o (slot.Text i) is) ∙ at) in
+      let object : slice_get c.objects group ≡ Some o = sym (ap (option_and_then (λ (v : Texts). slice_get v.objects group)) found.1) ∙ text-of (object_of r (column_index.Text i) group) o (sym (found-in content r are column group o (column_index.Text i) is) ∙ at) in
       let list_there : lists o ≡ Some form = ap (λ l. option_or l (option_map (meant (λ bytes. bytes) content) (ticket_of r.text_objects o))) here in
       let group_texts : in_group r.size group texts ≡ texts_meaning form =
-      ap (λ n. in_group n group texts) (sym even.0)
+      ap (λ n. in_group n group texts) (sym same_length.0)
       ∙ sym (texts-of-group lists c group o has column_is object)
       ∙ ap (λ l. texts_meaning (unwrap_or l [])) list_there in
       let held = option-list (lists o) form (IsGroupForm c group) list_there (column_is.each group o object) in
       record {
         form = held.form;
-        cells = cells-at (slot.Text i) is
+        cells = cells-at (column_index.Text i) is
             ∙ ap Some (ap (λ ts. in_group r.size group (map text_cell ts)) read ∙ group-map text_cell r.size group texts ∙ ap (map text_cell) group_texts);
       }
 

@@ -3,9 +3,9 @@ use Rattle.std.proofs.Common.{◌≡◌, ℕ, ◌+◌, List, [], ◌∷◌, leng
 use Rattle.std.specs.Prelude.{ℤ, Option, All}
 use Rattle.std.proofs.lemmas.List.Elements.{All-nil, All-cons, All-head, All-tail}
 use Rattle.far_vector.specs.Vector.{Vector}
-use Rattle.far_vector.specs.Effects.{pushed as number_pushed}
+use Rattle.far_vector.specs.Effects.{after_push as number_pushed}
 use Rattle.far_texts.specs.Texts.{Texts}
-use Rattle.far_texts.specs.Changes.{pushed as text_pushed}
+use Rattle.far_texts.specs.Effects.{pushed as text_pushed}
 use Rattle.far_columns.specs.NumbersTogether.{NumberColumns, all_pushed as all_numbers_pushed}
 use Rattle.far_texts.specs.Together.{all_pushed as all_texts_pushed}
 

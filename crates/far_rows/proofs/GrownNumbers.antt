@@ -5,33 +5,33 @@ use Rattle.std.proofs.Math.Nat.{mul-add, mul-one}
 use Rattle.std.proofs.lemmas.Bool.{cases_eq, cases_lt, cases_Bool}
 use Rattle.std.proofs.lemmas.List.{length_push}
 use Rattle.far_vector.specs.Vector.{Vector}
-use Rattle.far_vector.specs.Effects.{is_full, pushed}
+use Rattle.far_vector.specs.Effects.{is_full, after_push}
 use Rattle.far_columns.specs.NumbersTogether.{NumberColumns, all_begin, all_pushed}
 use Rattle.far_rows.proofs.Beginning.{IsNumbers, number-begins, number-begun, numbers-begin, numbers-begun}
 use Rattle.far_rows.proofs.Grown.{as-many-numbers, all-numbers}
 
 -- a column with a number more, as its last row group is full or not
-pub begun : (c : Vector (Option ℤ)) (o : ℕ) → is_full c ≡ true → pushed c o ≡ record c { objects = c.objects ++ o ∷ []; len = c.len + 1 }
+pub begun : (c : Vector (Option ℤ)) (o : ℕ) → is_full c ≡ true → after_push c o ≡ record c { objects = c.objects ++ o ∷ []; len = c.len + 1 }
 begun c o full = rw full refl
 
-pub longer : (c : Vector (Option ℤ)) (o : ℕ) → is_full c ≡ false → pushed c o ≡ record c { len = c.len + 1 }
+pub longer : (c : Vector (Option ℤ)) (o : ℕ) → is_full c ≡ false → after_push c o ≡ record c { len = c.len + 1 }
 longer c o full = rw full refl
 
 -- it has row groups of the size that it had, and a place more
-pub even-grown : (size len more : ℕ) → len + 1 ≡ more → (c : Vector (Option ℤ)) (o : ℕ) → (c.size ≡ size) × (c.len ≡ len) → ((pushed c o).size ≡ size) × ((pushed c o).len ≡ more)
-even-grown size len more e c o even = elim (cases_Bool (is_full c)) [
-  | inl full ↦ subst (λ (d : Vector (Option ℤ)). (d.size ≡ size) × (d.len ≡ more)) (sym (begun c o full)) (even.0, omega (arith, e, even.1))
-  | inr not ↦ subst (λ (d : Vector (Option ℤ)). (d.size ≡ size) × (d.len ≡ more)) (sym (longer c o not)) (even.0, omega (arith, e, even.1))
+pub same_length-grown : (size len more : ℕ) → len + 1 ≡ more → (c : Vector (Option ℤ)) (o : ℕ) → (c.size ≡ size) × (c.len ≡ len) → ((after_push c o).size ≡ size) × ((after_push c o).len ≡ more)
+same_length-grown size len more e c o same_length = elim (cases_Bool (is_full c)) [
+  | inl full ↦ subst (λ (d : Vector (Option ℤ)). (d.size ≡ size) × (d.len ≡ more)) (sym (begun c o full)) (same_length.0, omega (arith, e, same_length.1))
+  | inr not ↦ subst (λ (d : Vector (Option ℤ)). (d.size ≡ size) × (d.len ≡ more)) (sym (longer c o not)) (same_length.0, omega (arith, e, same_length.1))
 ]
 
 module _ (size len : ℕ) (some : 0 < size) (n entries now : ℕ) where
-  begun-count : now ≡ entries + n → (c : Vector (Option ℤ)) (o : ℕ) → (is_full c ≡ true) × (entries ≡ n * length c.objects) → now ≡ n * length (pushed c o).objects
+  begun-count : now ≡ entries + n → (c : Vector (Option ℤ)) (o : ℕ) → (is_full c ≡ true) × (entries ≡ n * length c.objects) → now ≡ n * length (after_push c o).objects
   begun-count count c o was =
       let more : n * (length c.objects + 1) ≡ n * length c.objects + n = mul-add n (length c.objects) 1 ∙ ap (λ m. n * length c.objects + m) (mul-one n) in
-      let long : length (pushed c o).objects ≡ length c.objects + 1 = ap (λ (d : Vector (Option ℤ)). length d.objects) (begun c o was.0) ∙ length_push c.objects o in
+      let long : length (after_push c o).objects ≡ length c.objects + 1 = ap (λ (d : Vector (Option ℤ)). length d.objects) (begun c o was.0) ∙ length_push c.objects o in
       omega (arith, count, was.1, more) ∙ ap (λ m. n * m) (sym long)
 
-  longer-count : now ≡ entries → (c : Vector (Option ℤ)) (o : ℕ) → (is_full c ≡ false) × (entries ≡ n * length c.objects) → now ≡ n * length (pushed c o).objects
+  longer-count : now ≡ entries → (c : Vector (Option ℤ)) (o : ℕ) → (is_full c ≡ false) × (entries ≡ n * length c.objects) → now ≡ n * length (after_push c o).objects
   longer-count count c o was = count ∙ was.1 ∙ ap (λ (d : Vector (Option ℤ)). n * length d.objects) (sym (longer c o was.0))
 
   -- each column has an object for as many row groups as the others, and there are no other objects

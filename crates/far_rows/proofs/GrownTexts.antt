@@ -5,7 +5,7 @@ use Rattle.std.proofs.Math.Nat.{mul-add, mul-one}
 use Rattle.std.proofs.lemmas.Bool.{cases_eq, cases_lt, cases_Bool}
 use Rattle.std.proofs.lemmas.List.{length_push}
 use Rattle.far_texts.specs.Texts.{Texts}
-use Rattle.far_texts.specs.Changes.{begins_group, pushed}
+use Rattle.far_texts.specs.Effects.{begins_group, pushed}
 use Rattle.far_texts.specs.Together.{all_begin, all_pushed}
 use Rattle.far_rows.proofs.Beginning.{IsTexts, text-begins, text-begun, texts-begin, texts-begun}
 use Rattle.far_rows.proofs.Grown.{as-many-texts, all-texts}
@@ -18,10 +18,10 @@ pub longer : (c : Texts) (o : ℕ) → begins_group c ≡ false → pushed c o �
 longer c o full = rw full refl
 
 -- it has row groups of the size that it had, and a place more
-pub even-grown : (size len more : ℕ) → len + 1 ≡ more → (c : Texts) (o : ℕ) → (c.size ≡ size) × (c.len ≡ len) → ((pushed c o).size ≡ size) × ((pushed c o).len ≡ more)
-even-grown size len more e c o even = elim (cases_Bool (begins_group c)) [
-  | inl full ↦ subst (λ (d : Texts). (d.size ≡ size) × (d.len ≡ more)) (sym (begun c o full)) (even.0, omega (arith, e, even.1))
-  | inr not ↦ subst (λ (d : Texts). (d.size ≡ size) × (d.len ≡ more)) (sym (longer c o not)) (even.0, omega (arith, e, even.1))
+pub same_length-grown : (size len more : ℕ) → len + 1 ≡ more → (c : Texts) (o : ℕ) → (c.size ≡ size) × (c.len ≡ len) → ((pushed c o).size ≡ size) × ((pushed c o).len ≡ more)
+same_length-grown size len more e c o same_length = elim (cases_Bool (begins_group c)) [
+  | inl full ↦ subst (λ (d : Texts). (d.size ≡ size) × (d.len ≡ more)) (sym (begun c o full)) (same_length.0, omega (arith, e, same_length.1))
+  | inr not ↦ subst (λ (d : Texts). (d.size ≡ size) × (d.len ≡ more)) (sym (longer c o not)) (same_length.0, omega (arith, e, same_length.1))
 ]
 
 module _ (size len : ℕ) (some : 0 < size) (n entries now : ℕ) where

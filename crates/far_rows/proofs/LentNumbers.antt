@@ -19,10 +19,10 @@ use Rattle.far_vector.specs.Pieces.{first_touched, touched_count, touched, piece
 use Rattle.far_vector.specs.Refusing.{pieces_refusal}
 use Rattle.far_columns.specs.Numbers.{Numbers, numbers_in, with_flags}
 use Rattle.far_scopes.proofs.FirstCases.{first-append}
-use Rattle.far_rows.specs.declared.slot.Slot.{Slot}
-use Rattle.far_rows.specs.declared.slot.Slot.TheVariants as slot
+use Rattle.far_rows.specs.declared.column_index.ColumnIndex.{ColumnIndex}
+use Rattle.far_rows.specs.declared.column_index.ColumnIndex.TheVariants as column_index
 use Rattle.far_types.specs.Lent.{int_cell}
-use Rattle.far_rows.specs.Slots.{kind_of, column_in}
+use Rattle.far_rows.specs.ColumnIndexes.{kind_of, column_in}
 use Rattle.far_rows.specs.Rows.{Rows, AreRows, all_numbers, all_texts, cells_of}
 use Rattle.far_rows.specs.Refusing.{told_at, absent_at, no_range, ints_refusal}
 use Rattle.far_rows.specs.Lending.{numbers_of}
@@ -58,38 +58,38 @@ pub range-map : {X Y : Type 0} (f : X → Y) (xs : List X) (from to : ℕ) → s
 range-map f xs from to = ap (take _) (drop-map f from xs) ∙ take-map f _ (drop from xs)
 
 module _ {K : Type 0} (content : K → List ℕ) (r : Rows K) (are : AreRows content r) (i from to : ℕ) (c : Vector (Option ℤ)) (within : i < length r.numbers) (read : c ≡ get_or r.numbers i c) where
-  even : (c.size ≡ r.size) × (c.len ≡ length r.alive)
-  even = all-read (λ (v : Vector (Option ℤ)). (v.size ≡ r.size) × (v.len ≡ length r.alive)) r.numbers i c are.even_numbers within read
+  same_length : (c.size ≡ r.size) × (c.len ≡ length r.alive)
+  same_length = all-read (λ (v : Vector (Option ℤ)). (v.size ≡ r.size) × (v.len ≡ length r.alive)) r.numbers i c are.same_length_numbers within read
 
-  pub pieces-read : (flags : List Bool) → with_flags (pieces_of (numbers_in content r.number_objects c) c.size from to) flags ≡ with_flags (pieces_of (numbers_of content r (slot.Number i)) r.size from to) flags
+  pub pieces-read : (flags : List Bool) → with_flags (pieces_of (numbers_in content r.number_objects c) c.size from to) flags ≡ with_flags (pieces_of (numbers_of content r (column_index.Number i)) r.size from to) flags
   pieces-read flags =
       let numbers = sym (numbers-read content r are i c within read) in
-      λ k. with_flags (pieces_of (numbers k) (even.0 k) from to) flags
+      λ k. with_flags (pieces_of (numbers k) (same_length.0 k) from to) flags
 
-  pub range-read : slice_range (numbers_in content r.number_objects c) from to ≡ slice_range (numbers_of content r (slot.Number i)) from to
+  pub range-read : slice_range (numbers_in content r.number_objects c) from to ≡ slice_range (numbers_of content r (column_index.Number i)) from to
   range-read = ap (λ (ns : Numbers). slice_range ns from to) (sym (numbers-read content r are i c within read))
 
-  pub part-refused : pieces_refusal r.number_objects c from to ≡ first_of (no_range r from to ∷ map (λ g. told_at r g (slot.Number i)) (touched r.size from to))
+  pub part-refused : pieces_refusal r.number_objects c from to ≡ first_of (no_range r from to ∷ map (λ g. told_at r g (column_index.Number i)) (touched r.size from to))
   part-refused =
       let cases : ℕ → List (Bool × Refusal) = λ s. map (absent-of r.number_objects c.objects) (touched s from to) in
       let range : ℕ → Bool × Refusal = λ len. (nat_lt to from || nat_lt len to, refusal.OutOfRange) in
       ap (option_or (first_of (range c.len ∷ []))) (absent-range r.number_objects c.objects (first_touched c.size from) (touched_count c.size from to))
       ∙ sym (first-append (range c.len ∷ []) (cases c.size))
-      ∙ (λ k. first_of (range (even.1 k) ∷ cases (even.0 k)))
+      ∙ (λ k. first_of (range (same_length.1 k) ∷ cases (same_length.0 k)))
       ∙ ap (λ (f : ℕ → Bool × Refusal). first_of (no_range r from to ∷ map f (touched r.size from to))) (λ k g. sym (absent-number content r are g i c within read) k)
 
--- a column whose slot is known
-module _ {K : Type 0} (content : K → List ℕ) (r : Rows K) (column i from to : ℕ) (lies : slice_get r.slots column ≡ Some (slot.Number i)) where
-  pub part-cells : (numbers : Numbers) → numbers ≡ slice_range (numbers_of content r (slot.Number i)) from to → option_map (λ (cells : List Cell). slice_range cells from to) (slice_get (cells_of content r) column) ≡ Some (map int_cell numbers)
+-- a column whose index is known
+module _ {K : Type 0} (content : K → List ℕ) (r : Rows K) (column i from to : ℕ) (lies : slice_get r.column_indexes column ≡ Some (column_index.Number i)) where
+  pub part-cells : (numbers : Numbers) → numbers ≡ slice_range (numbers_of content r (column_index.Number i)) from to → option_map (λ (cells : List Cell). slice_range cells from to) (slice_get (cells_of content r) column) ≡ Some (map int_cell numbers)
   part-cells numbers is =
-      ap (option_map (λ (cells : List Cell). slice_range cells from to)) (slice_get-map (column_in (all_numbers content r) (all_texts content r)) r.slots column ∙ ap (option_map (column_in (all_numbers content r) (all_texts content r))) lies)
-      ∙ ap Some (range-map int_cell (numbers_of content r (slot.Number i)) from to ∙ ap (map int_cell) (sym is))
+      ap (option_map (λ (cells : List Cell). slice_range cells from to)) (slice_get-map (column_in (all_numbers content r) (all_texts content r)) r.column_indexes column ∙ ap (option_map (column_in (all_numbers content r) (all_texts content r))) lies)
+      ∙ ap Some (range-map int_cell (numbers_of content r (column_index.Number i)) from to ∙ ap (map int_cell) (sym is))
 
-  pub part-due : AreRows content r → ints_refusal r column from to ≡ first_of (no_range r from to ∷ map (λ g. told_at r g (slot.Number i)) (touched r.size from to))
+  pub part-due : AreRows content r → ints_refusal r column from to ≡ first_of (no_range r from to ∷ map (λ g. told_at r g (column_index.Number i)) (touched r.size from to))
   part-due are =
-      ap (λ (s : Option Slot). first_of (
+      ap (λ (s : Option ColumnIndex). first_of (
       (is_none s, refusal.NoColumn)
       ∷ (is_text (option_map kind_of s), refusal.WrongKind)
       ∷ no_range r from to
       ∷ map (λ g. option_map_or (absent_at r column g) s (false, refusal.StaleJob)) (touched r.size from to))) lies
-      ∙ sym (range-named content r are column (slot.Number i) lies from to (touched r.size from to))
+      ∙ sym (range-named content r are column (column_index.Number i) lies from to (touched r.size from to))

@@ -19,10 +19,10 @@ use Rattle.far_texts.specs.Texts.{Texts, HasGroups, lists_of, texts_in}
 use Rattle.far_texts.specs.Lending.{texts_refusal as column_refusal}
 use Rattle.far_scopes.proofs.FirstCases.{first-append}
 use Rattle.far_texts.proofs.Groups.{texts-length}
-use Rattle.far_rows.specs.declared.slot.Slot.{Slot}
-use Rattle.far_rows.specs.declared.slot.Slot.TheVariants as slot
+use Rattle.far_rows.specs.declared.column_index.ColumnIndex.{ColumnIndex}
+use Rattle.far_rows.specs.declared.column_index.ColumnIndex.TheVariants as column_index
 use Rattle.far_types.specs.Lent.{text_cell}
-use Rattle.far_rows.specs.Slots.{kind_of, column_in}
+use Rattle.far_rows.specs.ColumnIndexes.{kind_of, column_in}
 use Rattle.far_rows.specs.Rows.{Rows, AreRows, all_numbers, all_texts, cells_of}
 use Rattle.far_rows.specs.Refusing.{told_at, absent_at, no_range, texts_refusal}
 use Rattle.far_rows.specs.Lending.{texts_of}
@@ -49,54 +49,54 @@ range-length xs ys from to same =
     ∙ sym (length-take (to - from) (drop from xs))
 
 module _ {K : Type 0} (content : K → List ℕ) (r : Rows K) (are : AreRows content r) (i from to : ℕ) (c : Texts) (within : i < length r.texts) (read : c ≡ get_or r.texts i c) where
-  even : (c.size ≡ r.size) × (c.len ≡ length r.alive)
-  even = all-read (λ (t : Texts). (t.size ≡ r.size) × (t.len ≡ length r.alive)) r.texts i c are.even_texts within read
+  same_length : (c.size ≡ r.size) × (c.len ≡ length r.alive)
+  same_length = all-read (λ (t : Texts). (t.size ≡ r.size) × (t.len ≡ length r.alive)) r.texts i c are.same_length_texts within read
 
-  pub flags-even : length r.alive ≡ c.len
-  flags-even = sym even.1
+  pub flags-same_length : length r.alive ≡ c.len
+  flags-same_length = sym same_length.1
 
-  pub texts-read : texts_in (lists_of content r.text_objects) c ≡ texts_of content r (slot.Text i)
+  pub texts-read : texts_in (lists_of content r.text_objects) c ≡ texts_of content r (column_index.Text i)
   texts-read = sym (text-cells content r are i c within read)
 
   module _ (has : HasGroups c) where
-    even-parts : length (slice_range r.alive from to) ≡ length (slice_range (texts_in (lists_of content r.text_objects) c) from to)
-    even-parts =
-        let long : length (texts_in (lists_of content r.text_objects) c) ≡ length r.alive = texts-length (lists_of content r.text_objects) c (text-column content r are i c within read) has ∙ even.1 in
+    same_length-parts : length (slice_range r.alive from to) ≡ length (slice_range (texts_in (lists_of content r.text_objects) c) from to)
+    same_length-parts =
+        let long : length (texts_in (lists_of content r.text_objects) c) ≡ length r.alive = texts-length (lists_of content r.text_objects) c (text-column content r are i c within read) has ∙ same_length.1 in
         range-length (texts_in (lists_of content r.text_objects) c) r.alive from to long
 
     module _ (lent : List (Option (List ℕ) × Bool)) (is : lent ≡ zip (slice_range (texts_in (lists_of content r.text_objects) c) from to) (slice_range r.alive from to)) where
-      pub lent-values : map (λ (t : Option (List ℕ) × Bool). t.0) lent ≡ slice_range (texts_of content r (slot.Text i)) from to
+      pub lent-values : map (λ (t : Option (List ℕ) × Bool). t.0) lent ≡ slice_range (texts_of content r (column_index.Text i)) from to
       lent-values =
           ap (map (λ (t : Option (List ℕ) × Bool). t.0)) is
-          ∙ firsts-zip (slice_range (texts_in (lists_of content r.text_objects) c) from to) (slice_range r.alive from to) even-parts
+          ∙ firsts-zip (slice_range (texts_in (lists_of content r.text_objects) c) from to) (slice_range r.alive from to) same_length-parts
           ∙ ap (λ (ts : List (Option (List ℕ))). slice_range ts from to) texts-read
 
       pub lent-flags : map (λ (t : Option (List ℕ) × Bool). t.1) lent ≡ slice_range r.alive from to
       lent-flags =
           ap (map (λ (t : Option (List ℕ) × Bool). t.1)) is
-          ∙ seconds-zip (slice_range (texts_in (lists_of content r.text_objects) c) from to) (slice_range r.alive from to) even-parts
+          ∙ seconds-zip (slice_range (texts_in (lists_of content r.text_objects) c) from to) (slice_range r.alive from to) same_length-parts
 
-  pub part-refused : column_refusal r.text_objects c from to ≡ first_of (no_range r from to ∷ map (λ g. told_at r g (slot.Text i)) (touched r.size from to))
+  pub part-refused : column_refusal r.text_objects c from to ≡ first_of (no_range r from to ∷ map (λ g. told_at r g (column_index.Text i)) (touched r.size from to))
   part-refused =
       let cases : ℕ → List (Bool × Refusal) = λ s. map (absent-of r.text_objects c.objects) (touched s from to) in
       let range : ℕ → Bool × Refusal = λ len. (nat_lt to from || nat_lt len to, refusal.OutOfRange) in
       (λ k. option_or (first_of ((or-swap (nat_lt c.len to) (nat_lt to from) k, refusal.OutOfRange) ∷ [])) (touched-by r.text_objects c.objects (nat_lt from to) (from / c.size) ((to - 1) / c.size + 1) k))
       ∙ sym (first-append (range c.len ∷ []) (cases c.size))
-      ∙ (λ k. first_of (range (even.1 k) ∷ cases (even.0 k)))
+      ∙ (λ k. first_of (range (same_length.1 k) ∷ cases (same_length.0 k)))
       ∙ ap (λ (f : ℕ → Bool × Refusal). first_of (no_range r from to ∷ map f (touched r.size from to))) (λ k g. sym (absent-text content r are g i c within read) k)
 
--- a column whose slot is known
-module _ {K : Type 0} (content : K → List ℕ) (r : Rows K) (column i from to : ℕ) (lies : slice_get r.slots column ≡ Some (slot.Text i)) where
-  pub part-cells : (lent : List (Option (List ℕ) × Bool)) → map (λ (t : Option (List ℕ) × Bool). t.0) lent ≡ slice_range (texts_of content r (slot.Text i)) from to → option_map (λ (cells : List Cell). slice_range cells from to) (slice_get (cells_of content r) column) ≡ Some (map (λ (t : Option (List ℕ) × Bool). text_cell t.0) lent)
+-- a column whose index is known
+module _ {K : Type 0} (content : K → List ℕ) (r : Rows K) (column i from to : ℕ) (lies : slice_get r.column_indexes column ≡ Some (column_index.Text i)) where
+  pub part-cells : (lent : List (Option (List ℕ) × Bool)) → map (λ (t : Option (List ℕ) × Bool). t.0) lent ≡ slice_range (texts_of content r (column_index.Text i)) from to → option_map (λ (cells : List Cell). slice_range cells from to) (slice_get (cells_of content r) column) ≡ Some (map (λ (t : Option (List ℕ) × Bool). text_cell t.0) lent)
   part-cells lent is =
-      ap (option_map (λ (cells : List Cell). slice_range cells from to)) (slice_get-map (column_in (all_numbers content r) (all_texts content r)) r.slots column ∙ ap (option_map (column_in (all_numbers content r) (all_texts content r))) lies)
-      ∙ ap Some (range-map text_cell (texts_of content r (slot.Text i)) from to ∙ ap (map text_cell) (sym is) ∙ map-map text_cell (λ (t : Option (List ℕ) × Bool). t.0) lent)
+      ap (option_map (λ (cells : List Cell). slice_range cells from to)) (slice_get-map (column_in (all_numbers content r) (all_texts content r)) r.column_indexes column ∙ ap (option_map (column_in (all_numbers content r) (all_texts content r))) lies)
+      ∙ ap Some (range-map text_cell (texts_of content r (column_index.Text i)) from to ∙ ap (map text_cell) (sym is) ∙ map-map text_cell (λ (t : Option (List ℕ) × Bool). t.0) lent)
 
-  pub part-due : AreRows content r → texts_refusal r column from to ≡ first_of (no_range r from to ∷ map (λ g. told_at r g (slot.Text i)) (touched r.size from to))
+  pub part-due : AreRows content r → texts_refusal r column from to ≡ first_of (no_range r from to ∷ map (λ g. told_at r g (column_index.Text i)) (touched r.size from to))
   part-due are =
-      ap (λ (s : Option Slot). first_of (
+      ap (λ (s : Option ColumnIndex). first_of (
       (is_none s, refusal.NoColumn)
       ∷ (is_int (option_map kind_of s), refusal.WrongKind)
       ∷ no_range r from to
       ∷ map (λ g. option_map_or (absent_at r column g) s (false, refusal.StaleJob)) (touched r.size from to))) lies
-      ∙ sym (range-named content r are column (slot.Text i) lies from to (touched r.size from to))
+      ∙ sym (range-named content r are column (column_index.Text i) lies from to (touched r.size from to))

@@ -8,7 +8,7 @@ pub mod GrownTexts
 pub mod ShortRows
 pub mod Filling
 pub mod Opening
-pub mod EmptySlots
+pub mod EmptyColumnIndexes
 pub mod EmptyRows
 pub mod Names
 pub mod NamesPushed
@@ -37,6 +37,7 @@ pub mod InUse
 pub mod Moved
 pub mod Renewed
 pub mod Reading
+pub mod AllHere
 pub mod RowCells
 pub mod LentNumbers
 pub mod LentTexts

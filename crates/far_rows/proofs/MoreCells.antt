@@ -8,10 +8,10 @@ use Rattle.far_texts.specs.Texts.{Texts, Lists, texts_in}
 use Rattle.far_columns.specs.Numbers.{Numbers}
 use Rattle.far_columns.specs.NumbersTogether.{NumberLists, NumberColumns, all_numbers_with}
 use Rattle.far_texts.specs.Together.{all_texts_with}
-use Rattle.far_rows.specs.declared.slot.Slot.{Slot}
-use Rattle.far_rows.specs.declared.slot.Slot.TheVariants as slot
+use Rattle.far_rows.specs.declared.column_index.ColumnIndex.{ColumnIndex}
+use Rattle.far_rows.specs.declared.column_index.ColumnIndex.TheVariants as column_index
 use Rattle.far_types.specs.Lent.{int_cell, text_cell}
-use Rattle.far_rows.specs.Slots.{Values, IsWithin, cell_in, row_of, column_in, columns_of, with_row}
+use Rattle.far_rows.specs.ColumnIndexes.{Values, IsWithin, cell_in, row_of, column_in, columns_of, with_row}
 
 module _ {A : Type 0} where
   -- each list with one more behind it
@@ -21,10 +21,10 @@ module _ {A : Type 0} where
   all_with (l ∷ ls) (x ∷ xs) = (l ++ x ∷ []) ∷ all_with ls xs
 
   pub at-with : (ls : List (List A)) (xs : List A) (i : ℕ) (d : A) → length xs ≡ length ls → i < length ls → get_or (all_with ls xs) i [] ≡ get_or ls i [] ++ get_or xs i d ∷ []
-  at-with [] xs i d even below = absurd (omega arith)
-  at-with (l ∷ ls) [] i d even below = absurd (omega arith)
-  at-with (l ∷ ls) (x ∷ xs) zero d even below = refl
-  at-with (l ∷ ls) (x ∷ xs) (suc i) d even below = at-with ls xs i d (omega arith) (omega arith)
+  at-with [] xs i d same_length below = absurd (omega arith)
+  at-with (l ∷ ls) [] i d same_length below = absurd (omega arith)
+  at-with (l ∷ ls) (x ∷ xs) zero d same_length below = refl
+  at-with (l ∷ ls) (x ∷ xs) (suc i) d same_length below = at-with ls xs i d (omega arith) (omega arith)
 
 pub numbers-with : (lists : NumberLists) (columns : NumberColumns) (numbers : Numbers) → all_numbers_with lists columns numbers ≡ all_with (map (elements lists) columns) numbers
 numbers-with lists [] numbers = refl
@@ -36,19 +36,19 @@ texts-with lists [] texts = refl
 texts-with lists (c ∷ columns) [] = refl
 texts-with lists (c ∷ columns) (text ∷ texts) = ap (λ l. (texts_in lists c ++ text ∷ []) ∷ l) (texts-with lists columns texts)
 
-module _ (numbers : List Numbers) (texts : List (List (Option (List ℕ)))) (values : Values) (n m : ℕ) (even_numbers : length values.numbers ≡ length numbers) (even_texts : length values.texts ≡ length texts) (n_is : n ≡ length numbers) (m_is : m ≡ length texts) where
-  column-with : (s : Slot) → IsWithin n m s → column_in (all_with numbers values.numbers) (all_with texts values.texts) s ≡ column_in numbers texts s ++ cell_in values s ∷ []
-  column-with (slot.Number i) within =
-      ap (map int_cell) (at-with numbers values.numbers i None even_numbers (omega (arith, within, n_is)))
+module _ (numbers : List Numbers) (texts : List (List (Option (List ℕ)))) (values : Values) (n m : ℕ) (same_length_numbers : length values.numbers ≡ length numbers) (same_length_texts : length values.texts ≡ length texts) (n_is : n ≡ length numbers) (m_is : m ≡ length texts) where
+  column-with : (s : ColumnIndex) → IsWithin n m s → column_in (all_with numbers values.numbers) (all_with texts values.texts) s ≡ column_in numbers texts s ++ cell_in values s ∷ []
+  column-with (column_index.Number i) within =
+      ap (map int_cell) (at-with numbers values.numbers i None same_length_numbers (omega (arith, within, n_is)))
       ∙ map-append int_cell (get_or numbers i []) (get_or values.numbers i None ∷ [])
-  column-with (slot.Text i) within =
-      ap (map text_cell) (at-with texts values.texts i None even_texts (omega (arith, within, m_is)))
+  column-with (column_index.Text i) within =
+      ap (map text_cell) (at-with texts values.texts i None same_length_texts (omega (arith, within, m_is)))
       ∙ map-append text_cell (get_or texts i []) (get_or values.texts i None ∷ [])
 
   -- each column of the table has its cell of the row more
-  pub columns-with : (slots : List Slot) → All (IsWithin n m) slots → columns_of slots (all_with numbers values.numbers) (all_with texts values.texts) ≡ with_row (columns_of slots numbers texts) (row_of slots values)
+  pub columns-with : (column_indexes : List ColumnIndex) → All (IsWithin n m) column_indexes → columns_of column_indexes (all_with numbers values.numbers) (all_with texts values.texts) ≡ with_row (columns_of column_indexes numbers texts) (row_of column_indexes values)
   columns-with [] within = refl
-  columns-with (s ∷ slots) within =
-      let here = column-with s (All-head (IsWithin n m) s slots within) in
-      let there = columns-with slots (All-tail (IsWithin n m) s slots within) in
+  columns-with (s ∷ column_indexes) within =
+      let here = column-with s (All-head (IsWithin n m) s column_indexes within) in
+      let there = columns-with column_indexes (All-tail (IsWithin n m) s column_indexes within) in
       λ k. here k ∷ there k

@@ -9,7 +9,7 @@ use Rattle.far_vector.specs.Vector.{Vector}
 use Rattle.far_texts.specs.Texts.{Texts, lists_of, texts_in}
 use Rattle.far_columns.specs.Numbers.{number_lists, numbers_in}
 use Rattle.far_texts.proofs.Beside.{columns-stay, texts-stay}
-use Rattle.far_rows.specs.Slots.{columns_of}
+use Rattle.far_rows.specs.ColumnIndexes.{columns_of}
 use Rattle.far_rows.specs.Naming.{names_of, AreNamed, AreOwned}
 use Rattle.far_rows.specs.Rows.{Rows, AreRows, cells_of, all_numbers, all_texts}
 use Rattle.far_rows.specs.Moving.{KeepsCells}
@@ -23,20 +23,20 @@ module _ {A B : Type 0} where
 module _ {K : Type 0} (content : K → List ℕ) {r : Rows K} where
   pub numbers-moved : AreRows content r → (m : Movement (Option ℤ) K) → ((o : ℕ) → number_lists content m o ≡ number_lists content r.number_objects o) → names_of m ≡ names_of r.number_objects → AreClean ints_meaning content m → AreRows content (record r { number_objects = m })
   numbers-moved are m lists names clean = record {
-    slots = are.slots;
+    column_indexes = are.column_indexes;
     few = are.few;
     some = are.some;
     small = are.small;
     places = are.places;
     numbers = record {
-      beside = vectors-stay (number_lists content r.number_objects) (number_lists content m) r.numbers are.numbers.beside lists;
-      even = are.numbers.even;
+      all_disjoint = vectors-stay (number_lists content r.number_objects) (number_lists content m) r.numbers are.numbers.all_disjoint lists;
+      same_length = are.numbers.same_length;
     };
     texts = are.texts;
     shaped = are.shaped;
     grouped = are.grouped;
-    even_numbers = are.even_numbers;
-    even_texts = are.even_texts;
+    same_length_numbers = are.same_length_numbers;
+    same_length_texts = are.same_length_texts;
     number_objects = λ k c within. as-many r.number_objects m names ∙ are.number_objects k c within;
     text_objects = are.text_objects;
     numbered = are.numbered;
@@ -52,20 +52,20 @@ module _ {K : Type 0} (content : K → List ℕ) {r : Rows K} where
 
   pub texts-moved : AreRows content r → (m : Movement ℕ K) → ((o : ℕ) → lists_of content m o ≡ lists_of content r.text_objects o) → names_of m ≡ names_of r.text_objects → AreClean (λ bytes. bytes) content m → AreRows content (record r { text_objects = m })
   texts-moved are m lists names clean = record {
-    slots = are.slots;
+    column_indexes = are.column_indexes;
     few = are.few;
     some = are.some;
     small = are.small;
     places = are.places;
     numbers = are.numbers;
     texts = record {
-      beside = columns-stay (lists_of content r.text_objects) (lists_of content m) r.texts are.texts.beside lists;
-      even = are.texts.even;
+      all_disjoint = columns-stay (lists_of content r.text_objects) (lists_of content m) r.texts are.texts.all_disjoint lists;
+      same_length = are.texts.same_length;
     };
     shaped = are.shaped;
     grouped = are.grouped;
-    even_numbers = are.even_numbers;
-    even_texts = are.even_texts;
+    same_length_numbers = are.same_length_numbers;
+    same_length_texts = are.same_length_texts;
     number_objects = are.number_objects;
     text_objects = λ k c within. as-many r.text_objects m names ∙ are.text_objects k c within;
     numbered = are.numbered;
@@ -82,13 +82,13 @@ module _ {K : Type 0} (content : K → List ℕ) {r : Rows K} where
   module _ {now : Rows K} (is : r ≡ now) where
     pub number-cells : (m : Movement (Option ℤ) K) → ((o : ℕ) → number_lists content m o ≡ number_lists content r.number_objects o) → cells_of content (record r { number_objects = m }) ≡ cells_of content now
     number-cells m lists =
-        ap (λ numbers. columns_of r.slots numbers (all_texts content r))
+        ap (λ numbers. columns_of r.column_indexes numbers (all_texts content r))
         (same-map (numbers_in content m) (numbers_in content r.number_objects) (λ c. elements-stay (number_lists content r.number_objects) (number_lists content m) c lists) r.numbers)
         ∙ ap (cells_of content) is
 
     pub text-cells : (m : Movement ℕ K) → ((o : ℕ) → lists_of content m o ≡ lists_of content r.text_objects o) → cells_of content (record r { text_objects = m }) ≡ cells_of content now
     text-cells m lists =
-        ap (columns_of r.slots (all_numbers content r))
+        ap (columns_of r.column_indexes (all_numbers content r))
         (same-map (texts_in (lists_of content m)) (texts_in (lists_of content r.text_objects)) (λ c. texts-stay (lists_of content r.text_objects) (lists_of content m) c lists) r.texts)
         ∙ ap (cells_of content) is
 

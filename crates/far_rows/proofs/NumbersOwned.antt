@@ -9,7 +9,7 @@ use Rattle.far_types.specs.declared.name.Name.{Name}
 use Rattle.far_scopes.specs.Movement.{Movement}
 use Rattle.far_scopes.proofs.WordPlaces.{slice_get-push_last}
 use Rattle.far_vector.specs.Vector.{Vector}
-use Rattle.far_vector.specs.Effects.{is_full, next_name, pushed, pushed_in}
+use Rattle.far_vector.specs.Effects.{is_full, next_name, after_push, pushed_in}
 use Rattle.far_columns.specs.Numbers.{Numbers}
 use Rattle.far_columns.specs.NumbersTogether.{NumberColumns, all_pushed, all_pushed_in}
 use Rattle.far_rows.specs.Naming.{names_of, AreOwned}
@@ -26,15 +26,15 @@ abbrev objects_of : Vector (Option ℤ) → List ℕ
 objects_of c = c.objects
 
 -- a column with a number more is there in its place
-pushed-at : (n : ℕ) (columns : NumberColumns) (i : ℕ) (c : Vector (Option ℤ)) → slice_get columns i ≡ Some c → slice_get (all_pushed n columns) i ≡ Some (pushed c (n + i))
+pushed-at : (n : ℕ) (columns : NumberColumns) (i : ℕ) (c : Vector (Option ℤ)) → slice_get columns i ≡ Some c → slice_get (all_pushed n columns) i ≡ Some (after_push c (n + i))
 pushed-at n [] i c at = absurd (none-some c at)
 pushed-at n (d ∷ columns) zero c at =
     let same = same_Some d c at in
     let e : n ≡ n + 0 = omega arith in
-    λ k. Some (pushed (same k) (e k))
+    λ k. Some (after_push (same k) (e k))
 pushed-at n (d ∷ columns) (suc i) c at =
     let e : n + 1 + i ≡ n + suc i = omega arith in
-    pushed-at (n + 1) columns i c at ∙ (λ k. Some (pushed c (e k)))
+    pushed-at (n + 1) columns i c at ∙ (λ k. Some (after_push c (e k)))
 
 known : (P : Vector (Option ℤ) → Type 0) (columns : NumberColumns) (i : ℕ) (c : Vector (Option ℤ)) → slice_get columns i ≡ Some c → All P columns → P c
 known P columns i c at all = subst P (get_or_from_slice_get columns i c c at) (all i c (slice_get_within columns i c at))
@@ -43,36 +43,36 @@ module _ (n : ℕ) (columns : NumberColumns) where
   more-begun : All (λ c. is_full c ≡ true) columns → AreMore column_of objects_of columns (all_pushed n columns)
   more-begun full i c at =
       let is = begun c (n + i) (known (λ d. is_full d ≡ true) columns i c at full) in
-      (pushed c (n + i), pushed-at n columns i c at, ap column_of is, λ g o there. ap (λ (d : Vector (Option ℤ)). slice_get d.objects g) is ∙ get-before c.objects ((n + i) ∷ []) g o there)
+      (after_push c (n + i), pushed-at n columns i c at, ap column_of is, λ g o there. ap (λ (d : Vector (Option ℤ)). slice_get d.objects g) is ∙ get-before c.objects ((n + i) ∷ []) g o there)
 
   next-begun : All (λ c. is_full c ≡ true) columns → HaveNext column_of objects_of n columns (all_pushed n columns)
   next-begun full i c at =
       let is = begun c (n + i) (known (λ d. is_full d ≡ true) columns i c at full) in
-      (pushed c (n + i), pushed-at n columns i c at, ap column_of is, ap (λ (d : Vector (Option ℤ)). slice_get d.objects (length c.objects)) is ∙ slice_get-push_last c.objects (n + i))
+      (after_push c (n + i), pushed-at n columns i c at, ap column_of is, ap (λ (d : Vector (Option ℤ)). slice_get d.objects (length c.objects)) is ∙ slice_get-push_last c.objects (n + i))
 
   more-longer : All (λ c. is_full c ≡ false) columns → AreMore column_of objects_of columns (all_pushed n columns)
   more-longer not i c at =
       let is = longer c (n + i) (known (λ d. is_full d ≡ false) columns i c at not) in
-      (pushed c (n + i), pushed-at n columns i c at, ap column_of is, λ g o there. ap (λ (d : Vector (Option ℤ)). slice_get d.objects g) is ∙ there)
+      (after_push c (n + i), pushed-at n columns i c at, ap column_of is, λ g o there. ap (λ (d : Vector (Option ℤ)). slice_get d.objects g) is ∙ there)
 
 module _ {K : Type 0} where
   -- where all begin row groups, the new names are theirs, in order
   all-made : (m : Movement (Option ℤ) K) (columns : NumberColumns) (numbers : Numbers) → length numbers ≡ length columns → All (λ c. is_full c ≡ true) columns → names_of (all_pushed_in m columns numbers) ≡ names_of m ++ map next_name columns
-  all-made m [] numbers even full = sym (append-nil (names_of m))
-  all-made m (c ∷ columns) [] even full = absurd (omega (arith, even))
-  all-made m (c ∷ columns) (x ∷ numbers) even full =
-      all-made (pushed_in m c x) columns numbers (omega (arith, even)) (All-tail (λ d. is_full d ≡ true) c columns full)
+  all-made m [] numbers same_length full = sym (append-nil (names_of m))
+  all-made m (c ∷ columns) [] same_length full = absurd (omega (arith, same_length))
+  all-made m (c ∷ columns) (x ∷ numbers) same_length full =
+      all-made (pushed_in m c x) columns numbers (omega (arith, same_length)) (All-tail (λ d. is_full d ≡ true) c columns full)
       ∙ ap (λ (ns : List Name). ns ++ map next_name columns) (names-made m c x (All-head (λ d. is_full d ≡ true) c columns full))
       ∙ append_assoc (names_of m) (next_name c ∷ []) (map next_name columns)
 
   pub numbers-owned : (size len : ℕ) (columns : NumberColumns) → 0 < size → All (IsNumbers size len) columns → (m : Movement (Option ℤ) K) (numbers : Numbers) → length numbers ≡ length columns → AreOwned column_of objects_of (names_of m) columns → AreOwned column_of objects_of (names_of (all_pushed_in m columns numbers)) (all_pushed (length m.entries) columns)
-  numbers-owned size len columns some are m numbers even owned =
+  numbers-owned size len columns some are m numbers same_length owned =
       let n = length m.entries in
       elim (cases_eq (len % size) zero) [
         | inl divides ↦
             let full : All (λ c. is_full c ≡ true) columns = λ k d below. number-begins size len some divides (get_or columns k d) (are k d below) in
             let count : n ≡ length (names_of m) = sym (length-map m.entries (λ entry. entry.name)) in
-            subst (λ (ns : List Name). AreOwned column_of objects_of ns (all_pushed n columns)) (sym (all-made m columns numbers even full))
+            subst (λ (ns : List Name). AreOwned column_of objects_of ns (all_pushed n columns)) (sym (all-made m columns numbers same_length full))
             (owned-more column_of objects_of (names_of m) columns (all_pushed n columns) (more-begun n columns full) (subst (λ k. HaveNext column_of objects_of k columns (all_pushed n columns)) count (next-begun n columns full)) owned)
         | inr not_divides ↦
             let not : All (λ c. is_full c ≡ false) columns = λ k d below. number-begun size len some not_divides (get_or columns k d) (are k d below) in

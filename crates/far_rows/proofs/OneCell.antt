@@ -6,7 +6,7 @@ use Rattle.far_types.specs.declared.refusal.Refusal.{Refusal}
 use Rattle.far_types.specs.declared.refusal.Refusal.TheVariants.{NoMemory}
 use Rattle.std.proofs.lemmas.Option.{none-some, slice_get_within, get_or_from_slice_get}
 use Rattle.std.proofs.lemmas.List.{set-get_or}
-use Rattle.far_vector.specs.Vector.{Vector, IsVector, AreApart, IsUntouched, elements}
+use Rattle.far_vector.specs.Vector.{Vector, IsVector, AreDisjoint, IsUntouched, elements}
 use Rattle.far_vector.specs.Vectors.{AreVectors, ChangesVector}
 use Rattle.far_vector.proofs.Together.{vectors-after, others-after}
 use Rattle.far_texts.specs.Texts.{Texts, Lists, IsTextColumn, KeepsOthers, texts_in}
@@ -36,37 +36,37 @@ map-one f h (x ∷ xs) (suc i) y within here others =
 pub set-same : {A : Type 0} (xs : List A) (k : ℕ) (x : A) → slice_get xs k ≡ Some x → set xs k x ≡ xs
 set-same xs k x at = ap (set xs k) (sym (get_or_from_slice_get xs k x x at)) ∙ set-get_or xs k x
 
-module _ (old new : NumberLists) (columns : NumberColumns) (are : AreNumberColumns old columns) (k : ℕ) (c : Vector (Option ℤ)) (at : slice_get columns k ≡ Some c) (is : IsVector new c) (apart : (w : Vector (Option ℤ)) → IsVector old w → AreApart c w → IsUntouched old new c w) where
+module _ (old new : NumberLists) (columns : NumberColumns) (are : AreNumberColumns old columns) (k : ℕ) (c : Vector (Option ℤ)) (at : slice_get columns k ≡ Some c) (is : IsVector new c) (disjoint : (w : Vector (Option ℤ)) → IsVector old w → AreDisjoint c w → IsUntouched old new c w) where
   change : ChangesVector old new c c
-  change = record { is = is; others = apart }
+  change = record { is = is; others = disjoint }
 
   pub numbers-still : AreNumberColumns new columns
   numbers-still = record {
-    beside = subst (AreVectors new) (set-same columns k c at) (vectors-after old new columns are.beside k c c at change);
-    even = are.even;
+    all_disjoint = subst (AreVectors new) (set-same columns k c at) (vectors-after old new columns are.all_disjoint k c c at change);
+    same_length = are.same_length;
   }
 
   pub numbers-set : map (elements new) columns ≡ slice_set (map (elements old) columns) k (elements new c)
   numbers-set = map-one (elements old) (elements new) columns k (elements new c) (slice_get_within columns k c at)
       (λ d. ap (elements new) (get_or_from_slice_get columns k c d at))
-      (λ j d ne below. ap (λ cs. elements new (get_or cs j d)) (sym (set-same columns k c at)) ∙ others-after old new columns are.beside k c c at change j d ne below)
+      (λ j d ne below. ap (λ cs. elements new (get_or cs j d)) (sym (set-same columns k c at)) ∙ others-after old new columns are.all_disjoint k c c at change j d ne below)
 
 module _ (old new : Lists) (columns : List Texts) (are : AreColumns old columns) (k : ℕ) (c : Texts) (at : slice_get columns k ≡ Some c) (is : IsTextColumn new c) (others : KeepsOthers old new c) where
   text-change : ChangesColumn old new c c
-  text-change = record { is = is; others = others; apart = λ d was apart. apart }
+  text-change = record { is = is; others = others; disjoint = λ d was disjoint. disjoint }
 
   pub texts-still : AreColumns new columns
   texts-still = record {
-    beside = subst (AreTextColumns new) (set-same columns k c at) (columns-after old new columns are.beside k c c at text-change);
-    even = are.even;
+    all_disjoint = subst (AreTextColumns new) (set-same columns k c at) (columns-after old new columns are.all_disjoint k c c at text-change);
+    same_length = are.same_length;
   }
 
   pub texts-set : map (texts_in new) columns ≡ slice_set (map (texts_in old) columns) k (texts_in new c)
   texts-set = map-one (texts_in old) (texts_in new) columns k (texts_in new c) (slice_get_within columns k c at)
       (λ d. ap (texts_in new) (get_or_from_slice_get columns k c d at))
-      (λ j d ne below. ap (λ cs. texts_in new (get_or cs j d)) (sym (set-same columns k c at)) ∙ texts-after old new columns are.beside k c c at text-change j d ne below)
+      (λ j d ne below. ap (λ cs. texts_in new (get_or cs j d)) (sym (set-same columns k c at)) ∙ texts-after old new columns are.all_disjoint k c c at text-change j d ne below)
 
--- where no other refusal is due, want of memory is all there is
+-- where no other refusal is due, lack of memory is all there is
 pub only-memory : {A : Type 0} (r : Result A Refusal) (due : Option Refusal) → due ≡ None → IfErr r (λ e. (due ≡ Some e) ⊎ ((due ≡ None) × (e ≡ NoMemory))) → IfErr r (λ e. e ≡ NoMemory)
 only-memory (Ok x) due free refused = tt
 only-memory (Err e) due free (inl is) = absurd (none-some e (sym free ∙ is))

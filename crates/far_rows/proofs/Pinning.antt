@@ -8,8 +8,8 @@ use Rattle.far_types.specs.declared.refusal.Refusal.TheVariants as refusal
 use Rattle.far_types.specs.FirstOf.{first_of}
 use Rattle.far_scopes.specs.Refusing.{absent, pinned_out, pin_refusal as pin_refusal_in}
 use Rattle.far_scopes.proofs.Places.{cases_option}
-use Rattle.far_rows.specs.declared.slot.Slot.{Slot}
-use Rattle.far_rows.specs.declared.slot.Slot.TheVariants as slot
+use Rattle.far_rows.specs.declared.column_index.ColumnIndex.{ColumnIndex}
+use Rattle.far_rows.specs.declared.column_index.ColumnIndex.TheVariants as column_index
 use Rattle.far_rows.specs.declared.object.Object.TheVariants as object
 use Rattle.far_rows.specs.Rows.{Rows, AreRows, object_of}
 use Rattle.far_rows.specs.Moving.{object_in, object_at, pins_used, pin_refusal}
@@ -33,16 +33,16 @@ no-text None o is = absurd cc
 no-text (Some p) o is = absurd cc
 
 module _ {K : Type 0} (content : K → List ℕ) (r : Rows K) (are : AreRows content r) (column group o : ℕ) where
-  pub found-in : (s : Slot) → slice_get r.slots column ≡ Some s → object_at r column group ≡ option_map (object_in s) (object_of r s group)
-  found-in s is = ap (option_and_then (λ (t : Slot). option_map (object_in t) (object_of r t group))) is
+  pub found-in : (s : ColumnIndex) → slice_get r.column_indexes column ≡ Some s → object_at r column group ≡ option_map (object_in s) (object_of r s group)
+  found-in s is = ap (option_and_then (λ (t : ColumnIndex). option_map (object_in t) (object_of r t group))) is
 
-  pub told-number : (s : Slot) → slice_get r.slots column ≡ Some s → object_at r column group ≡ Some (object.Number o) → told_at r group s ≡ absent r.number_objects o
-  told-number (slot.Number i) is at = ap (λ (f : Option ℕ). option_map_or (absent r.number_objects) f (false, refusal.StaleJob)) (number-of (object_of r (slot.Number i) group) o (sym (found-in (slot.Number i) is) ∙ at))
-  told-number (slot.Text i) is at = no-number (object_of r (slot.Text i) group) o (sym (found-in (slot.Text i) is) ∙ at)
+  pub told-number : (s : ColumnIndex) → slice_get r.column_indexes column ≡ Some s → object_at r column group ≡ Some (object.Number o) → told_at r group s ≡ absent r.number_objects o
+  told-number (column_index.Number i) is at = ap (λ (f : Option ℕ). option_map_or (absent r.number_objects) f (false, refusal.StaleJob)) (number-of (object_of r (column_index.Number i) group) o (sym (found-in (column_index.Number i) is) ∙ at))
+  told-number (column_index.Text i) is at = no-number (object_of r (column_index.Text i) group) o (sym (found-in (column_index.Text i) is) ∙ at)
 
   pub pin-number : object_at r column group ≡ Some (object.Number o) → pin_refusal_in r.number_objects o ≡ pin_refusal r column group
-  pin-number at = elim (cases_option (slice_get r.slots column)) [
-    | inl none ↦ absurd (none-some (object.Number o) (sym (ap (option_and_then (λ (t : Slot). option_map (object_in t) (object_of r t group))) none) ∙ at))
+  pin-number at = elim (cases_option (slice_get r.column_indexes column)) [
+    | inl none ↦ absurd (none-some (object.Number o) (sym (ap (option_and_then (λ (t : ColumnIndex). option_map (object_in t) (object_of r t group))) none) ∙ at))
     | inr (s, is) ↦
         let later = first_of (pinned_out r.number_objects o ∷ []) in
         let told : told_at r group s ≡ absent r.number_objects o = told-number s is at in
@@ -51,13 +51,13 @@ module _ {K : Type 0} (content : K → List ℕ) (r : Rows K) (are : AreRows con
         ∙ sym (λ k. option_or (first_of ((is_none (is k), refusal.NoColumn) ∷ (is_none (at k), refusal.OutOfRange) ∷ [])) (first_of (option_map_or (absent_at r column group) (is k) (false, refusal.StaleJob) ∷ option_map_or (pins_used r) (at k) (false, refusal.StaleJob) ∷ [])))
   ]
 
-  pub told-text : (s : Slot) → slice_get r.slots column ≡ Some s → object_at r column group ≡ Some (object.Text o) → told_at r group s ≡ absent r.text_objects o
-  told-text (slot.Text i) is at = ap (λ (f : Option ℕ). option_map_or (absent r.text_objects) f (false, refusal.StaleJob)) (text-of (object_of r (slot.Text i) group) o (sym (found-in (slot.Text i) is) ∙ at))
-  told-text (slot.Number i) is at = no-text (object_of r (slot.Number i) group) o (sym (found-in (slot.Number i) is) ∙ at)
+  pub told-text : (s : ColumnIndex) → slice_get r.column_indexes column ≡ Some s → object_at r column group ≡ Some (object.Text o) → told_at r group s ≡ absent r.text_objects o
+  told-text (column_index.Text i) is at = ap (λ (f : Option ℕ). option_map_or (absent r.text_objects) f (false, refusal.StaleJob)) (text-of (object_of r (column_index.Text i) group) o (sym (found-in (column_index.Text i) is) ∙ at))
+  told-text (column_index.Number i) is at = no-text (object_of r (column_index.Number i) group) o (sym (found-in (column_index.Number i) is) ∙ at)
 
   pub pin-text : object_at r column group ≡ Some (object.Text o) → pin_refusal_in r.text_objects o ≡ pin_refusal r column group
-  pin-text at = elim (cases_option (slice_get r.slots column)) [
-    | inl none ↦ absurd (none-some (object.Text o) (sym (ap (option_and_then (λ (t : Slot). option_map (object_in t) (object_of r t group))) none) ∙ at))
+  pin-text at = elim (cases_option (slice_get r.column_indexes column)) [
+    | inl none ↦ absurd (none-some (object.Text o) (sym (ap (option_and_then (λ (t : ColumnIndex). option_map (object_in t) (object_of r t group))) none) ∙ at))
     | inr (s, is) ↦
         let later = first_of (pinned_out r.text_objects o ∷ []) in
         let told : told_at r group s ≡ absent r.text_objects o = told-text s is at in

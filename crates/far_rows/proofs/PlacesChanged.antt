@@ -9,7 +9,7 @@ use Rattle.far_types.specs.declared.cell.Cell.{Cell}
 use Rattle.far_types.specs.declared.cell.Cell.TheVariants as cell
 use Rattle.far_types.specs.Edits.{with_cell, changed_at}
 use Rattle.far_types.specs.Table.{Place}
-use Rattle.far_rows.specs.Slots.{with_row}
+use Rattle.far_rows.specs.ColumnIndexes.{with_row}
 use Rattle.far_rows.specs.Setting.{with_cell_at}
 use Rattle.far_rows.specs.Places.{row_at, places_of}
 use Rattle.far_rows.proofs.Places.{placed, length-places}

@@ -12,16 +12,16 @@ use Rattle.far_types.specs.declared.refusal.Refusal.TheVariants as refusal
 use Rattle.far_types.specs.FirstOf.{first_of}
 use Rattle.far_scopes.specs.Refusing.{absent}
 use Rattle.far_texts.specs.Texts.{Texts, HasGroups}
-use Rattle.far_texts.specs.Changes.{begins_group, last_object}
+use Rattle.far_texts.specs.Effects.{begins_group, last_object}
 use Rattle.far_texts.specs.Together.{all_begin}
 use Rattle.far_texts.specs.RefusingTogether.{absents as texts_absent}
 use Rattle.far_columns.specs.NumbersTogether.{NumberColumns, all_begin as all_numbers_begin, absents as numbers_absent}
 use Rattle.far_vector.specs.Vector.{Vector, IsShaped, object_at}
 use Rattle.far_vector.specs.Effects.{is_full}
 use Rattle.far_rows.proofs.Versions.{last-there}
-use Rattle.far_rows.specs.declared.slot.Slot.{Slot}
-use Rattle.far_rows.specs.declared.slot.Slot.TheVariants as slot
-use Rattle.far_rows.specs.Slots.{Values}
+use Rattle.far_rows.specs.declared.column_index.ColumnIndex.{ColumnIndex}
+use Rattle.far_rows.specs.declared.column_index.ColumnIndex.TheVariants as column_index
+use Rattle.far_rows.specs.ColumnIndexes.{Values}
 use Rattle.far_rows.specs.Rows.{Rows, AreRows, object_of}
 use Rattle.far_rows.specs.Refusing.{told_at, absents, absents_from, append_tests, push_refusal}
 use Rattle.far_rows.specs.Places.{AreOf}
@@ -41,10 +41,10 @@ skip (case ∷ cases) more none = ap (λ (b : Bool). cond b (Some case.1) (first
 
 module _ {K : Type 0} (r : Rows K) (g : ℕ) where
   -- no object of the row group is away
-  pub none-away : (n : ℕ) (slots : List Slot) → first_of (absents_from r g n slots) ≡ None → (k : ℕ) (s : Slot) → slice_get slots k ≡ Some s → (told_at r g s).0 ≡ false
+  pub none-away : (n : ℕ) (column_indexes : List ColumnIndex) → first_of (absents_from r g n column_indexes) ≡ None → (k : ℕ) (s : ColumnIndex) → slice_get column_indexes k ≡ Some s → (told_at r g s).0 ≡ false
   none-away n [] free k s at = absurd (none-some s at)
-  none-away n (t ∷ slots) free zero s at = let same = same_Some t s at in subst (λ (u : Slot). (told_at r g u).0 ≡ false) same (not-due (told_at r g t).0 (refusal.Absent n g) (first_of (absents_from r g (n + 1) slots)) free).0
-  none-away n (t ∷ slots) free (suc k) s at = none-away (n + 1) slots (not-due (told_at r g t).0 (refusal.Absent n g) (first_of (absents_from r g (n + 1) slots)) free).1 k s at
+  none-away n (t ∷ column_indexes) free zero s at = let same = same_Some t s at in subst (λ (u : ColumnIndex). (told_at r g u).0 ≡ false) same (not-due (told_at r g t).0 (refusal.Absent n g) (first_of (absents_from r g (n + 1) column_indexes)) free).0
+  none-away n (t ∷ column_indexes) free (suc k) s at = none-away (n + 1) column_indexes (not-due (told_at r g t).0 (refusal.Absent n g) (first_of (absents_from r g (n + 1) column_indexes)) free).1 k s at
 
 -- the last row group of a column that begins none is the one of the next place
 pub last-group : (c : Texts) → HasGroups c → begins_group c ≡ false → slice_get c.objects (c.len / c.size) ≡ Some (last_object c)
@@ -66,9 +66,9 @@ module _ {K : Type 0} (content : K → List ℕ) (r : Rows K) (are : AreRows con
   pub all-not : all_begin r.texts ≡ false → All (λ c. begins_group c ≡ false) r.texts
   all-not is =
       let len = length r.alive in
-      let cs = are-texts r.size len r.texts are.grouped are.even_texts in
-      let apart : len % r.size ≢ 0 = λ divides. true-not (sym (texts-begin r.size len r.texts are.some divides cs) ∙ is) in
-      λ k d below. text-begun r.size len are.some apart (get_or r.texts k d) (cs k d below)
+      let cs = are-texts r.size len r.texts are.grouped are.same_length_texts in
+      let disjoint : len % r.size ≢ 0 = λ divides. true-not (sym (texts-begin r.size len r.texts are.some divides cs) ∙ is) in
+      λ k d below. text-begun r.size len are.some disjoint (get_or r.texts k d) (cs k d below)
 
   -- where no object of the row group of the next place is away, no last object of a column of texts is
   pub texts-here : first_of (absents r (length r.alive / r.size)) ≡ None → All (λ c. begins_group c ≡ false) r.texts → All (λ (case : Bool × Refusal). case.0 ≡ false) (texts_absent r.text_objects r.texts)
@@ -78,11 +78,11 @@ module _ {K : Type 0} (content : K → List ℕ) (r : Rows K) (are : AreRows con
         let within = slice_get_within r.texts i c at in
         let same = get_or_from_slice_get r.texts i c c at in
         let g = length r.alive / r.size in
-        let even = subst (λ (d : Texts). (d.size ≡ r.size) × (d.len ≡ length r.alive)) same (are.even_texts i c within) in
+        let same_length = subst (λ (d : Texts). (d.size ≡ r.size) × (d.len ≡ length r.alive)) same (are.same_length_texts i c within) in
         let last = last-group c (subst HasGroups same (are.grouped i c within)) (subst (λ (d : Texts). begins_group d ≡ false) same (not i c within)) in
         let lies = are.placed_texts i c.column (slice_get-map (λ (d : Texts). d.column) r.texts i ∙ ap (option_map (λ (d : Texts). d.column)) at) in
-        let told = none-away r g 0 r.slots free c.column (slot.Text i) lies in
-        let object : object_of r (slot.Text i) g ≡ Some (last_object c) = ap (option_and_then (λ (d : Texts). slice_get d.objects g)) at ∙ (λ k. slice_get c.objects (sym even.1 k / sym even.0 k)) ∙ last in
+        let told = none-away r g 0 r.column_indexes free c.column (column_index.Text i) lies in
+        let object : object_of r (column_index.Text i) g ≡ Some (last_object c) = ap (option_and_then (λ (d : Texts). slice_get d.objects g)) at ∙ (λ k. slice_get c.objects (sym same_length.1 k / sym same_length.0 k)) ∙ last in
         sym (ap (λ (o : Option ℕ). (option_map_or (absent r.text_objects) o (false, refusal.StaleJob)).0) object) ∙ told
 
     from : (columns : List Texts) → ((i : ℕ) (c : Texts) → slice_get columns i ≡ Some c → (absent r.text_objects (last_object c)).0 ≡ false) → All (λ (case : Bool × Refusal). case.0 ≡ false) (texts_absent r.text_objects columns)
@@ -93,9 +93,9 @@ module _ {K : Type 0} (content : K → List ℕ) (r : Rows K) (are : AreRows con
   pub all-numbers-not : all_numbers_begin r.numbers ≡ false → All (λ c. is_full c ≡ false) r.numbers
   all-numbers-not is =
       let len = length r.alive in
-      let cs = are-numbers r.size len r.numbers are.shaped are.even_numbers in
-      let apart : len % r.size ≢ 0 = λ divides. true-not (sym (numbers-begin r.size len r.numbers are.some divides cs) ∙ is) in
-      λ k d below. number-begun r.size len are.some apart (get_or r.numbers k d) (cs k d below)
+      let cs = are-numbers r.size len r.numbers are.shaped are.same_length_numbers in
+      let disjoint : len % r.size ≢ 0 = λ divides. true-not (sym (numbers-begin r.size len r.numbers are.some divides cs) ∙ is) in
+      λ k d below. number-begun r.size len are.some disjoint (get_or r.numbers k d) (cs k d below)
 
   pub numbers-here : first_of (absents r (length r.alive / r.size)) ≡ None → All (λ c. is_full c ≡ false) r.numbers → All (λ (case : Bool × Refusal). case.0 ≡ false) (numbers_absent r.number_objects r.numbers)
   numbers-here free not = from r.numbers (λ i c at. here i c at) where
@@ -104,11 +104,11 @@ module _ {K : Type 0} (content : K → List ℕ) (r : Rows K) (are : AreRows con
         let within = slice_get_within r.numbers i c at in
         let same = get_or_from_slice_get r.numbers i c c at in
         let g = length r.alive / r.size in
-        let even = subst (λ (d : Vector (Option ℤ)). (d.size ≡ r.size) × (d.len ≡ length r.alive)) same (are.even_numbers i c within) in
+        let same_length = subst (λ (d : Vector (Option ℤ)). (d.size ≡ r.size) × (d.len ≡ length r.alive)) same (are.same_length_numbers i c within) in
         let begun = last-there c (subst IsShaped same (are.shaped i c within)) (subst (λ (d : Vector (Option ℤ)). is_full d ≡ false) same (not i c within)) in
         let lies = are.placed_numbers i c.column (slice_get-map (λ (d : Vector (Option ℤ)). d.column) r.numbers i ∙ ap (option_map (λ (d : Vector (Option ℤ)). d.column)) at) in
-        let told = none-away r g 0 r.slots free c.column (slot.Number i) lies in
-        let object : object_of r (slot.Number i) g ≡ Some (object_at c c.len) = ap (option_and_then (λ (d : Vector (Option ℤ)). slice_get d.objects g)) at ∙ (λ k. slice_get c.objects (sym even.1 k / sym even.0 k)) ∙ slice_get-get_or c.objects (c.len / c.size) 0 begun in
+        let told = none-away r g 0 r.column_indexes free c.column (column_index.Number i) lies in
+        let object : object_of r (column_index.Number i) g ≡ Some (object_at c c.len) = ap (option_and_then (λ (d : Vector (Option ℤ)). slice_get d.objects g)) at ∙ (λ k. slice_get c.objects (sym same_length.1 k / sym same_length.0 k)) ∙ slice_get-get_or c.objects (c.len / c.size) 0 begun in
         sym (ap (λ (o : Option ℕ). (option_map_or (absent r.number_objects) o (false, refusal.StaleJob)).0) object) ∙ told
 
     from : (columns : NumberColumns) → ((i : ℕ) (c : Vector (Option ℤ)) → slice_get columns i ≡ Some c → (absent r.number_objects (object_at c c.len)).0 ≡ false) → All (λ (case : Bool × Refusal). case.0 ≡ false) (numbers_absent r.number_objects columns)
@@ -117,4 +117,4 @@ module _ {K : Type 0} (content : K → List ℕ) (r : Rows K) (are : AreRows con
 
   -- 11 and 17 of an insert are told by the places
   pub push-plain : (limits : Limits) → AreOf limits r → (values : Values) → length values.texts ≡ length r.texts → push_refusal content r values ≡ insert_refusal content limits r values
-  push-plain limits of values even = λ k. first_of (append_tests r (insert-full content r are limits of values even k) (insert-parts content r are limits of values even (length r.text_objects.entries) k))
+  push-plain limits of values same_length = λ k. first_of (append_tests r (insert-full content r are limits of values same_length k) (insert-parts content r are limits of values same_length (length r.text_objects.entries) k))

@@ -4,50 +4,50 @@ use Rattle.std.specs.Prelude.{ℤ}
 use Rattle.std.specs.List.{zip}
 use Rattle.far_types.specs.declared.name.Name.{Name}
 use Rattle.far_codec.specs.Reading.{ints_meaning}
-use Rattle.far_scopes.specs.declared.entry.Entry.{Entry}
+use Rattle.far_scopes.specs.declared.object_record.ObjectRecord.{ObjectRecord}
 use Rattle.far_scopes.specs.Movement.{Movement, AreClean}
-use Rattle.far_scopes.specs.Renewal.{renewed_entry, renewed}
+use Rattle.far_scopes.specs.Renewal.{renewed_entry, after_renew}
 use Rattle.far_vector.proofs.Together.{vectors-stay, elements-stay}
 use Rattle.far_vector.specs.Vector.{Vector}
 use Rattle.far_texts.specs.Texts.{Texts, lists_of, texts_in}
 use Rattle.far_columns.specs.Numbers.{number_lists, numbers_in}
 use Rattle.far_texts.proofs.Beside.{columns-stay, texts-stay}
-use Rattle.far_rows.specs.Slots.{columns_of}
+use Rattle.far_rows.specs.ColumnIndexes.{columns_of}
 use Rattle.far_rows.specs.Naming.{names_of, AreNamed, AreOwned}
 use Rattle.far_rows.specs.Rows.{Rows, AreRows, cells_of}
 use Rattle.far_rows.proofs.Moved.{same-map}
 use Rattle.far_rows.proofs.Names.{as-many}
 
 module _ {K L : Type 0} where
-  entries-named : (entries : List (Entry K)) (tickets : List (Option L)) → length tickets ≡ length entries → map (λ e. e.name) (map (λ (e : Entry K × Option L). renewed_entry e.0 e.1) (zip entries tickets)) ≡ map (λ e. e.name) entries
-  entries-named [] tickets even = refl
-  entries-named (e ∷ entries) [] even = absurd (omega (arith, even))
-  entries-named (e ∷ entries) (ticket ∷ tickets) even = ap (λ (names : List Name). e.name ∷ names) (entries-named entries tickets (omega (arith, even)))
+  entries-named : (entries : List (ObjectRecord K)) (tickets : List (Option L)) → length tickets ≡ length entries → map (λ e. e.name) (map (λ (e : ObjectRecord K × Option L). renewed_entry e.0 e.1) (zip entries tickets)) ≡ map (λ e. e.name) entries
+  entries-named [] tickets same_length = refl
+  entries-named (e ∷ entries) [] same_length = absurd (omega (arith, same_length))
+  entries-named (e ∷ entries) (ticket ∷ tickets) same_length = ap (λ (names : List Name). e.name ∷ names) (entries-named entries tickets (omega (arith, same_length)))
 
-  pub renewed-named : {X : Type 0} (m : Movement X K) (tickets : List (Option L)) → length tickets ≡ length m.entries → names_of (renewed m tickets) ≡ names_of m
-  renewed-named m tickets even = entries-named m.entries tickets even
+  pub renewed-named : {X : Type 0} (m : Movement X K) (tickets : List (Option L)) → length tickets ≡ length m.entries → names_of (after_renew m tickets) ≡ names_of m
+  renewed-named m tickets same_length = entries-named m.entries tickets same_length
 
   module _ (content : K → List ℕ) (new_content : L → List ℕ) (r : Rows K) (number_objects : Movement (Option ℤ) L) (text_objects : Movement ℕ L) (number_same : (o : ℕ) → number_lists new_content number_objects o ≡ number_lists content r.number_objects o) (text_same : (o : ℕ) → lists_of new_content text_objects o ≡ lists_of content r.text_objects o) where
     pub rows-renewed : AreRows content r → names_of number_objects ≡ names_of r.number_objects → AreClean ints_meaning new_content number_objects → names_of text_objects ≡ names_of r.text_objects → AreClean (λ bytes. bytes) new_content text_objects
-        → AreRows new_content record { slots = r.slots; size = r.size; numbers = r.numbers; texts = r.texts; number_objects = number_objects; text_objects = text_objects; alive = r.alive }
+        → AreRows new_content record { column_indexes = r.column_indexes; size = r.size; numbers = r.numbers; texts = r.texts; number_objects = number_objects; text_objects = text_objects; alive = r.alive }
     rows-renewed are number_names number_clean text_names text_clean = record {
-      slots = are.slots;
+      column_indexes = are.column_indexes;
       few = are.few;
       some = are.some;
       small = are.small;
       places = are.places;
       numbers = record {
-        beside = vectors-stay (number_lists content r.number_objects) (number_lists new_content number_objects) r.numbers are.numbers.beside number_same;
-        even = are.numbers.even;
+        all_disjoint = vectors-stay (number_lists content r.number_objects) (number_lists new_content number_objects) r.numbers are.numbers.all_disjoint number_same;
+        same_length = are.numbers.same_length;
       };
       texts = record {
-        beside = columns-stay (lists_of content r.text_objects) (lists_of new_content text_objects) r.texts are.texts.beside text_same;
-        even = are.texts.even;
+        all_disjoint = columns-stay (lists_of content r.text_objects) (lists_of new_content text_objects) r.texts are.texts.all_disjoint text_same;
+        same_length = are.texts.same_length;
       };
       shaped = are.shaped;
       grouped = are.grouped;
-      even_numbers = are.even_numbers;
-      even_texts = are.even_texts;
+      same_length_numbers = are.same_length_numbers;
+      same_length_texts = are.same_length_texts;
       number_objects = λ k c within. as-many r.number_objects number_objects number_names ∙ are.number_objects k c within;
       text_objects = λ k c within. as-many r.text_objects text_objects text_names ∙ are.text_objects k c within;
       numbered = are.numbered;
@@ -61,8 +61,8 @@ module _ {K L : Type 0} where
       clean_texts = text_clean;
     }
 
-    pub renewed-cells : cells_of new_content record { slots = r.slots; size = r.size; numbers = r.numbers; texts = r.texts; number_objects = number_objects; text_objects = text_objects; alive = r.alive } ≡ cells_of content r
+    pub renewed-cells : cells_of new_content record { column_indexes = r.column_indexes; size = r.size; numbers = r.numbers; texts = r.texts; number_objects = number_objects; text_objects = text_objects; alive = r.alive } ≡ cells_of content r
     renewed-cells =
         let numbers_is = same-map (numbers_in new_content number_objects) (numbers_in content r.number_objects) (λ c. elements-stay (number_lists content r.number_objects) (number_lists new_content number_objects) c number_same) r.numbers in
         let texts_is = same-map (texts_in (lists_of new_content text_objects)) (texts_in (lists_of content r.text_objects)) (λ c. texts-stay (lists_of content r.text_objects) (lists_of new_content text_objects) c text_same) r.texts in
-        λ k. columns_of r.slots (numbers_is k) (texts_is k)
+        λ k. columns_of r.column_indexes (numbers_is k) (texts_is k)

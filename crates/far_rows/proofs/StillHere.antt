@@ -9,16 +9,16 @@ use Rattle.far_pointer.specs.declared.pointer.Pointer.TheVariants.{Local, Remote
 use Rattle.far_pointer.specs.Layout.{with_dirty, with_hot, with_at}
 use Rattle.far_scopes.specs.Memory.{at_of, place_of}
 use Rattle.far_scopes.specs.Movement.{Movement, is_local}
-use Rattle.far_scopes.specs.Effects.{written, replaced}
+use Rattle.far_scopes.specs.Effects.{written, after_replace}
 use Rattle.far_scopes.specs.Placing.{spot}
 use Rattle.far_scopes.specs.Refusing.{absent}
 use Rattle.far_codec.specs.TextForm.{texts_form}
 use Rattle.far_vector.specs.Vector.{Vector, object_at as number_at}
 use Rattle.far_vector.specs.Effects.{range_written}
 use Rattle.far_texts.specs.Texts.{Texts, lists_of, object_at as text_at}
-use Rattle.far_texts.specs.Changes.{group_with, set_in as text_set_in}
-use Rattle.far_rows.specs.declared.slot.Slot.{Slot}
-use Rattle.far_rows.specs.declared.slot.Slot.TheVariants as slot
+use Rattle.far_texts.specs.Effects.{group_with, set_in as text_set_in}
+use Rattle.far_rows.specs.declared.column_index.ColumnIndex.{ColumnIndex}
+use Rattle.far_rows.specs.declared.column_index.ColumnIndex.TheVariants as column_index
 use Rattle.far_rows.specs.declared.new_cell.NewCell.{NewCell}
 use Rattle.far_rows.specs.declared.new_cell.NewCell.TheVariants as new
 use Rattle.far_rows.specs.Rows.{Rows, object_of}
@@ -55,57 +55,57 @@ module _ {X K : Type 0} where
   written-local : (m : Movement X K) (o p : ℕ) → is_local (written m o) p ≡ is_local m p
   written-local m o p = still-local (λ word. with_hot (with_dirty word) true) mark m.memory.words o p
 
-  replaced-local : (m : Movement X K) (o : ℕ) (list : List X) (p : ℕ) → is_local (replaced m o list) p ≡ is_local m p
+  replaced-local : (m : Movement X K) (o : ℕ) (list : List X) (p : ℕ) → is_local (after_replace m o list) p ≡ is_local m p
   replaced-local m o list p =
-      let to = spot m.memory.room (length list) in
+      let to = spot m.memory.state (length list) in
       still-local (λ word. with_hot (with_dirty word) true) mark (words_with m.memory.words o (λ word. with_at word to)) o p
       ∙ still-local (λ word. with_at word to) (move to) m.memory.words o p
 
 module _ {K : Type 0} (r : Rows K) (g : ℕ) where
-  told-numbers : (m : Movement (Option ℤ) K) → ((o : ℕ) → is_local m o ≡ is_local r.number_objects o) → (s : Slot) → (told_at (record r { number_objects = m }) g s).0 ≡ (told_at r g s).0
-  told-numbers m same (slot.Text i) = refl
-  told-numbers m same (slot.Number i) = by (object_of r (slot.Number i) g) where
+  told-numbers : (m : Movement (Option ℤ) K) → ((o : ℕ) → is_local m o ≡ is_local r.number_objects o) → (s : ColumnIndex) → (told_at (record r { number_objects = m }) g s).0 ≡ (told_at r g s).0
+  told-numbers m same (column_index.Text i) = refl
+  told-numbers m same (column_index.Number i) = by (object_of r (column_index.Number i) g) where
     by : (o : Option ℕ) → (option_map_or (absent m) o (false, refusal.StaleJob)).0 ≡ (option_map_or (absent r.number_objects) o (false, refusal.StaleJob)).0
     by None = refl
     by (Some o) = ap not (same o)
 
-  told-texts : (m : Movement ℕ K) → ((o : ℕ) → is_local m o ≡ is_local r.text_objects o) → (s : Slot) → (told_at (record r { text_objects = m }) g s).0 ≡ (told_at r g s).0
-  told-texts m same (slot.Number i) = refl
-  told-texts m same (slot.Text i) = by (object_of r (slot.Text i) g) where
+  told-texts : (m : Movement ℕ K) → ((o : ℕ) → is_local m o ≡ is_local r.text_objects o) → (s : ColumnIndex) → (told_at (record r { text_objects = m }) g s).0 ≡ (told_at r g s).0
+  told-texts m same (column_index.Number i) = refl
+  told-texts m same (column_index.Text i) = by (object_of r (column_index.Text i) g) where
     by : (o : Option ℕ) → (option_map_or (absent m) o (false, refusal.StaleJob)).0 ≡ (option_map_or (absent r.text_objects) o (false, refusal.StaleJob)).0
     by None = refl
     by (Some o) = ap not (same o)
 
-  absents-same : (now : Rows K) → ((s : Slot) → (told_at now g s).0 ≡ (told_at r g s).0) → (n : ℕ) (slots : List Slot) → absents_from now g n slots ≡ absents_from r g n slots
+  absents-same : (now : Rows K) → ((s : ColumnIndex) → (told_at now g s).0 ≡ (told_at r g s).0) → (n : ℕ) (column_indexes : List ColumnIndex) → absents_from now g n column_indexes ≡ absents_from r g n column_indexes
   absents-same now same n [] = refl
-  absents-same now same n (s ∷ slots) =
+  absents-same now same n (s ∷ column_indexes) =
       let here = same s in
-      let rest = absents-same now same (n + 1) slots in
+      let rest = absents-same now same (n + 1) column_indexes in
       λ k. (here k, refusal.Absent n g) ∷ rest k
 
-  set-slot : (content : K → List ℕ) (s : Slot) (place : ℕ) (value : NewCell) → absents (set_in content r s place value) g ≡ absents r g
-  set-slot content (slot.Number i) place (new.Number number) = by (slice_get r.numbers i) where
+  set-column_index : (content : K → List ℕ) (s : ColumnIndex) (place : ℕ) (value : NewCell) → absents (set_in content r s place value) g ≡ absents r g
+  set-column_index content (column_index.Number i) place (new.Number number) = by (slice_get r.numbers i) where
     by : (found : Option (Vector (Option ℤ))) → absents (record r { number_objects = option_map_or (λ c. range_written r.number_objects c place (number ∷ [])) found r.number_objects }) g ≡ absents r g
     by None = refl
-    by (Some c) = absents-same (record r { number_objects = range_written r.number_objects c place (number ∷ []) }) (told-numbers (range_written r.number_objects c place (number ∷ [])) (λ o. written-local r.number_objects (number_at c place) o)) 0 r.slots
-  set-slot content (slot.Text i) place (new.Text text) = by (slice_get r.texts i) where
+    by (Some c) = absents-same (record r { number_objects = range_written r.number_objects c place (number ∷ []) }) (told-numbers (range_written r.number_objects c place (number ∷ [])) (λ o. written-local r.number_objects (number_at c place) o)) 0 r.column_indexes
+  set-column_index content (column_index.Text i) place (new.Text text) = by (slice_get r.texts i) where
     by : (found : Option Texts) → absents (record r { text_objects = option_map_or (λ c. text_set_in content r.text_objects c place text) found r.text_objects }) g ≡ absents r g
     by None = refl
-    by (Some c) = absents-same (record r { text_objects = text_set_in content r.text_objects c place text }) (told-texts (text_set_in content r.text_objects c place text) (λ o. replaced-local r.text_objects (text_at c place) (texts_form (group_with (lists_of content r.text_objects) c place text)) o)) 0 r.slots
-  set-slot content (slot.Number i) place (new.Text text) = refl
-  set-slot content (slot.Text i) place (new.Number number) = refl
+    by (Some c) = absents-same (record r { text_objects = text_set_in content r.text_objects c place text }) (told-texts (text_set_in content r.text_objects c place text) (λ o. replaced-local r.text_objects (text_at c place) (texts_form (group_with (lists_of content r.text_objects) c place text)) o)) 0 r.column_indexes
+  set-column_index content (column_index.Number i) place (new.Text text) = refl
+  set-column_index content (column_index.Text i) place (new.Number number) = refl
 
 -- the flags stay
-alive-slot : {K : Type 0} (content : K → List ℕ) (r : Rows K) (s : Slot) (place : ℕ) (value : NewCell) → (set_in content r s place value).alive ≡ r.alive
-alive-slot content r (slot.Number i) place (new.Number number) = refl
-alive-slot content r (slot.Text i) place (new.Text text) = refl
-alive-slot content r (slot.Number i) place (new.Text text) = refl
-alive-slot content r (slot.Text i) place (new.Number number) = refl
+alive-column_index : {K : Type 0} (content : K → List ℕ) (r : Rows K) (s : ColumnIndex) (place : ℕ) (value : NewCell) → (set_in content r s place value).alive ≡ r.alive
+alive-column_index content r (column_index.Number i) place (new.Number number) = refl
+alive-column_index content r (column_index.Text i) place (new.Text text) = refl
+alive-column_index content r (column_index.Number i) place (new.Text text) = refl
+alive-column_index content r (column_index.Text i) place (new.Number number) = refl
 
 module _ {K : Type 0} (content : K → List ℕ) (r now : Rows K) (place : ℕ) (value : NewCell) where
-  -- of rows in which a value was put in a slot that is there
-  pub set-here : (s : Slot) (found : Option Slot) → found ≡ Some s → IfSome found (λ t. now ≡ set_in content r t place value) → (g : ℕ) → absents now g ≡ absents r g
-  set-here s found at moved g = ap (λ (rows : Rows K). absents rows g) (subst (λ (o : Option Slot). IfSome o (λ t. now ≡ set_in content r t place value)) at moved) ∙ set-slot r g content s place value
+  -- of rows in which a value was put at an index that is there
+  pub set-here : (s : ColumnIndex) (found : Option ColumnIndex) → found ≡ Some s → IfSome found (λ t. now ≡ set_in content r t place value) → (g : ℕ) → absents now g ≡ absents r g
+  set-here s found at moved g = ap (λ (rows : Rows K). absents rows g) (subst (λ (o : Option ColumnIndex). IfSome o (λ t. now ≡ set_in content r t place value)) at moved) ∙ set-column_index r g content s place value
 
-  pub set-alive : (s : Slot) (found : Option Slot) → found ≡ Some s → IfSome found (λ t. now ≡ set_in content r t place value) → now.alive ≡ r.alive
-  set-alive s found at moved = ap (λ (rows : Rows K). rows.alive) (subst (λ (o : Option Slot). IfSome o (λ t. now ≡ set_in content r t place value)) at moved) ∙ alive-slot content r s place value
+  pub set-alive : (s : ColumnIndex) (found : Option ColumnIndex) → found ≡ Some s → IfSome found (λ t. now ≡ set_in content r t place value) → now.alive ≡ r.alive
+  set-alive s found at moved = ap (λ (rows : Rows K). rows.alive) (subst (λ (o : Option ColumnIndex). IfSome o (λ t. now ≡ set_in content r t place value)) at moved) ∙ alive-column_index content r s place value

@@ -8,9 +8,9 @@ use Rattle.std.proofs.lemmas.List.Sums.{AllPass-from_list_all}
 use Rattle.far_codec.specs.TextForm.{texts_form}
 use Rattle.far_types.specs.declared.name.Name.{Name}
 use Rattle.far_scopes.specs.Movement.{Movement}
-use Rattle.far_scopes.specs.Effects.{created}
+use Rattle.far_scopes.specs.Effects.{after_create}
 use Rattle.far_texts.specs.Texts.{Texts, Lists}
-use Rattle.far_texts.specs.Changes.{begins_group, group_with_next, pushed}
+use Rattle.far_texts.specs.Effects.{begins_group, group_with_next, pushed}
 use Rattle.far_texts.specs.Together.{AreReplaced, all_begin, all_created, all_pushed, next_forms}
 use Rattle.far_rows.specs.Naming.{names_of, AreNamed}
 use Rattle.far_rows.proofs.Beginning.{IsTexts, text-begun, texts-begin}
@@ -40,7 +40,7 @@ true-not e = cc
 module _ {K : Type 0} (lists : Lists) where
   -- the objects once a column has got one for its next text
   abbrev pub one : Movement ℕ K → Texts → Option (List ℕ) → Movement ℕ K
-  one m c text = created m (next_name c) (texts_form (group_with_next lists c text))
+  one m c text = after_create m (next_name c) (texts_form (group_with_next lists c text))
 
   -- the objects once each has, in order
   abbrev made : Movement ℕ K → ℕ → List Texts → List (Option (List ℕ)) → Movement ℕ K
@@ -56,9 +56,9 @@ module _ {K : Type 0} (lists : Lists) where
 
   -- where all begin row groups, each new object bears the name of its column's
   named-begun : (m : Movement ℕ K) (columns : List Texts) (texts : List (Option (List ℕ))) (n : ℕ) → n ≡ length (names_of m) → length texts ≡ length columns → All (λ c. begins_group c ≡ true) columns → All (IsNamed (names_of m)) columns → All (IsNamed (names_of (made m n columns texts))) (all_pushed n columns)
-  named-begun m [] texts n count even begin named = All-nil (IsNamed (names_of m))
-  named-begun m (c ∷ columns) [] n count even begin named = absurd (omega (arith, even))
-  named-begun m (c ∷ columns) (text ∷ texts) n count even begin named =
+  named-begun m [] texts n count same_length begin named = All-nil (IsNamed (names_of m))
+  named-begun m (c ∷ columns) [] n count same_length begin named = absurd (omega (arith, same_length))
+  named-begun m (c ∷ columns) (text ∷ texts) n count same_length begin named =
       let next = one m c text in
       let last = names_of (made next (n + 1) columns texts) in
       let first = All-head (λ d. begins_group d ≡ true) c columns begin in
@@ -70,7 +70,7 @@ module _ {K : Type 0} (lists : Lists) where
       let others : All (IsNamed (names_of next)) columns = λ k d below. named-more (names_of m) (names_of next) (get_or columns k d).column (get_or columns k d).objects (text-extends m c text) (All-tail (IsNamed (names_of m)) c columns named k d below) in
       All-cons (IsNamed last) (pushed c n) (all_pushed (n + 1) columns)
       (named-more (names_of next) last (pushed c n).column (pushed c n).objects (texts-extend next (n + 1) columns texts) own)
-      (named-begun next columns texts (n + 1) more (omega (arith, even)) (All-tail (λ d. begins_group d ≡ true) c columns begin) others)
+      (named-begun next columns texts (n + 1) more (omega (arith, same_length)) (All-tail (λ d. begins_group d ≡ true) c columns begin) others)
 
   pub names-kept : (old new : Movement ℕ K) (forms : List (ℕ × List ℕ)) → AreReplaced old forms new → names_of new ≡ names_of old
   names-kept old new forms (given, is, now) = ap names_of now ∙ names-replaced_all old given
@@ -79,13 +79,13 @@ module _ {K : Type 0} (lists : Lists) where
       → (all_begin columns ≡ true → now ≡ all_created m columns (next_forms lists (length m.entries) columns texts))
       → (all_begin columns ≡ false → AreReplaced m (next_forms lists (length m.entries) columns texts) now)
       → All (IsNamed (names_of m)) columns → All (IsNamed (names_of now)) (all_pushed (length m.entries) columns)
-  texts-named size len columns some are m now texts even begun replaced named = elim (cases_Bool (all_begin columns)) [
+  texts-named size len columns some are m now texts same_length begun replaced named = elim (cases_Bool (all_begin columns)) [
     | inl begin ↦
         subst (λ (objects : Movement ℕ K). All (IsNamed (names_of objects)) (all_pushed (length m.entries) columns)) (sym (begun begin))
-        (named-begun m columns texts (length m.entries) (sym (length-map m.entries (λ entry. entry.name))) even (AllPass-from_list_all begins_group columns begin) named)
+        (named-begun m columns texts (length m.entries) (sym (length-map m.entries (λ entry. entry.name))) same_length (AllPass-from_list_all begins_group columns begin) named)
     | inr not ↦
-        let apart : len % size ≢ 0 = λ divides. true-not (sym (texts-begin size len columns some divides are) ∙ not) in
-        let none : All (λ c. begins_group c ≡ false) columns = λ k d below. text-begun size len some apart (get_or columns k d) (are k d below) in
+        let disjoint : len % size ≢ 0 = λ divides. true-not (sym (texts-begin size len columns some divides are) ∙ not) in
+        let none : All (λ c. begins_group c ≡ false) columns = λ k d below. text-begun size len some disjoint (get_or columns k d) (are k d below) in
         subst (λ (ns : List Name). All (IsNamed ns) (all_pushed (length m.entries) columns)) (sym (names-kept m now (next_forms lists (length m.entries) columns texts) (replaced not)))
         (all-texts (λ c. (begins_group c ≡ false) × IsNamed (names_of m) c) (IsNamed (names_of m)) (named-still (names_of m)) (length m.entries) columns (λ k d below. (none k d below, named k d below)))
   ]

@@ -10,7 +10,7 @@ use Rattle.far_types.specs.declared.name.Name.{Name}
 use Rattle.far_scopes.specs.Movement.{Movement}
 use Rattle.far_scopes.proofs.WordPlaces.{slice_get-push_last}
 use Rattle.far_texts.specs.Texts.{Texts, Lists}
-use Rattle.far_texts.specs.Changes.{begins_group, group_with_next, pushed}
+use Rattle.far_texts.specs.Effects.{begins_group, group_with_next, pushed}
 use Rattle.far_texts.specs.Together.{AreReplaced, all_begin, all_created, all_pushed, next_forms}
 use Rattle.far_rows.specs.Naming.{names_of, AreOwned}
 use Rattle.far_rows.proofs.Beginning.{IsTexts, text-begun, texts-begin}
@@ -56,10 +56,10 @@ module _ (n : ℕ) (columns : List Texts) where
 
 module _ {K : Type 0} (lists : Lists) where
   all-made : (m : Movement ℕ K) (n : ℕ) (columns : List Texts) (texts : List (Option (List ℕ))) → length texts ≡ length columns → names_of (all_created m columns (next_forms lists n columns texts)) ≡ names_of m ++ map next_name columns
-  all-made m n [] texts even = sym (append-nil (names_of m))
-  all-made m n (c ∷ columns) [] even = absurd (omega (arith, even))
-  all-made m n (c ∷ columns) (text ∷ texts) even =
-      all-made (one lists m c text) (n + 1) columns texts (omega (arith, even))
+  all-made m n [] texts same_length = sym (append-nil (names_of m))
+  all-made m n (c ∷ columns) [] same_length = absurd (omega (arith, same_length))
+  all-made m n (c ∷ columns) (text ∷ texts) same_length =
+      all-made (one lists m c text) (n + 1) columns texts (omega (arith, same_length))
       ∙ ap (λ (ns : List Name). ns ++ map next_name columns) (names-created m (next_name c) (texts_form (group_with_next lists c text)))
       ∙ append_assoc (names_of m) (next_name c ∷ []) (map next_name columns)
 
@@ -67,17 +67,17 @@ module _ {K : Type 0} (lists : Lists) where
       → (all_begin columns ≡ true → now ≡ all_created m columns (next_forms lists (length m.entries) columns texts))
       → (all_begin columns ≡ false → AreReplaced m (next_forms lists (length m.entries) columns texts) now)
       → AreOwned column_of objects_of (names_of m) columns → AreOwned column_of objects_of (names_of now) (all_pushed (length m.entries) columns)
-  texts-owned size len columns some are m now texts even made replaced owned =
+  texts-owned size len columns some are m now texts same_length made replaced owned =
       let n = length m.entries in
       elim (cases_Bool (all_begin columns)) [
         | inl begin ↦
             let full = AllPass-from_list_all begins_group columns begin in
             let count : n ≡ length (names_of m) = sym (length-map m.entries (λ entry. entry.name)) in
-            subst (λ (ns : List Name). AreOwned column_of objects_of ns (all_pushed n columns)) (sym (ap names_of (made begin) ∙ all-made m n columns texts even))
+            subst (λ (ns : List Name). AreOwned column_of objects_of ns (all_pushed n columns)) (sym (ap names_of (made begin) ∙ all-made m n columns texts same_length))
             (owned-more column_of objects_of (names_of m) columns (all_pushed n columns) (more-begun n columns full) (subst (λ k. HaveNext column_of objects_of k columns (all_pushed n columns)) count (next-begun n columns full)) owned)
         | inr not ↦
-            let apart : len % size ≢ 0 = λ divides. true-not (sym (texts-begin size len columns some divides are) ∙ not) in
-            let none : All (λ c. begins_group c ≡ false) columns = λ k d below. text-begun size len some apart (get_or columns k d) (are k d below) in
+            let disjoint : len % size ≢ 0 = λ divides. true-not (sym (texts-begin size len columns some divides are) ∙ not) in
+            let none : All (λ c. begins_group c ≡ false) columns = λ k d below. text-begun size len some disjoint (get_or columns k d) (are k d below) in
             subst (λ (ns : List Name). AreOwned column_of objects_of ns (all_pushed n columns)) (sym (names-kept lists m now (next_forms lists n columns texts) (replaced not)))
             (owned-still column_of objects_of (names_of m) columns (all_pushed n columns) (more-longer n columns none) owned)
       ]

@@ -7,18 +7,18 @@ use Rattle.std.proofs.lemmas.Nat.{div_below}
 use Rattle.std.proofs.lemmas.Option.{slice_get-get_or}
 use Rattle.std.proofs.lemmas.List.Elements.{All-nil, All-cons, All-head, All-tail}
 use Rattle.far_types.specs.declared.name.Name.{Name}
-use Rattle.far_scopes.specs.declared.entry.Entry.{Entry}
+use Rattle.far_scopes.specs.declared.object_record.ObjectRecord.{ObjectRecord}
 use Rattle.far_scopes.specs.declared.replacement.Replacement.{Replacement}
 use Rattle.far_scopes.specs.Movement.{Movement, version_of}
-use Rattle.far_scopes.specs.Effects.{new_entry, with_entry, with_lens, created, written, written_all, replaced_all}
+use Rattle.far_scopes.specs.Effects.{new_entry, with_entry, with_lens, after_create, written, written_all, after_replace_all}
 use Rattle.far_scopes.proofs.Framing.{entry-with_other}
-use Rattle.far_vector.specs.Vector.{Vector, IsShaped, AreApart, object_at}
+use Rattle.far_vector.specs.Vector.{Vector, IsShaped, AreDisjoint, object_at}
 use Rattle.far_vector.specs.Effects.{is_full, pushed_in}
 use Rattle.far_columns.specs.Numbers.{Numbers, number_lists}
 use Rattle.far_columns.specs.NumbersTogether.{NumberColumns, AreNumberColumns, all_pushed_in}
 use Rattle.far_texts.specs.Texts as texts
 use Rattle.far_texts.specs.Texts.{Texts, Lists, HasGroups, lists_of}
-use Rattle.far_texts.specs.Changes.{begins_group, last_object}
+use Rattle.far_texts.specs.Effects.{begins_group, last_object}
 use Rattle.far_texts.specs.Together.{AreColumns, AreReplaced, all_begin, all_created, given_forms, next_forms}
 use Rattle.far_columns.proofs.NumbersTogether.{pairs-head, pairs-tail}
 use Rattle.far_rows.proofs.Beginning.{IsNumbers, number-begins, number-begun, IsTexts, text-begun, texts-begin}
@@ -31,54 +31,54 @@ AreOnce (o ∷ os) = All (λ p. p ≢ o) os × AreOnce os
 
 module _ {K : Type 0} where
   -- how often an object was written, by its record
-  abbrev writes : List (Entry K) → ℕ → ℕ
+  abbrev writes : List (ObjectRecord K) → ℕ → ℕ
   writes entries o = option_map_or (λ e. e.version) (slice_get entries o) 0
 
-  abbrev once_more : Entry K → Entry K
+  abbrev once_more : ObjectRecord K → ObjectRecord K
   once_more entry = record entry { version = entry.version + 1 }
 
   -- these are written, one after the other
-  abbrev raised : List (Entry K) → List ℕ → List (Entry K)
+  abbrev raised : List (ObjectRecord K) → List ℕ → List (ObjectRecord K)
   raised entries [] = entries
   raised entries (o ∷ os) = raised (with_entry entries o once_more) os
 
-  with-later : (e : Entry K) (entries : List (Entry K)) (o : ℕ) (change : Entry K → Entry K) → with_entry (e ∷ entries) (suc o) change ≡ e ∷ with_entry entries o change
+  with-later : (e : ObjectRecord K) (entries : List (ObjectRecord K)) (o : ℕ) (change : ObjectRecord K → ObjectRecord K) → with_entry (e ∷ entries) (suc o) change ≡ e ∷ with_entry entries o change
   with-later e entries o change = found (slice_get entries o) where
-    found : (at : Option (Entry K)) → option_map_or (λ entry. slice_set (e ∷ entries) (suc o) (change entry)) at (e ∷ entries) ≡ e ∷ option_map_or (λ entry. slice_set entries o (change entry)) at entries
+    found : (at : Option (ObjectRecord K)) → option_map_or (λ entry. slice_set (e ∷ entries) (suc o) (change entry)) at (e ∷ entries) ≡ e ∷ option_map_or (λ entry. slice_set entries o (change entry)) at entries
     found None = refl
     found (Some entry) = refl
 
-  writes-with : (entries : List (Entry K)) (o : ℕ) → writes (with_entry entries o once_more) o ≤ writes entries o + 1
+  writes-with : (entries : List (ObjectRecord K)) (o : ℕ) → writes (with_entry entries o once_more) o ≤ writes entries o + 1
   writes-with [] o = omega arith
   writes-with (e ∷ entries) zero = omega arith
   writes-with (e ∷ entries) (suc o) =
       let later : writes (with_entry (e ∷ entries) (suc o) once_more) (suc o) ≡ writes (with_entry entries o once_more) o = ap (λ l. writes l (suc o)) (with-later e entries o once_more) in
       omega (arith, later, writes-with entries o)
 
-  writes-other : (entries : List (Entry K)) (o p : ℕ) → p ≢ o → writes (with_entry entries o once_more) p ≡ writes entries p
+  writes-other : (entries : List (ObjectRecord K)) (o p : ℕ) → p ≢ o → writes (with_entry entries o once_more) p ≡ writes entries p
   writes-other entries o p other = ap (λ at. option_map_or (λ e. e.version) at 0) (entry-with_other entries o once_more p other)
 
-  writes-len : (entries : List (Entry K)) (o n p : ℕ) → writes (with_entry entries o (λ entry. record entry { len = n })) p ≡ writes entries p
+  writes-len : (entries : List (ObjectRecord K)) (o n p : ℕ) → writes (with_entry entries o (λ entry. record entry { len = n })) p ≡ writes entries p
   writes-len [] o n p = refl
   writes-len (e ∷ entries) zero n zero = refl
   writes-len (e ∷ entries) zero n (suc p) = refl
   writes-len (e ∷ entries) (suc o) n zero = ap (λ l. writes l 0) (with-later e entries o (λ entry. record entry { len = n }))
   writes-len (e ∷ entries) (suc o) n (suc p) = ap (λ l. writes l (suc p)) (with-later e entries o (λ entry. record entry { len = n })) ∙ writes-len entries o n p
 
-  writes-new : (entries : List (Entry K)) (name : Name) (n p : ℕ) → writes (entries ++ new_entry name n ∷ []) p ≡ writes entries p
+  writes-new : (entries : List (ObjectRecord K)) (name : Name) (n p : ℕ) → writes (entries ++ new_entry name n ∷ []) p ≡ writes entries p
   writes-new [] name n zero = refl
   writes-new [] name n (suc p) = refl
   writes-new (e ∷ entries) name n zero = refl
   writes-new (e ∷ entries) name n (suc p) = writes-new entries name n p
 
-  raised-others : (entries : List (Entry K)) (os : List ℕ) (p : ℕ) → All (λ o. o ≢ p) os → writes (raised entries os) p ≡ writes entries p
+  raised-others : (entries : List (ObjectRecord K)) (os : List ℕ) (p : ℕ) → All (λ o. o ≢ p) os → writes (raised entries os) p ≡ writes entries p
   raised-others entries [] p others = refl
   raised-others entries (o ∷ os) p others =
       raised-others (with_entry entries o once_more) os p (All-tail (λ q. q ≢ p) o os others)
       ∙ writes-other entries o p (λ same. All-head (λ q. q ≢ p) o os others (sym same))
 
   -- each at most once
-  raised-once : (entries : List (Entry K)) (os : List ℕ) → AreOnce os → (p : ℕ) → writes (raised entries os) p ≤ writes entries p + 1
+  raised-once : (entries : List (ObjectRecord K)) (os : List ℕ) → AreOnce os → (p : ℕ) → writes (raised entries os) p ≤ writes entries p + 1
   raised-once entries [] once p = omega arith
   raised-once entries (o ∷ os) once p = elim (cases_eq p o) [
     | inl same ↦
@@ -100,11 +100,11 @@ module _ {K : Type 0} where
   one-made m c x p full = rw full (writes-new m.entries _ _ p)
 
   all-written : (m : Movement (Option ℤ) K) (columns : NumberColumns) (numbers : Numbers) → length numbers ≡ length columns → All (λ c. is_full c ≡ false) columns → (all_pushed_in m columns numbers).entries ≡ raised m.entries (map (λ c. object_at c c.len) columns)
-  all-written m [] numbers even not = refl
-  all-written m (c ∷ columns) [] even not = absurd (omega (arith, even))
-  all-written m (c ∷ columns) (x ∷ numbers) even not =
-      all-written (pushed_in m c x) columns numbers (omega (arith, even)) (All-tail (λ d. is_full d ≡ false) c columns not)
-      ∙ ap (λ (l : List (Entry K)). raised l (map (λ (d : Vector (Option ℤ)). object_at d d.len) columns)) (one-written m c x (All-head (λ d. is_full d ≡ false) c columns not))
+  all-written m [] numbers same_length not = refl
+  all-written m (c ∷ columns) [] same_length not = absurd (omega (arith, same_length))
+  all-written m (c ∷ columns) (x ∷ numbers) same_length not =
+      all-written (pushed_in m c x) columns numbers (omega (arith, same_length)) (All-tail (λ d. is_full d ≡ false) c columns not)
+      ∙ ap (λ (l : List (ObjectRecord K)). raised l (map (λ (d : Vector (Option ℤ)). object_at d d.len) columns)) (one-written m c x (All-head (λ d. is_full d ≡ false) c columns not))
 
   all-made : (m : Movement (Option ℤ) K) (columns : NumberColumns) (numbers : Numbers) (p : ℕ) → All (λ c. is_full c ≡ true) columns → writes (all_pushed_in m columns numbers).entries p ≡ writes m.entries p
   all-made m [] numbers p full = refl
@@ -116,25 +116,25 @@ module _ {K : Type 0} where
 pub last-there : (c : Vector (Option ℤ)) → IsShaped c → is_full c ≡ false → c.len / c.size < length c.objects
 last-there c shaped not = let ne = eqb-false c.len (length c.objects * c.size) not in div_below c.len c.size (length c.objects) shaped.some (omega (arith, shaped.enough, ne))
 
-last-apart : (c d : Vector (Option ℤ)) → IsShaped c → IsShaped d → is_full c ≡ false → is_full d ≡ false → AreApart c d → object_at d d.len ≢ object_at c c.len
-last-apart c d of_c of_d not also apart same = apart (c.len / c.size) 0 (last-there c of_c not) (d.len / d.size) 0 (last-there d of_d also) (sym same)
+last-disjoint : (c d : Vector (Option ℤ)) → IsShaped c → IsShaped d → is_full c ≡ false → is_full d ≡ false → AreDisjoint c d → object_at d d.len ≢ object_at c c.len
+last-disjoint c d of_c of_d not also disjoint same = disjoint (c.len / c.size) 0 (last-there c of_c not) (d.len / d.size) 0 (last-there d of_d also) (sym same)
 
-numbers-once : (columns : NumberColumns) → All IsShaped columns → All (λ c. is_full c ≡ false) columns → AllPairs AreApart columns → AreOnce (map (λ c. object_at c c.len) columns)
-numbers-once [] shaped not apart = (cc)
-numbers-once (c ∷ columns) shaped not apart = (
-  all-others columns (All-tail IsShaped c columns shaped) (All-tail (λ d. is_full d ≡ false) c columns not) (pairs-head AreApart c columns apart),
-  numbers-once columns (All-tail IsShaped c columns shaped) (All-tail (λ d. is_full d ≡ false) c columns not) (pairs-tail AreApart c columns apart),
+numbers-once : (columns : NumberColumns) → All IsShaped columns → All (λ c. is_full c ≡ false) columns → AllPairs AreDisjoint columns → AreOnce (map (λ c. object_at c c.len) columns)
+numbers-once [] shaped not disjoint = (cc)
+numbers-once (c ∷ columns) shaped not disjoint = (
+  all-others columns (All-tail IsShaped c columns shaped) (All-tail (λ d. is_full d ≡ false) c columns not) (pairs-head AreDisjoint c columns disjoint),
+  numbers-once columns (All-tail IsShaped c columns shaped) (All-tail (λ d. is_full d ≡ false) c columns not) (pairs-tail AreDisjoint c columns disjoint),
 ) where
-  all-others : (ds : NumberColumns) → All IsShaped ds → All (λ d. is_full d ≡ false) ds → All (AreApart c) ds → All (λ p. p ≢ object_at c c.len) (map (λ d. object_at d d.len) ds)
+  all-others : (ds : NumberColumns) → All IsShaped ds → All (λ d. is_full d ≡ false) ds → All (AreDisjoint c) ds → All (λ p. p ≢ object_at c c.len) (map (λ d. object_at d d.len) ds)
   all-others [] of_ds nots aparts = All-nil (λ p. p ≢ object_at c c.len)
   all-others (d ∷ ds) of_ds nots aparts =
       All-cons (λ p. p ≢ object_at c c.len) (object_at d d.len) (map (λ e. object_at e e.len) ds)
-      (last-apart c d (All-head IsShaped c columns shaped) (All-head IsShaped d ds of_ds) (All-head (λ e. is_full e ≡ false) c columns not) (All-head (λ e. is_full e ≡ false) d ds nots) (All-head (AreApart c) d ds aparts))
-      (all-others ds (All-tail IsShaped d ds of_ds) (All-tail (λ e. is_full e ≡ false) d ds nots) (All-tail (AreApart c) d ds aparts))
+      (last-disjoint c d (All-head IsShaped c columns shaped) (All-head IsShaped d ds of_ds) (All-head (λ e. is_full e ≡ false) c columns not) (All-head (λ e. is_full e ≡ false) d ds nots) (All-head (AreDisjoint c) d ds aparts))
+      (all-others ds (All-tail IsShaped d ds of_ds) (All-tail (λ e. is_full e ≡ false) d ds nots) (All-tail (AreDisjoint c) d ds aparts))
 
 module _ {K : Type 0} (content : K → List ℕ) where
   pub number-versions : (size len : ℕ) (columns : NumberColumns) → 0 < size → All (IsNumbers size len) columns → (m : Movement (Option ℤ) K) → AreNumberColumns (number_lists content m) columns → (numbers : Numbers) → length numbers ≡ length columns → (o : ℕ) → version_of (all_pushed_in m columns numbers) o ≤ version_of m o + 1
-  number-versions size len columns some are m beside numbers even o = elim (cases_eq (len % size) 0) [
+  number-versions size len columns some are m all_disjoint numbers same_length o = elim (cases_eq (len % size) 0) [
     | inl divides ↦
         let full : All (λ c. is_full c ≡ true) columns = λ k d below. number-begins size len some divides (get_or columns k d) (are k d below) in
         omega (arith, all-made m columns numbers o full)
@@ -142,12 +142,12 @@ module _ {K : Type 0} (content : K → List ℕ) where
         let not : All (λ c. is_full c ≡ false) columns = λ k d below. number-begun size len some not_divides (get_or columns k d) (are k d below) in
         let shaped : All IsShaped columns = λ k d below. (are k d below).shaped in
         let last = map (λ (c : Vector (Option ℤ)). object_at c c.len) columns in
-        subst (λ (l : List (Entry K)). writes l o ≤ writes m.entries o + 1) (sym (all-written m columns numbers even not)) (raised-once m.entries last (numbers-once columns shaped not beside.beside.apart) o)
+        subst (λ (l : List (ObjectRecord K)). writes l o ≤ writes m.entries o + 1) (sym (all-written m columns numbers same_length not)) (raised-once m.entries last (numbers-once columns shaped not all_disjoint.all_disjoint.disjoint) o)
   ]
 
 -- texts
 module _ {K : Type 0} where
-  lens-kept : (entries : List (Entry K)) (lists : List (Replacement ℕ)) (p : ℕ) → writes (with_lens entries lists) p ≡ writes entries p
+  lens-kept : (entries : List (ObjectRecord K)) (lists : List (Replacement ℕ)) (p : ℕ) → writes (with_lens entries lists) p ≡ writes entries p
   lens-kept entries [] p = refl
   lens-kept entries (r ∷ rs) p = lens-kept (with_entry entries r.object (λ entry. record entry { len = length r.list.items })) rs p ∙ writes-len entries r.object (length r.list.items) p
 
@@ -155,25 +155,25 @@ module _ {K : Type 0} where
   all-raised m [] = refl
   all-raised m (r ∷ rs) = all-raised (written m r.object) rs
 
-  replaced-once : (m : Movement ℕ K) (lists : List (Replacement ℕ)) → AreOnce (map (λ f. f.0) (given_forms lists)) → (p : ℕ) → version_of (replaced_all m lists) p ≤ version_of m p + 1
+  replaced-once : (m : Movement ℕ K) (lists : List (Replacement ℕ)) → AreOnce (map (λ f. f.0) (given_forms lists)) → (p : ℕ) → version_of (after_replace_all m lists) p ≤ version_of m p + 1
   replaced-once m lists once p =
       let objects = map (λ (f : ℕ × List ℕ). f.0) (given_forms lists) in
       let lens = lens-kept m.entries lists p in
       let after = raised-once (with_lens m.entries lists) objects once p in
-      let same : writes (replaced_all m lists).entries p ≡ writes (raised (with_lens m.entries lists) objects) p = ap (λ l. writes l p) (all-raised _ lists) in
+      let same : writes (after_replace_all m lists).entries p ≡ writes (raised (with_lens m.entries lists) objects) p = ap (λ l. writes l p) (all-raised _ lists) in
       omega (arith, lens, after, same)
 
   texts-made : (m : Movement ℕ K) (columns : List Texts) (forms : List (ℕ × List ℕ)) (p : ℕ) → version_of (all_created m columns forms) p ≡ version_of m p
   texts-made m [] forms p = refl
   texts-made m (c ∷ columns) [] p = refl
-  texts-made m (c ∷ columns) (form ∷ forms) p = texts-made (created m record { column = c.column; group = length c.objects } form.1) columns forms p ∙ writes-new m.entries _ _ p
+  texts-made m (c ∷ columns) (form ∷ forms) p = texts-made (after_create m record { column = c.column; group = length c.objects } form.1) columns forms p ∙ writes-new m.entries _ _ p
 
 next-objects : (lists : Lists) (n : ℕ) (columns : List Texts) (texts : List (Option (List ℕ))) → length texts ≡ length columns → All (λ c. begins_group c ≡ false) columns → map (λ f. f.0) (next_forms lists n columns texts) ≡ map last_object columns
-next-objects lists n [] texts even not = refl
-next-objects lists n (c ∷ columns) [] even not = absurd (omega (arith, even))
-next-objects lists n (c ∷ columns) (text ∷ texts) even not =
+next-objects lists n [] texts same_length not = refl
+next-objects lists n (c ∷ columns) [] same_length not = absurd (omega (arith, same_length))
+next-objects lists n (c ∷ columns) (text ∷ texts) same_length not =
     let first = All-head (λ d. begins_group d ≡ false) c columns not in
-    let rest = next-objects lists (n + 1) columns texts (omega (arith, even)) (All-tail (λ d. begins_group d ≡ false) c columns not) in
+    let rest = next-objects lists (n + 1) columns texts (omega (arith, same_length)) (All-tail (λ d. begins_group d ≡ false) c columns not) in
     rw first (ap (λ (l : List ℕ). last_object c ∷ l) rest)
 
 last-text : (c : Texts) → HasGroups c → begins_group c ≡ false → slice_get c.objects (length c.objects - 1) ≡ Some (last_object c)
@@ -182,35 +182,35 @@ last-text c has not = let ne = eqb-false c.len (length c.objects * c.size) not i
   some-there [] size len held ne = absurd (ne (omega (arith, held)))
   some-there (o ∷ os) size len held ne = omega arith
 
-texts-once : (columns : List Texts) → All HasGroups columns → All (λ c. begins_group c ≡ false) columns → AllPairs texts.AreApart columns → AreOnce (map last_object columns)
-texts-once [] has not apart = (cc)
-texts-once (c ∷ columns) has not apart = (
-  all-others columns (All-tail HasGroups c columns has) (All-tail (λ d. begins_group d ≡ false) c columns not) (pairs-head texts.AreApart c columns apart),
-  texts-once columns (All-tail HasGroups c columns has) (All-tail (λ d. begins_group d ≡ false) c columns not) (pairs-tail texts.AreApart c columns apart),
+texts-once : (columns : List Texts) → All HasGroups columns → All (λ c. begins_group c ≡ false) columns → AllPairs texts.AreDisjoint columns → AreOnce (map last_object columns)
+texts-once [] has not disjoint = (cc)
+texts-once (c ∷ columns) has not disjoint = (
+  all-others columns (All-tail HasGroups c columns has) (All-tail (λ d. begins_group d ≡ false) c columns not) (pairs-head texts.AreDisjoint c columns disjoint),
+  texts-once columns (All-tail HasGroups c columns has) (All-tail (λ d. begins_group d ≡ false) c columns not) (pairs-tail texts.AreDisjoint c columns disjoint),
 ) where
-  all-others : (ds : List Texts) → All HasGroups ds → All (λ d. begins_group d ≡ false) ds → All (texts.AreApart c) ds → All (λ p. p ≢ last_object c) (map last_object ds)
+  all-others : (ds : List Texts) → All HasGroups ds → All (λ d. begins_group d ≡ false) ds → All (texts.AreDisjoint c) ds → All (λ p. p ≢ last_object c) (map last_object ds)
   all-others [] of_ds nots aparts = All-nil (λ p. p ≢ last_object c)
   all-others (d ∷ ds) of_ds nots aparts =
       All-cons (λ p. p ≢ last_object c) (last_object d) (map last_object ds)
-      (λ same. All-head (texts.AreApart c) d ds aparts (length c.objects - 1) (length d.objects - 1) (last_object c) (last-text c (All-head HasGroups c columns has) (All-head (λ e. begins_group e ≡ false) c columns not)) (last-text d (All-head HasGroups d ds of_ds) (All-head (λ e. begins_group e ≡ false) d ds nots) ∙ ap Some same))
-      (all-others ds (All-tail HasGroups d ds of_ds) (All-tail (λ e. begins_group e ≡ false) d ds nots) (All-tail (texts.AreApart c) d ds aparts))
+      (λ same. All-head (texts.AreDisjoint c) d ds aparts (length c.objects - 1) (length d.objects - 1) (last_object c) (last-text c (All-head HasGroups c columns has) (All-head (λ e. begins_group e ≡ false) c columns not)) (last-text d (All-head HasGroups d ds of_ds) (All-head (λ e. begins_group e ≡ false) d ds nots) ∙ ap Some same))
+      (all-others ds (All-tail HasGroups d ds of_ds) (All-tail (λ e. begins_group e ≡ false) d ds nots) (All-tail (texts.AreDisjoint c) d ds aparts))
 
-module _ {K : Type 0} (content : K → List ℕ) (size len : ℕ) (columns : List Texts) (some : 0 < size) (are : All (IsTexts size len) columns) (m now : Movement ℕ K) (beside : AreColumns (lists_of content m) columns) where
+module _ {K : Type 0} (content : K → List ℕ) (size len : ℕ) (columns : List Texts) (some : 0 < size) (are : All (IsTexts size len) columns) (m now : Movement ℕ K) (all_disjoint : AreColumns (lists_of content m) columns) where
   pub text-versions : (texts : List (Option (List ℕ))) → length texts ≡ length columns
       → (all_begin columns ≡ true → now ≡ all_created m columns (next_forms (lists_of content m) (length m.entries) columns texts))
       → (all_begin columns ≡ false → AreReplaced m (next_forms (lists_of content m) (length m.entries) columns texts) now)
       → (o : ℕ) → version_of now o ≤ version_of m o + 1
-  text-versions texts even made replaced o = elim (cases_Bool (all_begin columns)) [
+  text-versions texts same_length made replaced o = elim (cases_Bool (all_begin columns)) [
     | inl begin ↦
         let forms = next_forms (lists_of content m) (length m.entries) columns texts in
         omega (arith, ap (λ (objects : Movement ℕ K). version_of objects o) (made begin), texts-made m columns forms o)
     | inr not ↦
         let forms = next_forms (lists_of content m) (length m.entries) columns texts in
-        let apart : len % size ≢ 0 = λ divides. true-not (sym (texts-begin size len columns some divides are) ∙ not) in
-        let none : All (λ c. begins_group c ≡ false) columns = λ k d below. text-begun size len some apart (get_or columns k d) (are k d below) in
+        let disjoint : len % size ≢ 0 = λ divides. true-not (sym (texts-begin size len columns some divides are) ∙ not) in
+        let none : All (λ c. begins_group c ≡ false) columns = λ k d below. text-begun size len some disjoint (get_or columns k d) (are k d below) in
         let grouped : All HasGroups columns = λ k d below. (are k d below).grouped in
         let given = replaced not in
-        let once = subst AreOnce (sym (ap (map (λ (f : ℕ × List ℕ). f.0)) given.1 ∙ next-objects (lists_of content m) (length m.entries) columns texts even none)) (texts-once columns grouped none beside.beside.apart) in
+        let once = subst AreOnce (sym (ap (map (λ (f : ℕ × List ℕ). f.0)) given.1 ∙ next-objects (lists_of content m) (length m.entries) columns texts same_length none)) (texts-once columns grouped none all_disjoint.all_disjoint.disjoint) in
         omega (arith, ap (λ (objects : Movement ℕ K). version_of objects o) given.2, replaced-once m given.0 once o)
   ]
 

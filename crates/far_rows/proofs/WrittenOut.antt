@@ -1,4 +1,4 @@
--- That an object of a row group was written too often: asked of the slots, and of the columns of each kind.
+-- That an object of a row group was written too often: asked of the indexes, and of the columns of each kind.
 use Rattle.std.proofs.Common.{◌≡◌, ℕ, zero, suc, ◌+◌, ◌*◌, ◌/◌, Bool, true, false, if◌then◌else◌, List, [], ◌∷◌, length, inl, inr, ℤ, Option, None, Some, refl, sym, ap, ◌∙◌, arith}
 use Rattle.std.specs.Prelude.{◌||◌, option_map, slice_get}
 use Rattle.std.specs.List.{list_any}
@@ -10,10 +10,10 @@ use Rattle.far_scopes.specs.Refusing.{written_out}
 use Rattle.far_vector.specs.Vector.{Vector, IsShaped}
 use Rattle.far_vector.specs.Effects.{is_full}
 use Rattle.far_texts.specs.Texts.{Texts, Lists, HasGroups}
-use Rattle.far_texts.specs.Changes.{begins_group, last_object}
+use Rattle.far_texts.specs.Effects.{begins_group, last_object}
 use Rattle.far_texts.specs.Together.{object_for, next_forms}
-use Rattle.far_rows.specs.declared.slot.Slot.{Slot}
-use Rattle.far_rows.specs.declared.slot.Slot.TheVariants as slot
+use Rattle.far_rows.specs.declared.column_index.ColumnIndex.{ColumnIndex}
+use Rattle.far_rows.specs.declared.column_index.ColumnIndex.TheVariants as column_index
 use Rattle.far_rows.specs.Rows.{Rows, AreRows}
 use Rattle.far_rows.specs.Refusing.{is_written_out}
 use Rattle.far_rows.proofs.Overfull.{both-ways, or-either, or-first, or-later}
@@ -68,35 +68,35 @@ module _ {K : Type 0} (r : Rows K) (g : ℕ) where
   of-number i None at is = absurd cc
   of-number i (Some c) at is = has-at number_written r.numbers i c at is
 
-  of-slot : (s : Slot) → is_written_out r g s ≡ true → (list_any text_written r.texts || list_any number_written r.numbers) ≡ true
-  of-slot (slot.Text i) is = or-first (list_any text_written r.texts) (list_any number_written r.numbers) (of-text i (slice_get r.texts i) refl is)
-  of-slot (slot.Number i) is = or-later (list_any text_written r.texts) (list_any number_written r.numbers) (of-number i (slice_get r.numbers i) refl is)
+  of-column_index : (s : ColumnIndex) → is_written_out r g s ≡ true → (list_any text_written r.texts || list_any number_written r.numbers) ≡ true
+  of-column_index (column_index.Text i) is = or-first (list_any text_written r.texts) (list_any number_written r.numbers) (of-text i (slice_get r.texts i) refl is)
+  of-column_index (column_index.Number i) is = or-later (list_any text_written r.texts) (list_any number_written r.numbers) (of-number i (slice_get r.numbers i) refl is)
 
-  -- each slot is that of a column, and each column has its slot
-  pub by-kinds : (content : K → List ℕ) → AreRows content r → list_any (is_written_out r g) r.slots ≡ (list_any text_written r.texts || list_any number_written r.numbers)
+  -- each index is that of a column, and each column has its index
+  pub by-kinds : (content : K → List ℕ) → AreRows content r → list_any (is_written_out r g) r.column_indexes ≡ (list_any text_written r.texts || list_any number_written r.numbers)
   by-kinds content are =
-      both-ways (list_any (is_written_out r g) r.slots) (list_any text_written r.texts || list_any number_written r.numbers)
-      (λ is. let found = some-at (is_written_out r g) r.slots is in of-slot found.1 found.3)
+      both-ways (list_any (is_written_out r g) r.column_indexes) (list_any text_written r.texts || list_any number_written r.numbers)
+      (λ is. let found = some-at (is_written_out r g) r.column_indexes is in of-column_index found.1 found.3)
       (λ is. elim (or-either (list_any text_written r.texts) (list_any number_written r.numbers) is) [
         | inl texts ↦
             let found = some-at text_written r.texts texts in
             let c : Texts = found.1 in
             let lies = are.placed_texts found.0 c.column (slice_get-map (λ (d : Texts). d.column) r.texts found.0 ∙ ap (option_map (λ (d : Texts). d.column)) found.2) in
-            has-at (is_written_out r g) r.slots c.column (slot.Text found.0) lies (ap (λ (o : Option Texts). option_map_or (λ p. (written_out r.text_objects p).0) (option_and_then (λ (d : Texts). slice_get d.objects g) o) false) found.2 ∙ found.3)
+            has-at (is_written_out r g) r.column_indexes c.column (column_index.Text found.0) lies (ap (λ (o : Option Texts). option_map_or (λ p. (written_out r.text_objects p).0) (option_and_then (λ (d : Texts). slice_get d.objects g) o) false) found.2 ∙ found.3)
         | inr numbers ↦
             let found = some-at number_written r.numbers numbers in
             let c : Vector (Option ℤ) = found.1 in
             let lies = are.placed_numbers found.0 c.column (slice_get-map (λ (d : Vector (Option ℤ)). d.column) r.numbers found.0 ∙ ap (option_map (λ (d : Vector (Option ℤ)). d.column)) found.2) in
-            has-at (is_written_out r g) r.slots c.column (slot.Number found.0) lies (ap (λ (o : Option (Vector (Option ℤ))). option_map_or (λ p. (written_out r.number_objects p).0) (option_and_then (λ (d : Vector (Option ℤ)). slice_get d.objects g) o) false) found.2 ∙ found.3)
+            has-at (is_written_out r g) r.column_indexes c.column (column_index.Number found.0) lies (ap (λ (o : Option (Vector (Option ℤ))). option_map_or (λ p. (written_out r.number_objects p).0) (option_and_then (λ (d : Vector (Option ℤ)). slice_get d.objects g) o) false) found.2 ∙ found.3)
       ])
 
   -- of columns whose last row group this is, the forms that are to come are for its objects
   pub forms-written : (lists : Lists) (n : ℕ) (columns : List Texts) (texts : List (Option (List ℕ))) → length texts ≡ length columns → ((i : ℕ) (c : Texts) → slice_get columns i ≡ Some c → (begins_group c ≡ false) × (slice_get c.objects g ≡ Some (last_object c))) → list_any (λ (form : ℕ × List ℕ). (written_out r.text_objects form.0).0) (next_forms lists n columns texts) ≡ list_any text_written columns
-  forms-written lists n [] texts even each = refl
-  forms-written lists n (c ∷ columns) [] even each = absurd (omega (arith, even))
-  forms-written lists n (c ∷ columns) (text ∷ texts) even each =
+  forms-written lists n [] texts same_length each = refl
+  forms-written lists n (c ∷ columns) [] same_length each = absurd (omega (arith, same_length))
+  forms-written lists n (c ∷ columns) (text ∷ texts) same_length each =
       let known = each 0 c refl in
       let object : object_for c n ≡ last_object c = ap (λ (b : Bool). if b then n else last_object c) known.0 in
       let here : (written_out r.text_objects (object_for c n)).0 ≡ text_written c = ap (λ (o : ℕ). (written_out r.text_objects o).0) object ∙ sym (ap (λ (o : Option ℕ). option_map_or (λ p. (written_out r.text_objects p).0) o false) known.1) in
-      let rest = forms-written lists (n + 1) columns texts (omega (arith, even)) (λ i d at. each (suc i) d at) in
+      let rest = forms-written lists (n + 1) columns texts (omega (arith, same_length)) (λ i d at. each (suc i) d at) in
       λ k. here k || rest k

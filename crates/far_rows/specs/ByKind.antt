@@ -1,11 +1,12 @@
--- internal: why a row may not be appended, asked of one kind of columns after the other.
+-- Why a row may not be appended, asked of one kind of columns after the other.
+-- Internal: no public contract cites it.
 use Rattle.std.specs.Prelude.{ℕ, ◌/◌, List, length, Option}
 use Rattle.std.specs.Option.{option_or}
 use Rattle.far_types.specs.declared.refusal.Refusal.{Refusal}
 use Rattle.far_types.specs.FirstOf.{first_of}
 use Rattle.far_columns.specs.NumbersTogether.{push_numbers_refusal}
 use Rattle.far_texts.specs.RefusingTogether.{push_texts_refusal}
-use Rattle.far_rows.specs.Slots.{Values}
+use Rattle.far_rows.specs.ColumnIndexes.{Values}
 use Rattle.far_rows.specs.Rows.{Rows}
 use Rattle.far_rows.specs.Refusing.{absents}
 

@@ -2,7 +2,7 @@
 use Rattle.std.specs.Prelude.{ℕ, ◌*◌, nat_le, Bool, cond, Option, option_map}
 use Rattle.std.specs.Option.{option_and_then, option_or}
 use Rattle.far_types.specs.declared.name.Name.{Name}
-use Rattle.far_log.specs.Room.{space_of, capacity_of}
+use Rattle.far_log.specs.RegionState.{space_of, capacity_of}
 use Rattle.far_scopes.specs.Coldest.{coldest as coldest_in}
 use Rattle.far_scopes.specs.Movement.{Movement, entry_of, pins_of}
 use Rattle.far_rows.specs.declared.object.Object.{Object}
@@ -17,8 +17,8 @@ module _ {K : Type 0} (r : Rows K) where
   -- whether the objects of numbers have no more space, in proportion to their capacity, than those of texts
   abbrev pub numbers_go_first : Bool
   numbers_go_first =
-      let numbers = r.number_objects.memory.room in
-      let texts = r.text_objects.memory.room in
+      let numbers = r.number_objects.memory.state in
+      let texts = r.text_objects.memory.state in
       nat_le (space_of numbers * capacity_of texts) (space_of texts * capacity_of numbers)
 
   -- the name of the coldest object of the kind with less space; where that kind has none, of the other

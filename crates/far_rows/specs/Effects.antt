@@ -4,20 +4,20 @@ use Rattle.far_scopes.specs.Movement.{AreHere, version_of}
 use Rattle.far_columns.specs.NumbersTogether.{all_pushed, all_pushed_in}
 use Rattle.far_texts.specs.Together.{all_pushed as all_texts_pushed}
 use Rattle.far_rows.specs.declared.new_cell.NewCell.{NewCell}
-use Rattle.far_rows.specs.Slots.{Values, row_of, with_row}
+use Rattle.far_rows.specs.ColumnIndexes.{Values, row_of, with_row}
 use Rattle.far_rows.specs.Rows.{Rows, TextsMoved, cells_of}
 use Rattle.far_rows.specs.Setting.{cell_of, set_in, with_cell_at}
 
 module _ {K : Type 0} (content : K → List ℕ) (old : Rows K) where
   -- a row of these values was appended
   pub record IsPushed (values : Values) (new : Rows K) : Type 0 where
-    -- columns keep their slots and their row groups their size
-    pub slots : new.slots ≡ old.slots
+    -- columns keep their indexes and their row groups their size
+    pub column_indexes : new.column_indexes ≡ old.column_indexes
     pub size : new.size ≡ old.size
     -- the place is alive
     pub alive : new.alive ≡ old.alive ++ true ∷ []
     -- each column has a cell more
-    pub cells : cells_of content new ≡ with_row (cells_of content old) (row_of old.slots values)
+    pub cells : cells_of content new ≡ with_row (cells_of content old) (row_of old.column_indexes values)
     -- each column has an element more: the last objects are written, or where a row group begins new ones are made
     pub numbers : new.numbers ≡ all_pushed (length old.number_objects.entries) old.numbers
     pub number_objects : new.number_objects ≡ all_pushed_in old.number_objects old.numbers values.numbers
@@ -27,7 +27,7 @@ module _ {K : Type 0} (content : K → List ℕ) (old : Rows K) where
   -- a value was put in a column of a place
   pub record IsSet (column place : ℕ) (value : NewCell) (new : Rows K) : Type 0 where
     -- the object of the place is written, and nothing else changes
-    pub moved : IfSome (slice_get old.slots column) (λ s. new ≡ set_in content old s place value)
+    pub moved : IfSome (slice_get old.column_indexes column) (λ s. new ≡ set_in content old s place value)
     -- the column has that cell
     pub cells : cells_of content new ≡ with_cell_at (cells_of content old) column place (cell_of value)
 

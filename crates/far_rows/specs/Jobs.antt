@@ -8,9 +8,9 @@ use Rattle.far_types.specs.FirstOf.{first_of}
 use Rattle.far_codec.specs.FarForm.{FitsCount, ints_form}
 use Rattle.far_codec.specs.TextForm.{IsTextsForm}
 use Rattle.far_codec.specs.Spelling.{IsSpelled}
-use Rattle.far_log.specs.Room.{fits_in}
+use Rattle.far_log.specs.RegionState.{fits_in}
 use Rattle.far_scopes.specs.Movement.{AreHere, pins_of}
-use Rattle.far_scopes.specs.Effects.{departed, arrived}
+use Rattle.far_scopes.specs.Effects.{after_leave, after_arrive}
 use Rattle.far_evacuator.specs.Jobs.{Evacuation, CarriedEvacuation, Fetch, CarriedFetch, IsFormTicket}
 use Rattle.far_evacuator.specs.Beginning.{IsBegun, IsFetch}
 use Rattle.far_evacuator.specs.Acceptance.{IsCommittable, IsInstallable}
@@ -38,7 +38,7 @@ of_either (Numbers a) = a
 of_either (Texts a) = a
 
 module _ {K : Type 0} where
-  -- every ticket of the rows is of the store of this name
+  -- every ticket of the rows is of the store with this id
   pub record AreAt (is_of : K → List ℕ → Type 0) (name : List ℕ) (r : Rows K) : Type 0 where
     pub numbers : AreHere is_of name r.number_objects
     pub texts : AreHere is_of name r.text_objects
@@ -97,8 +97,8 @@ module _ {K : Type 0} where
 
     -- the rows once its object is away
     abbrev pub after_commit : ByKind (CarriedEvacuation K) (CarriedEvacuation K) → Rows K
-    after_commit (Numbers carried) = record r { number_objects = departed r.number_objects carried.job.object carried.ticket }
-    after_commit (Texts carried) = record r { text_objects = departed r.text_objects carried.job.object carried.ticket }
+    after_commit (Numbers carried) = record r { number_objects = after_leave r.number_objects carried.job.object carried.ticket }
+    after_commit (Texts carried) = record r { text_objects = after_leave r.text_objects carried.job.object carried.ticket }
 
   module _ (number_of : K → ℕ) (r : Rows K) where
     -- a carried evacuation is accepted where its object has no pin
@@ -113,11 +113,11 @@ module _ {K : Type 0} where
 
   module _ (content : K → List ℕ) (r : Rows K) where
     -- no segment has the space for the list of the object that is fetched
-    abbrev pub HasNoRoom : ByKind (CarriedFetch K) (CarriedFetch K) → Type 0
-    HasNoRoom (Numbers fetched) = IsSomeAnd (number_lists content r.number_objects fetched.job.object) (λ list. fits_in r.number_objects.memory.room (length list) ≡ false)
-    HasNoRoom (Texts fetched) = IsSomeAnd (lists_of content r.text_objects fetched.job.object) (λ list. fits_in r.text_objects.memory.room (length list) ≡ false)
+    abbrev pub HasNoSpace : ByKind (CarriedFetch K) (CarriedFetch K) → Type 0
+    HasNoSpace (Numbers fetched) = IsSomeAnd (number_lists content r.number_objects fetched.job.object) (λ list. fits_in r.number_objects.memory.state (length list) ≡ false)
+    HasNoSpace (Texts fetched) = IsSomeAnd (lists_of content r.text_objects fetched.job.object) (λ list. fits_in r.text_objects.memory.state (length list) ≡ false)
 
     -- the rows once that object is back, with the list that it has
     abbrev pub IsAfterInstall : ByKind (CarriedFetch K) (CarriedFetch K) → Rows K → Type 0
-    IsAfterInstall (Numbers fetched) now = IsSomeAnd (number_lists content r.number_objects fetched.job.object) (λ list. now ≡ record r { number_objects = arrived r.number_objects fetched.job.object list })
-    IsAfterInstall (Texts fetched) now = IsSomeAnd (lists_of content r.text_objects fetched.job.object) (λ list. now ≡ record r { text_objects = arrived r.text_objects fetched.job.object list })
+    IsAfterInstall (Numbers fetched) now = IsSomeAnd (number_lists content r.number_objects fetched.job.object) (λ list. now ≡ record r { number_objects = after_arrive r.number_objects fetched.job.object list })
+    IsAfterInstall (Texts fetched) now = IsSomeAnd (lists_of content r.text_objects fetched.job.object) (λ list. now ≡ record r { text_objects = after_arrive r.text_objects fetched.job.object list })

@@ -9,28 +9,28 @@ use Rattle.far_vector.specs.Pieces.{pieces_of}
 use Rattle.far_columns.specs.Numbers.{Numbers, with_flags}
 use Rattle.far_rows.specs.declared.lent_column.LentColumn.{LentColumn}
 use Rattle.far_rows.specs.declared.lent_column.LentColumn.TheVariants as lent
-use Rattle.far_rows.specs.declared.slot.Slot.{Slot}
-use Rattle.far_rows.specs.declared.slot.Slot.TheVariants as slot
+use Rattle.far_rows.specs.declared.column_index.ColumnIndex.{ColumnIndex}
+use Rattle.far_rows.specs.declared.column_index.ColumnIndex.TheVariants as column_index
 use Rattle.far_rows.specs.Rows.{Rows, all_numbers, all_texts}
 
 module _ {K : Type 0} (content : K → List ℕ) (r : Rows K) where
-  -- the numbers of a slot's column, which has none where it is of texts
-  abbrev pub numbers_of : Slot → Numbers
-  numbers_of (slot.Number i) = slice_index_or (all_numbers content r) i []
-  numbers_of (slot.Text i) = []
+  -- the numbers of an index's column, which has none if it is of texts
+  abbrev pub numbers_of : ColumnIndex → Numbers
+  numbers_of (column_index.Number i) = slice_index_or (all_numbers content r) i []
+  numbers_of (column_index.Text i) = []
 
   -- what is lent of a column: a piece for each row group that has some of the part, with the flags of its places
   abbrev pub lent_ints : ℕ → ℕ → ℕ → List (Numbers × List Bool)
-  lent_ints column from to = option_map_or (λ s. with_flags (pieces_of (numbers_of s) r.size from to) (slice_range r.alive from to)) (slice_get r.slots column) []
+  lent_ints column from to = option_map_or (λ s. with_flags (pieces_of (numbers_of s) r.size from to) (slice_range r.alive from to)) (slice_get r.column_indexes column) []
 
-  -- the texts of a slot's column, which has none where it is of numbers
-  abbrev pub texts_of : Slot → List (Option (List ℕ))
-  texts_of (slot.Number i) = []
-  texts_of (slot.Text i) = slice_index_or (all_texts content r) i []
+  -- the texts of an index's column, which has none if it is of numbers
+  abbrev pub texts_of : ColumnIndex → List (Option (List ℕ))
+  texts_of (column_index.Number i) = []
+  texts_of (column_index.Text i) = slice_index_or (all_texts content r) i []
 
   -- the texts that are lent of a column, each with the flag of its place
   abbrev pub lent_texts : ℕ → ℕ → ℕ → List (Option (List ℕ) × Bool)
-  lent_texts column from to = option_map_or (λ s. zip (slice_range (texts_of s) from to) (slice_range r.alive from to)) (slice_get r.slots column) []
+  lent_texts column from to = option_map_or (λ s. zip (slice_range (texts_of s) from to) (slice_range r.alive from to)) (slice_get r.column_indexes column) []
 
 -- the cells of a row group that is lent
 abbrev pub cells_lent : LentColumn → List Cell

@@ -1,4 +1,4 @@
-pub mod Slots
+pub mod ColumnIndexes
 pub mod Naming
 pub mod Rows
 pub mod Refusing

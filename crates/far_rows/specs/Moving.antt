@@ -5,24 +5,24 @@ use Rattle.far_types.specs.declared.refusal.Refusal.{Refusal}
 use Rattle.far_types.specs.declared.refusal.Refusal.TheVariants as refusal
 use Rattle.far_types.specs.FirstOf.{first_of}
 use Rattle.far_scopes.specs.Movement.{AreHere}
-use Rattle.far_scopes.specs.Effects.{pinned as pinned_in, unpinned as unpinned_in, touched as touched_in}
+use Rattle.far_scopes.specs.Effects.{after_pin as pinned_in, after_unpin as unpinned_in, after_touch as touched_in}
 use Rattle.far_scopes.specs.Refusing.{pinned_out, unpin_refusal as unpin_refusal_in}
-use Rattle.far_rows.specs.declared.slot.Slot.{Slot}
-use Rattle.far_rows.specs.declared.slot.Slot.TheVariants as slot
+use Rattle.far_rows.specs.declared.column_index.ColumnIndex.{ColumnIndex}
+use Rattle.far_rows.specs.declared.column_index.ColumnIndex.TheVariants as column_index
 use Rattle.far_rows.specs.declared.object.Object.{Object}
 use Rattle.far_rows.specs.declared.object.Object.TheVariants as object
 use Rattle.far_rows.specs.Rows.{Rows, object_of, cells_of}
 use Rattle.far_rows.specs.Refusing.{no_column, absent_in}
 
--- the object of this number, among those of a slot's kind
-abbrev pub object_in : Slot → ℕ → Object
-object_in (slot.Number i) o = object.Number o
-object_in (slot.Text i) o = object.Text o
+-- the object of this number, among those of an index's kind
+abbrev pub object_in : ColumnIndex → ℕ → Object
+object_in (column_index.Number i) o = object.Number o
+object_in (column_index.Text i) o = object.Text o
 
 module _ {K : Type 0} where
-  -- the object of a row group of a column; none where there is no such column, or no place of the row group is used
+  -- the object of a row group of a column; none if there is no such column, or no place of the row group is used
   abbrev pub object_at : Rows K → ℕ → ℕ → Option Object
-  object_at r column group = option_and_then (λ s. option_map (object_in s) (object_of r s group)) (slice_get r.slots column)
+  object_at r column group = option_and_then (λ s. option_map (object_in s) (object_of r s group)) (slice_get r.column_indexes column)
 
   -- there is such an object
   abbrev pub IsInUse : Rows K → Object → Type 0
@@ -30,19 +30,19 @@ module _ {K : Type 0} where
   IsInUse r (object.Text o) = o < length r.text_objects.entries
 
   -- an object is pinned once more
-  abbrev pub pinned : Rows K → Object → Rows K
-  pinned r (object.Number o) = record r { number_objects = pinned_in r.number_objects o }
-  pinned r (object.Text o) = record r { text_objects = pinned_in r.text_objects o }
+  abbrev pub after_pin : Rows K → Object → Rows K
+  after_pin r (object.Number o) = record r { number_objects = pinned_in r.number_objects o }
+  after_pin r (object.Text o) = record r { text_objects = pinned_in r.text_objects o }
 
   -- it is pinned once less
-  abbrev pub unpinned : Rows K → Object → Rows K
-  unpinned r (object.Number o) = record r { number_objects = unpinned_in r.number_objects o }
-  unpinned r (object.Text o) = record r { text_objects = unpinned_in r.text_objects o }
+  abbrev pub after_unpin : Rows K → Object → Rows K
+  after_unpin r (object.Number o) = record r { number_objects = unpinned_in r.number_objects o }
+  after_unpin r (object.Text o) = record r { text_objects = unpinned_in r.text_objects o }
 
   -- it is used: it is hot, and used last, if it is local
-  abbrev pub touched : Rows K → Object → Rows K
-  touched r (object.Number o) = record r { number_objects = touched_in r.number_objects o }
-  touched r (object.Text o) = record r { text_objects = touched_in r.text_objects o }
+  abbrev pub after_touch : Rows K → Object → Rows K
+  after_touch r (object.Number o) = record r { number_objects = touched_in r.number_objects o }
+  after_touch r (object.Text o) = record r { text_objects = touched_in r.text_objects o }
 
   -- what a pin, an unpin, a use and a compaction keep, accepted or not: the cells, and whose tickets the objects have
   pub record KeepsCells (content : K → List ℕ) (is_of : K → List ℕ → Type 0) (old new : Rows K) : Type 0 where

@@ -2,8 +2,8 @@
 use Rattle.std.specs.Prelude.{◌≡◌, ℕ, List, map, Option, Some, slice_get}
 use Rattle.far_types.specs.declared.name.Name.{Name}
 use Rattle.far_scopes.specs.Movement.{Movement}
-use Rattle.far_rows.specs.declared.slot.Slot.{Slot}
-use Rattle.far_rows.specs.declared.slot.Slot.TheVariants as slot
+use Rattle.far_rows.specs.declared.column_index.ColumnIndex.{ColumnIndex}
+use Rattle.far_rows.specs.declared.column_index.ColumnIndex.TheVariants as column_index
 
 -- the name of each object
 abbrev pub names_of : {X K : Type 0} → Movement X K → List Name
@@ -18,15 +18,15 @@ abbrev pub AreOwned : {C : Type 0} → (C → ℕ) → (C → List ℕ) → List
 AreOwned {C} column_of objects_of names columns =
     (o : ℕ) (name : Name) → slice_get names o ≡ Some name → (i : ℕ) × (c : C) × (slice_get columns i ≡ Some c) × (column_of c ≡ name.column) × (slice_get (objects_of c) name.group ≡ Some o)
 
--- the number of a slot's column, where those of numbers and those of texts have these
-abbrev pub number_in : List ℕ → List ℕ → Slot → Option ℕ
-number_in numbers texts (slot.Number i) = slice_get numbers i
-number_in numbers texts (slot.Text i) = slice_get texts i
+-- the number of an index's column, where those of numbers and those of texts have these
+abbrev pub number_in : List ℕ → List ℕ → ColumnIndex → Option ℕ
+number_in numbers texts (column_index.Number i) = slice_get numbers i
+number_in numbers texts (column_index.Text i) = slice_get texts i
 
--- the number of each slot's column is its place among the slots
-abbrev pub AreNumbered : List Slot → List ℕ → List ℕ → Type 0
-AreNumbered slots numbers texts = (k : ℕ) (s : Slot) → slice_get slots k ≡ Some s → number_in numbers texts s ≡ Some k
+-- the number of each index's column is its place among the indexes
+abbrev pub AreNumbered : List ColumnIndex → List ℕ → List ℕ → Type 0
+AreNumbered column_indexes numbers texts = (k : ℕ) (s : ColumnIndex) → slice_get column_indexes k ≡ Some s → number_in numbers texts s ≡ Some k
 
--- a column among those of a kind has its slot at its number
-abbrev pub ArePlaced : List Slot → (ℕ → Slot) → List ℕ → Type 0
-ArePlaced slots slot_of numbers = (i k : ℕ) → slice_get numbers i ≡ Some k → slice_get slots k ≡ Some (slot_of i)
+-- a column among those of a kind has its index at its number
+abbrev pub ArePlaced : List ColumnIndex → (ℕ → ColumnIndex) → List ℕ → Type 0
+ArePlaced column_indexes column_index_of numbers = (i k : ℕ) → slice_get numbers i ≡ Some k → slice_get column_indexes k ≡ Some (column_index_of i)

@@ -7,13 +7,13 @@ use Rattle.far_scopes.specs.declared.limits.ObjectLimits.{ObjectLimits}
 use Rattle.far_scopes.specs.Opening.{no_objects}
 use Rattle.far_texts.specs.Texts.{Texts}
 use Rattle.far_columns.specs.NumbersTogether.{NumberColumns}
-use Rattle.far_rows.specs.Slots.{slots_from}
+use Rattle.far_rows.specs.ColumnIndexes.{column_indexes_from}
 use Rattle.far_rows.specs.Rows.{Rows}
 
 -- the columns of numbers among columns of these kinds, of which the first is the n-th of the table: each is empty
 abbrev pub numbers_from : ℕ → ℕ → List Kind → NumberColumns
 numbers_from size n [] = []
-numbers_from size n (kind.Int ∷ kinds) = record { column = n; size = size; objects = []; len = 0; blank = Some (pos 0) } ∷ numbers_from size (n + 1) kinds
+numbers_from size n (kind.Int ∷ kinds) = record { column = n; size = size; objects = []; len = 0; default_value = Some (pos 0) } ∷ numbers_from size (n + 1) kinds
 numbers_from size n (kind.Text ∷ kinds) = numbers_from size (n + 1) kinds
 
 -- likewise the columns of texts
@@ -24,16 +24,16 @@ texts_from size limit n (kind.Text ∷ kinds) = record { column = n; size = size
 
 -- what the objects of numbers are opened for: each may be written and go away as often as there are edits
 abbrev pub number_limits : Limits → ObjectLimits
-number_limits limits = record { segments = limits.int_segments; size = limits.int_size; changes = limits.edits; leavings = limits.edits }
+number_limits limits = record { segments = limits.int_segments; size = limits.int_size; max_writes = limits.edits; leavings = limits.edits }
 
 -- likewise the objects of texts
 abbrev pub text_limits : Limits → ObjectLimits
-text_limits limits = record { segments = limits.text_segments; size = limits.text_size; changes = limits.edits; leavings = limits.edits }
+text_limits limits = record { segments = limits.text_segments; size = limits.text_size; max_writes = limits.edits; leavings = limits.edits }
 
 -- the rows of a table with this schema and these limits, before any row
 abbrev pub empty_rows : {K : Type 0} → List Kind → Limits → ℕ → Rows K
 empty_rows schema limits number = record {
-  slots = slots_from 0 0 schema;
+  column_indexes = column_indexes_from 0 0 schema;
   size = limits.group;
   numbers = numbers_from limits.group 0 schema;
   texts = texts_from limits.group limits.text_size 0 schema;

@@ -8,12 +8,12 @@ use Rattle.far_types.specs.declared.refusal.Refusal.{Refusal}
 use Rattle.far_types.specs.declared.refusal.Refusal.TheVariants as refusal
 use Rattle.far_types.specs.Edits.{overfills, text_object_length, places_after}
 use Rattle.far_types.specs.FirstOf.{first_of}
-use Rattle.far_log.specs.Room.{fits_in}
+use Rattle.far_log.specs.RegionState.{fits_in}
 use Rattle.far_scopes.specs.Refusing.{written_out}
 use Rattle.far_rows.specs.declared.object.Object.{Object}
 use Rattle.far_rows.specs.declared.object.Object.TheVariants as object
 use Rattle.far_rows.specs.declared.new_cell.NewCell.{NewCell}
-use Rattle.far_rows.specs.Slots.{Values, kind_of, row_of}
+use Rattle.far_rows.specs.ColumnIndexes.{Values, kind_of, row_of}
 use Rattle.far_rows.specs.Rows.{Rows}
 use Rattle.far_rows.specs.Refusing.{absents, append_tests}
 use Rattle.far_rows.specs.Setting.{cell_of}
@@ -23,18 +23,18 @@ use Rattle.far_rows.specs.Places.{places_in, text_parts}
 module _ {K : Type 0} (content : K → List ℕ) (limits : Limits) (r : Rows K) where
   -- a text object that the edit writes would be longer than one may be
   abbrev pub is_too_full : Edit → Bool
-  is_too_full e = overfills (map kind_of r.slots) limits e (places_in content r)
+  is_too_full e = overfills (map kind_of r.column_indexes) limits e (places_in content r)
 
   -- why a row of these values may not be appended
   abbrev pub insert_refusal : Values → Option Refusal
   insert_refusal values =
-      let e : Edit = edit.Insert (row_of r.slots values)
+      let e : Edit = edit.Insert (row_of r.column_indexes values)
       in first_of (append_tests r (is_too_full e) (text_parts content limits r e (length (places_in content r) / limits.group)))
 
   -- its form, written alone, finds no room; a number needs none
-  abbrev pub no_room_alone : Edit → ℕ → ℕ → Object → Bool × Refusal
-  no_room_alone e column g (object.Number o) = (false, refusal.RegionFull)
-  no_room_alone e column g (object.Text o) = (not (fits_in r.text_objects.memory.room (text_object_length limits column g (places_after e (places_in content r)))), refusal.RegionFull)
+  abbrev pub no_space_alone : Edit → ℕ → ℕ → Object → Bool × Refusal
+  no_space_alone e column g (object.Number o) = (false, refusal.RegionFull)
+  no_space_alone e column g (object.Text o) = (not (fits_in r.text_objects.memory.state (text_object_length limits column g (places_after e (places_in content r)))), refusal.RegionFull)
 
   -- it was written as often as objects may be
   abbrev pub writes_used : Object → Bool × Refusal
@@ -47,4 +47,4 @@ module _ {K : Type 0} (content : K → List ℕ) (limits : Limits) (r : Rows K) 
   cell_set_refusal column place value =
       let e : Edit = edit.Set place column (cell_of value)
       in let at : Option Object = object_at r column (place / r.size)
-      in first_of (absents r (place / r.size) ++ (is_too_full e, refusal.ChunkFull) ∷ option_map_or (no_room_alone e column (place / limits.group)) at (false, refusal.StaleJob) ∷ option_map_or writes_used at (false, refusal.StaleJob) ∷ [])
+      in first_of (absents r (place / r.size) ++ (is_too_full e, refusal.ChunkFull) ∷ option_map_or (no_space_alone e column (place / limits.group)) at (false, refusal.StaleJob) ∷ option_map_or writes_used at (false, refusal.StaleJob) ∷ [])

@@ -6,35 +6,35 @@ use Rattle.far_types.specs.declared.refusal.Refusal.{Refusal}
 use Rattle.far_types.specs.declared.refusal.Refusal.TheVariants as refusal
 use Rattle.far_types.specs.Bounds.{is_int, is_text}
 use Rattle.far_types.specs.FirstOf.{first_of}
-use Rattle.far_log.specs.Room.{spaces_of, fit_in_order}
+use Rattle.far_log.specs.RegionState.{spaces_of, fit_in_order}
 use Rattle.far_scopes.specs.Refusing.{absent, written_out}
 use Rattle.far_texts.specs.Texts.{Lists, lists_of}
 use Rattle.far_texts.specs.Together.{next_forms}
 use Rattle.far_texts.specs.RefusingTogether.{any_full}
 use Rattle.far_vector.specs.Pieces.{touched}
-use Rattle.far_rows.specs.declared.slot.Slot.{Slot}
-use Rattle.far_rows.specs.declared.slot.Slot.TheVariants as slot
-use Rattle.far_rows.specs.Slots.{Values, kind_of}
+use Rattle.far_rows.specs.declared.column_index.ColumnIndex.{ColumnIndex}
+use Rattle.far_rows.specs.declared.column_index.ColumnIndex.TheVariants as column_index
+use Rattle.far_rows.specs.ColumnIndexes.{Values, kind_of}
 use Rattle.far_rows.specs.Rows.{Rows, object_of}
 
 module _ {K : Type 0} (r : Rows K) where
-  -- the object of a row group of a slot's column is away, as it is told by the name that the object bears
-  abbrev pub told_at : ℕ → Slot → Bool × Refusal
-  told_at g (slot.Number i) = option_map_or (absent r.number_objects) (object_of r (slot.Number i) g) (false, refusal.StaleJob)
-  told_at g (slot.Text i) = option_map_or (absent r.text_objects) (object_of r (slot.Text i) g) (false, refusal.StaleJob)
+  -- the object of a row group of an index's column is away, as it is told by the name that the object bears
+  abbrev pub told_at : ℕ → ColumnIndex → Bool × Refusal
+  told_at g (column_index.Number i) = option_map_or (absent r.number_objects) (object_of r (column_index.Number i) g) (false, refusal.StaleJob)
+  told_at g (column_index.Text i) = option_map_or (absent r.text_objects) (object_of r (column_index.Text i) g) (false, refusal.StaleJob)
 
-  -- the object of a row group of a column, which has this slot, is away: the refusal says the column and the row group
-  abbrev pub absent_at : ℕ → ℕ → Slot → Bool × Refusal
+  -- the object of a row group of a column, which has this index, is away: the refusal says the column and the row group
+  abbrev pub absent_at : ℕ → ℕ → ColumnIndex → Bool × Refusal
   absent_at column g s = ((told_at g s).0, refusal.Absent column g)
 
-  -- the columns of these slots, in order, of which the first is the n-th of the table
-  abbrev pub absents_from : ℕ → ℕ → List Slot → List (Bool × Refusal)
+  -- the columns of these indexes, in order, of which the first is the n-th of the table
+  abbrev pub absents_from : ℕ → ℕ → List ColumnIndex → List (Bool × Refusal)
   absents_from g n [] = []
-  absents_from g n (s ∷ slots) = absent_at n g s ∷ absents_from g (n + 1) slots
+  absents_from g n (s ∷ column_indexes) = absent_at n g s ∷ absents_from g (n + 1) column_indexes
 
   -- the columns of a row group, in order: its object is away
   abbrev pub absents : ℕ → List (Bool × Refusal)
-  absents g = absents_from g 0 r.slots
+  absents g = absents_from g 0 r.column_indexes
 
   -- there is no such place
   abbrev pub no_row : ℕ → Bool × Refusal
@@ -47,19 +47,19 @@ module _ {K : Type 0} (r : Rows K) where
   module _ (column : ℕ) where
     -- there is no such column
     abbrev pub no_column : Bool × Refusal
-    no_column = (is_none (slice_get r.slots column), refusal.NoColumn)
+    no_column = (is_none (slice_get r.column_indexes column), refusal.NoColumn)
 
     -- it is of texts
     abbrev pub of_texts : Bool × Refusal
-    of_texts = (is_text (option_map kind_of (slice_get r.slots column)), refusal.WrongKind)
+    of_texts = (is_text (option_map kind_of (slice_get r.column_indexes column)), refusal.WrongKind)
 
     -- it is of numbers
     abbrev pub of_numbers : Bool × Refusal
-    of_numbers = (is_int (option_map kind_of (slice_get r.slots column)), refusal.WrongKind)
+    of_numbers = (is_int (option_map kind_of (slice_get r.column_indexes column)), refusal.WrongKind)
 
     -- its object of a row group is away
     abbrev pub absent_in : ℕ → Bool × Refusal
-    absent_in g = option_map_or (absent_at column g) (slice_get r.slots column) (false, refusal.StaleJob)
+    absent_in g = option_map_or (absent_at column g) (slice_get r.column_indexes column) (false, refusal.StaleJob)
 
   abbrev pub cell_refusal : ℕ → ℕ → Option Refusal
   cell_refusal column place = first_of (no_column column ∷ no_row place ∷ absent_in column (place / r.size) ∷ [])
@@ -80,28 +80,28 @@ module _ {K : Type 0} (r : Rows K) where
   begins = length r.alive % r.size == 0
 
   -- text objects of these lengths, placed in order, find no room
-  abbrev pub no_room_for_texts : List ℕ → Bool × Refusal
-  no_room_for_texts lengths = (not (fit_in_order (spaces_of r.text_objects.memory.room) lengths), refusal.RegionFull)
+  abbrev pub no_space_for_texts : List ℕ → Bool × Refusal
+  no_space_for_texts lengths = (not (fit_in_order (spaces_of r.text_objects.memory.state) lengths), refusal.RegionFull)
 
   -- where a row group begins: its objects of numbers, placed in order, find no room
-  abbrev pub no_room_for_numbers : Bool × Refusal
-  no_room_for_numbers = (begins && not (fit_in_order (spaces_of r.number_objects.memory.room) (replicate (length r.numbers) r.size)), refusal.RegionFull)
+  abbrev pub no_space_for_numbers : Bool × Refusal
+  no_space_for_numbers = (begins && not (fit_in_order (spaces_of r.number_objects.memory.state) (replicate (length r.numbers) r.size)), refusal.RegionFull)
 
-  -- the object of a row group of a slot's column is there, and was written as often as objects may be
-  abbrev pub is_written_out : ℕ → Slot → Bool
-  is_written_out g (slot.Number i) = option_map_or (λ o. (written_out r.number_objects o).0) (object_of r (slot.Number i) g) false
-  is_written_out g (slot.Text i) = option_map_or (λ o. (written_out r.text_objects o).0) (object_of r (slot.Text i) g) false
+  -- the object of a row group of an index's column is there, and was written as often as objects may be
+  abbrev pub is_written_out : ℕ → ColumnIndex → Bool
+  is_written_out g (column_index.Number i) = option_map_or (λ o. (written_out r.number_objects o).0) (object_of r (column_index.Number i) g) false
+  is_written_out g (column_index.Text i) = option_map_or (λ o. (written_out r.text_objects o).0) (object_of r (column_index.Text i) g) false
 
   -- some object of a row group was
   abbrev pub some_written_out : ℕ → Bool × Refusal
-  some_written_out g = (list_any (is_written_out g) r.slots, refusal.EditsUsedUp)
+  some_written_out g = (list_any (is_written_out g) r.column_indexes, refusal.EditsUsedUp)
 
   -- the tests of an appended row: an object of its row group is away; a text object would be too long; the text objects that
   -- it writes, which have these lengths, find no room; or its objects of numbers; an object was written too often
   abbrev pub append_tests : Bool → List ℕ → List (Bool × Refusal)
   append_tests too_long lengths =
       let g : ℕ = length r.alive / r.size
-      in absents g ++ (too_long, refusal.ChunkFull) ∷ no_room_for_texts lengths ∷ no_room_for_numbers ∷ some_written_out g ∷ []
+      in absents g ++ (too_long, refusal.ChunkFull) ∷ no_space_for_texts lengths ∷ no_space_for_numbers ∷ some_written_out g ∷ []
 
 -- why a row of these values may not be appended, told by the forms of its columns of texts
 abbrev pub push_refusal : {K : Type 0} → (K → List ℕ) → Rows K → Values → Option Refusal

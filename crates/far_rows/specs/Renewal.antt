@@ -1,6 +1,6 @@
 -- Rows whose far copies go into another store.
 use Rattle.std.specs.Prelude.{ℕ, List, Option}
-use Rattle.far_scopes.specs.Renewal.{Renews, renewed, AreTicketsHere}
+use Rattle.far_scopes.specs.Renewal.{Renews, after_renew, AreTicketsHere}
 use Rattle.far_rows.specs.Rows.{Rows}
 
 -- the tickets of the objects of numbers and of those of texts, each listed by object number
@@ -8,7 +8,7 @@ pub record RowsTickets (L : Type 0) : Type 0 where
   pub numbers : List (Option L)
   pub texts : List (Option L)
 
--- each of these tickets is one of the store of this name
+-- each of these tickets is one of the store with this id
 pub record AreTicketsAt {L : Type 0} (is_of : L → List ℕ → Type 0) (name : List ℕ) (tickets : RowsTickets L) : Type 0 where
   pub numbers : AreTicketsHere is_of name tickets.numbers
   pub texts : AreTicketsHere is_of name tickets.texts
@@ -22,11 +22,11 @@ module _ {K L : Type 0} where
   -- the rows whose objects are under these tickets
   abbrev pub renewed_rows : Rows K → RowsTickets L → Rows L
   renewed_rows r tickets = record {
-    slots = r.slots;
+    column_indexes = r.column_indexes;
     size = r.size;
     numbers = r.numbers;
     texts = r.texts;
-    number_objects = renewed r.number_objects tickets.numbers;
-    text_objects = renewed r.text_objects tickets.texts;
+    number_objects = after_renew r.number_objects tickets.numbers;
+    text_objects = after_renew r.text_objects tickets.texts;
     alive = r.alive;
   }

@@ -9,15 +9,15 @@ use Rattle.far_texts.specs.Texts.{Texts, HasGroups, lists_of, texts_in}
 use Rattle.far_columns.specs.Numbers.{Numbers, number_lists, numbers_in}
 use Rattle.far_columns.specs.NumbersTogether.{NumberColumns, AreNumberColumns}
 use Rattle.far_texts.specs.Together.{AreColumns, AreReplaced, all_begin, all_created, next_forms}
-use Rattle.far_rows.specs.declared.slot.Slot.{Slot}
-use Rattle.far_rows.specs.declared.slot.Slot.TheVariants as slot
-use Rattle.far_rows.specs.Slots.{AreSlots, columns_of}
+use Rattle.far_rows.specs.declared.column_index.ColumnIndex.{ColumnIndex}
+use Rattle.far_rows.specs.declared.column_index.ColumnIndex.TheVariants as column_index
+use Rattle.far_rows.specs.ColumnIndexes.{AreColumnIndexes, columns_of}
 use Rattle.far_rows.specs.Naming.{names_of, AreNamed, AreNumbered, AreOwned, ArePlaced}
 
 -- where each column lies, how many places a row group has, the columns of numbers and of texts, the objects in which
 -- they lie, and for each place whether it is alive
 pub record Rows (K : Type 0) : Type 0 where
-  pub slots : List Slot
+  pub column_indexes : List ColumnIndex
   pub size : ℕ
   pub numbers : NumberColumns
   pub texts : List Texts
@@ -26,10 +26,10 @@ pub record Rows (K : Type 0) : Type 0 where
   pub alive : List Bool
 
 module _ {K : Type 0} where
-  -- the object of a row group of a column; none where there is no such column, or no place of the row group is used
-  abbrev pub object_of : Rows K → Slot → ℕ → Option ℕ
-  object_of r (slot.Number i) g = option_and_then (λ c. slice_get c.objects g) (slice_get r.numbers i)
-  object_of r (slot.Text i) g = option_and_then (λ c. slice_get c.objects g) (slice_get r.texts i)
+  -- the object of a row group of a column; none if there is no such column, or no place of the row group is used
+  abbrev pub object_of : Rows K → ColumnIndex → ℕ → Option ℕ
+  object_of r (column_index.Number i) g = option_and_then (λ c. slice_get c.objects g) (slice_get r.numbers i)
+  object_of r (column_index.Text i) g = option_and_then (λ c. slice_get c.objects g) (slice_get r.texts i)
 
   module _ (content : K → List ℕ) where
     -- the numbers of each column of numbers
@@ -42,13 +42,13 @@ module _ {K : Type 0} where
 
     -- the cells of each column, over all places, local or away
     abbrev pub cells_of : Rows K → List (List Cell)
-    cells_of r = columns_of r.slots (all_numbers r) (all_texts r)
+    cells_of r = columns_of r.column_indexes (all_numbers r) (all_texts r)
 
     -- at most 16 columns and 2^24 places; all columns are as long as there are places, have row groups of one size, and
     -- objects of their own, which are named by the column and the row group, and there are no other objects; the lists of
     -- objects that are clean are what their far copies mean
     pub record AreRows (r : Rows K) : Type 0 where
-      pub slots : AreSlots r.slots (length r.numbers) (length r.texts)
+      pub column_indexes : AreColumnIndexes r.column_indexes (length r.numbers) (length r.texts)
       pub few : length r.numbers + length r.texts ≤ 16
       pub some : 0 < r.size
       pub small : r.size ≤ 2 ^ 16
@@ -57,13 +57,13 @@ module _ {K : Type 0} where
       pub texts : AreColumns (lists_of content r.text_objects) r.texts
       pub shaped : All IsShaped r.numbers
       pub grouped : All HasGroups r.texts
-      pub even_numbers : All (λ c. (c.size ≡ r.size) × (c.len ≡ length r.alive)) r.numbers
-      pub even_texts : All (λ c. (c.size ≡ r.size) × (c.len ≡ length r.alive)) r.texts
+      pub same_length_numbers : All (λ c. (c.size ≡ r.size) × (c.len ≡ length r.alive)) r.numbers
+      pub same_length_texts : All (λ c. (c.size ≡ r.size) × (c.len ≡ length r.alive)) r.texts
       pub number_objects : All (λ c. length r.number_objects.entries ≡ length r.numbers * length c.objects) r.numbers
       pub text_objects : All (λ c. length r.text_objects.entries ≡ length r.texts * length c.objects) r.texts
-      pub numbered : AreNumbered r.slots (map (λ c. c.column) r.numbers) (map (λ c. c.column) r.texts)
-      pub placed_numbers : ArePlaced r.slots (λ i. slot.Number i) (map (λ c. c.column) r.numbers)
-      pub placed_texts : ArePlaced r.slots (λ i. slot.Text i) (map (λ c. c.column) r.texts)
+      pub numbered : AreNumbered r.column_indexes (map (λ c. c.column) r.numbers) (map (λ c. c.column) r.texts)
+      pub placed_numbers : ArePlaced r.column_indexes (λ i. column_index.Number i) (map (λ c. c.column) r.numbers)
+      pub placed_texts : ArePlaced r.column_indexes (λ i. column_index.Text i) (map (λ c. c.column) r.texts)
       pub number_names : All (λ c. AreNamed (names_of r.number_objects) c.column c.objects) r.numbers
       pub text_names : All (λ c. AreNamed (names_of r.text_objects) c.column c.objects) r.texts
       pub owned_numbers : AreOwned (λ c. c.column) (λ c. c.objects) (names_of r.number_objects) r.numbers

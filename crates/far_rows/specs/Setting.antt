@@ -8,10 +8,10 @@ use Rattle.far_types.specs.declared.refusal.Refusal.{Refusal}
 use Rattle.far_types.specs.FirstOf.{first_of}
 use Rattle.far_vector.specs.Effects.{range_written}
 use Rattle.far_vector.specs.Refusing.{set_refusal as number_refusal}
-use Rattle.far_texts.specs.Changes.{set_in as text_set_in}
+use Rattle.far_texts.specs.Effects.{set_in as text_set_in}
 use Rattle.far_texts.specs.Refusing.{set_refusal as text_refusal}
-use Rattle.far_rows.specs.declared.slot.Slot.{Slot}
-use Rattle.far_rows.specs.declared.slot.Slot.TheVariants as slot
+use Rattle.far_rows.specs.declared.column_index.ColumnIndex.{ColumnIndex}
+use Rattle.far_rows.specs.declared.column_index.ColumnIndex.TheVariants as column_index
 use Rattle.far_rows.specs.declared.new_cell.NewCell.{NewCell}
 use Rattle.far_rows.specs.declared.new_cell.NewCell.TheVariants as new
 use Rattle.far_types.specs.Lent.{int_cell, text_cell}
@@ -33,18 +33,18 @@ abbrev pub with_cell_at : List (List Cell) → ℕ → ℕ → Cell → List (Li
 with_cell_at columns c place cell = slice_set columns c (slice_set (slice_index_or columns c []) place cell)
 
 module _ {K : Type 0} (content : K → List ℕ) (r : Rows K) where
-  -- why a value of a slot's kind cannot be put at a place, where its object is the only one that is looked at
-  abbrev pub value_refusal : Slot → ℕ → NewCell → Option Refusal
-  value_refusal (slot.Number i) place value = option_and_then (λ c. number_refusal r.number_objects c place) (slice_get r.numbers i)
-  value_refusal (slot.Text i) place (new.Text text) = option_and_then (λ c. text_refusal content r.text_objects c place text) (slice_get r.texts i)
-  value_refusal (slot.Text i) place (new.Number number) = None
+  -- why a value of an index's kind cannot be put at a place, where its object is the only one that is looked at
+  abbrev pub value_refusal : ColumnIndex → ℕ → NewCell → Option Refusal
+  value_refusal (column_index.Number i) place value = option_and_then (λ c. number_refusal r.number_objects c place) (slice_get r.numbers i)
+  value_refusal (column_index.Text i) place (new.Text text) = option_and_then (λ c. text_refusal content r.text_objects c place text) (slice_get r.texts i)
+  value_refusal (column_index.Text i) place (new.Number number) = None
 
-  -- a set is refused where the object of some column in the place's row group is away, and as its own column is
+  -- a set is refused if the object of some column in the place's row group is away, and as its own column is
   abbrev pub set_refusal : ℕ → ℕ → NewCell → Option Refusal
-  set_refusal column place value = option_or (first_of (absents r (place / r.size))) (option_and_then (λ s. value_refusal s place value) (slice_get r.slots column))
+  set_refusal column place value = option_or (first_of (absents r (place / r.size))) (option_and_then (λ s. value_refusal s place value) (slice_get r.column_indexes column))
 
   -- the rows once a value is put at a place: the object of its row group is written
-  abbrev pub set_in : Slot → ℕ → NewCell → Rows K
-  set_in (slot.Number i) place (new.Number number) = record r { number_objects = option_map_or (λ c. range_written r.number_objects c place (number ∷ [])) (slice_get r.numbers i) r.number_objects }
-  set_in (slot.Text i) place (new.Text text) = record r { text_objects = option_map_or (λ c. text_set_in content r.text_objects c place text) (slice_get r.texts i) r.text_objects }
+  abbrev pub set_in : ColumnIndex → ℕ → NewCell → Rows K
+  set_in (column_index.Number i) place (new.Number number) = record r { number_objects = option_map_or (λ c. range_written r.number_objects c place (number ∷ [])) (slice_get r.numbers i) r.number_objects }
+  set_in (column_index.Text i) place (new.Text text) = record r { text_objects = option_map_or (λ c. text_set_in content r.text_objects c place text) (slice_get r.texts i) r.text_objects }
   set_in s place value = r

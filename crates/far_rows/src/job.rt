@@ -83,7 +83,7 @@ impl<S: FarStore> RowsEvac<S> {
     /// Puts the far form that the job holds into the store. A job that was begun on a clean object asks the store for
     /// nothing, and is not refused.
     ///
-    /// Refused with `FarFault` (21) where the store fails in this call, exactly where the meter rises, by one; with
+    /// Refused with `FarFault` (21) if the store fails in this call, exactly if the meter rises, by one; with
     /// `FarFull` (22); and with `NoMemory` (1). The job then comes back whole.
     pub fn carry(
         self,
@@ -92,9 +92,9 @@ impl<S: FarStore> RowsEvac<S> {
         meter: &mut Meter,
     ) -> Result<RowsCarried<S>, (Refusal, RowsEvac<S>)>
         requires few { meter.old < 2 ^ 63 }
-        requires here { IsFormOf S.is_of (S.name store.now) (of_either self).form }
+        requires here { IsFormOf S.is_of (S.store_id store.now) (of_either self).form }
         ensures carried { IfOk result (IsCarriedEvac S.content self) }
-        ensures here { IfOk result (λ carried. S.is_of (of_either carried).ticket (S.name store.now)) }
+        ensures here { IfOk result (λ carried. S.is_of (of_either carried).ticket (S.store_id store.now)) }
         ensures back { IfErr result (λ refused. refused.1 ≡ self) }
         ensures dirty { IsErr result → IsDirtyForm (of_either self).form }
         ensures faults { meter.new ≡ meter.old + faults_in (outcome result) }
@@ -130,7 +130,7 @@ impl<S: FarStore> RowsEvac<S> {
 impl<S: FarRead> RowsFetch<S> {
     /// Reads the content of the job's ticket.
     ///
-    /// Refused with `FarFault` (21) where the store fails in this call, exactly where the meter rises, by one, and with
+    /// Refused with `FarFault` (21) if the store fails in this call, exactly if the meter rises, by one, and with
     /// `NoMemory` (1). The job then comes back whole.
     pub fn carry(
         self,
@@ -139,7 +139,7 @@ impl<S: FarRead> RowsFetch<S> {
         meter: &mut Meter,
     ) -> Result<RowsFetched<S>, (Refusal, RowsFetch<S>)>
         requires few { meter.old < 2 ^ 63 }
-        requires here { S.is_of (of_either self).ticket (S.name store.now) }
+        requires here { S.is_of (of_either self).ticket (S.store_id store.now) }
         ensures fetched { IfOk result (IsCarriedFetch S.content self) }
         ensures back { IfErr result (λ refused. refused.1 ≡ self) }
         ensures faults { meter.new ≡ meter.old + faults_in (outcome result) }

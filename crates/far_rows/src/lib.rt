@@ -1,6 +1,7 @@
 #![tactic(auto)]
 //! The rows of a table whose columns lie in objects that may be away.
 
+mod column_index;
 mod job;
 mod lent_column;
 mod new_cell;
@@ -10,8 +11,8 @@ mod object;
 mod renewal;
 mod row_ref;
 mod rows;
-mod slot;
 
+pub use column_index::ColumnIndex;
 pub use job::{ByKind, RowsCarried, RowsEvac, RowsFetch, RowsFetched};
 pub use lent_column::LentColumn;
 pub use new_cell::NewCell;
@@ -21,4 +22,3 @@ pub use object::Object;
 pub use renewal::RowsRenewal;
 pub use row_ref::RowRef;
 pub use rows::Rows;
-pub use slot::Slot;

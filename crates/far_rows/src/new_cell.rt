@@ -16,7 +16,7 @@ pub enum NewCell {
 }
 
 impl NewCell {
-    /// The value of a cell for a column of this kind. Takes no memory.
+    /// The value of a cell for a column of this kind. Allocates nothing.
     pub fn new(kind: Kind, cell: Cell) -> NewCell
         requires { is_of_kind kind cell ≡ true }
         ensures cell { cell_of result ≡ cell }
@@ -31,7 +31,7 @@ impl NewCell {
         }
     }
 
-    /// The value as a cell, lent in place. Takes no memory.
+    /// The value as a cell, lent in place. Allocates nothing.
     pub fn lend(&self) -> CellRef<'_>
         ensures { lent_cell result ≡ cell_of self.now }
     {

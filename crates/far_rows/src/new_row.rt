@@ -5,14 +5,15 @@ ghost use Rattle.std.specs.List.{list_any};
 ghost use Rattle.far_types.specs.Cells.{is_of_kind, is_too_long};
 ghost use Rattle.far_texts.specs.RefusingTogether.{any_too_long};
 ghost use Rattle.far_types.specs.Lent.{int_cell, text_cell, lent_cell};
-ghost use Rattle.far_rows.specs.Slots.{AreSlots, IsWithin, cell_in, kind_of, row_of, with_value};
+ghost use Rattle.far_rows.specs.ColumnIndexes.{AreColumnIndexes, IsWithin, cell_in, kind_of, row_of, with_value};
 
+use super::column_index::ColumnIndex;
 use super::new_cell::text_ref;
 use super::new_row_ref::NewRowRef;
-use super::slot::Slot;
 use far_types::{Cell, CellRef, Kind, LentRow, Refusal, Row, Text};
 use std::alloc::Global;
 use std::marker::Model;
+use std::mem;
 
 /// The values of a row that is to come, those of its columns of numbers and those of its columns of texts apart. It is
 /// made once for a table, and filled for each row without memory.
@@ -20,12 +21,14 @@ use std::marker::Model;
 pub struct NewRow {
     numbers: Vec<Option<i64>>,
     texts: Vec<Option<Text>>,
+    // The list of the row that was taken last. Its texts are those of the row before.
+    spare: Vec<Cell>,
 }
 
 impl Model for NewRow {
     ghost use Rattle.std.specs.Prelude.{◌≡◌, false};
     ghost use Rattle.far_texts.specs.RefusingTogether.{any_too_long};
-    ghost use Rattle.far_rows.specs.Slots.{Values};
+    ghost use Rattle.far_rows.specs.ColumnIndexes.{Values};
 
     ghost Value = { Values };
 
@@ -45,70 +48,86 @@ impl NewRow {
         Ok(NewRow {
             numbers: nothing(alloc, numbers)?,
             texts: nothing(alloc, texts)?,
+            spare: Vec::new(alloc),
         })
     }
 
-    /// Takes the cells of a row, whose columns have these slots, and none of which is too long. Takes no memory.
-    pub fn fill(&mut self, slots: &[Slot], row: Row)
-        requires slots { AreSlots slots.now (length self.old.numbers) (length self.old.texts) }
-        requires width { length row ≡ length slots.now }
-        requires of_kinds { kinds_fit (map kind_of slots.now) row ≡ true }
+    /// Takes the cells of a row, whose columns have these indexes, and none of which is too long. Allocates nothing.
+    pub fn load(&mut self, column_indexes: &[ColumnIndex], row: Row)
+        requires column_indexes { AreColumnIndexes column_indexes.now (length self.old.numbers) (length self.old.texts) }
+        requires width { length row ≡ length column_indexes.now }
+        requires of_kinds { kinds_fit (map kind_of column_indexes.now) row ≡ true }
         requires short { list_any is_too_long row ≡ false }
-        ensures row { row_of slots.now self.new ≡ row }
+        ensures row { row_of column_indexes.now self.new ≡ row }
         ensures numbers { length self.new.numbers ≡ length self.old.numbers }
         ensures texts { length self.new.texts ≡ length self.old.texts }
     {
-        let mut column = 0;
-        for cell in row.into_cells() {
-            self.put(slots[column], cell);
-            column += 1;
+        let mut cells = row.into_cells();
+        for column in 0..cells.len() {
+            let cell = mem::replace(&mut cells[column], Cell::Missing);
+            cells[column] = self.put(column_indexes[column], cell);
         }
+        self.spare = cells;
     }
 
-    // Takes a cell, which is of the kind of its slot.
-    fn put(&mut self, slot: Slot, cell: Cell)
-        requires within { IsWithin (length self.old.numbers) (length self.old.texts) slot }
-        requires of_kind { is_of_kind (kind_of slot) cell ≡ true }
-        requires short { is_too_long cell ≡ false }
-        ensures { self.new ≡ with_value self.old slot cell }
+    /// Cells that are needed no more: a row to come may be made in their memory. Allocates nothing.
+    pub fn spare_cells(&mut self) -> Vec<Cell>
+        ensures { self.new ≡ self.old }
     {
-        match slot {
-            Slot::Number(number) => self.numbers[number] = number_of(cell),
-            Slot::Text(text) => self.texts[text] = text_of(cell),
+        let alloc = *self.spare.allocator();
+        mem::replace(&mut self.spare, Vec::new(alloc))
+    }
+
+    // Takes a cell, which is of the kind of its index, and gives back a text that stood there.
+    fn put(&mut self, column_index: ColumnIndex, cell: Cell) -> Cell
+        requires within { IsWithin (length self.old.numbers) (length self.old.texts) column_index }
+        requires of_kind { is_of_kind (kind_of column_index) cell ≡ true }
+        requires short { is_too_long cell ≡ false }
+        ensures { self.new ≡ with_value self.old column_index cell }
+    {
+        match column_index {
+            ColumnIndex::Number(number) => {
+                self.numbers[number] = number_of(cell);
+                Cell::Missing
+            }
+            ColumnIndex::Text(text) => {
+                let new = text_of(cell);
+                cell_of(mem::replace(&mut self.texts[text], new))
+            }
         }
     }
 
-    /// The row, whose columns have these slots, each cell lent in place. Takes no memory.
-    pub fn lend(&self, slots: &[Slot]) -> LentRow<'_>
-        requires slots { AreSlots slots.now (length self.now.numbers) (length self.now.texts) }
-        requires few { length slots.now ≤ 16 }
-        ensures { result ≡ row_of slots.now self.now }
+    /// The row, whose columns have these indexes, each cell lent in place. Allocates nothing.
+    pub fn lend(&self, column_indexes: &[ColumnIndex]) -> LentRow<'_>
+        requires column_indexes { AreColumnIndexes column_indexes.now (length self.now.numbers) (length self.now.texts) }
+        requires few { length column_indexes.now ≤ 16 }
+        ensures { result ≡ row_of column_indexes.now self.now }
     {
         let mut row = LentRow::new();
-        for slot in slots {
-            row.push(self.cell(*slot));
+        for column_index in column_indexes {
+            row.push(self.cell(*column_index));
         }
         row
     }
 
-    /// The row, whose columns have these slots, each cell lent in place once it is asked for. Takes no memory.
+    /// The row, whose columns have these indexes, each cell lent in place once it is asked for. Allocates nothing.
     #[inline(always)]
-    pub fn row_ref<'a>(&'a self, slots: &'a [Slot]) -> NewRowRef<'a>
-        requires { AreSlots slots.now (length self.now.numbers) (length self.now.texts) }
-        ensures { result ≡ row_of slots.now self.now }
+    pub fn row_ref<'a>(&'a self, column_indexes: &'a [ColumnIndex]) -> NewRowRef<'a>
+        requires { AreColumnIndexes column_indexes.now (length self.now.numbers) (length self.now.texts) }
+        ensures { result ≡ row_of column_indexes.now self.now }
     {
-        NewRowRef::new(self, slots)
+        NewRowRef::new(self, column_indexes)
     }
 
-    // The cell of a slot.
+    // The cell at an index.
     #[inline(always)]
-    pub(crate) fn cell(&self, slot: Slot) -> CellRef<'_>
-        requires { IsWithin (length self.now.numbers) (length self.now.texts) slot }
-        ensures { lent_cell result ≡ cell_in self.now slot }
+    pub(crate) fn cell(&self, column_index: ColumnIndex) -> CellRef<'_>
+        requires { IsWithin (length self.now.numbers) (length self.now.texts) column_index }
+        ensures { lent_cell result ≡ cell_in self.now column_index }
     {
-        match slot {
-            Slot::Number(number) => CellRef::of_int(self.numbers[number]),
-            Slot::Text(text) => text_ref(&self.texts[text]),
+        match column_index {
+            ColumnIndex::Number(number) => CellRef::of_int(self.numbers[number]),
+            ColumnIndex::Text(text) => text_ref(&self.texts[text]),
         }
     }
 
@@ -150,6 +169,16 @@ fn number_of(cell: Cell) -> Option<i64>
         Cell::Int(number) => Some(number),
         Cell::Text(_) => unreachable!(),
         Cell::Missing => None,
+    }
+}
+
+// The cell of a text.
+fn cell_of(text: Option<Text>) -> Cell
+    ensures { result ≡ text_cell text }
+{
+    match text {
+        Some(text) => Cell::Text(text),
+        None => Cell::Missing,
     }
 }
 

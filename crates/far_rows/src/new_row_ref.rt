@@ -1,10 +1,10 @@
 // A row that is to come, read cell by cell.
 ghost use Rattle.std.specs.Prelude.{◌≡◌, length};
 ghost use Rattle.far_types.specs.Cells.{cells_of};
-ghost use Rattle.far_rows.specs.Slots.{AreSlots, row_of};
+ghost use Rattle.far_rows.specs.ColumnIndexes.{AreColumnIndexes, row_of};
 
+use super::column_index::ColumnIndex;
 use super::new_row::NewRow;
-use super::slot::Slot;
 use far_types::{CellRef, LendCells};
 use std::marker::Model;
 
@@ -13,29 +13,32 @@ use std::marker::Model;
 #[derive(Drop)]
 pub struct NewRowRef<'a> {
     values: &'a NewRow,
-    slots: &'a [Slot],
+    column_indexes: &'a [ColumnIndex],
 }
 
 impl<'a> Model for NewRowRef<'a> {
     ghost use Rattle.std.specs.Prelude.{List, length};
     ghost use Rattle.far_types.specs.declared.cell.Cell.{Cell};
-    ghost use Rattle.far_rows.specs.Slots.{AreSlots, row_of};
+    ghost use Rattle.far_rows.specs.ColumnIndexes.{AreColumnIndexes, row_of};
 
     ghost Value = { List Cell };
 
-    ghost view = { λ row. row_of row.slots.now row.values.now };
+    ghost view = { λ row. row_of row.column_indexes.now row.values.now };
 
-    ghost invariant = { λ row. AreSlots row.slots.now (length row.values.now.numbers) (length row.values.now.texts) };
+    ghost invariant = { λ row. AreColumnIndexes row.column_indexes.now (length row.values.now.numbers) (length row.values.now.texts) };
 }
 
 impl<'a> NewRowRef<'a> {
-    // The row of these values, whose columns have these slots.
+    // The row of these values, whose columns have these indexes.
     #[inline(always)]
-    pub(crate) fn new(values: &'a NewRow, slots: &'a [Slot]) -> NewRowRef<'a>
-        requires { AreSlots slots.now (length values.now.numbers) (length values.now.texts) }
-        ensures { result ≡ row_of slots.now values.now }
+    pub(crate) fn new(values: &'a NewRow, column_indexes: &'a [ColumnIndex]) -> NewRowRef<'a>
+        requires { AreColumnIndexes column_indexes.now (length values.now.numbers) (length values.now.texts) }
+        ensures { result ≡ row_of column_indexes.now values.now }
     {
-        NewRowRef { values, slots }
+        NewRowRef {
+            values,
+            column_indexes,
+        }
     }
 }
 
@@ -44,7 +47,7 @@ impl<'a> LendCells for NewRowRef<'a> {
 
     #[inline(always)]
     fn cell(&self, column: u32) -> Option<CellRef<'_>> {
-        let slot = self.slots.get(column as usize)?;
-        Some(self.values.cell(*slot))
+        let column_index = self.column_indexes.get(column as usize)?;
+        Some(self.values.cell(*column_index))
     }
 }

@@ -45,21 +45,21 @@ impl<'a, S: FarTickets> RowRef<'a, S> {
         RowRef { rows, place }
     }
 
-    /// How many cells the row has. Takes no memory.
+    /// How many cells the row has. Allocates nothing.
     #[inline(always)]
     pub fn len(&self) -> usize
         ensures { result ≡ length self.now }
     {
-        self.rows.slots().len()
+        self.rows.column_indexes().len()
     }
 
-    /// The cell of a column, lent where it lies, or `None` where the row has no such column. Takes no memory.
+    /// The cell of a column, lent where it lies, or `None` if the row has no such column. Allocates nothing.
     #[inline(always)]
     pub fn get(&self, column: usize) -> Option<CellRef<'_>>
         ensures { option_map lent_cell result ≡ slice_get self.now column }
     {
-        let slot = self.rows.slots().get(column)?;
-        let Ok(cell) = self.rows.cell_in(column, *slot, self.place) else {
+        let column_index = self.rows.column_indexes().get(column)?;
+        let Ok(cell) = self.rows.cell_in(column, *column_index, self.place) else {
             unreachable!()
         };
         Some(cell)

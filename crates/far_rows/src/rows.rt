@@ -2,7 +2,7 @@
 ghost use Rattle.std.specs.Prelude.{◌≡◌, ℕ, ◌<◌, ◌≤◌, [], List, length, map, option_map, slice_get, slice_set, false, true, IfOk, IfErr};
 ghost use Rattle.far_types.specs.Bounds.{AreLimits};
 ghost use Rattle.far_scopes.specs.Movement.{AreHere};
-ghost use Rattle.far_rows.specs.Slots.{slots_from, kind_of};
+ghost use Rattle.far_rows.specs.ColumnIndexes.{column_indexes_from, kind_of};
 ghost use Rattle.far_rows.specs.Rows.{AreRows};
 ghost use Rattle.far_types.specs.Edits.{changed_at, removed};
 ghost use Rattle.far_rows.specs.Places.{places_in};
@@ -23,7 +23,7 @@ mod reading;
 mod renewing;
 mod setting;
 
-use super::slot::Slot;
+use super::column_index::ColumnIndex;
 use far_columns::{Alive, IntColumn};
 use far_reciprocal::Reciprocal;
 use far_scopes::Objects;
@@ -40,7 +40,7 @@ use std::marker::Model;
 /// is (`cells_of`).
 #[derive(Drop)]
 pub struct Rows<S: FarTickets> {
-    slots: Vec<Slot>,
+    column_indexes: Vec<ColumnIndex>,
     // How many places a row group has.
     size: u32,
     // A hint for divisions by it.
@@ -50,6 +50,8 @@ pub struct Rows<S: FarTickets> {
     number_objects: Objects<Option<i64>, S>,
     text_objects: Objects<u8, S>,
     alive: Alive,
+    // A form of texts that is needed no more: the next one is made in its memory.
+    spare: Vec<u8>,
 }
 
 impl<S: FarTickets> Model for Rows<S> {
@@ -57,9 +59,9 @@ impl<S: FarTickets> Model for Rows<S> {
 
     ghost Value = { Rows S.Ticket };
 
-    ghost view = { λ r. record { slots = r.slots.items; size = r.size; numbers = r.numbers.items; texts = r.texts.items; number_objects = r.number_objects; text_objects = r.text_objects; alive = r.alive } };
+    ghost view = { λ r. record { column_indexes = r.column_indexes.items; size = r.size; numbers = r.numbers.items; texts = r.texts.items; number_objects = r.number_objects; text_objects = r.text_objects; alive = r.alive } };
 
-    ghost invariant = { λ r. AreRows S.content record { slots = r.slots.items; size = r.size; numbers = r.numbers.items; texts = r.texts.items; number_objects = r.number_objects; text_objects = r.text_objects; alive = r.alive } };
+    ghost invariant = { λ r. AreRows S.content record { column_indexes = r.column_indexes.items; size = r.size; numbers = r.numbers.items; texts = r.texts.items; number_objects = r.number_objects; text_objects = r.text_objects; alive = r.alive } };
 }
 
 impl<S: FarTickets> Rows<S> {
@@ -82,7 +84,7 @@ impl<S: FarTickets> Rows<S> {
         let number_objects = Objects::new(alloc, number, number_limits(limits))?;
         let text_objects = Objects::new(alloc, number, text_limits(limits))?;
         Ok(Rows {
-            slots: columns.slots,
+            column_indexes: columns.column_indexes,
             size: limits.group,
             reciprocal,
             numbers: columns.numbers,
@@ -90,10 +92,11 @@ impl<S: FarTickets> Rows<S> {
             number_objects,
             text_objects,
             alive: Alive::new(alloc),
+            spare: Vec::new(alloc),
         })
     }
 
-    /// How many places there are, dead ones too. Takes no memory.
+    /// How many places there are, dead ones too. Allocates nothing.
     pub fn len(&self) -> usize
         ensures len { result ≡ length self.now.alive }
         ensures rows { AreRows S.content self.now }
@@ -101,14 +104,14 @@ impl<S: FarTickets> Rows<S> {
         self.alive.len()
     }
 
-    /// Whether a place is alive; `None` where there is no such place. Takes no memory.
+    /// Whether a place is alive; `None` if there is no such place. Allocates nothing.
     pub fn is_alive(&self, place: usize) -> Option<bool>
         ensures { result ≡ slice_get self.now.alive place }
     {
         self.alive.get(place)
     }
 
-    /// The place is not alive from now on; its cells stay. Takes no memory.
+    /// The place is not alive from now on; its cells stay. Allocates nothing.
     pub fn clear(&mut self, place: usize)
         requires { place < length self.old.alive }
         ensures cleared { self.new ≡ record self.old { alive = slice_set self.old.alive place false } }
@@ -117,20 +120,20 @@ impl<S: FarTickets> Rows<S> {
         self.alive.clear(place);
     }
 
-    /// The kind of a column; `None` where there is no such column. Takes no memory.
+    /// The kind of a column; `None` if there is no such column. Allocates nothing.
     pub fn kind(&self, column: usize) -> Option<Kind>
-        ensures { result ≡ option_map kind_of (slice_get self.now.slots column) }
+        ensures { result ≡ option_map kind_of (slice_get self.now.column_indexes column) }
     {
-        match self.slots.get(column)? {
-            Slot::Number(_) => Some(Kind::Int),
-            Slot::Text(_) => Some(Kind::Text),
+        match self.column_indexes.get(column)? {
+            ColumnIndex::Number(_) => Some(Kind::Int),
+            ColumnIndex::Text(_) => Some(Kind::Text),
         }
     }
 
-    /// Where each column lies, by its number. Takes no memory.
-    pub fn slots(&self) -> &[Slot]
-        ensures { result.now ≡ self.now.slots }
+    /// Where each column lies, by its number. Allocates nothing.
+    pub fn column_indexes(&self) -> &[ColumnIndex]
+        ensures { result.now ≡ self.now.column_indexes }
     {
-        self.slots.as_slice()
+        self.column_indexes.as_slice()
     }
 }

@@ -15,24 +15,24 @@ use Rattle.far_texts.specs.Texts.{Texts, HasGroups}
 use Rattle.far_rows.specs.Coldest.{pins_at}
 use Rattle.far_rows.specs.declared.object.Object.{Object}
 use Rattle.far_rows.specs.declared.object.Object.TheVariants as object
-use Rattle.far_rows.specs.declared.slot.Slot.{Slot}
-use Rattle.far_rows.specs.declared.slot.Slot.TheVariants as slot
+use Rattle.far_rows.specs.declared.column_index.ColumnIndex.{ColumnIndex}
+use Rattle.far_rows.specs.declared.column_index.ColumnIndex.TheVariants as column_index
 use Rattle.far_rows.specs.Moving.{object_at, object_in, object_refusal, unpin_refusal, unpin_refusal_of}
 use Rattle.far_rows.specs.Naming.{names_of}
 use Rattle.far_rows.specs.Rows.{Rows, AreRows, object_of}
-use Rattle.far_rows.specs.Slots.{IsWithin, kind_of}
+use Rattle.far_rows.specs.ColumnIndexes.{IsWithin, kind_of}
 use Rattle.far_rows.proofs.Overfull.{found-at}
 
 module _ {K : Type 0} (r : Rows K) (column group : ℕ) (due : Object) (at : object_at r column group ≡ Some due) where
-  free : (found : Option Slot) → option_and_then (λ (s : Slot). option_map (object_in s) (object_of r s group)) found ≡ Some due
-      → first_of ((is_none found, refusal.NoColumn) ∷ (is_none (option_and_then (λ (s : Slot). option_map (object_in s) (object_of r s group)) found), refusal.OutOfRange) ∷ []) ≡ None
+  free : (found : Option ColumnIndex) → option_and_then (λ (s : ColumnIndex). option_map (object_in s) (object_of r s group)) found ≡ Some due
+      → first_of ((is_none found, refusal.NoColumn) ∷ (is_none (option_and_then (λ (s : ColumnIndex). option_map (object_in s) (object_of r s group)) found), refusal.OutOfRange) ∷ []) ≡ None
   free None is = absurd (none-some due is)
   free (Some s) is = ap (λ (some : Option Object). first_of ((is_none some, refusal.OutOfRange) ∷ [])) is
 
   -- an object that is there is answered
   pub answered : (result : Result Object Refusal) → IfOk result (λ found. object_at r column group ≡ Some found) → refusal_in result ≡ object_refusal r column group → result ≡ Ok due
   answered (Ok found) told refused = ap Ok (same_Some found due (sym told ∙ at))
-  answered (Err e) told refused = absurd (none-some e (sym (refused ∙ free (slice_get r.slots column) at)))
+  answered (Err e) told refused = absurd (none-some e (sym (refused ∙ free (slice_get r.column_indexes column) at)))
 
   without : (some : Object) → pins_at r some ≡ 0 → unpin_refusal_of r some ≡ Some refusal.NotPinned
   without (object.Number o) none = ap (λ n. first_of ((n == 0, refusal.NotPinned) ∷ [])) none
@@ -40,7 +40,7 @@ module _ {K : Type 0} (r : Rows K) (column group : ℕ) (due : Object) (at : obj
 
   not-pinned : pins_at r due ≡ 0 → unpin_refusal r column group ≡ Some refusal.NotPinned
   not-pinned none =
-      ap (λ (first : Option Refusal). option_or first (option_and_then (unpin_refusal_of r) (object_at r column group))) (free (slice_get r.slots column) at)
+      ap (λ (first : Option Refusal). option_or first (option_and_then (unpin_refusal_of r) (object_at r column group))) (free (slice_get r.column_indexes column) at)
       ∙ ap (option_and_then (unpin_refusal_of r)) at
       ∙ without due none
 
@@ -64,46 +64,46 @@ there g size objects len alive some used all enough = subst (λ n. n < objects) 
 
 module _ {K : Type 0} (content : K → List ℕ) (r : Rows K) (are : AreRows content r) where
   module _ (group : ℕ) (used : group * r.size < length r.alive) where
-    in-slot : (s : Slot) → IsWithin (length r.numbers) (length r.texts) s → (o : ℕ) × (object_of r s group ≡ Some o)
-    in-slot (slot.Number i) inside =
+    in-column_index : (s : ColumnIndex) → IsWithin (length r.numbers) (length r.texts) s → (o : ℕ) × (object_of r s group ≡ Some o)
+    in-column_index (column_index.Number i) inside =
         let found = found-at r.numbers i inside in
         let v : Vector (Option ℤ) = found.0 in
         let same = get_or_from_slice_get r.numbers i v v found.1 in
-        let even = subst (λ (w : Vector (Option ℤ)). (w.size ≡ r.size) × (w.len ≡ length r.alive)) same (are.even_numbers i v inside) in
+        let same_length = subst (λ (w : Vector (Option ℤ)). (w.size ≡ r.size) × (w.len ≡ length r.alive)) same (are.same_length_numbers i v inside) in
         let shaped = subst IsShaped same (are.shaped i v inside) in
-        let own = found-at v.objects group (there group v.size (length v.objects) v.len (length r.alive) shaped.some (subst (λ n. group * n < length r.alive) (sym even.0) used) even.1 shaped.enough) in
+        let own = found-at v.objects group (there group v.size (length v.objects) v.len (length r.alive) shaped.some (subst (λ n. group * n < length r.alive) (sym same_length.0) used) same_length.1 shaped.enough) in
         (own.0, ap (option_and_then (λ (w : Vector (Option ℤ)). slice_get w.objects group)) found.1 ∙ own.1)
-    in-slot (slot.Text i) inside =
+    in-column_index (column_index.Text i) inside =
         let found = found-at r.texts i inside in
         let v : Texts = found.0 in
         let same = get_or_from_slice_get r.texts i v v found.1 in
-        let even = subst (λ (w : Texts). (w.size ≡ r.size) × (w.len ≡ length r.alive)) same (are.even_texts i v inside) in
+        let same_length = subst (λ (w : Texts). (w.size ≡ r.size) × (w.len ≡ length r.alive)) same (are.same_length_texts i v inside) in
         let has = subst HasGroups same (are.grouped i v inside) in
-        let own = found-at v.objects group (there group v.size (length v.objects) v.len (length r.alive) has.some (subst (λ n. group * n < length r.alive) (sym even.0) used) even.1 has.held) in
+        let own = found-at v.objects group (there group v.size (length v.objects) v.len (length r.alive) has.some (subst (λ n. group * n < length r.alive) (sym same_length.0) used) same_length.1 has.held) in
         (own.0, ap (option_and_then (λ (w : Texts). slice_get w.objects group)) found.1 ∙ own.1)
 
     -- each column has an object for a row group that has a place
-    pub begun : (column : ℕ) → column < length r.slots → (some : Object) × (object_at r column group ≡ Some some)
+    pub begun : (column : ℕ) → column < length r.column_indexes → (some : Object) × (object_at r column group ≡ Some some)
     begun column within =
-        let found = found-at r.slots column within in
-        let s : Slot = found.0 in
-        let inside = subst (IsWithin (length r.numbers) (length r.texts)) (get_or_from_slice_get r.slots column s s found.1) (are.slots.within column s within) in
-        let own = in-slot s inside in
-        (object_in s own.0, ap (option_and_then (λ (t : Slot). option_map (object_in t) (object_of r t group))) found.1 ∙ ap (option_map (object_in s)) own.1)
+        let found = found-at r.column_indexes column within in
+        let s : ColumnIndex = found.0 in
+        let inside = subst (IsWithin (length r.numbers) (length r.texts)) (get_or_from_slice_get r.column_indexes column s s found.1) (are.column_indexes.within column s within) in
+        let own = in-column_index s inside in
+        (object_in s own.0, ap (option_and_then (λ (t : ColumnIndex). option_map (object_in t) (object_of r t group))) found.1 ∙ ap (option_map (object_in s)) own.1)
 
-    pub begun-is-ok : (column : ℕ) → column < length r.slots → (result : Result Object Refusal) → IfOk result (λ found. object_at r column group ≡ Some found) → refusal_in result ≡ object_refusal r column group → IsOk result
+    pub begun-is-ok : (column : ℕ) → column < length r.column_indexes → (result : Result Object Refusal) → IfOk result (λ found. object_at r column group ≡ Some found) → refusal_in result ≡ object_refusal r column group → IsOk result
     begun-is-ok column within result told refused =
         let own = begun column within in
         ap is_ok (answered r column group own.0 own.1 result told refused)
 
   -- an object of numbers is named by a column of numbers
-  pub number-owner : (o : ℕ) (name : Name) → slice_get (names_of r.number_objects) o ≡ Some name → option_map kind_of (slice_get r.slots name.column) ≡ Some kind.Int
+  pub number-owner : (o : ℕ) (name : Name) → slice_get (names_of r.number_objects) o ≡ Some name → option_map kind_of (slice_get r.column_indexes name.column) ≡ Some kind.Int
   number-owner o name at =
       let owner = are.owned_numbers o name at in
       ap (option_map kind_of) (are.placed_numbers owner.0 name.column (slice_get-map (λ (v : Vector (Option ℤ)). v.column) r.numbers owner.0 ∙ ap (option_map (λ (v : Vector (Option ℤ)). v.column)) owner.2 ∙ ap Some owner.3))
 
   -- an object of texts by one of texts
-  pub text-owner : (o : ℕ) (name : Name) → slice_get (names_of r.text_objects) o ≡ Some name → option_map kind_of (slice_get r.slots name.column) ≡ Some kind.Text
+  pub text-owner : (o : ℕ) (name : Name) → slice_get (names_of r.text_objects) o ≡ Some name → option_map kind_of (slice_get r.column_indexes name.column) ≡ Some kind.Text
   text-owner o name at =
       let owner = are.owned_texts o name at in
       ap (option_map kind_of) (are.placed_texts owner.0 name.column (slice_get-map (λ (v : Texts). v.column) r.texts owner.0 ∙ ap (option_map (λ (v : Texts). v.column)) owner.2 ∙ ap Some owner.3))

@@ -11,7 +11,7 @@ use Rattle.far_rows.specs.Effects.{IsPushed}
 use Rattle.far_rows.specs.Opening.{texts_from, empty_rows}
 use Rattle.far_rows.specs.Places.{AreOf}
 use Rattle.far_rows.specs.Rows.{Rows}
-use Rattle.far_rows.specs.Slots.{Values}
+use Rattle.far_rows.specs.ColumnIndexes.{Values}
 
 limits-opened : (size limit n : ℕ) (kinds : List Kind) → All (λ (c : Texts). c.limit ≡ limit) (texts_from size limit n kinds)
 limits-opened size limit n [] = All-nil (λ (c : Texts). c.limit ≡ limit)

@@ -4,9 +4,9 @@ use Rattle.std.specs.Prelude.{ℤ, Option, Result, All, OnOk, OnErr, map}
 use Rattle.std.specs.declared.result.Result.TheVariants.{Ok, Err}
 use Rattle.std.proofs.lemmas.List.Elements.{All-cons, All-head, All-tail, All-map}
 use Rattle.far_vector.specs.Vector.{Vector}
-use Rattle.far_vector.specs.Effects.{unpushed}
+use Rattle.far_vector.specs.Effects.{after_unpush}
 use Rattle.far_texts.specs.Texts.{Texts}
-use Rattle.far_texts.specs.Changes as text
+use Rattle.far_texts.specs.Effects as text
 use Rattle.far_texts.specs.Together as texts
 use Rattle.far_columns.specs.NumbersTogether as numbers
 use Rattle.far_columns.proofs.NumbersTogether.{pushed-size}
@@ -34,5 +34,5 @@ module _ (size : ℕ) where
       (sized-numbers (n + 1) columns (All-tail (λ (c : Vector (Option ℤ)). c.size ≡ size) c columns all))
 
   -- and with one less
-  pub sized-unpushed : (columns : List (Vector (Option ℤ))) → All (λ (c : Vector (Option ℤ)). c.size ≡ size) columns → All (λ (c : Vector (Option ℤ)). c.size ≡ size) (map unpushed columns)
-  sized-unpushed columns all = All-map (λ (c : Vector (Option ℤ)). c.size ≡ size) unpushed columns all
+  pub sized-unpushed : (columns : List (Vector (Option ℤ))) → All (λ (c : Vector (Option ℤ)). c.size ≡ size) columns → All (λ (c : Vector (Option ℤ)). c.size ≡ size) (map after_unpush columns)
+  sized-unpushed columns all = All-map (λ (c : Vector (Option ℤ)). c.size ≡ size) after_unpush columns all

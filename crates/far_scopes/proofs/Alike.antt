@@ -6,7 +6,7 @@ use Rattle.std.proofs.lemmas.Bool.{cases_lt, cases_eq, cases_Bool}
 use Rattle.std.proofs.lemmas.List.{get_or_default}
 use Rattle.std.proofs.lemmas.List.Sums.{list_all-from_AllPass}
 
-module _ {C : Type 0} (test : C → Bool) (Has : C → Type 0) (Even : C → C → Type 0) (turned : (c d : C) → Even c d → Even d c) (alike : (c d : C) → Has c → Has d → Even c d → test c ≡ true → test d ≡ true) (cs : List C) (has : All Has cs) (even : AllPairs Even cs) where
+module _ {C : Type 0} (test : C → Bool) (Has : C → Type 0) (Even : C → C → Type 0) (turned : (c d : C) → Even c d → Even d c) (alike : (c d : C) → Has c → Has d → Even c d → test c ≡ true → test d ≡ true) (cs : List C) (has : All Has cs) (same_length : AllPairs Even cs) where
   -- where one passes all do
   pub all-with : (k : ℕ) (d : C) → k < length cs → test (get_or cs k d) ≡ true → All (λ c. test c ≡ true) cs
   all-with k d below passes j e inside =
@@ -15,8 +15,8 @@ module _ {C : Type 0} (test : C → Bool) (Has : C → Type 0) (Even : C → C �
       elim (cases_eq k j) [
         | inl same ↦ subst (λ i. test (get_or cs i e) ≡ true) same c_passes
         | inr ne ↦ elim (cases_lt k j) [
-          | inl before ↦ alike c (get_or cs j e) (has k e below) (has j e inside) (even k j e before inside) c_passes
-          | inr behind ↦ alike c (get_or cs j e) (has k e below) (has j e inside) (turned (get_or cs j e) c (even j k e (omega (arith, behind, ne)) below)) c_passes
+          | inl before ↦ alike c (get_or cs j e) (has k e below) (has j e inside) (same_length k j e before inside) c_passes
+          | inr behind ↦ alike c (get_or cs j e) (has k e below) (has j e inside) (turned (get_or cs j e) c (same_length j k e (omega (arith, behind, ne)) below)) c_passes
         ]
       ]
 

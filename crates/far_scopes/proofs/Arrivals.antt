@@ -7,7 +7,7 @@ use Rattle.std.proofs.lemmas.List.{length-set}
 use Rattle.far_pointer.specs.declared.pointer.At.{At}
 use Rattle.far_pointer.specs.declared.pointer.Pointer.{Pointer}
 use Rattle.far_pointer.specs.declared.pointer.Pointer.TheVariants.{Local, Remote}
-use Rattle.far_scopes.specs.declared.entry.Entry.{Entry}
+use Rattle.far_scopes.specs.declared.object_record.ObjectRecord.{ObjectRecord}
 use Rattle.far_scopes.specs.Recency.{has}
 use Rattle.far_scopes.specs.Memory.{Memory, at_of, place_of, list_in, ChangesList}
 use Rattle.far_scopes.specs.Movement.{Movement, word_of, entry_of, is_local, list_of, AreClean, IsTracked, AreTracked}
@@ -36,20 +36,20 @@ not-within (x ∷ xs) (suc i) within none = not-within xs i (omega (arith, withi
 module _ {X K : Type 0} (meaning : List ℕ → List X) (content : K → List ℕ) (spelled : List X → List ℕ → Type 0) (m : Movement X K) (tracked : AreTracked meaning content spelled m) (o : ℕ) where
   -- an object that is away comes back with the list that its ticket means
   module _ (within : o < length m.entries) (list : List X) (away : is_local m o ≡ false) (means : list_of meaning content m o ≡ Some list) where
-    abbrev entry-there : (e : Entry K) × (entry_of m o ≡ Some e)
+    abbrev entry-there : (e : ObjectRecord K) × (entry_of m o ≡ Some e)
     entry-there = elim (cases_option (entry_of m o)) [
       | inl none ↦ absurd (not-within m.entries o within none)
       | inr some ↦ some
     ]
 
-    abbrev entry : Entry K
+    abbrev entry : ObjectRecord K
     entry = entry-there.0
 
     was : entry_of m o ≡ Some entry
     was = entry-there.1
 
     its-word : o < length m.memory.words
-    its-word = subst (λ n. o < n) tracked.even within
+    its-word = subst (λ n. o < n) tracked.same_length within
 
     pub word-was : word_of m o ≡ Some Remote
     word-was = word-away m.memory.words o its-word away
@@ -96,18 +96,18 @@ module _ {X K : Type 0} (meaning : List ℕ → List X) (content : K → List �
         | inr ne ↦ has-cons_other m.order o p ne ∙ tracked.ordered p ∙ rw (words-back p ne) refl
       ]
 
-      tracked-one-back : IsTracked meaning content spelled m.changes m.leavings (Local at false true true) (Some list) entry
+      tracked-one-back : IsTracked meaning content spelled m.max_writes m.leavings (Local at false true true) (Some list) entry
       tracked-one-back =
           let old = tracked.each o Remote entry word-was was in
           record { version = old.version; left = old.left; some = old.some; long = long-back; away = λ is. cc; copy = old.copy; far = old.far }
 
       pub tracked-back : AreTracked meaning content spelled back
       tracked-back = record {
-        even = tracked.even ∙ sym (ap (λ l. length l) words ∙ length-set m.memory.words o (Local at false true true));
+        same_length = tracked.same_length ∙ sym (ap (λ l. length l) words ∙ length-set m.memory.words o (Local at false true true));
         few = tracked.few;
         each = each-one meaning content m back o others-back spelled tracked refl refl
-            (λ word e w there. rw change.here (subst (λ (k : Pointer). IsTracked meaning content spelled m.changes m.leavings k (Some list) e) (some-one (word_of back o) w word-back)
-            (subst (IsTracked meaning content spelled m.changes m.leavings (Local at false true true) (Some list)) (some-one (entry_of m o) there was) tracked-one-back)));
+            (λ word e w there. rw change.here (subst (λ (k : Pointer). IsTracked meaning content spelled m.max_writes m.leavings k (Some list) e) (some-one (word_of back o) w word-back)
+            (subst (IsTracked meaning content spelled m.max_writes m.leavings (Local at false true true) (Some list)) (some-one (entry_of m o) there was) tracked-one-back)));
         once = (tracked.ordered o ∙ away, tracked.once);
         ordered = ordered-back;
       }

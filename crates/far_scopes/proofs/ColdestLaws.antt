@@ -30,7 +30,7 @@ module _ {X K : Type 0} (m : Movement X K) where
   coldest-none None = refl
   coldest-none (Some o) = refl
 
-  -- it is local and has no pin, and there is one exactly where a local object has none
+  -- it is local and has no pin, and there is one exactly if a local object has none
   module _ (ordered : (o : ℕ) → has m.order o ≡ is_local m o) where
     local-has : (o : ℕ) → has (reverse m.order) o ≡ is_local m o
     local-has o = has-reverse m.order o ∙ ordered o
@@ -109,4 +109,4 @@ module _ {X K : Type 0} (m : Movement X K) where
     pub last-within : {meaning : List ℕ → List X} {content : K → List ℕ} {spelled : List X → List ℕ → Type 0} → AreTracked meaning content spelled m → m.order ≡ keys_of left ++ seen → pair.0 < length m.entries
     last-within tracked is =
         let there : has m.order pair.0 ≡ true = ap (λ l. has l pair.0) (order-step is) ∙ list_any-append (λ p. nat_eq pair.0 p) (keys_of rest) (pair.0 ∷ seen) ∙ ap (λ b. has (keys_of rest) pair.0 || b) (has-cons_same seen pair.0) ∙ or_comm (has (keys_of rest) pair.0) true in
-        subst (λ n. pair.0 < n) (sym tracked.even) (place-within m.memory.words pair.0 (some-true (place_of m.memory.words pair.0) (sym (tracked.ordered pair.0) ∙ there)))
+        subst (λ n. pair.0 < n) (sym tracked.same_length) (place-within m.memory.words pair.0 (some-true (place_of m.memory.words pair.0) (sym (tracked.ordered pair.0) ∙ there)))

@@ -8,7 +8,7 @@ use Rattle.far_pointer.specs.declared.pointer.At.{At}
 use Rattle.far_pointer.specs.declared.pointer.Pointer.{Pointer}
 use Rattle.far_pointer.specs.declared.pointer.Pointer.TheVariants.{Local}
 use Rattle.far_pointer.specs.Layout.{is_dirty}
-use Rattle.far_scopes.specs.declared.entry.Entry.{Entry}
+use Rattle.far_scopes.specs.declared.object_record.ObjectRecord.{ObjectRecord}
 use Rattle.far_scopes.specs.Recency.{has}
 use Rattle.far_scopes.specs.Memory.{Memory, list_in, ChangesList}
 use Rattle.far_scopes.specs.Movement.{Movement, word_of, entry_of, is_local, dirty, pins_of, list_of, AreClean, IsTracked, AreTracked}
@@ -19,9 +19,9 @@ use Rattle.far_scopes.proofs.Tracked.{Others, clean-one, list-one, each-one}
 use Rattle.far_scopes.proofs.Transitions.{some-one}
 
 -- an object that was just made, whatever is meant by tickets
-pub tracked-new : {X K : Type 0} (meaning : List ℕ → List X) (content : K → List ℕ) (spelled : List X → List ℕ → Type 0) (changes leavings : ℕ) (at : At) (name : Name) (list : List X)
-    → 0 < length list → IsTracked meaning content spelled changes leavings (Local at true true false) (Some list) (new_entry name (length list))
-tracked-new meaning content spelled changes leavings at name list some =
+pub tracked-new : {X K : Type 0} (meaning : List ℕ → List X) (content : K → List ℕ) (spelled : List X → List ℕ → Type 0) (max_writes leavings : ℕ) (at : At) (name : Name) (list : List X)
+    → 0 < length list → IsTracked meaning content spelled max_writes leavings (Local at true true false) (Some list) (new_entry name (length list))
+tracked-new meaning content spelled max_writes leavings at name list some =
     record { version = omega arith; left = omega arith; some = some; long = refl; away = λ is. cc; copy = refl; far = tt }
 
 module _ {X K : Type 0} (meaning : List ℕ → List X) (content : K → List ℕ) (spelled : List X → List ℕ → Type 0) (m : Movement X K) (tracked : AreTracked meaning content spelled m) (memory : Memory X) (at : At) (name : Name) (list : List X)
@@ -31,26 +31,26 @@ module _ {X K : Type 0} (meaning : List ℕ → List X) (content : K → List �
   with_one = record m { memory = memory; entries = m.entries ++ new_entry name (length list) ∷ []; order = length m.entries ∷ m.order }
 
   word-new : word_of with_one (length m.entries) ≡ Some (Local at true true false)
-  word-new = rw (words, tracked.even) (slice_get-push_last m.memory.words (Local at true true false))
+  word-new = rw (words, tracked.same_length) (slice_get-push_last m.memory.words (Local at true true false))
 
   list-new : list_in memory (length m.entries) ≡ Some list
-  list-new = rw tracked.even change.here
+  list-new = rw tracked.same_length change.here
 
-  apart : (p : ℕ) → p ≢ length m.entries → p ≢ length m.memory.words
-  apart p ne same = ne (same ∙ sym tracked.even)
+  disjoint : (p : ℕ) → p ≢ length m.entries → p ≢ length m.memory.words
+  disjoint p ne same = ne (same ∙ sym tracked.same_length)
 
   others : Others meaning content m with_one (length m.entries)
   others = record {
-    words = λ p ne. rw words (slice_get-push_other m.memory.words (Local at true true false) p (apart p ne));
+    words = λ p ne. rw words (slice_get-push_other m.memory.words (Local at true true false) p (disjoint p ne));
     entries = slice_get-push_other m.entries (new_entry name (length list));
-    lists = λ p ne. change.others p (apart p ne);
+    lists = λ p ne. change.others p (disjoint p ne);
   }
 
   -- it is local, and has no pin
   pub last-made : (is_local with_one (length m.entries) ≡ true) × (pins_of with_one (length m.entries) ≡ 0)
   last-made = (
-    rw (words, tracked.even) (ap is_some (place-push_last m.memory.words (Local at true true false))),
-    ap (λ e. option_map_or (λ (entry : Entry K). entry.pins) e 0) (slice_get-push_last m.entries (new_entry name (length list))),
+    rw (words, tracked.same_length) (ap is_some (place-push_last m.memory.words (Local at true true false))),
+    ap (λ e. option_map_or (λ (entry : ObjectRecord K). entry.pins) e 0) (slice_get-push_last m.entries (new_entry name (length list))),
   )
 
   pub lists-made : ChangesList (list_of meaning content m) (list_of meaning content with_one) (length m.entries) (Some list)
@@ -62,22 +62,22 @@ module _ {X K : Type 0} (meaning : List ℕ → List X) (content : K → List �
 
   ordered-made : (p : ℕ) → has (length m.entries ∷ m.order) p ≡ is_local with_one p
   ordered-made p = elim (cases_eq p (length m.entries)) [
-    | inl same ↦ subst (λ k. has (length m.entries ∷ m.order) k ≡ is_local with_one k) (sym same) (has-cons_same m.order (length m.entries) ∙ rw (words, tracked.even) (ap is_some (sym (place-push_last m.memory.words (Local at true true false)))))
-    | inr ne ↦ has-cons_other m.order (length m.entries) p ne ∙ tracked.ordered p ∙ rw words (ap is_some (sym (place-push_other m.memory.words (Local at true true false) p (apart p ne))))
+    | inl same ↦ subst (λ k. has (length m.entries ∷ m.order) k ≡ is_local with_one k) (sym same) (has-cons_same m.order (length m.entries) ∙ rw (words, tracked.same_length) (ap is_some (sym (place-push_last m.memory.words (Local at true true false)))))
+    | inr ne ↦ has-cons_other m.order (length m.entries) p ne ∙ tracked.ordered p ∙ rw words (ap is_some (sym (place-push_other m.memory.words (Local at true true false) p (disjoint p ne))))
   ]
 
   -- the new object was in no order of use
   pub not-yet : has m.order (length m.entries) ≡ false
-  not-yet = tracked.ordered (length m.entries) ∙ rw tracked.even (ap is_some (place-end m.memory.words))
+  not-yet = tracked.ordered (length m.entries) ∙ rw tracked.same_length (ap is_some (place-end m.memory.words))
 
   pub tracked-made : 0 < length list → length m.entries < 2 ^ 28 → AreTracked meaning content spelled with_one
   tracked-made some few = record {
-    even = length-append m.entries (new_entry name (length list) ∷ []) ∙ rw (words, length-append m.memory.words (Local at true true false ∷ []), tracked.even) refl;
+    same_length = length-append m.entries (new_entry name (length list) ∷ []) ∙ rw (words, length-append m.memory.words (Local at true true false ∷ []), tracked.same_length) refl;
     few = omega (arith, few, length-append m.entries (new_entry {K = K} name (length list) ∷ []));
     each = each-one meaning content m with_one (length m.entries) others spelled tracked refl refl
-        (λ word e w is. rw list-new (subst (λ (k : Pointer). IsTracked meaning content spelled m.changes m.leavings k (Some list) e) (some-one (word_of with_one (length m.entries)) w word-new)
-        (subst (IsTracked meaning content spelled m.changes m.leavings (Local at true true false) (Some list)) (some-one (entry_of with_one (length m.entries)) is (slice_get-push_last m.entries (new_entry name (length list))))
-        (tracked-new meaning content spelled m.changes m.leavings at name list some))));
+        (λ word e w is. rw list-new (subst (λ (k : Pointer). IsTracked meaning content spelled m.max_writes m.leavings k (Some list) e) (some-one (word_of with_one (length m.entries)) w word-new)
+        (subst (IsTracked meaning content spelled m.max_writes m.leavings (Local at true true false) (Some list)) (some-one (entry_of with_one (length m.entries)) is (slice_get-push_last m.entries (new_entry name (length list))))
+        (tracked-new meaning content spelled m.max_writes m.leavings at name list some))));
     once = (not-yet, tracked.once);
     ordered = ordered-made;
   }

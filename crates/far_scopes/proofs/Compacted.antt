@@ -12,16 +12,16 @@ use Rattle.far_pointer.specs.declared.pointer.Pointer.TheVariants.{Local, Remote
 use Rattle.far_pointer.specs.Layout.{with_hot, with_at}
 use Rattle.std.specs.declared.result.Result.TheVariants.{Ok}
 use Rattle.far_types.specs.declared.refusal.Refusal.{Refusal}
-use Rattle.far_log.specs.Room.{Part, Room, AreLaid, list_at, segment_of, part_of, IsRegion}
-use Rattle.far_log.specs.Changes.{laid_from, list_or_none, gathered, IsOrder, Compacts}
+use Rattle.far_log.specs.RegionState.{Part, RegionState, IsLayoutFrom, list_at, segment_of, part_of, IsRegion}
+use Rattle.far_log.specs.Effects.{laid_from, list_or_none, gathered, IsOrder, Compacts}
 use Rattle.far_log.proofs.Gathers.{some-list}
-use Rattle.far_log.proofs.RoomLaws.{laid-segment, part-there}
+use Rattle.far_log.proofs.RegionLaws.{laid-segment, part-there}
 use Rattle.far_scopes.specs.declared.memory.compaction.SegmentObject.{SegmentObject}
 use Rattle.far_scopes.specs.Memory.{at_of, place_of, list_in, IsMemory}
 use Rattle.far_scopes.specs.Compaction.{hot_first, offset_after, moved_word, IsCompacted}
 use Rattle.far_scopes.specs.SegmentObjects.{AreHotFirst, Settles}
 use Rattle.far_scopes.proofs.Places.{cases_option, same_some, none_or_some, not_some}
-use Rattle.far_scopes.proofs.Rising.{in-read, Rises, rises-before, rises-apart}
+use Rattle.far_scopes.proofs.Rising.{in-read, Rises, rises-before, rises-disjoint}
 use Rattle.far_scopes.proofs.HotFirst.{at-is, order-whole, order-is, objects-there, objects-within, objects-whole, objects-once}
 use Rattle.far_scopes.proofs.Relocated.{own-relocated, lists-relocated}
 
@@ -41,10 +41,10 @@ same-slices (x ∷ xs) (y ∷ ys) h = rw (same_Some x y (h zero), same-slices xs
 
 -- numbers that differ have one place each
 same-index : (xs : List ℕ) (i j : ℕ) → AllPairs (λ o p. o ≢ p) xs → i < length xs → j < length xs → get_or xs i 0 ≡ get_or xs j 0 → i ≡ j
-same-index xs i j apart first second same = elim (cases_lt i j) [
-  | inl less ↦ absurd (apart i j 0 less second same)
+same-index xs i j disjoint first second same = elim (cases_lt i j) [
+  | inl less ↦ absurd (disjoint i j 0 less second same)
   | inr le ↦ elim (cases_lt j i) [
-    | inl more ↦ absurd (apart j i 0 more first (sym same))
+    | inl more ↦ absurd (disjoint j i 0 more first (sym same))
     | inr ge ↦ omega (arith, le, ge)
   ]
 ]
@@ -141,18 +141,18 @@ module _ {X : Type 0} where
       words-settled = same-slices new (map (moved_word parts order from to) old) (λ o. one-word o ∙ sym (slice_get-map (moved_word parts order from to) old o))
 
 -- each list lies where its object's word says
-module _ {X : Type 0} (words : List Pointer) (room room' : Room X) (m : IsMemory words room) (from to : ℕ) (order offsets : List ℕ)
-    (compacts : Compacts room room' from to order offsets) (listed : IsOrder (segment_of room from).parts order) (sound : IsRegion room') where
+module _ {X : Type 0} (words : List Pointer) (state state' : RegionState X) (m : IsMemory words state) (from to : ℕ) (order offsets : List ℕ)
+    (compacts : Compacts state state' from to order offsets) (listed : IsOrder (segment_of state from).parts order) (sound : IsRegion state') where
   abbrev source : List (Part X)
-  source = (segment_of room from).parts
+  source = (segment_of state from).parts
 
   abbrev moved : At → At
   moved = moved_to source order from to
 
   -- a part of the segment is one of the order
-  part-listed : (at : At) → at.segment ≡ from → IsSome (part_of room at) → (k : ℕ) × (k < length order) × (get_or order k 0 ≡ at.offset)
+  part-listed : (at : At) → at.segment ≡ from → IsSome (part_of state at) → (k : ℕ) × (k < length order) × (get_or order k 0 ≡ at.offset)
   part-listed at here some =
-      let w = listed.whole at.offset (subst (λ n. IsSome (list_at (segment_of room n).parts at.offset)) here some) in
+      let w = listed.whole at.offset (subst (λ n. IsSome (list_at (segment_of state n).parts at.offset)) here some) in
       (w.0, w.1, get_or_default order w.0 0 at.offset w.1 ∙ w.2)
 
   -- the k-th of the order lies at the k-th of the offsets
@@ -167,34 +167,34 @@ module _ {X : Type 0} (words : List Pointer) (room room' : Room X) (m : IsMemory
   offsets-long = ap (λ (l : List ℕ). length l) compacts.offsets_are ∙ length-map (gathered source order) (λ p. p.offset) ∙ length-laid 0 (map (list_or_none source) order) ∙ length-map order (list_or_none source)
 
   -- no part lies in the segment that was empty
-  not-target : (at : At) → IsSome (part_of room at) → at.segment ≢ to
-  not-target at some same = not_some (part_of room at) (ap (λ n. list_at (segment_of room n).parts at.offset) same ∙ ap (λ ps. list_at ps at.offset) compacts.target.empty) some
+  not-target : (at : At) → IsSome (part_of state at) → at.segment ≢ to
+  not-target at some same = not_some (part_of state at) (ap (λ n. list_at (segment_of state n).parts at.offset) same ∙ ap (λ ps. list_at ps at.offset) compacts.target.empty) some
 
-  kept : (at : At) → IsSome (part_of room at) → part_of room' (moved at) ≡ part_of room at
+  kept : (at : At) → IsSome (part_of state at) → part_of state' (moved at) ≡ part_of state at
   kept at some = elim (cases_eq at.segment from) [
     | inl here ↦
         let w = part-listed at here some in
-        ap (part_of room') (moved-here source order from to at here)
-        ∙ ap (list_at (segment_of room' to).parts) (ap (offset_after source order) (sym w.2) ∙ offset-at w.0 w.1)
+        ap (part_of state') (moved-here source order from to at here)
+        ∙ ap (list_at (segment_of state' to).parts) (ap (offset_after source order) (sym w.2) ∙ offset-at w.0 w.1)
         ∙ compacts.moved w.0 w.1
-        ∙ ap (list_at source) w.2 ∙ ap (λ n. list_at (segment_of room n).parts at.offset) (sym here)
-    | inr else ↦ ap (part_of room') (moved-else source order from to at else) ∙ ap (λ s. list_at s.parts at.offset) (compacts.others at.segment else (not-target at some))
+        ∙ ap (list_at source) w.2 ∙ ap (λ n. list_at (segment_of state n).parts at.offset) (sym here)
+    | inr else ↦ ap (part_of state') (moved-else source order from to at else) ∙ ap (λ s. list_at s.parts at.offset) (compacts.others at.segment else (not-target at some))
   ]
 
   -- no two lists begin at one place
-  offsets-apart : from < length room → AllPairs (λ o p. o ≢ p) offsets
-  offsets-apart there =
-      rw compacts.offsets_are (rises-apart 0 (map (λ p. p.offset) (gathered source order)) (rises-picked (list_or_none source) 0 order
-      (λ k lt. some-list 0 (segment_of room from).size source (get_or order k 0) (laid-segment room from m.region there) (All-get_or (λ offset. IsSome (list_at source offset)) order k 0 lt listed.listed))))
+  offsets-disjoint : from < length state → AllPairs (λ o p. o ≢ p) offsets
+  offsets-disjoint there =
+      rw compacts.offsets_are (rises-disjoint 0 (map (λ p. p.offset) (gathered source order)) (rises-picked (list_or_none source) 0 order
+      (λ k lt. some-list 0 (segment_of state from).size source (get_or order k 0) (laid-segment state from m.region there) (All-get_or (λ offset. IsSome (list_at source offset)) order k 0 lt listed.listed))))
 
-  once : (q r : At) → IsSome (part_of room q) → IsSome (part_of room r) → moved q ≡ moved r → q ≡ r
+  once : (q r : At) → IsSome (part_of state q) → IsSome (part_of state r) → moved q ≡ moved r → q ≡ r
   once q r one other same = elim (cases_eq q.segment from) [
     | inl here ↦ elim (cases_eq r.segment from) [
       | inl also ↦
           let w = part-listed q here one in
           let v = part-listed r also other in
           let offset : get_or offsets w.0 0 ≡ get_or offsets v.0 0 = sym (offset-at w.0 w.1) ∙ ap (offset_after source order) w.2 ∙ ap (λ at. at.offset) (sym (moved-here source order from to q here) ∙ same ∙ moved-here source order from to r also) ∙ ap (offset_after source order) (sym v.2) ∙ offset-at v.0 v.1 in
-          let index : w.0 ≡ v.0 = same-index offsets w.0 v.0 (offsets-apart (subst (λ n. n < length room) here (part-there room q one))) (omega (arith, w.1, offsets-long)) (omega (arith, v.1, offsets-long)) offset in
+          let index : w.0 ≡ v.0 = same-index offsets w.0 v.0 (offsets-disjoint (subst (λ n. n < length state) here (part-there state q one))) (omega (arith, w.1, offsets-long)) (omega (arith, v.1, offsets-long)) offset in
           at-is q r.segment r.offset (here ∙ sym also) (sym w.2 ∙ ap (λ k. get_or order k 0) index ∙ v.2)
       | inr else ↦ absurd (not-target r other (ap (λ at. at.segment) (sym (moved-else source order from to r else) ∙ sym same ∙ moved-here source order from to q here)))
     ]
@@ -204,12 +204,12 @@ module _ {X : Type 0} (words : List Pointer) (room room' : Room X) (m : IsMemory
     ]
   ]
 
-  came : (r : At) → IsSome (part_of room' r) → (q : At) × IsSome (part_of room q) × (moved q ≡ r)
+  came : (r : At) → IsSome (part_of state' r) → (q : At) × IsSome (part_of state q) × (moved q ≡ r)
   came r some = elim (cases_eq r.segment from) [
-    | inl here ↦ absurd (not_some (part_of room' r) (ap (λ n. list_at (segment_of room' n).parts r.offset) here ∙ ap (λ ps. list_at ps r.offset) compacts.emptied) some)
+    | inl here ↦ absurd (not_some (part_of state' r) (ap (λ n. list_at (segment_of state' n).parts r.offset) here ∙ ap (λ ps. list_at ps r.offset) compacts.emptied) some)
     | inr ne ↦ elim (cases_eq r.segment to) [
       | inl target ↦
-          let w = compacts.only r.offset (subst (λ n. IsSome (list_at (segment_of room' n).parts r.offset)) target some) in
+          let w = compacts.only r.offset (subst (λ n. IsSome (list_at (segment_of state' n).parts r.offset)) target some) in
           let within : w.0 < length order = omega (arith, w.1, offsets-long) in
           let at : At = record { segment = from; offset = get_or order w.0 0 } in (
             at,
@@ -220,57 +220,57 @@ module _ {X : Type 0} (words : List Pointer) (room room' : Room X) (m : IsMemory
     ]
   ]
 
-  pub memory-compacted : IsMemory (map (moved_word source order from to) words) room'
+  pub memory-compacted : IsMemory (map (moved_word source order from to) words) state'
   memory-compacted = record {
     region = sound;
-    own = own-relocated (place_of words) (place_of (map (moved_word source order from to) words)) (part_of room) (part_of room') m.own moved (places-moved source order from to words) once kept came;
+    own = own-relocated (place_of words) (place_of (map (moved_word source order from to) words)) (part_of state) (part_of state') m.own moved (places-moved source order from to words) once kept came;
   }
 
-  pub lists-compacted : (o : ℕ) → list_in record { words = map (moved_word source order from to) words; room = room' } o ≡ list_in record { words = words; room = room } o
-  lists-compacted = lists-relocated (place_of words) (place_of (map (moved_word source order from to) words)) (part_of room) (part_of room') m.own moved (places-moved source order from to words) once kept came
+  pub lists-compacted : (o : ℕ) → list_in record { words = map (moved_word source order from to) words; state = state' } o ≡ list_in record { words = words; state = state } o
+  lists-compacted = lists-relocated (place_of words) (place_of (map (moved_word source order from to) words)) (part_of state) (part_of state') m.own moved (places-moved source order from to words) once kept came
 
 -- a compaction that is done
-pub record Done {X : Type 0} (words new : List Pointer) (room room' : Room X) (from : ℕ) : Type 0 where
-  pub compacted : IsCompacted record { words = words; room = room } record { words = new; room = room' } from
-  pub memory : IsMemory new room'
-  pub lists : (o : ℕ) → list_in record { words = new; room = room' } o ≡ list_in record { words = words; room = room } o
+pub record Done {X : Type 0} (words new : List Pointer) (state state' : RegionState X) (from : ℕ) : Type 0 where
+  pub compacted : IsCompacted record { words = words; state = state } record { words = new; state = state' } from
+  pub memory : IsMemory new state'
+  pub lists : (o : ℕ) → list_in record { words = new; state = state' } o ≡ list_in record { words = words; state = state } o
 
 -- a compaction of a segment, step by step
-module _ {X : Type 0} (words : List Pointer) (room : Room X) (m : IsMemory words room) (from : ℕ) (within : from < length room) (objects : List SegmentObject) (are : AreHotFirst words from objects) where
+module _ {X : Type 0} (words : List Pointer) (state : RegionState X) (m : IsMemory words state) (from : ℕ) (within : from < length state) (objects : List SegmentObject) (are : AreHotFirst words from objects) where
   abbrev parts : List (Part X)
-  parts = (segment_of room from).parts
+  parts = (segment_of state from).parts
 
   abbrev order : List ℕ
   order = map (λ (f : SegmentObject). f.offset) objects
 
-  laid : AreLaid 0 parts (segment_of room from).size
-  laid = laid-segment room from m.region within
+  laid : IsLayoutFrom 0 parts (segment_of state from).size
+  laid = laid-segment state from m.region within
 
-  in-order : order ≡ hot_first record { words = words; room = room } from
-  in-order = order-is words room from laid m.own objects are
+  in-order : order ≡ hot_first record { words = words; state = state } from
+  in-order = order-is words state from laid m.own objects are
 
   -- what the region is asked to move
   pub order-listed : IsOrder parts order
-  order-listed = rw in-order (order-whole words room from laid)
+  order-listed = rw in-order (order-whole words state from laid)
 
   -- what the words are asked to say
   pub within-words : All (λ (f : SegmentObject). f.object < length words) objects
-  within-words = objects-within words room from laid m.own objects are
+  within-words = objects-within words state from laid m.own objects are
 
   pub once-each : AllPairs (λ o p. o ≢ p) (map (λ (f : SegmentObject). f.object) objects)
-  once-each = objects-once words room from laid m.own objects are
+  once-each = objects-once words state from laid m.own objects are
 
-  module _ (room' : Room X) (to : ℕ) (offsets : List ℕ) (compacts : Compacts room room' from to order offsets) (sound : IsRegion room') where
+  module _ (state' : RegionState X) (to : ℕ) (offsets : List ℕ) (compacts : Compacts state state' from to order offsets) (sound : IsRegion state') where
     pub long-enough : length offsets ≡ length objects
-    long-enough = offsets-long words room room' m from to order offsets compacts order-listed sound ∙ length-map objects (λ (f : SegmentObject). f.offset)
+    long-enough = offsets-long words state state' m from to order offsets compacts order-listed sound ∙ length-map objects (λ (f : SegmentObject). f.offset)
 
     module _ (new : List Pointer) (settled : Settles words new objects to offsets (length objects)) where
       settled-words : new ≡ map (moved_word parts order from to) words
-      settled-words = words-settled parts order from to words new objects offsets settled refl order-listed.once compacts.offsets_are (objects-there words room from laid m.own objects are) (objects-whole words room from laid m.own objects are)
+      settled-words = words-settled parts order from to words new objects offsets settled refl order-listed.once compacts.offsets_are (objects-there words state from laid m.own objects are) (objects-whole words state from laid m.own objects are)
 
-      pub compacted-done : Done words new room room' from
+      pub compacted-done : Done words new state state' from
       compacted-done = record {
-        compacted = record { to = to; target = compacts.target; memory = rw (settled-words, compacts.room, in-order) refl };
-        memory = rw settled-words (memory-compacted words room room' m from to order offsets compacts order-listed sound);
-        lists = rw settled-words (lists-compacted words room room' m from to order offsets compacts order-listed sound);
+        compacted = record { to = to; target = compacts.target; memory = rw (settled-words, compacts.state, in-order) refl };
+        memory = rw settled-words (memory-compacted words state state' m from to order offsets compacts order-listed sound);
+        lists = rw settled-words (lists-compacted words state state' m from to order offsets compacts order-listed sound);
       }

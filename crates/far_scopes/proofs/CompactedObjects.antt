@@ -8,7 +8,7 @@ use Rattle.std.proofs.lemmas.List.{length-map}
 use Rattle.far_pointer.specs.declared.pointer.Pointer.{Pointer}
 use Rattle.far_pointer.specs.declared.pointer.Pointer.TheVariants.{Local, Remote}
 use Rattle.far_pointer.specs.Layout.{is_dirty}
-use Rattle.far_log.specs.Room.{Part, segment_of}
+use Rattle.far_log.specs.RegionState.{Part, segment_of}
 use Rattle.far_scopes.specs.Memory.{Memory, at_of, place_of, list_in}
 use Rattle.far_scopes.specs.Compaction.{hot_first, offset_after, moved_word, IsCompacted}
 use Rattle.far_scopes.specs.Movement.{Movement, has_copy, dirty, list_of, AreClean, AreTracked}
@@ -60,7 +60,7 @@ module _ {X K : Type 0} (meaning : List ℕ → List X) (content : K → List �
 
   pub tracked-changed : (spelled : List X → List ℕ → Type 0) → AreTracked meaning content spelled m → AreTracked meaning content spelled changed
   tracked-changed spelled tracked = record {
-    even = tracked.even ∙ sym (ap (λ (l : List Pointer). length l) words ∙ length-map m.memory.words change);
+    same_length = tracked.same_length ∙ sym (ap (λ (l : List Pointer). length l) words ∙ length-map m.memory.words change);
     few = tracked.few;
     each = λ o word entry now was.
         let w = word-was o word now in
@@ -101,10 +101,10 @@ module _ {X : Type 0} (parts : List (Part X)) (order : List ℕ) (from to : ℕ)
 
 module _ {X K : Type 0} (meaning : List ℕ → List X) (content : K → List ℕ) (m : Movement X K) (memory : Memory X) (from : ℕ) (compacted : IsCompacted m.memory memory from) (lists : (o : ℕ) → list_in memory o ≡ list_in m.memory o) where
   abbrev change : Pointer → Pointer
-  change = moved_word (segment_of m.memory.room from).parts (hot_first m.memory from) from compacted.to
+  change = moved_word (segment_of m.memory.state from).parts (hot_first m.memory from) from compacted.to
 
   keeps : Keeps change
-  keeps = keeps-moved (segment_of m.memory.room from).parts (hot_first m.memory from) from compacted.to
+  keeps = keeps-moved (segment_of m.memory.state from).parts (hot_first m.memory from) from compacted.to
 
   words : memory.words ≡ map change m.memory.words
   words = ap (λ n. n.words) compacted.memory

@@ -8,7 +8,7 @@ use Rattle.std.proofs.lemmas.Option.{slice_get-get_or}
 use Rattle.far_pointer.specs.declared.pointer.Pointer.{Pointer}
 use Rattle.far_pointer.specs.declared.pointer.Pointer.TheVariants.{Remote}
 use Rattle.far_codec.specs.Spelling.{IsSpelled}
-use Rattle.far_scopes.specs.declared.entry.Entry.{Entry}
+use Rattle.far_scopes.specs.declared.object_record.ObjectRecord.{ObjectRecord}
 use Rattle.far_scopes.specs.Recency.{has, without}
 use Rattle.far_scopes.specs.Memory.{Memory, list_in, ChangesList}
 use Rattle.far_scopes.specs.Movement.{Movement, word_of, entry_of, is_local, pins_of, leavings_of, list_of, AreClean, IsTracked, AreTracked}
@@ -35,7 +35,7 @@ reads-spelled meaning in_range has_spelling spelling reads_back bytes list is = 
 
 module _ {X K : Type 0} (meaning : List ℕ → List X) (content : K → List ℕ) (spelled : List X → List ℕ → Type 0) (m : Movement X K) (tracked : AreTracked meaning content spelled m) (o : ℕ) where
   -- an object that is local with a list that this ticket spells goes away
-  module _ (entry : Entry K) (read : entry ≡ get_or m.entries o entry) (ticket : K) (reads : (list : List X) → spelled list (content ticket) → meaning (content ticket) ≡ list) (copied : IsSomeAnd (list_in m.memory o) (λ list. spelled list (content ticket))) where
+  module _ (entry : ObjectRecord K) (read : entry ≡ get_or m.entries o entry) (ticket : K) (reads : (list : List X) → spelled list (content ticket) → meaning (content ticket) ≡ list) (copied : IsSomeAnd (list_in m.memory o) (λ list. spelled list (content ticket))) where
     found : (list : List X) × (list_in m.memory o ≡ Some list) × spelled list (content ticket)
     found = some-with (λ list. spelled list (content ticket)) (list_in m.memory o) copied
 
@@ -49,12 +49,12 @@ module _ {X K : Type 0} (meaning : List ℕ → List X) (content : K → List �
     there-word = list-within m.memory o (is-some (list_in m.memory o) found.1)
 
     there : o < length m.entries
-    there = subst (λ n. o < n) (sym tracked.even) there-word
+    there = subst (λ n. o < n) (sym tracked.same_length) there-word
 
     pub entry-was : entry_of m o ≡ Some entry
     entry-was = word-read m.entries o entry there read
 
-    abbrev left-behind : Entry K
+    abbrev left-behind : ObjectRecord K
     left-behind = record entry { leavings = entry.leavings + 1; ticket = Some ticket }
 
     module _ (memory : Memory X) (words : memory.words ≡ slice_set m.memory.words o Remote) (change : ChangesList (list_in m.memory) (list_in memory) o None) where
@@ -87,29 +87,29 @@ module _ {X K : Type 0} (meaning : List ℕ → List X) (content : K → List �
       ]
 
       module _ (unpinned : pins_of m o ≡ 0) (left : leavings_of m o < m.leavings) where
-        tracked-one-gone : IsTracked meaning content spelled m.changes m.leavings Remote None left-behind
+        tracked-one-gone : IsTracked meaning content spelled m.max_writes m.leavings Remote None left-behind
         tracked-one-gone =
             let (word, w) = word-there m.memory.words o there-word in
             let old = tracked.each o word entry w entry-was in
             let long : length list ≡ entry.len = subst (λ l. IfSome l (λ xs. length xs ≡ entry.len)) found.1 old.long in
-            let fewer : entry.leavings < m.leavings = subst (λ e. option_map_or (λ (x : Entry K). x.leavings) e 0 < m.leavings) entry-was left in
+            let fewer : entry.leavings < m.leavings = subst (λ e. option_map_or (λ (x : ObjectRecord K). x.leavings) e 0 < m.leavings) entry-was left in
             record {
               version = old.version;
               left = omega (arith, fewer);
               some = old.some;
               long = tt;
-              away = λ remote. (subst (λ e. option_map_or (λ (x : Entry K). x.pins) e 0 ≡ 0) entry-was unpinned, ap (λ l. length l) means ∙ long);
+              away = λ remote. (subst (λ e. option_map_or (λ (x : ObjectRecord K). x.pins) e 0 ≡ 0) entry-was unpinned, ap (λ l. length l) means ∙ long);
               copy = refl;
               far = rw means found.2;
             }
 
         pub tracked-gone : AreTracked meaning content spelled gone
         tracked-gone = record {
-          even = length-set m.entries o left-behind ∙ tracked.even ∙ sym (ap (λ l. length l) words ∙ length-set m.memory.words o Remote);
+          same_length = length-set m.entries o left-behind ∙ tracked.same_length ∙ sym (ap (λ l. length l) words ∙ length-set m.memory.words o Remote);
           few = rw (length-set m.entries o left-behind) tracked.few;
           each = each-one meaning content m gone o others-gone spelled tracked refl refl
-              (λ word e w there. rw change.here (subst (λ (k : Pointer). IsTracked meaning content spelled m.changes m.leavings k None e) (some-one (word_of gone o) w word-gone)
-              (subst (IsTracked meaning content spelled m.changes m.leavings Remote None) (some-one (entry_of gone o) there entry-gone) tracked-one-gone)));
+              (λ word e w there. rw change.here (subst (λ (k : Pointer). IsTracked meaning content spelled m.max_writes m.leavings k None e) (some-one (word_of gone o) w word-gone)
+              (subst (IsTracked meaning content spelled m.max_writes m.leavings Remote None) (some-one (entry_of gone o) there entry-gone) tracked-one-gone)));
           once = once-without m.order o tracked.once;
           ordered = ordered-gone;
         }

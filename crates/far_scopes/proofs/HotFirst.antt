@@ -11,15 +11,15 @@ use Rattle.far_pointer.specs.declared.pointer.At.{At}
 use Rattle.far_pointer.specs.declared.pointer.Pointer.{Pointer}
 use Rattle.far_pointer.specs.declared.pointer.Pointer.TheVariants.{Local, Remote}
 use Rattle.far_pointer.specs.Layout.{is_hot}
-use Rattle.far_log.specs.Room.{Part, Room, end_of, AreLaid, list_at, segment_of, part_of}
-use Rattle.far_log.specs.Changes.{IsOrder}
+use Rattle.far_log.specs.RegionState.{Part, RegionState, end_of, IsLayoutFrom, list_at, segment_of, part_of}
+use Rattle.far_log.specs.Effects.{IsOrder}
 use Rattle.far_scopes.specs.declared.memory.compaction.SegmentObject.{SegmentObject}
 use Rattle.far_scopes.specs.Memory.{Memory, at_of, place_of, OwnPlaces}
 use Rattle.far_scopes.specs.Compaction.{begins_at, hot_at, offsets_in, hot_first}
-use Rattle.far_scopes.specs.SegmentObjects.{offset_if, offset_of, AreRising, AreHotFirst}
+use Rattle.far_scopes.specs.SegmentObjects.{offset_if, offset_of, AreSorted, AreHotFirst}
 use Rattle.far_scopes.proofs.Places.{cases_option, same_some, none_or_some}
-use Rattle.far_scopes.proofs.Rising.{in-head, in-tail, in-none, in-cases, in-filter, from-filter, in-read, pairs-append, in-map, from-map, Rises, rises-before, rises-filter, rises-sorted, rises-apart, same-rising}
-use Rattle.far_scopes.proofs.Settling.{apart-at}
+use Rattle.far_scopes.proofs.Rising.{in-head, in-tail, in-none, in-cases, in-filter, from-filter, in-read, pairs-append, in-map, from-map, Rises, rises-before, rises-filter, rises-sorted, rises-disjoint, same-rising}
+use Rattle.far_scopes.proofs.Settling.{disjoint-at}
 
 -- a location is its two numbers
 pub at-is : (at : At) (segment offset : ℕ) → at.segment ≡ segment → at.offset ≡ offset → at ≡ record { segment = segment; offset = offset }
@@ -91,7 +91,7 @@ not-true false e = refl
 
 module _ {X : Type 0} where
   -- the parts of a segment begin at numbers that rise
-  pub rises-laid : (from size : ℕ) (parts : List (Part X)) → AreLaid from parts size → Rises from (map (λ p. p.offset) parts)
+  pub rises-laid : (from size : ℕ) (parts : List (Part X)) → IsLayoutFrom from parts size → Rises from (map (λ p. p.offset) parts)
   rises-laid from size [] h = tt
   rises-laid from size (p ∷ ps) h = (h.0, rises-before (p.offset + 1) (end_of p) (map (λ p. p.offset) ps) (omega (arith, h.1)) (rises-laid (end_of p) size ps h.2))
 
@@ -110,9 +110,9 @@ module _ {X : Type 0} where
   some-offset [] offset some = cc
   some-offset (p ∷ ps) offset some = first-or-rest p ps offset (eqb p.offset offset) refl (some-offset ps offset) some
 
-  module _ (words : List Pointer) (room : Room X) (from : ℕ) (laid : AreLaid 0 (segment_of room from).parts (segment_of room from).size) where
+  module _ (words : List Pointer) (state : RegionState X) (from : ℕ) (laid : IsLayoutFrom 0 (segment_of state from).parts (segment_of state from).size) where
     abbrev here : Memory X
-    here = record { words = words; room = room }
+    here = record { words = words; state = state }
 
     abbrev hot-from : ℕ → Bool
     hot-from offset = hot_at words record { segment = from; offset = offset }
@@ -121,7 +121,7 @@ module _ {X : Type 0} where
     cold-from offset = not (hot-from offset)
 
     abbrev offsets : List ℕ
-    offsets = offsets_in room from
+    offsets = offsets_in state from
 
     in-order : (offset : ℕ) → Contains offsets offset → Contains (hot_first here from) offset
     in-order offset there = true-or-not (hot-from offset) (Contains (hot_first here from) offset)
@@ -129,28 +129,28 @@ module _ {X : Type 0} where
         (λ cold. Contains-append_right (filter hot-from offsets) (filter cold-from offsets) offset (in-filter cold-from offsets offset there (ap not cold)))
 
     -- a compaction lists the parts of the segment, each once
-    pub order-whole : IsOrder (segment_of room from).parts (hot_first here from)
+    pub order-whole : IsOrder (segment_of state from).parts (hot_first here from)
     order-whole =
-        let up = rises-laid 0 (segment_of room from).size (segment_of room from).parts laid in
+        let up = rises-laid 0 (segment_of state from).size (segment_of state from).parts laid in
         record {
-          listed = All-append (λ offset. IsSome (list_at (segment_of room from).parts offset)) (filter hot-from offsets) (filter cold-from offsets)
-              (λ k d lt. offset-some (segment_of room from).parts (get_or (filter hot-from offsets) k d) (from-filter hot-from offsets (get_or (filter hot-from offsets) k d) (in-read (filter hot-from offsets) k d lt)).0)
-              (λ k d lt. offset-some (segment_of room from).parts (get_or (filter cold-from offsets) k d) (from-filter cold-from offsets (get_or (filter cold-from offsets) k d) (in-read (filter cold-from offsets) k d lt)).0);
-          whole = λ offset some. in-order offset (some-offset (segment_of room from).parts offset some);
-          once = pairs-append (λ o p. o ≢ p) (filter hot-from offsets) (filter cold-from offsets) (rises-apart 0 (filter hot-from offsets) (rises-filter hot-from 0 offsets up)) (rises-apart 0 (filter cold-from offsets) (rises-filter cold-from 0 offsets up))
+          listed = All-append (λ offset. IsSome (list_at (segment_of state from).parts offset)) (filter hot-from offsets) (filter cold-from offsets)
+              (λ k d lt. offset-some (segment_of state from).parts (get_or (filter hot-from offsets) k d) (from-filter hot-from offsets (get_or (filter hot-from offsets) k d) (in-read (filter hot-from offsets) k d lt)).0)
+              (λ k d lt. offset-some (segment_of state from).parts (get_or (filter cold-from offsets) k d) (from-filter cold-from offsets (get_or (filter cold-from offsets) k d) (in-read (filter cold-from offsets) k d lt)).0);
+          whole = λ offset some. in-order offset (some-offset (segment_of state from).parts offset some);
+          once = pairs-append (λ o p. o ≢ p) (filter hot-from offsets) (filter cold-from offsets) (rises-disjoint 0 (filter hot-from offsets) (rises-filter hot-from 0 offsets up)) (rises-disjoint 0 (filter cold-from offsets) (rises-filter cold-from 0 offsets up))
               (λ o p one other same. let is = (from-filter hot-from offsets o one).1 in let not-is = not-true (hot-from p) (from-filter cold-from offsets p other).1 in
               let also : hot-from o ≡ false = ap hot-from same ∙ not-is in cc);
         }
 
     -- what is known of the objects of the segment
-    module _ (own : OwnPlaces (place_of words) (part_of room)) where
+    module _ (own : OwnPlaces (place_of words) (part_of state)) where
       -- an object is hot where its word says so
       hot-is : (o : ℕ) (word : Pointer) (at : At) → slice_get words o ≡ Some word → at_of word ≡ Some at → hot_at words at ≡ is_hot word
       hot-is o word at there is = true-or-not (is_hot word) (hot_at words at ≡ is_hot word)
           (λ hot. list_any_at (λ w. begins_at at w && is_hot w) words o word (slice_get_within words o word there) (rw (get_or_from_slice_get words o word word there, begins-there at word is) hot) ∙ sym hot)
           (λ cold. list_any_none (λ w. begins_at at w && is_hot w) words (λ k d lt. and-false (begins_at at (get_or words k d)) (is_hot (get_or words k d)) (λ begins.
           let read = slice_get-get_or words k d lt in
-          let same : k ≡ o = own.apart k o at (ap (option_and_then at_of) read ∙ begins-is at (get_or words k d) begins) (ap (option_and_then at_of) there ∙ is) in
+          let same : k ≡ o = own.disjoint k o at (ap (option_and_then at_of) read ∙ begins-is at (get_or words k d) begins) (ap (option_and_then at_of) there ∙ is) in
           ap is_hot (same_Some (get_or words k d) word (sym read ∙ ap (slice_get words) same ∙ there)) ∙ cold)) ∙ sym cold)
 
       -- what is known of an object that is found
@@ -169,13 +169,13 @@ module _ {X : Type 0} where
           let hot : is_hot w.0 ≡ h = sym (hot-is o w.0 record { segment = from; offset = at.offset } w.1 (w.2 ∙ ap Some (at-is at from at.offset within refl))) ∙ heat in
           ap (option_and_then (offset_if from h)) w.1 ∙ subst (λ b. offset_if from b w.0 ≡ Some at.offset) hot (offset-there from w.0 at w.2 within)
 
-      module _ (h : Bool) (objects : List SegmentObject) (are : AreRising words from h objects) where
+      module _ (h : Bool) (objects : List SegmentObject) (are : AreSorted words from h objects) where
         there : (found : SegmentObject) → Contains objects found → (place_of words found.object ≡ Some record { segment = from; offset = found.offset }) × (hot-from found.offset ≡ h)
         there found in-it = found-is h found.object found.offset (All-contains (λ (f : SegmentObject). (f.object < length words) × (offset_of words from h f.object ≡ Some f.offset)) objects found are.all.sound in-it).1
 
         -- two of them begin at two offsets
-        offsets-apart : AllPairs (λ o p. o ≢ p) (map (λ (f : SegmentObject). f.offset) objects)
-        offsets-apart i j d lt within same =
+        offsets-disjoint : AllPairs (λ o p. o ≢ p) (map (λ (f : SegmentObject). f.offset) objects)
+        offsets-disjoint i j d lt within same =
             let none : SegmentObject = record { object = 0; offset = 0 } in
             let long = length-map objects (λ (f : SegmentObject). f.offset) in
             let second : j < length objects = omega (arith, within, long) in
@@ -183,23 +183,23 @@ module _ {X : Type 0} where
             let offset : (get_or objects i none).offset ≡ (get_or objects j none).offset = sym (get_or-map (λ (f : SegmentObject). f.offset) objects i none d first) ∙ same ∙ get_or-map (λ (f : SegmentObject). f.offset) objects j none d second in
             let one = (there (get_or objects i none) (in-read objects i none first)).0 in
             let two = (there (get_or objects j none) (in-read objects j none second)).0 in
-            apart-at objects i j none are.all.once (λ e. omega (arith, lt, e)) first second
-            (own.apart (get_or objects i none).object (get_or objects j none).object record { segment = from; offset = (get_or objects j none).offset } (one ∙ ap (λ (n : ℕ). let at : At = record { segment = from; offset = n } in Some at) offset) two)
+            disjoint-at objects i j none are.all.once (λ e. omega (arith, lt, e)) first second
+            (own.disjoint (get_or objects i none).object (get_or objects j none).object record { segment = from; offset = (get_or objects j none).offset } (one ∙ ap (λ (n : ℕ). let at : At = record { segment = from; offset = n } in Some at) offset) two)
 
-        -- where they begin, in the words of the room
+        -- where they begin, in the words of the region
         rising-is : (passes : ℕ → Bool) → ((offset : ℕ) → passes offset ≡ true → hot-from offset ≡ h) → ((offset : ℕ) → hot-from offset ≡ h → passes offset ≡ true) → map (λ (f : SegmentObject). f.offset) objects ≡ filter passes offsets
         rising-is passes to back =
             same-rising 0 (map (λ (f : SegmentObject). f.offset) objects) (filter passes offsets)
-            (rises-sorted (map (λ (f : SegmentObject). f.offset) objects) are.rising offsets-apart)
-            (rises-filter passes 0 offsets (rises-laid 0 (segment_of room from).size (segment_of room from).parts laid))
+            (rises-sorted (map (λ (f : SegmentObject). f.offset) objects) are.rising offsets-disjoint)
+            (rises-filter passes 0 offsets (rises-laid 0 (segment_of state from).size (segment_of state from).parts laid))
             (λ offset in-it.
             let w = from-map (λ (f : SegmentObject). f.offset) objects offset in-it in
             let v = there w.0 w.1 in
-            subst (λ n. Contains (filter passes offsets) n) w.2 (in-filter passes offsets w.0.offset (some-offset (segment_of room from).parts w.0.offset (own.placed w.0.object record { segment = from; offset = w.0.offset } v.0)) (back w.0.offset v.1)))
+            subst (λ n. Contains (filter passes offsets) n) w.2 (in-filter passes offsets w.0.offset (some-offset (segment_of state from).parts w.0.offset (own.placed w.0.object record { segment = from; offset = w.0.offset } v.0)) (back w.0.offset v.1)))
             (λ offset in-it.
             let w = from-filter passes offsets offset in-it in
             let at : At = record { segment = from; offset = offset } in
-            let v = own.only at (offset-some (segment_of room from).parts offset w.0) in
+            let v = own.only at (offset-some (segment_of state from).parts offset w.0) in
             let u = some-word words v.0 at v.1 in
             in-map (λ (f : SegmentObject). f.offset) objects record { object = v.0; offset = offset } (are.all.whole v.0 offset (slice_get_within words v.0 u.0 u.1) (is-found h v.0 at v.1 refl (to offset w.1))))
 

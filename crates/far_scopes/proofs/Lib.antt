@@ -12,6 +12,7 @@ pub mod KeyLaws
 pub mod RecencyLaws
 pub mod Found
 pub mod ColdestLaws
+pub mod AllLocal
 pub mod Tracked
 pub mod Transitions
 pub mod Touched

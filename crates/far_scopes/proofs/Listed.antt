@@ -7,7 +7,7 @@ use Rattle.far_types.specs.declared.refusal.Refusal.{Refusal}
 use Rattle.far_types.specs.declared.refusal.Refusal.TheVariants as refusal
 use Rattle.far_scopes.specs.Movement.{Movement, is_local, pins_of}
 use Rattle.far_scopes.specs.Refusing.{absent, pin_refusal, first_absent}
-use Rattle.far_scopes.specs.Effects.{pinned}
+use Rattle.far_scopes.specs.Effects.{after_pin}
 use Rattle.far_scopes.specs.Entering.{pins_overflow}
 use Rattle.far_scopes.proofs.Places.{cases_option}
 use Rattle.far_scopes.proofs.WordPlaces.{slice_get-set_same, slice_get-set_other}
@@ -26,7 +26,7 @@ ok-goes false rest r is = refl
 
 module _ {X K : Type 0} where
   -- a pin leaves the names as they are
-  absent-pinned : (m : Movement X K) (o p : ℕ) → (absent (pinned m o) p).1 ≡ (absent m p).1
+  absent-pinned : (m : Movement X K) (o p : ℕ) → (absent (after_pin m o) p).1 ≡ (absent m p).1
   absent-pinned m o p = elim (cases_option (slice_get m.entries o)) [
     | inl none ↦ rw none refl
     | inr (entry, is) ↦ elim (cases_eq p o) [
@@ -35,7 +35,7 @@ module _ {X K : Type 0} where
     ]
   ]
 
-  pub first_absent-pinned : (m : Movement X K) (o : ℕ) (objects : List ℕ) → first_absent (pinned m o) objects ≡ first_absent m objects
+  pub first_absent-pinned : (m : Movement X K) (o : ℕ) (objects : List ℕ) → first_absent (after_pin m o) objects ≡ first_absent m objects
   first_absent-pinned m o [] = refl
   first_absent-pinned m o (p ∷ objects) = rw (first_absent-pinned m o objects, absent-pinned m o p) refl
 
@@ -44,7 +44,7 @@ module _ {X K : Type 0} where
     first-local free = none-left (is_local m o) (first_absent m rest) (absent m o).1 free
 
     pub overflow-now : (given : Refusal) → is_local m o ≡ true → Some given ≡ pin_refusal m o → Some given ≡ pins_overflow m (o ∷ rest)
-    overflow-now given local is = err-stays (pins_of m o == 65535) (pins_overflow (pinned m o) rest) refusal.EditsUsedUp given (is ∙ ap (λ b. cond (not b) (Some (absent m o).1) (cond (pins_of m o == 65535) (Some refusal.EditsUsedUp) None)) local)
+    overflow-now given local is = err-stays (pins_of m o == 65535) (pins_overflow (after_pin m o) rest) refusal.EditsUsedUp given (is ∙ ap (λ b. cond (not b) (Some (absent m o).1) (cond (pins_of m o == 65535) (Some refusal.EditsUsedUp) None)) local)
 
-    pub overflow-later : is_local m o ≡ true → None ≡ pin_refusal m o → pins_overflow m (o ∷ rest) ≡ pins_overflow (pinned m o) rest
-    overflow-later local is = ok-goes (pins_of m o == 65535) (pins_overflow (pinned m o) rest) refusal.EditsUsedUp (is ∙ ap (λ b. cond (not b) (Some (absent m o).1) (cond (pins_of m o == 65535) (Some refusal.EditsUsedUp) None)) local)
+    pub overflow-later : is_local m o ≡ true → None ≡ pin_refusal m o → pins_overflow m (o ∷ rest) ≡ pins_overflow (after_pin m o) rest
+    overflow-later local is = ok-goes (pins_of m o == 65535) (pins_overflow (after_pin m o) rest) refusal.EditsUsedUp (is ∙ ap (λ b. cond (not b) (Some (absent m o).1) (cond (pins_of m o == 65535) (Some refusal.EditsUsedUp) None)) local)

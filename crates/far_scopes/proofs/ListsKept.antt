@@ -3,37 +3,37 @@ use Rattle.std.proofs.Common.{◌≡◌, ℕ, ◌+◌, ◌-◌, inl, inr, List, 
 use Rattle.std.specs.Prelude.{◌==◌, option_map}
 use Rattle.std.specs.Option.{option_and_then, option_or}
 use Rattle.std.proofs.lemmas.Bool.{cases_eq}
-use Rattle.far_scopes.specs.declared.entry.Entry.{Entry}
+use Rattle.far_scopes.specs.declared.object_record.ObjectRecord.{ObjectRecord}
 use Rattle.far_scopes.specs.Memory.{list_in}
 use Rattle.far_scopes.specs.Movement.{Movement, ticket_of, pins_of, list_of}
-use Rattle.far_scopes.specs.Effects.{with_entry, pinned, unpinned}
-use Rattle.far_scopes.specs.Entering.{pinned_all, closed}
+use Rattle.far_scopes.specs.Effects.{with_entry, after_pin, after_unpin}
+use Rattle.far_scopes.specs.Entering.{after_pin_all, after_close}
 use Rattle.far_scopes.proofs.Framing.{entry-with_other, ticket-with, if-either}
 
 module _ {X K : Type 0} where
   -- no record gets another ticket
-  tickets-kept : (m : Movement X K) (o : ℕ) (change : Entry K → Entry K) → ((e : Entry K) → (change e).ticket ≡ e.ticket) → (p : ℕ) → ticket_of record m { entries = with_entry m.entries o change } p ≡ ticket_of m p
+  tickets-kept : (m : Movement X K) (o : ℕ) (change : ObjectRecord K → ObjectRecord K) → ((e : ObjectRecord K) → (change e).ticket ≡ e.ticket) → (p : ℕ) → ticket_of record m { entries = with_entry m.entries o change } p ≡ ticket_of m p
   tickets-kept m o change same p = elim (cases_eq p o) [
     | inl here ↦ rw here (ticket-with m.entries o change same)
-    | inr ne ↦ ap (option_and_then (λ (e : Entry K). e.ticket)) (entry-with_other m.entries o change p ne)
+    | inr ne ↦ ap (option_and_then (λ (e : ObjectRecord K). e.ticket)) (entry-with_other m.entries o change p ne)
   ]
 
   module _ (meaning : List ℕ → List X) (content : K → List ℕ) where
-    pub lists-recorded : (m : Movement X K) (o : ℕ) (change : Entry K → Entry K) → ((e : Entry K) → (change e).ticket ≡ e.ticket) → (p : ℕ) → list_of meaning content record m { entries = with_entry m.entries o change } p ≡ list_of meaning content m p
+    pub lists-recorded : (m : Movement X K) (o : ℕ) (change : ObjectRecord K → ObjectRecord K) → ((e : ObjectRecord K) → (change e).ticket ≡ e.ticket) → (p : ℕ) → list_of meaning content record m { entries = with_entry m.entries o change } p ≡ list_of meaning content m p
     lists-recorded m o change same p = ap (λ ticket. option_or (list_in m.memory p) (option_map (λ k. meaning (content k)) ticket)) (tickets-kept m o change same p)
 
-    pub lists-pinned : (m : Movement X K) (o p : ℕ) → list_of meaning content (pinned m o) p ≡ list_of meaning content m p
+    pub lists-pinned : (m : Movement X K) (o p : ℕ) → list_of meaning content (after_pin m o) p ≡ list_of meaning content m p
     lists-pinned m o = lists-recorded m o (λ entry. record entry { pins = entry.pins + 1 }) (λ e. refl)
 
-    pub lists-unpinned : (m : Movement X K) (o p : ℕ) → list_of meaning content (unpinned m o) p ≡ list_of meaning content m p
+    pub lists-unpinned : (m : Movement X K) (o p : ℕ) → list_of meaning content (after_unpin m o) p ≡ list_of meaning content m p
     lists-unpinned m o = lists-recorded m o (λ entry. record entry { pins = entry.pins - 1 }) (λ e. refl)
 
-    pub lists-pinned_all : (m : Movement X K) (objects : List ℕ) (p : ℕ) → list_of meaning content (pinned_all m objects) p ≡ list_of meaning content m p
+    pub lists-pinned_all : (m : Movement X K) (objects : List ℕ) (p : ℕ) → list_of meaning content (after_pin_all m objects) p ≡ list_of meaning content m p
     lists-pinned_all m [] p = refl
-    lists-pinned_all m (o ∷ objects) p = lists-pinned_all (pinned m o) objects p ∙ lists-pinned m o p
+    lists-pinned_all m (o ∷ objects) p = lists-pinned_all (after_pin m o) objects p ∙ lists-pinned m o p
 
-    pub lists-closed : (m : Movement X K) (objects : List ℕ) (p : ℕ) → list_of meaning content (closed m objects).0 p ≡ list_of meaning content m p
+    pub lists-closed : (m : Movement X K) (objects : List ℕ) (p : ℕ) → list_of meaning content (after_close m objects).0 p ≡ list_of meaning content m p
     lists-closed m [] p = refl
     lists-closed m (o ∷ objects) p = if-either (λ (r : Movement X K × ℕ). list_of meaning content r.0 p ≡ list_of meaning content m p) (pins_of m o == 0) _ _
         (lists-closed m objects p)
-        (lists-closed (unpinned m o) objects p ∙ lists-unpinned m o p)
+        (lists-closed (after_unpin m o) objects p ∙ lists-unpinned m o p)

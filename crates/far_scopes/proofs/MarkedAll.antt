@@ -7,7 +7,7 @@ use Rattle.std.proofs.lemmas.List.{drop_more}
 use Rattle.std.proofs.lemmas.List.Elements.{All-tail, All-cons}
 use Rattle.far_pointer.specs.declared.pointer.Pointer.{Pointer}
 use Rattle.far_pointer.specs.Layout.{is_dirty, with_dirty, with_hot}
-use Rattle.far_scopes.specs.declared.entry.Entry.{Entry}
+use Rattle.far_scopes.specs.declared.object_record.ObjectRecord.{ObjectRecord}
 use Rattle.far_scopes.specs.declared.replacement.Replacement.{Replacement}
 use Rattle.far_scopes.specs.Movement.{Movement, word_of, entry_of, dirty, list_of, meant}
 use Rattle.far_scopes.specs.Refusing.{written_out, write_refusal}
@@ -24,12 +24,12 @@ pub next-is : {A : Type 0} (xs : List A) (i : ℕ) (x : A) → i < length xs →
 next-is xs i x lt read = drop_more xs i x lt ∙ ap (λ y. y ∷ drop (i + 1) xs) (sym read)
 
 -- whether the writes of an object are used up
-module _ {X K : Type 0} (m : Movement X K) (o : ℕ) (entry : Entry K) (was : entry_of m o ≡ Some entry) where
-  pub used-up : m.changes ≤ entry.version → (written_out m o).0 ≡ true
-  used-up le = rw was (ap not (le-ltb entry.version m.changes le))
+module _ {X K : Type 0} (m : Movement X K) (o : ℕ) (entry : ObjectRecord K) (was : entry_of m o ≡ Some entry) where
+  pub used-up : m.max_writes ≤ entry.version → (written_out m o).0 ≡ true
+  used-up le = rw was (ap not (le-ltb entry.version m.max_writes le))
 
-  pub left-over : entry.version < m.changes → (written_out m o).0 ≡ false
-  left-over lt = rw was (ap not (lt-ltb entry.version m.changes lt))
+  pub left-over : entry.version < m.max_writes → (written_out m o).0 ≡ false
+  left-over lt = rw was (ap not (lt-ltb entry.version m.max_writes lt))
 
 module _ {X K : Type 0} (m new : Movement X K) (o : ℕ) (is : new ≡ written m o) where
   word-other : (p : ℕ) → p ≢ o → word_of new p ≡ word_of m p
@@ -43,7 +43,7 @@ module _ {X K : Type 0} (m new : Movement X K) (o : ℕ) (is : new ≡ written m
 
   -- another object may be written as before
   pub refusal-other : (p : ℕ) → p ≢ o → write_refusal new p ≡ write_refusal m p
-  refusal-other p ne = rw (word-other p ne, entry-other p ne, ap (λ k. k.changes) is) refl
+  refusal-other p ne = rw (word-other p ne, entry-other p ne, ap (λ k. k.max_writes) is) refl
 
   module _ (r : Replacement X) (rs : List (Replacement X)) (item : o ≡ r.object) where
     pub free-rest : AreListedOnce (r ∷ rs) → All (λ s. write_refusal m s.object ≡ None) (r ∷ rs) → All (λ s. write_refusal new s.object ≡ None) rs
@@ -56,5 +56,5 @@ module _ {X K : Type 0} (m new : Movement X K) (o : ℕ) (is : new ≡ written m
       | inl same ↦ absurd (let never = sym marked ∙ ap (dirty new) (sym same) ∙ c in cc)
       | inr ne ↦ lists p
           ∙ clean p (All-cons (λ (s : Replacement X). p ≢ s.object) r rs (λ e. ne (e ∙ sym item)) un) (ap (λ w. option_map_or is_dirty w false) (sym (word-other p ne)) ∙ c)
-          ∙ ap (λ e. option_map (meant meaning content) (option_and_then (λ (x : Entry K). x.ticket) e)) (sym (entry-other p ne))
+          ∙ ap (λ e. option_map (meant meaning content) (option_and_then (λ (x : ObjectRecord K). x.ticket) e)) (sym (entry-other p ne))
     ]

@@ -1,113 +1,129 @@
 -- The local memory once an object comes, goes or is written.
-use Rattle.std.proofs.Common.{◌≡◌, ◌≢◌, ℕ, ◌<◌, inl, inr, true, List, [], ◌∷◌, ◌++◌, length, Some, None, IsSome, refl, sym, ap, subst, ◌∙◌}
+use Rattle.std.proofs.Common.{◌≡◌, ◌≢◌, ℕ, ◌<◌, inl, inr, true, false, List, [], ◌∷◌, ◌++◌, length, Some, None, IsSome, refl, sym, ap, subst, ◌∙◌}
 use Rattle.std.specs.Prelude.{slice_get, slice_set}
-use Rattle.std.specs.Option.{option_and_then}
+use Rattle.std.specs.Option.{option_and_then, option_map_or}
 use Rattle.std.proofs.lemmas.Bool.{cases_eq}
-use Rattle.std.proofs.lemmas.Option.{slice_get_within}
+use Rattle.std.proofs.lemmas.List.{set-get_or}
+use Rattle.std.proofs.lemmas.Option.{slice_get_within, get_or_from_slice_get}
 use Rattle.far_pointer.specs.declared.pointer.At.{At}
 use Rattle.far_pointer.specs.declared.pointer.Pointer.{Pointer}
 use Rattle.far_pointer.specs.declared.pointer.Pointer.TheVariants.{Local, Remote}
-use Rattle.far_pointer.specs.Layout.{with_dirty, with_hot, with_at}
-use Rattle.far_log.specs.Room.{Room, part_of, IsRegion}
-use Rattle.far_log.specs.Changes.{ChangesOnly, IsPlaced}
-use Rattle.far_scopes.specs.Placing.{spot, with_new}
-use Rattle.far_scopes.specs.Memory.{at_of, place_of, list_in, ChangesList, IsMemory}
+use Rattle.far_pointer.specs.Layout.{is_dirty, is_hot, with_dirty, with_hot, with_at}
+use Rattle.far_log.specs.RegionState.{RegionState, part_of, IsRegion}
+use Rattle.far_log.specs.Effects.{ChangesOnly, IsPlaced}
+use Rattle.far_scopes.specs.Placing.{spot, with_new, marked}
+use Rattle.far_scopes.specs.Memory.{Memory, at_of, place_of, list_in, ChangesList, IsMemory}
 use Rattle.far_scopes.proofs.Places.{own-lost, lists-lost, own-gained, lists-gained, own-moved, lists-moved, own-same, lists-same, not_some}
 use Rattle.far_scopes.proofs.WordPlaces.{place-set_same, place-set_other, place-push_last, place-push_other, place-end}
 
-module _ {X : Type 0} (words : List Pointer) (room room' : Room X) (m : IsMemory words room) where
+module _ {X : Type 0} (words : List Pointer) (state state' : RegionState X) (m : IsMemory words state) where
   -- an object goes away
-  module _ (o : ℕ) (at : At) (within : o < length words) (was : place_of words o ≡ Some at) (change : ChangesOnly room room' at None) where
-    pub memory-lost : IsRegion room' → IsMemory (slice_set words o Remote) room'
+  module _ (o : ℕ) (at : At) (within : o < length words) (was : place_of words o ≡ Some at) (change : ChangesOnly state state' at None) where
+    pub memory-lost : IsRegion state' → IsMemory (slice_set words o Remote) state'
     memory-lost region = record {
       region = region;
-      own = own-lost (place_of words) (place_of (slice_set words o Remote)) (part_of room) (part_of room') m.own o (place-set_other words o Remote) at was (place-set_same words o Remote within) change.here change.others;
+      own = own-lost (place_of words) (place_of (slice_set words o Remote)) (part_of state) (part_of state') m.own o (place-set_other words o Remote) at was (place-set_same words o Remote within) change.here change.others;
     }
 
-    pub list-lost : ChangesList (list_in record { words = words; room = room }) (list_in record { words = slice_set words o Remote; room = room' }) o None
-    list-lost = lists-lost (place_of words) (place_of (slice_set words o Remote)) (part_of room) (part_of room') m.own o (place-set_other words o Remote) at was (place-set_same words o Remote within) change.here change.others
+    pub list-lost : ChangesList (list_in record { words = words; state = state }) (list_in record { words = slice_set words o Remote; state = state' }) o None
+    list-lost = lists-lost (place_of words) (place_of (slice_set words o Remote)) (part_of state) (part_of state') m.own o (place-set_other words o Remote) at was (place-set_same words o Remote within) change.here change.others
 
   -- an object comes
-  module _ (word : Pointer) (at : At) (list : List X) (is : at_of word ≡ Some at) (free : part_of room at ≡ None) (change : ChangesOnly room room' at (Some list)) where
-    pub memory-added : IsRegion room' → IsMemory (words ++ word ∷ []) room'
+  module _ (word : Pointer) (at : At) (list : List X) (is : at_of word ≡ Some at) (free : part_of state at ≡ None) (change : ChangesOnly state state' at (Some list)) where
+    pub memory-added : IsRegion state' → IsMemory (words ++ word ∷ []) state'
     memory-added region = record {
       region = region;
-      own = own-gained (place_of words) (place_of (words ++ word ∷ [])) (part_of room) (part_of room') m.own (length words) (place-push_other words word) at list (place-end words) (place-push_last words word ∙ is) free change.here change.others;
+      own = own-gained (place_of words) (place_of (words ++ word ∷ [])) (part_of state) (part_of state') m.own (length words) (place-push_other words word) at list (place-end words) (place-push_last words word ∙ is) free change.here change.others;
     }
 
-    pub list-added : ChangesList (list_in record { words = words; room = room }) (list_in record { words = words ++ word ∷ []; room = room' }) (length words) (Some list)
-    list-added = lists-gained (place_of words) (place_of (words ++ word ∷ [])) (part_of room) (part_of room') m.own (length words) (place-push_other words word) at list (place-end words) (place-push_last words word ∙ is) free change.here change.others
+    pub list-added : ChangesList (list_in record { words = words; state = state }) (list_in record { words = words ++ word ∷ []; state = state' }) (length words) (Some list)
+    list-added = lists-gained (place_of words) (place_of (words ++ word ∷ [])) (part_of state) (part_of state') m.own (length words) (place-push_other words word) at list (place-end words) (place-push_last words word ∙ is) free change.here change.others
 
   -- an object that was away comes back
-  module _ (o : ℕ) (word : Pointer) (at : At) (list : List X) (within : o < length words) (was : place_of words o ≡ None) (is : at_of word ≡ Some at) (free : part_of room at ≡ None) (change : ChangesOnly room room' at (Some list)) where
-    pub memory-brought : IsRegion room' → IsMemory (slice_set words o word) room'
+  module _ (o : ℕ) (word : Pointer) (at : At) (list : List X) (within : o < length words) (was : place_of words o ≡ None) (is : at_of word ≡ Some at) (free : part_of state at ≡ None) (change : ChangesOnly state state' at (Some list)) where
+    pub memory-brought : IsRegion state' → IsMemory (slice_set words o word) state'
     memory-brought region = record {
       region = region;
-      own = own-gained (place_of words) (place_of (slice_set words o word)) (part_of room) (part_of room') m.own o (place-set_other words o word) at list was (place-set_same words o word within ∙ is) free change.here change.others;
+      own = own-gained (place_of words) (place_of (slice_set words o word)) (part_of state) (part_of state') m.own o (place-set_other words o word) at list was (place-set_same words o word within ∙ is) free change.here change.others;
     }
 
-    pub list-brought : ChangesList (list_in record { words = words; room = room }) (list_in record { words = slice_set words o word; room = room' }) o (Some list)
-    list-brought = lists-gained (place_of words) (place_of (slice_set words o word)) (part_of room) (part_of room') m.own o (place-set_other words o word) at list was (place-set_same words o word within ∙ is) free change.here change.others
+    pub list-brought : ChangesList (list_in record { words = words; state = state }) (list_in record { words = slice_set words o word; state = state' }) o (Some list)
+    list-brought = lists-gained (place_of words) (place_of (slice_set words o word)) (part_of state) (part_of state') m.own o (place-set_other words o word) at list was (place-set_same words o word within ∙ is) free change.here change.others
 
   -- the last object goes
-  module _ (rest : List Pointer) (word : Pointer) (at : At) (is : words ≡ rest ++ word ∷ []) (local : at_of word ≡ Some at) (change : ChangesOnly room room' at None) where
+  module _ (rest : List Pointer) (word : Pointer) (at : At) (is : words ≡ rest ++ word ∷ []) (local : at_of word ≡ Some at) (change : ChangesOnly state state' at None) where
     others : (p : ℕ) → p ≢ length rest → place_of rest p ≡ place_of words p
     others p ne = rw is (sym (place-push_other rest word p ne))
 
     pub place-last : place_of words (length rest) ≡ Some at
     place-last = rw is (place-push_last rest word ∙ local)
 
-    pub memory-removed : IsRegion room' → IsMemory rest room'
+    pub memory-removed : IsRegion state' → IsMemory rest state'
     memory-removed region = record {
       region = region;
-      own = own-lost (place_of words) (place_of rest) (part_of room) (part_of room') m.own (length rest) others at place-last (place-end rest) change.here change.others;
+      own = own-lost (place_of words) (place_of rest) (part_of state) (part_of state') m.own (length rest) others at place-last (place-end rest) change.here change.others;
     }
 
-    pub list-removed : ChangesList (list_in record { words = words; room = room }) (list_in record { words = rest; room = room' }) (length rest) None
-    list-removed = lists-lost (place_of words) (place_of rest) (part_of room) (part_of room') m.own (length rest) others at place-last (place-end rest) change.here change.others
+    pub list-removed : ChangesList (list_in record { words = words; state = state }) (list_in record { words = rest; state = state' }) (length rest) None
+    list-removed = lists-lost (place_of words) (place_of rest) (part_of state) (part_of state') m.own (length rest) others at place-last (place-end rest) change.here change.others
 
   -- an object gets another list: the new part is placed, then the old one dropped
-  module _ (o : ℕ) (word : Pointer) (at to : At) (list : List X) (between : Room X) (within : o < length words) (was : place_of words o ≡ Some at) (is : at_of word ≡ Some to) (free : part_of room to ≡ None)
-      (placed : ChangesOnly room between to (Some list)) (dropped : ChangesOnly between room' at None) where
-    apart : to ≢ at
-    apart same = not_some (part_of room to) free (subst (λ q. IsSome (part_of room q)) (sym same) (m.own.placed o at was))
+  module _ (o : ℕ) (word : Pointer) (at to : At) (list : List X) (between : RegionState X) (within : o < length words) (was : place_of words o ≡ Some at) (is : at_of word ≡ Some to) (free : part_of state to ≡ None)
+      (placed : ChangesOnly state between to (Some list)) (dropped : ChangesOnly between state' at None) where
+    disjoint : to ≢ at
+    disjoint same = not_some (part_of state to) free (subst (λ q. IsSome (part_of state q)) (sym same) (m.own.placed o at was))
 
-    here : part_of room' to ≡ Some list
-    here = dropped.others to apart ∙ placed.here
+    here : part_of state' to ≡ Some list
+    here = dropped.others to disjoint ∙ placed.here
 
-    parts : (q : At) → q ≢ at → q ≢ to → part_of room' q ≡ part_of room q
+    parts : (q : At) → q ≢ at → q ≢ to → part_of state' q ≡ part_of state q
     parts q ne ne' = dropped.others q ne ∙ placed.others q ne'
 
-    pub memory-replaced : IsRegion room' → IsMemory (slice_set words o word) room'
+    pub memory-replaced : IsRegion state' → IsMemory (slice_set words o word) state'
     memory-replaced region = record {
       region = region;
-      own = own-moved (place_of words) (place_of (slice_set words o word)) (part_of room) (part_of room') m.own o (place-set_other words o word) at to list was (place-set_same words o word within ∙ is) free here dropped.here parts;
+      own = own-moved (place_of words) (place_of (slice_set words o word)) (part_of state) (part_of state') m.own o (place-set_other words o word) at to list was (place-set_same words o word within ∙ is) free here dropped.here parts;
     }
 
-    pub list-replaced : ChangesList (list_in record { words = words; room = room }) (list_in record { words = slice_set words o word; room = room' }) o (Some list)
-    list-replaced = lists-moved (place_of words) (place_of (slice_set words o word)) (part_of room) (part_of room') m.own o (place-set_other words o word) at to list was (place-set_same words o word within ∙ is) free here dropped.here parts
+    pub list-replaced : ChangesList (list_in record { words = words; state = state }) (list_in record { words = slice_set words o word; state = state' }) o (Some list)
+    list-replaced = lists-moved (place_of words) (place_of (slice_set words o word)) (part_of state) (part_of state') m.own o (place-set_other words o word) at to list was (place-set_same words o word within ∙ is) free here dropped.here parts
 
 -- the same, where a word changes and neither goes nor comes
-module _ {X : Type 0} (words : List Pointer) (room : Room X) (m : IsMemory words room) (o : ℕ) (old word : Pointer) (was : slice_get words o ≡ Some old) (same : at_of word ≡ at_of old) where
+module _ {X : Type 0} (words : List Pointer) (state : RegionState X) (m : IsMemory words state) (o : ℕ) (old word : Pointer) (was : slice_get words o ≡ Some old) (same : at_of word ≡ at_of old) where
   places-marked : (p : ℕ) → place_of (slice_set words o word) p ≡ place_of words p
   places-marked p = elim (cases_eq p o) [
     | inl is ↦ subst (λ k. place_of (slice_set words o word) k ≡ place_of words k) (sym is) (place-set_same words o word (slice_get_within words o old was) ∙ same ∙ sym (ap (option_and_then at_of) was))
     | inr ne ↦ place-set_other words o word p ne
   ]
 
-  pub memory-marked : IsMemory (slice_set words o word) room
+  pub memory-marked : IsMemory (slice_set words o word) state
   memory-marked = record {
     region = m.region;
-    own = own-same (place_of words) (place_of (slice_set words o word)) (part_of room) (part_of room) m.own places-marked (λ q h. h) (λ q h. h);
+    own = own-same (place_of words) (place_of (slice_set words o word)) (part_of state) (part_of state) m.own places-marked (λ q h. h) (λ q h. h);
   }
 
-  pub lists-marked : (p : ℕ) → list_in record { words = slice_set words o word; room = room } p ≡ list_in record { words = words; room = room } p
-  lists-marked = lists-same (place_of words) (place_of (slice_set words o word)) (part_of room) (part_of room) m.own places-marked (λ q. refl)
+  pub lists-marked : (p : ℕ) → list_in record { words = slice_set words o word; state = state } p ≡ list_in record { words = words; state = state } p
+  lists-marked = lists-same (place_of words) (place_of (slice_set words o word)) (part_of state) (part_of state) m.own places-marked (λ q. refl)
 
 -- a mark does not move an object
 pub at-dirty_hot : (word : Pointer) → at_of (with_hot (with_dirty word) true) ≡ at_of word
 at-dirty_hot (Local at dirty hot far) = refl
 at-dirty_hot Remote = refl
+
+-- a word that says dirty and hot is as it would be marked
+pub marked-is : (word : Pointer) → is_dirty word ≡ true → is_hot word ≡ true → with_hot (with_dirty word) true ≡ word
+marked-is (Local at true true far) dirty hot = refl
+marked-is (Local at true false far) dirty hot = cc
+marked-is (Local at false hot far) dirty hot' = cc
+marked-is Remote dirty hot = refl
+
+-- so its object is marked
+pub already-marked : {X : Type 0} (memory : Memory X) (o : ℕ) (word : Pointer) → slice_get memory.words o ≡ Some word → with_hot (with_dirty word) true ≡ word → memory ≡ marked memory o
+already-marked memory o word was same =
+    let kept : slice_set memory.words o word ≡ memory.words = ap (slice_set memory.words o) (sym (get_or_from_slice_get memory.words o word word was)) ∙ set-get_or memory.words o word in
+    let words : option_map_or (λ w. slice_set memory.words o (with_hot (with_dirty w) true)) (slice_get memory.words o) memory.words ≡ memory.words =
+    ap (λ w. option_map_or (λ w. slice_set memory.words o (with_hot (with_dirty w) true)) w memory.words) was ∙ ap (slice_set memory.words o) same ∙ kept in
+    sym (λ j. record { words = words j; state = memory.state })
 
 pub at-hot : (word : Pointer) → at_of (with_hot word true) ≡ at_of word
 at-hot (Local at dirty hot far) = refl
@@ -118,8 +134,8 @@ at-moved (Local at dirty hot far) from to is = refl
 at-moved Remote from to is = cc
 
 -- what was placed lies where a new part goes
-pub spot-is : {X : Type 0} (old new : Room X) (at : At) (list : List X) → IsPlaced old new at list → spot old (length list) ≡ at
+pub spot-is : {X : Type 0} (old new : RegionState X) (at : At) (list : List X) → IsPlaced old new at list → spot old (length list) ≡ at
 spot-is old new at list placed = rw placed.segment (ap (λ (n : ℕ). let q : At = record { segment = at.segment; offset = n } in q) (sym placed.offset))
 
-pub new-is : {X : Type 0} (old new : Room X) (at : At) (list : List X) → IsPlaced old new at list → with_new old list ≡ new
-new-is old new at list placed = rw placed.segment (sym placed.room)
+pub new-is : {X : Type 0} (old new : RegionState X) (at : At) (list : List X) → IsPlaced old new at list → with_new old list ≡ new
+new-is old new at list placed = rw placed.segment (sym placed.state)

@@ -5,8 +5,8 @@ use Rattle.std.specs.Option.{option_or}
 use Rattle.std.proofs.lemmas.Bool.{cases_eq, cases_lt}
 use Rattle.std.proofs.lemmas.List.{get_or-set_same, get_or-set_other}
 use Rattle.far_pointer.specs.declared.pointer.At.{At}
-use Rattle.far_log.specs.Room.{Part, Room, list_at, segment_of, part_of}
-use Rattle.far_log.specs.Changes.{written, written_at, written_over, overwritten as over_part}
+use Rattle.far_log.specs.RegionState.{Part, RegionState, list_at, segment_of, part_of}
+use Rattle.far_log.specs.Effects.{written, written_at, written_over, overwritten as over_part}
 use Rattle.far_scopes.specs.Memory.{Memory, place_of, list_in, ChangesList}
 use Rattle.far_scopes.specs.Placing.{overwritten as overwritten_in}
 use Rattle.far_scopes.specs.Movement.{Movement, dirty, ticket_of, list_of, AreClean, AreTracked}
@@ -36,12 +36,12 @@ module _ {X : Type 0} where
     | false ↦ long-part from ws ps k
   ]
 
-  long-at : (room : Room X) (at : At) (i : ℕ) (ws : List X) (q : At) → long (part_of (written_at room at i ws) q) ≡ long (part_of room q)
-  long-at room at i ws q = elim (cases_lt at.segment (length room)) [
-    | inr past ↦ rw (set-past room at.segment (written (segment_of room at.segment) (at.offset + i) ws) past) refl
+  long-at : (state : RegionState X) (at : At) (i : ℕ) (ws : List X) (q : At) → long (part_of (written_at state at i ws) q) ≡ long (part_of state q)
+  long-at state at i ws q = elim (cases_lt at.segment (length state)) [
+    | inr past ↦ rw (set-past state at.segment (written (segment_of state at.segment) (at.offset + i) ws) past) refl
     | inl within ↦ elim (cases_eq q.segment at.segment) [
-      | inl same ↦ rw (same, get_or-set_same room at.segment (written (segment_of room at.segment) (at.offset + i) ws) record { parts = []; size = 0 } within) (long-part (at.offset + i) ws (segment_of room at.segment).parts q.offset)
-      | inr ne ↦ rw (get_or-set_other room at.segment q.segment (written (segment_of room at.segment) (at.offset + i) ws) record { parts = []; size = 0 } ne) refl
+      | inl same ↦ rw (same, get_or-set_same state at.segment (written (segment_of state at.segment) (at.offset + i) ws) record { parts = []; size = 0 } within) (long-part (at.offset + i) ws (segment_of state at.segment).parts q.offset)
+      | inr ne ↦ rw (get_or-set_other state at.segment q.segment (written (segment_of state at.segment) (at.offset + i) ws) record { parts = []; size = 0 } ne) refl
     ]
   ]
 
@@ -50,7 +50,7 @@ module _ {X : Type 0} where
     | inl none ↦ rw none refl
     | inr (at, is) ↦ elim (cases_option (place_of memory.words p)) [
       | inl none ↦ rw none refl
-      | inr (q, there) ↦ rw (is, there) (long-at memory.room at i ws q)
+      | inr (q, there) ↦ rw (is, there) (long-at memory.state at i ws q)
     ]
   ]
 
@@ -72,7 +72,7 @@ true-or-false b one other = cc
 module _ {X K : Type 0} (meaning : List ℕ → List X) (content : K → List ℕ) (spelled : List X → List ℕ → Type 0) (m : Movement X K) (o i : ℕ) (ws : List X) where
   pub tracked-overwritten : AreTracked meaning content spelled m → AreTracked meaning content spelled (overwritten m o i ws)
   tracked-overwritten tracked = record {
-    even = tracked.even;
+    same_length = tracked.same_length;
     few = tracked.few;
     each = λ p word entry w e. let t = tracked.each p word entry w e in
         record { version = t.version; left = t.left; some = t.some; long = still-long (list_in (overwritten_in m.memory o i ws) p) (list_in m.memory p) entry.len (long-list m.memory o i ws p) t.long; away = t.away; copy = t.copy; far = t.far };

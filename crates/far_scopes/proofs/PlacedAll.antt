@@ -1,4 +1,4 @@
--- Objects that get other lists together: the words and the room, list by list.
+-- Objects that get other lists together: the words and the region, list by list.
 use Rattle.std.proofs.Common.{◌≡◌, ◌≢◌, ℕ, ◌<◌, ◌-◌, true, false, inl, inr, List, [], ◌∷◌, ◌++◌, length, Some, refl, ap, ◌∙◌, arith}
 use Rattle.std.specs.Prelude.{All, slice_get}
 use Rattle.std.specs.Option.{option_and_then}
@@ -8,7 +8,7 @@ use Rattle.far_pointer.specs.declared.pointer.At.{At}
 use Rattle.far_pointer.specs.declared.pointer.Pointer.{Pointer}
 use Rattle.far_pointer.specs.declared.pointer.Pointer.TheVariants.{Local}
 use Rattle.far_pointer.specs.Layout.{with_at}
-use Rattle.far_log.specs.Room.{Room}
+use Rattle.far_log.specs.RegionState.{RegionState}
 use Rattle.far_scopes.specs.declared.replacement.Replacement.{Replacement}
 use Rattle.far_scopes.specs.Memory.{Memory, at_of, place_of}
 use Rattle.far_scopes.specs.Placing.{spot, with_new, added}
@@ -36,62 +36,62 @@ place-push words word o at within = elim (cases_option (slice_get words o)) [
 ]
 
 module _ {X : Type 0} where
-  pub length-moved : (room : Room X) (words : List Pointer) (rs : List (Replacement X)) → length (moved_all room words rs) ≡ length words
-  length-moved room words [] = refl
-  length-moved room words (r ∷ rs) = place-length (moved_all (with_new room r.list.items) words rs) r.object (spot room (length r.list.items)) ∙ length-moved (with_new room r.list.items) words rs
+  pub length-moved : (state : RegionState X) (words : List Pointer) (rs : List (Replacement X)) → length (moved_all state words rs) ≡ length words
+  length-moved state words [] = refl
+  length-moved state words (r ∷ rs) = place-length (moved_all (with_new state r.list.items) words rs) r.object (spot state (length r.list.items)) ∙ length-moved (with_new state r.list.items) words rs
 
   -- the word of an object that is not listed stays
-  pub moved-other : (room : Room X) (words : List Pointer) (rs : List (Replacement X)) (p : ℕ) → IsUnlisted rs p → slice_get (moved_all room words rs) p ≡ slice_get words p
-  moved-other room words [] p un = refl
-  moved-other room words (r ∷ rs) p un =
-      place-other (moved_all (with_new room r.list.items) words rs) r.object (spot room (length r.list.items)) p (All-head (λ (s : Replacement X). p ≢ s.object) r rs un)
-      ∙ moved-other (with_new room r.list.items) words rs p (All-tail (λ (s : Replacement X). p ≢ s.object) r rs un)
+  pub moved-other : (state : RegionState X) (words : List Pointer) (rs : List (Replacement X)) (p : ℕ) → IsUnlisted rs p → slice_get (moved_all state words rs) p ≡ slice_get words p
+  moved-other state words [] p un = refl
+  moved-other state words (r ∷ rs) p un =
+      place-other (moved_all (with_new state r.list.items) words rs) r.object (spot state (length r.list.items)) p (All-head (λ (s : Replacement X). p ≢ s.object) r rs un)
+      ∙ moved-other (with_new state r.list.items) words rs p (All-tail (λ (s : Replacement X). p ≢ s.object) r rs un)
 
   module _ (words : List Pointer) (word : Pointer) where
     -- a further object behind the listed ones stays behind
-    moved-push : (room : Room X) (rs : List (Replacement X)) → All (λ r. r.object < length words) rs → moved_all room (words ++ word ∷ []) rs ≡ moved_all room words rs ++ word ∷ []
-    moved-push room [] within = refl
-    moved-push room (r ∷ rs) within =
-        let rest = moved_all (with_new room r.list.items) words rs in
-        let o : r.object < length rest = omega (arith, All-head (λ (s : Replacement X). s.object < length words) r rs within, length-moved (with_new room r.list.items) words rs) in
-        ap (λ ws. with_place ws r.object (spot room (length r.list.items))) (moved-push (with_new room r.list.items) rs (All-tail (λ (s : Replacement X). s.object < length words) r rs within))
-        ∙ place-push rest word r.object (spot room (length r.list.items)) o
+    moved-push : (state : RegionState X) (rs : List (Replacement X)) → All (λ r. r.object < length words) rs → moved_all state (words ++ word ∷ []) rs ≡ moved_all state words rs ++ word ∷ []
+    moved-push state [] within = refl
+    moved-push state (r ∷ rs) within =
+        let rest = moved_all (with_new state r.list.items) words rs in
+        let o : r.object < length rest = omega (arith, All-head (λ (s : Replacement X). s.object < length words) r rs within, length-moved (with_new state r.list.items) words rs) in
+        ap (λ ws. with_place ws r.object (spot state (length r.list.items))) (moved-push (with_new state r.list.items) rs (All-tail (λ (s : Replacement X). s.object < length words) r rs within))
+        ∙ place-push rest word r.object (spot state (length r.list.items)) o
 
-    without-push : (room : Room X) (rs : List (Replacement X)) → All (λ r. r.object < length words) rs → without_all room (words ++ word ∷ []) rs ≡ without_all room words rs
-    without-push room [] within = refl
-    without-push room (r ∷ rs) within =
+    without-push : (state : RegionState X) (rs : List (Replacement X)) → All (λ r. r.object < length words) rs → without_all state (words ++ word ∷ []) rs ≡ without_all state words rs
+    without-push state [] within = refl
+    without-push state (r ∷ rs) within =
         let o = All-head (λ (s : Replacement X). s.object < length words) r rs within in
-        rw (without-push room rs (All-tail (λ (s : Replacement X). s.object < length words) r rs within), place-push_other words word r.object (λ e. omega (arith, o, e))) refl
+        rw (without-push state rs (All-tail (λ (s : Replacement X). s.object < length words) r rs within), place-push_other words word r.object (λ e. omega (arith, o, e))) refl
 
   -- the first of several lists is placed as that of a further object, the others are placed and take over, and then it does
-  module _ (words : List Pointer) (room : Room X) (r : Replacement X) (rs : List (Replacement X)) (within : All (λ s. s.object < length words) rs) where
+  module _ (words : List Pointer) (state : RegionState X) (r : Replacement X) (rs : List (Replacement X)) (within : All (λ s. s.object < length words) rs) where
     abbrev n : ℕ
     n = length r.list.items
 
     abbrev further : Pointer
-    further = Local (spot room n) true true false
+    further = Local (spot state n) true true false
 
     -- the words of the objects that were there, once the others have taken over
     abbrev rest : List Pointer
-    rest = moved_all (with_new room r.list.items) words rs
+    rest = moved_all (with_new state r.list.items) words rs
 
     abbrev between : Memory X
-    between = replaced_all (added record { words = words; room = room } r.list.items) rs
+    between = replaced_all (added record { words = words; state = state } r.list.items) rs
 
     words-between : between.words ≡ rest ++ further ∷ []
-    words-between = moved-push words further (with_new room r.list.items) rs within
+    words-between = moved-push words further (with_new state r.list.items) rs within
 
     pub last-between : length between.words - 1 ≡ length words
-    last-between = last-of between.words rest further words-between ∙ length-moved (with_new room r.list.items) words rs
+    last-between = last-of between.words rest further words-between ∙ length-moved (with_new state r.list.items) words rs
 
-    pub place-last : place_of between.words (length between.words - 1) ≡ Some (spot room n)
+    pub place-last : place_of between.words (length between.words - 1) ≡ Some (spot state n)
     place-last = rw (last-of between.words rest further words-between) (ap (λ ws. place_of ws (length rest)) words-between ∙ place-push_last rest further)
 
     pub place-first : IsUnlisted rs r.object → r.object < length words → place_of between.words r.object ≡ place_of words r.object
     place-first un lt =
         ap (λ ws. place_of ws r.object) words-between
-        ∙ place-push_other rest further r.object (λ e. omega (arith, lt, e, length-moved (with_new room r.list.items) words rs))
-        ∙ ap (option_and_then at_of) (moved-other (with_new room r.list.items) words rs r.object un)
+        ∙ place-push_other rest further r.object (λ e. omega (arith, lt, e, length-moved (with_new state r.list.items) words rs))
+        ∙ ap (option_and_then at_of) (moved-other (with_new state r.list.items) words rs r.object un)
 
-    pub taken_over-is : IsUnlisted rs r.object → r.object < length words → taken_over between r.object ≡ replaced_all record { words = words; room = room } (r ∷ rs)
-    taken_over-is un lt = rw (place-last, take-last between.words rest further words-between, place-first un lt, without-push words further (with_all (with_new room r.list.items) rs) rs within) refl
+    pub taken_over-is : IsUnlisted rs r.object → r.object < length words → taken_over between r.object ≡ replaced_all record { words = words; state = state } (r ∷ rs)
+    taken_over-is un lt = rw (place-last, take-last between.words rest further words-between, place-first un lt, without-push words further (with_all (with_new state r.list.items) rs) rs within) refl

@@ -54,7 +54,7 @@ module _ {X : Type 0} (place place' : ℕ → Option At) (part part' : At → Op
     -- object o had a place and has none now
     module _ (at : At) (was : place o ≡ Some at) (is : place' o ≡ None) (gone : part' at ≡ None) (parts : (q : At) → q ≢ at → part' q ≡ part q) where
       elsewhere : (p : ℕ) (q : At) → p ≢ o → place p ≡ Some q → q ≢ at
-      elsewhere p q ne here same = ne (own.apart p o at (subst (λ k. place p ≡ Some k) same here) was)
+      elsewhere p q ne here same = ne (own.disjoint p o at (subst (λ k. place p ≡ Some k) same here) was)
 
       not_o : (p : ℕ) (q : At) → place' p ≡ Some q → p ≢ o
       not_o p q here same = none_or_some (place' o) is (subst (λ k. place' k ≡ Some q) same here)
@@ -65,8 +65,8 @@ module _ {X : Type 0} (place place' : ℕ → Option At) (part part' : At → Op
             let ne = not_o p q here in
             let old = sym (others p ne) ∙ here in
             subst IsSome (sym (parts q (elsewhere p q ne old))) (own.placed p q old);
-        apart = λ p r q here there.
-            own.apart p r q (sym (others p (not_o p q here)) ∙ here) (sym (others r (not_o r q there)) ∙ there);
+        disjoint = λ p r q here there.
+            own.disjoint p r q (sym (others p (not_o p q here)) ∙ here) (sym (others r (not_o r q there)) ∙ there);
         only = λ q h. elim (cases_At q at) [
           | inl same ↦ absurd (not_some (part' at) gone (subst (λ k. IsSome (part' k)) same h))
           | inr ne ↦
@@ -98,14 +98,14 @@ module _ {X : Type 0} (place place' : ℕ → Option At) (part part' : At → Op
           | inl (same, new) ↦ is_some (part' q) (ap part' new ∙ here)
           | inr (ne, old) ↦ subst IsSome (sym (parts q (used p q old))) (own.placed p q old)
         ];
-        apart = λ p r q taken also. elim (old_or_new p q taken) [
+        disjoint = λ p r q taken also. elim (old_or_new p q taken) [
           | inl (same, new) ↦ elim (old_or_new r q also) [
             | inl (same', new') ↦ same ∙ sym same'
             | inr (ne, old) ↦ absurd (used r q old new)
           ]
           | inr (ne, old) ↦ elim (old_or_new r q also) [
             | inl (same', new') ↦ absurd (used p q old new')
-            | inr (ne', old') ↦ own.apart p r q old old'
+            | inr (ne', old') ↦ own.disjoint p r q old old'
           ]
         ];
         only = λ q h. elim (cases_At q at) [
@@ -128,7 +128,7 @@ module _ {X : Type 0} (place place' : ℕ → Option At) (part part' : At → Op
       not_to p q taken same = not_some (part to) free (own.placed p to (subst (λ k. place p ≡ Some k) same taken))
 
       not_at : (p : ℕ) (q : At) → p ≢ o → place p ≡ Some q → q ≢ at
-      not_at p q ne taken same = ne (own.apart p o at (subst (λ k. place p ≡ Some k) same taken) was)
+      not_at p q ne taken same = ne (own.disjoint p o at (subst (λ k. place p ≡ Some k) same taken) was)
 
       moved_or_not : (p : ℕ) (q : At) → place' p ≡ Some q → ((p ≡ o) × (q ≡ to)) ⊎ ((p ≢ o) × (place p ≡ Some q))
       moved_or_not p q taken = elim (cases_eq p o) [
@@ -142,14 +142,14 @@ module _ {X : Type 0} (place place' : ℕ → Option At) (part part' : At → Op
           | inl (same, new) ↦ is_some (part' q) (ap part' new ∙ here)
           | inr (ne, old) ↦ subst IsSome (sym (parts q (not_at p q ne old) (not_to p q old))) (own.placed p q old)
         ];
-        apart = λ p r q taken also. elim (moved_or_not p q taken) [
+        disjoint = λ p r q taken also. elim (moved_or_not p q taken) [
           | inl (same, new) ↦ elim (moved_or_not r q also) [
             | inl (same', new') ↦ same ∙ sym same'
             | inr (ne, old) ↦ absurd (not_to r q old new)
           ]
           | inr (ne, old) ↦ elim (moved_or_not r q also) [
             | inl (same', new') ↦ absurd (not_to p q old new')
-            | inr (ne', old') ↦ own.apart p r q old old'
+            | inr (ne', old') ↦ own.disjoint p r q old old'
           ]
         ];
         only = λ q h. elim (cases_At q to) [
@@ -174,7 +174,7 @@ module _ {X : Type 0} (place place' : ℕ → Option At) (part part' : At → Op
     pub own-same : ((q : At) → IsSome (part' q) → IsSome (part q)) → ((q : At) → IsSome (part q) → IsSome (part' q)) → OwnPlaces place' part'
     own-same stays comes = record {
       placed = λ p q taken. comes q (own.placed p q (sym (same p) ∙ taken));
-      apart = λ p r q taken also. own.apart p r q (sym (same p) ∙ taken) (sym (same r) ∙ also);
+      disjoint = λ p r q taken also. own.disjoint p r q (sym (same p) ∙ taken) (sym (same r) ∙ also);
       only = λ q h. let w = own.only q (stays q h) in (w.0, same w.0 ∙ w.1);
     }
 
@@ -185,5 +185,5 @@ module _ {X : Type 0} (place place' : ℕ → Option At) (part part' : At → Op
     pub lists-written : (o : ℕ) (at : At) (list : List X) → place o ≡ Some at → part' at ≡ Some list → ((q : At) → q ≢ at → part' q ≡ part q) → ChangesList lists lists' o (Some list)
     lists-written o at list was here parts = record {
       here = ap (option_and_then part') (same o ∙ was) ∙ here;
-      others = λ p ne. other_list p (same p) (λ q taken. parts q (λ e. ne (own.apart p o at (subst (λ k. place p ≡ Some k) e taken) was)));
+      others = λ p ne. other_list p (same p) (λ q taken. parts q (λ e. ne (own.disjoint p o at (subst (λ k. place p ≡ Some k) e taken) was)));
     }

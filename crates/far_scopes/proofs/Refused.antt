@@ -5,7 +5,7 @@ use Rattle.std.proofs.lemmas.Bool.{ltb-true}
 use Rattle.far_types.specs.declared.refusal.Refusal.{Refusal}
 use Rattle.far_types.specs.FirstOf.{first_of}
 use Rattle.far_scopes.specs.Movement.{Movement, is_local, version_of}
-use Rattle.far_scopes.specs.Refusing.{absent, no_room, written_out, write_refusal, lend_refusal, replace_refusal}
+use Rattle.far_scopes.specs.Refusing.{absent, no_space, written_out, write_refusal, lend_refusal, replace_refusal}
 
 pub none-one : (a : Bool) (r : Refusal) → first_of ((a, r) ∷ []) ≡ None → a ≡ false
 none-one true r is = cc
@@ -36,12 +36,12 @@ module _ {X K : Type 0} (m : Movement X K) (o : ℕ) where
   pub local-written : write_refusal m o ≡ None → is_local m o ≡ true
   local-written free = not-not (is_local m o) (none-two (not (is_local m o)) (written_out m o).0 (absent m o).1 (written_out m o).1 free).0
 
-  pub left-written : write_refusal m o ≡ None → version_of m o < m.changes
-  left-written free = ltb-true (version_of m o) m.changes (not-not (nat_lt (version_of m o) m.changes) (none-two (not (is_local m o)) (written_out m o).0 (absent m o).1 (written_out m o).1 free).1)
+  pub left-written : write_refusal m o ≡ None → version_of m o < m.max_writes
+  left-written free = ltb-true (version_of m o) m.max_writes (not-not (nat_lt (version_of m o) m.max_writes) (none-two (not (is_local m o)) (written_out m o).0 (absent m o).1 (written_out m o).1 free).1)
 
 module _ {X K : Type 0} (m : Movement X K) (o n : ℕ) (free : replace_refusal m o n ≡ None) where
-  pub free-parts : (not (is_local m o) ≡ false) × (not (nat_lt (version_of m o) m.changes) ≡ false)
-  free-parts = none-three (absent m o).0 (no_room m o n).0 (written_out m o).0 (absent m o).1 (no_room m o n).1 (written_out m o).1 free
+  pub free-parts : (not (is_local m o) ≡ false) × (not (nat_lt (version_of m o) m.max_writes) ≡ false)
+  free-parts = none-three (absent m o).0 (no_space m o n).0 (written_out m o).0 (absent m o).1 (no_space m o n).1 (written_out m o).1 free
 
   pub local-replaced : is_local m o ≡ true
   local-replaced = not-not (is_local m o) free-parts.0

@@ -8,13 +8,13 @@ use Rattle.std.proofs.lemmas.List.Folds.{list_any_at}
 use Rattle.std.proofs.lemmas.List.Elements.{All-cons, All-nil}
 use Rattle.far_types.specs.declared.refusal.Refusal.{Refusal}
 use Rattle.far_types.specs.declared.refusal.Refusal.TheVariants as refusal
-use Rattle.far_scopes.specs.declared.entry.Entry.{Entry}
+use Rattle.far_scopes.specs.declared.object_record.ObjectRecord.{ObjectRecord}
 use Rattle.far_types.specs.FirstOf.{first_of}
 use Rattle.far_scopes.specs.declared.replacement.Replacement.{Replacement}
 use Rattle.far_scopes.specs.Memory.{place_of}
 use Rattle.far_scopes.specs.Movement.{Movement, entry_of, is_local}
 use Rattle.far_scopes.specs.Refusing.{first_absent, any_written_out, replace_all_refusal}
-use Rattle.far_scopes.specs.Replacing.{no_room_for_all}
+use Rattle.far_scopes.specs.Replacing.{no_space_for_all}
 use Rattle.far_scopes.proofs.WordPlaces.{some-true}
 use Rattle.far_scopes.proofs.Listed.{first-local}
 
@@ -43,8 +43,8 @@ err-handed (Err e) given P known h = subst P (sym h) known
 
 -- the refusals in their order: those of room and of writes come where all listed objects are local
 pub refusal-is : {X K : Type 0} (m : Movement X K) (lists : List (Replacement X)) (checked : Option Refusal) → first_absent m (map (λ r. r.object) lists) ≡ None → checked ≡ first_of (any_written_out m lists ∷ [])
-    → replace_all_refusal m lists ≡ option_or (first_of (no_room_for_all m.memory.room lists ∷ [])) checked
-refusal-is m lists checked here is = rw (here, is) (two-first (no_room_for_all m.memory.room lists) (any_written_out m lists))
+    → replace_all_refusal m lists ≡ option_or (first_of (no_space_for_all m.memory.state lists ∷ [])) checked
+refusal-is m lists checked here is = rw (here, is) (two-first (no_space_for_all m.memory.state lists) (any_written_out m lists))
   where
     two-first : (a b : Bool × Refusal) → first_of (a ∷ b ∷ []) ≡ option_or (first_of (a ∷ [])) (first_of (b ∷ []))
     two-first (true, r) b = refl
@@ -54,8 +54,8 @@ pub checked-free : (full checked : Option Refusal) → option_or full checked �
 checked-free None checked free = free
 checked-free (Some r) checked free = cc
 
--- an object that is away is no want of memory
-name-no-memory : {K : Type 0} (entry : Option (Entry K)) (e : Refusal) → Some (option_map_or (λ (x : Entry K). refusal.Absent x.name.column x.name.group) entry refusal.StaleJob) ≡ Some e → e ≡ refusal.NoMemory → ⊥
+-- an object that is away is no lack of memory
+name-no-memory : {K : Type 0} (entry : Option (ObjectRecord K)) (e : Refusal) → Some (option_map_or (λ (x : ObjectRecord K). refusal.Absent x.name.column x.name.group) entry refusal.StaleJob) ≡ Some e → e ≡ refusal.NoMemory → ⊥
 name-no-memory None e told memory = cc
 name-no-memory (Some x) e told memory = cc
 

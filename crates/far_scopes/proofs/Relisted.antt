@@ -9,8 +9,8 @@ use Rattle.far_pointer.specs.declared.pointer.At.{At}
 use Rattle.far_pointer.specs.declared.pointer.Pointer.{Pointer}
 use Rattle.far_pointer.specs.declared.pointer.Pointer.TheVariants.{Local, Remote}
 use Rattle.far_pointer.specs.Layout.{is_dirty, with_at}
-use Rattle.far_log.specs.Room.{Room}
-use Rattle.far_scopes.specs.declared.entry.Entry.{Entry}
+use Rattle.far_log.specs.RegionState.{RegionState}
+use Rattle.far_scopes.specs.declared.object_record.ObjectRecord.{ObjectRecord}
 use Rattle.far_scopes.specs.declared.replacement.Replacement.{Replacement}
 use Rattle.far_scopes.specs.Memory.{at_of}
 use Rattle.far_scopes.specs.Placing.{spot, with_new}
@@ -80,25 +80,25 @@ both-placed words o to p old (inr (word, now, was, is, moved)) = elim (cases_eq 
 
 -- a record with another length
 module _ {K : Type 0} where
-  abbrev pub len_of : ℕ → Entry K → Entry K
+  abbrev pub len_of : ℕ → ObjectRecord K → ObjectRecord K
   len_of n entry = record entry { len = n }
 
-  entry-other : (entries : List (Entry K)) (o n p : ℕ) → p ≢ o → slice_get (with_entry entries o (len_of n)) p ≡ slice_get entries p
+  entry-other : (entries : List (ObjectRecord K)) (o n p : ℕ) → p ≢ o → slice_get (with_entry entries o (len_of n)) p ≡ slice_get entries p
   entry-other entries o n p ne = elim (cases_option (slice_get entries o)) [
     | inl none ↦ rw none refl
     | inr (entry, is) ↦ rw is (slice_get-set_other entries o p (len_of n entry) ne)
   ]
 
-  entry-same : (entries : List (Entry K)) (o n : ℕ) → slice_get (with_entry entries o (len_of n)) o ≡ option_map (len_of n) (slice_get entries o)
+  entry-same : (entries : List (ObjectRecord K)) (o n : ℕ) → slice_get (with_entry entries o (len_of n)) o ≡ option_map (len_of n) (slice_get entries o)
   entry-same entries o n = elim (cases_option (slice_get entries o)) [
     | inl none ↦ rw none none
     | inr (entry, is) ↦ rw is (slice_get-set_same entries o (len_of n entry) (slice_get_within entries o entry is))
   ]
 
 module _ {X : Type 0} where
-  pub all-moved : (room : Room X) (words : List Pointer) (rs : List (Replacement X)) (p : ℕ) → BothMoved (slice_get words p) (slice_get (moved_all room words rs) p)
-  all-moved room words [] p = both-same (slice_get words p)
-  all-moved room words (r ∷ rs) p = both-placed (moved_all (with_new room r.list.items) words rs) r.object (spot room (length r.list.items)) p (slice_get words p) (all-moved (with_new room r.list.items) words rs p)
+  pub all-moved : (state : RegionState X) (words : List Pointer) (rs : List (Replacement X)) (p : ℕ) → BothMoved (slice_get words p) (slice_get (moved_all state words rs) p)
+  all-moved state words [] p = both-same (slice_get words p)
+  all-moved state words (r ∷ rs) p = both-placed (moved_all (with_new state r.list.items) words rs) r.object (spot state (length r.list.items)) p (slice_get words p) (all-moved (with_new state r.list.items) words rs p)
 
   pub once-head : (r : Replacement X) (rs : List (Replacement X)) → AreListedOnce (r ∷ rs) → IsUnlisted rs r.object
   once-head r rs once k d lt = once 0 (suc k) d (omega arith) (omega (arith, lt))
@@ -107,7 +107,7 @@ module _ {X : Type 0} where
   once-tail r rs once i j d lt within = once (suc i) (suc j) d (omega (arith, lt)) (omega (arith, within))
 
   module _ {K : Type 0} where
-    pub length-lens : (entries : List (Entry K)) (rs : List (Replacement X)) → length (with_lens entries rs) ≡ length entries
+    pub length-lens : (entries : List (ObjectRecord K)) (rs : List (Replacement X)) → length (with_lens entries rs) ≡ length entries
     length-lens entries [] = refl
     length-lens entries (r ∷ rs) = length-lens (with_entry entries r.object (len_of (length r.list.items))) rs ∙ elim (cases_option (slice_get entries r.object)) [
       | inl none ↦ rw none refl
@@ -115,7 +115,7 @@ module _ {X : Type 0} where
     ]
 
     -- the record of an object that is not listed stays
-    pub lens-other : (entries : List (Entry K)) (rs : List (Replacement X)) (p : ℕ) → IsUnlisted rs p → slice_get (with_lens entries rs) p ≡ slice_get entries p
+    pub lens-other : (entries : List (ObjectRecord K)) (rs : List (Replacement X)) (p : ℕ) → IsUnlisted rs p → slice_get (with_lens entries rs) p ≡ slice_get entries p
     lens-other entries [] p un = refl
     lens-other entries (r ∷ rs) p un =
         lens-other (with_entry entries r.object (len_of (length r.list.items))) rs p (All-tail (λ (s : Replacement X). p ≢ s.object) r rs un)
@@ -123,7 +123,7 @@ module _ {X : Type 0} where
 
     -- an object is not listed, or has a list, of which all holds that holds of listed ones, and its record says its length
     pub listed : (P : ℕ → List X → Type 0) (rs : List (Replacement X)) → AreListedOnce rs → All (λ r. P r.object r.list.items) rs → (p : ℕ)
-        → IsUnlisted rs p ⊎ ((list : List X) × P p list × ((entries : List (Entry K)) → slice_get (with_lens entries rs) p ≡ option_map (len_of (length list)) (slice_get entries p)))
+        → IsUnlisted rs p ⊎ ((list : List X) × P p list × ((entries : List (ObjectRecord K)) → slice_get (with_lens entries rs) p ≡ option_map (len_of (length list)) (slice_get entries p)))
     listed P [] once all p = inl (All-nil (λ (s : Replacement X). p ≢ s.object))
     listed P (r ∷ rs) once all p = elim (cases_eq p r.object) [
       | inl same ↦ inr (

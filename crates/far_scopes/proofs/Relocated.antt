@@ -21,11 +21,11 @@ module _ {X : Type 0} (place place' : ℕ → Option At) (part part' : At → Op
   pub own-relocated : OwnPlaces place' part'
   own-relocated = record {
     placed = λ o r is. let w = came o r is in subst (λ q. IsSome (part' q)) w.2 (subst IsSome (sym (kept w.0 (own.placed o w.0 w.1))) (own.placed o w.0 w.1));
-    apart = λ o p r is also.
+    disjoint = λ o p r is also.
         let w = came o r is in
         let v = came p r also in
         let same = once w.0 v.0 (own.placed o w.0 w.1) (own.placed p v.0 v.1) (w.2 ∙ sym v.2) in
-        own.apart o p v.0 (subst (λ q. place o ≡ Some q) same w.1) v.1;
+        own.disjoint o p v.0 (subst (λ q. place o ≡ Some q) same w.1) v.1;
     only = λ r some.
         let w = from r some in
         let v = own.only w.0 w.1 in

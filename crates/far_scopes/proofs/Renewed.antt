@@ -9,43 +9,43 @@ use Rattle.std.proofs.lemmas.Option.{slice_get-map}
 use Rattle.far_pointer.specs.declared.pointer.Pointer.{Pointer}
 use Rattle.far_pointer.specs.declared.pointer.Pointer.TheVariants.{Local, Remote}
 use Rattle.far_pointer.specs.Layout.{is_dirty}
-use Rattle.far_log.specs.Room.{part_of}
-use Rattle.far_scopes.specs.declared.entry.Entry.{Entry}
+use Rattle.far_log.specs.RegionState.{part_of}
+use Rattle.far_scopes.specs.declared.object_record.ObjectRecord.{ObjectRecord}
 use Rattle.far_scopes.specs.Memory.{at_of, place_of, list_in}
 use Rattle.far_scopes.specs.Movement.{Movement, is_local, dirty, ticket_of, list_of, AreClean, AreHere, IsTracked, AreTracked}
-use Rattle.far_scopes.specs.Renewal.{renewed_word, renewed_entry, renewed, ticket_in, Renews, AreTicketsHere}
+use Rattle.far_scopes.specs.Renewal.{renewed_word, renewed_entry, after_renew, ticket_in, Renews, AreTicketsHere}
 use Rattle.far_scopes.proofs.Places.{none_or_some, same_some}
 use Rattle.far_scopes.proofs.WordPlaces.{some-true}
 use Rattle.far_scopes.proofs.RenewedWords.{place-renewed, list-renewed}
 
 module _ {K L : Type 0} where
-  abbrev pub entries-renewed : List (Entry K) → List (Option L) → List (Entry L)
-  entries-renewed entries tickets = map (λ (e : Entry K × Option L). renewed_entry e.0 e.1) (zip entries tickets)
+  abbrev pub entries-renewed : List (ObjectRecord K) → List (Option L) → List (ObjectRecord L)
+  entries-renewed entries tickets = map (λ (e : ObjectRecord K × Option L). renewed_entry e.0 e.1) (zip entries tickets)
 
   -- where one of two lists of one length is spent, no record is left
-  pub none-left : (entries : List (Entry K)) (tickets : List (Option L)) → length entries ≡ length tickets → (length entries ≡ 0) ⊎ (length tickets ≡ 0) → entries-renewed entries tickets ≡ []
-  none-left [] tickets even spent = refl
-  none-left (e ∷ entries) [] even spent = refl
-  none-left (e ∷ entries) (t ∷ tickets) even (inl spent) = absurd (omega (arith, spent))
-  none-left (e ∷ entries) (t ∷ tickets) even (inr spent) = absurd (omega (arith, spent))
+  pub none-left : (entries : List (ObjectRecord K)) (tickets : List (Option L)) → length entries ≡ length tickets → (length entries ≡ 0) ⊎ (length tickets ≡ 0) → entries-renewed entries tickets ≡ []
+  none-left [] tickets same_length spent = refl
+  none-left (e ∷ entries) [] same_length spent = refl
+  none-left (e ∷ entries) (t ∷ tickets) same_length (inl spent) = absurd (omega (arith, spent))
+  none-left (e ∷ entries) (t ∷ tickets) same_length (inr spent) = absurd (omega (arith, spent))
 
-  length-renewed : (entries : List (Entry K)) (tickets : List (Option L)) → length tickets ≡ length entries → length (entries-renewed entries tickets) ≡ length entries
-  length-renewed [] tickets even = refl
-  length-renewed (e ∷ entries) [] even = absurd (omega (arith, even))
-  length-renewed (e ∷ entries) (t ∷ tickets) even = ap suc (length-renewed entries tickets (omega (arith, even)))
+  length-renewed : (entries : List (ObjectRecord K)) (tickets : List (Option L)) → length tickets ≡ length entries → length (entries-renewed entries tickets) ≡ length entries
+  length-renewed [] tickets same_length = refl
+  length-renewed (e ∷ entries) [] same_length = absurd (omega (arith, same_length))
+  length-renewed (e ∷ entries) (t ∷ tickets) same_length = ap suc (length-renewed entries tickets (omega (arith, same_length)))
 
-  entry-renewed : (entries : List (Entry K)) (tickets : List (Option L)) (o : ℕ) → length tickets ≡ length entries → slice_get (entries-renewed entries tickets) o ≡ option_map (λ e. renewed_entry e (ticket_in tickets o)) (slice_get entries o)
-  entry-renewed [] tickets o even = refl
-  entry-renewed (e ∷ entries) [] o even = absurd (omega (arith, even))
-  entry-renewed (e ∷ entries) (t ∷ tickets) zero even = refl
-  entry-renewed (e ∷ entries) (t ∷ tickets) (suc o) even = entry-renewed entries tickets o (omega (arith, even))
+  entry-renewed : (entries : List (ObjectRecord K)) (tickets : List (Option L)) (o : ℕ) → length tickets ≡ length entries → slice_get (entries-renewed entries tickets) o ≡ option_map (λ e. renewed_entry e (ticket_in tickets o)) (slice_get entries o)
+  entry-renewed [] tickets o same_length = refl
+  entry-renewed (e ∷ entries) [] o same_length = absurd (omega (arith, same_length))
+  entry-renewed (e ∷ entries) (t ∷ tickets) zero same_length = refl
+  entry-renewed (e ∷ entries) (t ∷ tickets) (suc o) same_length = entry-renewed entries tickets o (omega (arith, same_length))
 
-  ticket-renewed : (entries : List (Entry K)) (tickets : List (Option L)) (o : ℕ) → length tickets ≡ length entries → option_and_then (λ (e : Entry L). e.ticket) (slice_get (entries-renewed entries tickets) o) ≡ ticket_in tickets o
-  ticket-renewed [] [] o even = refl
-  ticket-renewed [] (t ∷ tickets) o even = absurd (omega (arith, even))
-  ticket-renewed (e ∷ entries) [] o even = absurd (omega (arith, even))
-  ticket-renewed (e ∷ entries) (t ∷ tickets) zero even = refl
-  ticket-renewed (e ∷ entries) (t ∷ tickets) (suc o) even = ticket-renewed entries tickets o (omega (arith, even))
+  ticket-renewed : (entries : List (ObjectRecord K)) (tickets : List (Option L)) (o : ℕ) → length tickets ≡ length entries → option_and_then (λ (e : ObjectRecord L). e.ticket) (slice_get (entries-renewed entries tickets) o) ≡ ticket_in tickets o
+  ticket-renewed [] [] o same_length = refl
+  ticket-renewed [] (t ∷ tickets) o same_length = absurd (omega (arith, same_length))
+  ticket-renewed (e ∷ entries) [] o same_length = absurd (omega (arith, same_length))
+  ticket-renewed (e ∷ entries) (t ∷ tickets) zero same_length = refl
+  ticket-renewed (e ∷ entries) (t ∷ tickets) (suc o) same_length = ticket-renewed entries tickets o (omega (arith, same_length))
 
 map-twice : {A B C : Type 0} (f : A → B) (g : B → C) (o : Option A) → option_map (λ x. g (f x)) o ≡ option_map g (option_map f o)
 map-twice f g None = refl
@@ -71,11 +71,11 @@ module _ {K L : Type 0} (content : K → List ℕ) (content' : L → List ℕ) w
 
 module _ {X K L : Type 0} (meaning : List ℕ → List X) (content : K → List ℕ) (content' : L → List ℕ) (spelled : List X → List ℕ → Type 0) where
   -- what holds of one object
-  one-renewed : (changes leavings : ℕ) (word : Pointer) (list : Option (List X)) (entry : Entry K) (ticket : Option L) → IsTracked meaning content spelled changes leavings word list entry
-      → option_map content' ticket ≡ cond (is_some (at_of word)) None (option_map content entry.ticket) → IsTracked meaning content' spelled changes leavings (renewed_word word) list (renewed_entry entry ticket)
-  one-renewed changes leavings (Local at dirty hot far) list entry None t is = record { version = t.version; left = t.left; some = t.some; long = t.long; away = λ remote. cc; copy = refl; far = tt }
-  one-renewed changes leavings (Local at dirty hot far) list entry (Some k) t is = cc
-  one-renewed changes leavings Remote list entry ticket t is = record {
+  one-renewed : (max_writes leavings : ℕ) (word : Pointer) (list : Option (List X)) (entry : ObjectRecord K) (ticket : Option L) → IsTracked meaning content spelled max_writes leavings word list entry
+      → option_map content' ticket ≡ cond (is_some (at_of word)) None (option_map content entry.ticket) → IsTracked meaning content' spelled max_writes leavings (renewed_word word) list (renewed_entry entry ticket)
+  one-renewed max_writes leavings (Local at dirty hot far) list entry None t is = record { version = t.version; left = t.left; some = t.some; long = t.long; away = λ remote. cc; copy = refl; far = tt }
+  one-renewed max_writes leavings (Local at dirty hot far) list entry (Some k) t is = cc
+  one-renewed max_writes leavings Remote list entry ticket t is = record {
     version = t.version;
     left = t.left;
     some = t.some;
@@ -86,11 +86,11 @@ module _ {X K L : Type 0} (meaning : List ℕ → List X) (content : K → List 
   }
 
   module _ (m : Movement X K) (tickets : List (Option L)) (renews : Renews content content' m tickets) where
-    pub here-renewed : (is_of : L → List ℕ → Type 0) (name : List ℕ) → AreTicketsHere is_of name tickets → AreHere is_of name (renewed m tickets)
-    here-renewed is_of name here o = rw (ticket-renewed m.entries tickets o renews.even) (here o)
+    pub here-renewed : (is_of : L → List ℕ → Type 0) (name : List ℕ) → AreTicketsHere is_of name tickets → AreHere is_of name (after_renew m tickets)
+    here-renewed is_of name here o = rw (ticket-renewed m.entries tickets o renews.same_length) (here o)
 
-    meant-renewed : (o : ℕ) → option_map (λ k. meaning (content' k)) (ticket_of (renewed m tickets) o) ≡ cond (is_local m o) None (option_map (λ k. meaning (content k)) (ticket_of m o))
-    meant-renewed o = ap (option_map (λ k. meaning (content' k))) (ticket-renewed m.entries tickets o renews.even) ∙ map-twice content' meaning (ticket_in tickets o) ∙ ap (option_map meaning) (renews.each o) ∙ through (is_local m o)
+    meant-renewed : (o : ℕ) → option_map (λ k. meaning (content' k)) (ticket_of (after_renew m tickets) o) ≡ cond (is_local m o) None (option_map (λ k. meaning (content k)) (ticket_of m o))
+    meant-renewed o = ap (option_map (λ k. meaning (content' k))) (ticket-renewed m.entries tickets o renews.same_length) ∙ map-twice content' meaning (ticket_in tickets o) ∙ ap (option_map meaning) (renews.each o) ∙ through (is_local m o)
       where
         through : (b : Bool) → option_map meaning (cond b None (option_map content (ticket_of m o))) ≡ cond b None (option_map (λ k. meaning (content k)) (ticket_of m o))
         through true = refl
@@ -100,8 +100,8 @@ module _ {X K L : Type 0} (meaning : List ℕ → List X) (content : K → List 
     list-first None rest there = cc
     list-first (Some xs) rest there = refl
 
-    pub lists-renewed : ((p : ℕ) → IsSome (place_of m.memory.words p) → IsSome (list_in m.memory p)) → (o : ℕ) → list_of meaning content' (renewed m tickets) o ≡ list_of meaning content m o
-    lists-renewed placed o = ap (λ l. option_or l (option_map (λ k. meaning (content' k)) (ticket_of (renewed m tickets) o))) (list-renewed m.memory o) ∙ elim (cases_Bool (is_local m o)) [
+    pub lists-renewed : ((p : ℕ) → IsSome (place_of m.memory.words p) → IsSome (list_in m.memory p)) → (o : ℕ) → list_of meaning content' (after_renew m tickets) o ≡ list_of meaning content m o
+    lists-renewed placed o = ap (λ l. option_or l (option_map (λ k. meaning (content' k)) (ticket_of (after_renew m tickets) o))) (list-renewed m.memory o) ∙ elim (cases_Bool (is_local m o)) [
       | inl local ↦ (let there = placed o (some-true (place_of m.memory.words o) local) in list-first (list_in m.memory o) _ there ∙ sym (list-first (list_in m.memory o) _ there))
       | inr away ↦ ap (option_or (list_in m.memory o)) (meant-renewed o ∙ ap (λ b. cond b None (option_map (λ k. meaning (content k)) (ticket_of m o))) away)
     ]
@@ -111,24 +111,24 @@ module _ {X K L : Type 0} (meaning : List ℕ → List X) (content : K → List 
     clean-word (Some (Local at dirty hot far)) clean = cc
     clean-word (Some Remote) clean = refl
 
-    pub clean-renewed : AreClean meaning content' (renewed m tickets)
+    pub clean-renewed : AreClean meaning content' (after_renew m tickets)
     clean-renewed o clean =
         let away : place_of m.memory.words o ≡ None = clean-word (slice_get m.memory.words o) (ap (λ w. option_map_or is_dirty w false) (sym (slice_get-map renewed_word m.memory.words o)) ∙ clean) in
-        ap (λ l. option_or l (option_map (λ k. meaning (content' k)) (ticket_of (renewed m tickets) o))) (list-renewed m.memory o ∙ ap (option_and_then (part_of m.memory.room)) away)
+        ap (λ l. option_or l (option_map (λ k. meaning (content' k)) (ticket_of (after_renew m tickets) o))) (list-renewed m.memory o ∙ ap (option_and_then (part_of m.memory.state)) away)
 
     was : {A B : Type 0} (f : A → B) (old : Option A) (new : Option B) (now : B) → new ≡ option_map f old → new ≡ Some now → (x : A) × (old ≡ Some x) × (now ≡ f x)
     was f None new now is there = absurd (none_or_some new is there)
     was f (Some x) new now is there = (x, refl, same_some new there is)
 
-    pub tracked-renewed : AreTracked meaning content spelled m → AreTracked meaning content' spelled (renewed m tickets)
+    pub tracked-renewed : AreTracked meaning content spelled m → AreTracked meaning content' spelled (after_renew m tickets)
     tracked-renewed tracked = record {
-      even = length-renewed m.entries tickets renews.even ∙ tracked.even ∙ sym (length-map m.memory.words renewed_word);
-      few = rw (length-renewed m.entries tickets renews.even) tracked.few;
+      same_length = length-renewed m.entries tickets renews.same_length ∙ tracked.same_length ∙ sym (length-map m.memory.words renewed_word);
+      few = rw (length-renewed m.entries tickets renews.same_length) tracked.few;
       each = λ o word entry w e.
           let (word', w', same) = was renewed_word (slice_get m.memory.words o) _ word (slice_get-map renewed_word m.memory.words o) w in
-          let (entry', e', is) = was (λ x. renewed_entry x (ticket_in tickets o)) (slice_get m.entries o) _ entry (entry-renewed m.entries tickets o renews.even) e in
-          let content-is : option_map content' (ticket_in tickets o) ≡ cond (is_some (at_of word')) None (option_map content entry'.ticket) = renews.each o ∙ ap (λ w. cond (is_some (option_and_then at_of w)) None (option_map content (ticket_of m o))) w' ∙ ap (λ x. cond (is_some (at_of word')) None (option_map content (option_and_then (λ (r : Entry K). r.ticket) x))) e' in
-          rw (same, is, list-renewed m.memory o) (one-renewed m.changes m.leavings word' (list_in m.memory o) entry' (ticket_in tickets o) (tracked.each o word' entry' w' e') content-is);
+          let (entry', e', is) = was (λ x. renewed_entry x (ticket_in tickets o)) (slice_get m.entries o) _ entry (entry-renewed m.entries tickets o renews.same_length) e in
+          let content-is : option_map content' (ticket_in tickets o) ≡ cond (is_some (at_of word')) None (option_map content entry'.ticket) = renews.each o ∙ ap (λ w. cond (is_some (option_and_then at_of w)) None (option_map content (ticket_of m o))) w' ∙ ap (λ x. cond (is_some (at_of word')) None (option_map content (option_and_then (λ (r : ObjectRecord K). r.ticket) x))) e' in
+          rw (same, is, list-renewed m.memory o) (one-renewed m.max_writes m.leavings word' (list_in m.memory o) entry' (ticket_in tickets o) (tracked.each o word' entry' w' e') content-is);
       once = tracked.once;
       ordered = λ o. tracked.ordered o ∙ sym (ap is_some (place-renewed m.memory.words o));
     }

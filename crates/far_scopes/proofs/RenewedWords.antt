@@ -5,7 +5,7 @@ use Rattle.std.specs.Option.{option_and_then}
 use Rattle.std.proofs.lemmas.List.{take_all, drop_all, append-nil}
 use Rattle.far_pointer.specs.declared.pointer.Pointer.{Pointer}
 use Rattle.far_pointer.specs.declared.pointer.Pointer.TheVariants.{Local, Remote}
-use Rattle.far_log.specs.Room.{Room, part_of}
+use Rattle.far_log.specs.RegionState.{RegionState, part_of}
 use Rattle.far_scopes.specs.Memory.{Memory, at_of, place_of, list_in, IsMemory}
 use Rattle.far_scopes.specs.Renewal.{renewed_word, renewed_memory}
 use Rattle.far_scopes.proofs.Places.{some_of, own-same}
@@ -20,15 +20,15 @@ place-renewed (word ∷ words) zero = at-renewed word
 place-renewed (word ∷ words) (suc o) = place-renewed words o
 
 pub list-renewed : {X : Type 0} (memory : Memory X) (o : ℕ) → list_in (renewed_memory memory) o ≡ list_in memory o
-list-renewed memory o = ap (option_and_then (part_of memory.room)) (place-renewed memory.words o)
+list-renewed memory o = ap (option_and_then (part_of memory.state)) (place-renewed memory.words o)
 
 -- each local object has the place that it had
-pub memory-renewed : {X : Type 0} (words : List Pointer) (room : Room X) → IsMemory words room → IsMemory (map renewed_word words) room
-memory-renewed words room is = record { region = is.region; own = own-same (place_of words) (place_of (map renewed_word words)) (part_of room) (part_of room) is.own (place-renewed words) (λ at there. there) (λ at there. there) }
+pub memory-renewed : {X : Type 0} (words : List Pointer) (state : RegionState X) → IsMemory words state → IsMemory (map renewed_word words) state
+memory-renewed words state is = record { region = is.region; own = own-same (place_of words) (place_of (map renewed_word words)) (part_of state) (part_of state) is.own (place-renewed words) (λ at there. there) (λ at there. there) }
 
 -- each of them has a list there
-pub list-placed : {X : Type 0} (words : List Pointer) (room : Room X) → IsMemory words room → (o : ℕ) → IsSome (place_of words o) → IsSome (option_and_then (part_of room) (place_of words o))
-list-placed words room is o there =
+pub list-placed : {X : Type 0} (words : List Pointer) (state : RegionState X) → IsMemory words state → (o : ℕ) → IsSome (place_of words o) → IsSome (option_and_then (part_of state) (place_of words o))
+list-placed words state is o there =
     let (at, at-is) = some_of (place_of words o) there in
     rw at-is (is.own.placed o at at-is)
 

@@ -40,7 +40,7 @@ module _ {K L : Type 0} (content : K → List ℕ) (content' : L → List ℕ) w
     -- all of them
     pub renews-all : (tickets : List (Option L)) (o : ℕ) → length tickets ≡ o → length m.entries ≡ o → ((p : ℕ) → p < o → Renewed tickets p) → Renews content content' m tickets
     renews-all tickets o long all before = record {
-      even = long ∙ sym all;
+      same_length = long ∙ sym all;
       each = λ p. elim (cases_lt p o) [
         | inl within ↦ before p within
         | inr past ↦ none-past tickets p (omega (arith, long, past)) (omega (arith, all, past))

@@ -5,7 +5,7 @@ use Rattle.std.specs.Option.{option_map_or, option_and_then}
 use Rattle.far_types.specs.FirstOf.{first_of}
 use Rattle.far_pointer.specs.declared.pointer.Pointer.{Pointer}
 use Rattle.far_pointer.specs.Layout.{is_dirty}
-use Rattle.far_scopes.specs.declared.entry.Entry.{Entry}
+use Rattle.far_scopes.specs.declared.object_record.ObjectRecord.{ObjectRecord}
 use Rattle.far_scopes.specs.declared.replacement.Replacement.{Replacement}
 use Rattle.far_scopes.specs.Recency.{has}
 use Rattle.far_scopes.specs.Memory.{Memory, at_of, list_in}
@@ -19,12 +19,12 @@ use Rattle.far_scopes.proofs.PlacedAll.{length-moved}
 use Rattle.far_scopes.proofs.Relisted.{IsMoved, BothMoved, moved-local, moved-dirty, moved-copy, moved-remote, all-moved, len_of, length-lens, lens-other, listed}
 
 -- a word that moved, and its object's record with another length
-module _ {X K : Type 0} (meaning : List ℕ → List X) (content : K → List ℕ) (spelled : List X → List ℕ → Type 0) (changes leavings : ℕ) (old new : Pointer) (moved : IsMoved old new) (list : Option (List X)) (entry : Entry K)
-    (t : IsTracked meaning content spelled changes leavings old list entry) where
-  tracked-moved : IsTracked meaning content spelled changes leavings new list entry
+module _ {X K : Type 0} (meaning : List ℕ → List X) (content : K → List ℕ) (spelled : List X → List ℕ → Type 0) (max_writes leavings : ℕ) (old new : Pointer) (moved : IsMoved old new) (list : Option (List X)) (entry : ObjectRecord K)
+    (t : IsTracked meaning content spelled max_writes leavings old list entry) where
+  tracked-moved : IsTracked meaning content spelled max_writes leavings new list entry
   tracked-moved = record { version = t.version; left = t.left; some = t.some; long = t.long; away = λ gone. t.away (moved-remote old new moved gone); copy = moved-copy old new moved ∙ t.copy; far = t.far }
 
-  tracked-relisted : (now : List X) → 0 < length now → is_some (at_of old) ≡ true → IsTracked meaning content spelled changes leavings new (Some now) (len_of (length now) entry)
+  tracked-relisted : (now : List X) → 0 < length now → is_some (at_of old) ≡ true → IsTracked meaning content spelled max_writes leavings new (Some now) (len_of (length now) entry)
   tracked-relisted now some local = record {
     version = t.version;
     left = t.left;
@@ -42,7 +42,7 @@ word-behind old new now (inr (word, other, was, here, moved)) is =
     let same : other ≡ now = (let both = sym here ∙ is in cc) in
     (word, was, subst (IsMoved word) same moved)
 
-entry-behind : {K : Type 0} (n : ℕ) (old : Option (Entry K)) (now : Entry K) → option_map (len_of n) old ≡ Some now → (entry : Entry K) × (old ≡ Some entry) × (len_of n entry ≡ now)
+entry-behind : {K : Type 0} (n : ℕ) (old : Option (ObjectRecord K)) (now : ObjectRecord K) → option_map (len_of n) old ≡ Some now → (entry : ObjectRecord K) × (old ≡ Some entry) × (len_of n entry ≡ now)
 entry-behind n None now is = cc
 entry-behind n (Some entry) now is = (entry, refl, cc)
 
@@ -61,7 +61,7 @@ module _ {X K : Type 0} (meaning : List ℕ → List X) (content : K → List �
   mid = record m { memory = memory; entries = with_lens m.entries lists }
 
   words-mid : (p : ℕ) → BothMoved (word_of m p) (word_of mid p)
-  words-mid p = subst (λ (w : Memory X). BothMoved (word_of m p) (slice_get w.words p)) (sym is) (all-moved m.memory.room m.memory.words lists p)
+  words-mid p = subst (λ (w : Memory X). BothMoved (word_of m p) (slice_get w.words p)) (sym is) (all-moved m.memory.state m.memory.words lists p)
 
   local-mid : (p : ℕ) → is_local mid p ≡ is_local m p
   local-mid p = both-local (word_of m p) (word_of mid p) (words-mid p)
@@ -70,42 +70,42 @@ module _ {X K : Type 0} (meaning : List ℕ → List X) (content : K → List �
   abbrev Has : ℕ → List X → Type 0
   Has p list = (list_in memory p ≡ Some list) × (0 < length list) × (is_local m p ≡ true)
 
-  which : (p : ℕ) → IsUnlisted lists p ⊎ ((list : List X) × Has p list × ((entries : List (Entry K)) → slice_get (with_lens entries lists) p ≡ option_map (len_of (length list)) (slice_get entries p)))
+  which : (p : ℕ) → IsUnlisted lists p ⊎ ((list : List X) × Has p list × ((entries : List (ObjectRecord K)) → slice_get (with_lens entries lists) p ≡ option_map (len_of (length list)) (slice_get entries p)))
   which p = listed Has lists once (λ k d lt. (change.here k d lt, some k d lt, all-local m lists here k d lt)) p
 
   ticket-mid : (p : ℕ) → ticket_of mid p ≡ ticket_of m p
   ticket-mid p = elim (which p) [
-    | inl un ↦ ap (λ e. option_and_then (λ (x : Entry K). x.ticket) e) (lens-other m.entries lists p un)
-    | inr (list, has, lens) ↦ ap (λ e. option_and_then (λ (x : Entry K). x.ticket) e) (lens m.entries) ∙ same-ticket (length list) (slice_get m.entries p)
+    | inl un ↦ ap (λ e. option_and_then (λ (x : ObjectRecord K). x.ticket) e) (lens-other m.entries lists p un)
+    | inr (list, has, lens) ↦ ap (λ e. option_and_then (λ (x : ObjectRecord K). x.ticket) e) (lens m.entries) ∙ same-ticket (length list) (slice_get m.entries p)
   ]
     where
-      same-ticket : (n : ℕ) (e : Option (Entry K)) → option_and_then (λ (x : Entry K). x.ticket) (option_map (len_of n) e) ≡ option_and_then (λ (x : Entry K). x.ticket) e
+      same-ticket : (n : ℕ) (e : Option (ObjectRecord K)) → option_and_then (λ (x : ObjectRecord K). x.ticket) (option_map (len_of n) e) ≡ option_and_then (λ (x : ObjectRecord K). x.ticket) e
       same-ticket n None = refl
       same-ticket n (Some e) = refl
 
   version-mid : (p : ℕ) → version_of mid p ≡ version_of m p
   version-mid p = elim (which p) [
-    | inl un ↦ ap (λ e. option_map_or (λ (x : Entry K). x.version) e 0) (lens-other m.entries lists p un)
-    | inr (list, has, lens) ↦ ap (λ e. option_map_or (λ (x : Entry K). x.version) e 0) (lens m.entries) ∙ same-version (length list) (slice_get m.entries p)
+    | inl un ↦ ap (λ e. option_map_or (λ (x : ObjectRecord K). x.version) e 0) (lens-other m.entries lists p un)
+    | inr (list, has, lens) ↦ ap (λ e. option_map_or (λ (x : ObjectRecord K). x.version) e 0) (lens m.entries) ∙ same-version (length list) (slice_get m.entries p)
   ]
     where
-      same-version : (n : ℕ) (e : Option (Entry K)) → option_map_or (λ (x : Entry K). x.version) (option_map (len_of n) e) 0 ≡ option_map_or (λ (x : Entry K). x.version) e 0
+      same-version : (n : ℕ) (e : Option (ObjectRecord K)) → option_map_or (λ (x : ObjectRecord K). x.version) (option_map (len_of n) e) 0 ≡ option_map_or (λ (x : ObjectRecord K). x.version) e 0
       same-version n None = refl
       same-version n (Some e) = refl
 
-  each-mid : (p : ℕ) (word : Pointer) (entry : Entry K) → word_of mid p ≡ Some word → entry_of mid p ≡ Some entry → IsTracked meaning content spelled m.changes m.leavings word (list_in memory p) entry
+  each-mid : (p : ℕ) (word : Pointer) (entry : ObjectRecord K) → word_of mid p ≡ Some word → entry_of mid p ≡ Some entry → IsTracked meaning content spelled m.max_writes m.leavings word (list_in memory p) entry
   each-mid p word entry w e =
       let from = word-behind (word_of m p) (word_of mid p) word (words-mid p) w in
       elim (which p) [
-        | inl un ↦ rw (change.others p un) (tracked-moved meaning content spelled m.changes m.leavings from.0 word from.2 (list_in m.memory p) entry (tracked.each p from.0 entry from.1 (sym (lens-other m.entries lists p un) ∙ e)))
+        | inl un ↦ rw (change.others p un) (tracked-moved meaning content spelled m.max_writes m.leavings from.0 word from.2 (list_in m.memory p) entry (tracked.each p from.0 entry from.1 (sym (lens-other m.entries lists p un) ∙ e)))
         | inr (list, has, lens) ↦
             let old = entry-behind (length list) (slice_get m.entries p) entry (sym (lens m.entries) ∙ e) in
-            rw (has.0, ← old.2) (tracked-relisted meaning content spelled m.changes m.leavings from.0 word from.2 (list_in m.memory p) old.0 (tracked.each p from.0 old.0 from.1 old.1) list has.1 (sym (ap (λ x. is_some (option_and_then at_of x)) from.1) ∙ has.2))
+            rw (has.0, ← old.2) (tracked-relisted meaning content spelled m.max_writes m.leavings from.0 word from.2 (list_in m.memory p) old.0 (tracked.each p from.0 old.0 from.1 old.1) list has.1 (sym (ap (λ x. is_some (option_and_then at_of x)) from.1) ∙ has.2))
       ]
 
   pub tracked-mid : AreTracked meaning content spelled mid
   tracked-mid = record {
-    even = length-lens m.entries lists ∙ tracked.even ∙ sym (ap (λ (w : Memory X). length w.words) is ∙ length-moved m.memory.room m.memory.words lists);
+    same_length = length-lens m.entries lists ∙ tracked.same_length ∙ sym (ap (λ (w : Memory X). length w.words) is ∙ length-moved m.memory.state m.memory.words lists);
     few = rw (length-lens m.entries lists) tracked.few;
     each = each-mid;
     once = tracked.once;
@@ -128,4 +128,4 @@ module _ {X K : Type 0} (meaning : List ℕ → List X) (content : K → List �
   free-mid free k d lt =
       let o : ℕ = (slice_index_or lists k d).object in
       let left = none-listed (λ (r : Replacement X). (written_out m r.object).0) lists (none-one (any_written_out m lists).0 (any_written_out m lists).1 free) k d lt in
-      two-none (absent mid o).0 (written_out mid o).0 (absent mid o).1 (written_out mid o).1 (ap not (local-mid o ∙ all-local m lists here k d lt)) (ap (λ v. not (nat_lt v m.changes)) (version-mid o) ∙ left)
+      two-none (absent mid o).0 (written_out mid o).0 (absent mid o).1 (written_out mid o).1 (ap not (local-mid o ∙ all-local m lists here k d lt)) (ap (λ v. not (nat_lt v m.max_writes)) (version-mid o) ∙ left)

@@ -8,7 +8,7 @@ use Rattle.far_pointer.specs.declared.pointer.At.{At}
 use Rattle.far_pointer.specs.declared.pointer.Pointer.{Pointer}
 use Rattle.far_pointer.specs.declared.pointer.Pointer.TheVariants.{Local, Remote}
 use Rattle.far_pointer.specs.Layout.{with_dirty, with_hot, with_at}
-use Rattle.far_scopes.specs.declared.entry.Entry.{Entry}
+use Rattle.far_scopes.specs.declared.object_record.ObjectRecord.{ObjectRecord}
 use Rattle.far_scopes.specs.Recency.{has}
 use Rattle.far_scopes.specs.Memory.{Memory, at_of, list_in, ChangesList}
 use Rattle.far_scopes.specs.Placing.{spot, replaced as replaced_in}
@@ -38,13 +38,13 @@ copy-at Remote to = refl
 true-false : (b : Bool) → b ≡ true → b ≡ false → ⊥
 true-false b one other = cc
 
-module _ {X K : Type 0} (meaning : List ℕ → List X) (content : K → List ℕ) (spelled : List X → List ℕ → Type 0) (m : Movement X K) (tracked : AreTracked meaning content spelled m) (o : ℕ) (within : o < length m.entries) (entry : Entry K) (read : entry ≡ get_or m.entries o entry) (list : List X) (free : replace_refusal m o (length list) ≡ None)
+module _ {X K : Type 0} (meaning : List ℕ → List X) (content : K → List ℕ) (spelled : List X → List ℕ → Type 0) (m : Movement X K) (tracked : AreTracked meaning content spelled m) (o : ℕ) (within : o < length m.entries) (entry : ObjectRecord K) (read : entry ≡ get_or m.entries o entry) (list : List X) (free : replace_refusal m o (length list) ≡ None)
     (memory : Memory X) (is : memory ≡ replaced_in m.memory o list) (change : ChangesList (list_in m.memory) (list_in memory) o (Some list)) where
   pub entry-was : entry_of m o ≡ Some entry
   entry-was = word-read m.entries o entry within read
 
   its-word : o < length m.memory.words
-  its-word = subst (λ k. o < k) tracked.even within
+  its-word = subst (λ k. o < k) tracked.same_length within
 
   abbrev pub word : Pointer
   word = get_or m.memory.words o Remote
@@ -57,12 +57,12 @@ module _ {X K : Type 0} (meaning : List ℕ → List X) (content : K → List �
 
   -- where the new part lies
   abbrev to : At
-  to = spot m.memory.room (length list)
+  to = spot m.memory.state (length list)
 
   words-are : memory.words ≡ slice_set m.memory.words o (with_at word to)
   words-are = ap (λ k. k.words) is ∙ rw word-was refl
 
-  abbrev now : Entry K
+  abbrev now : ObjectRecord K
   now = record entry { len = length list }
 
   -- the objects once the list is another, before the object is marked as written
@@ -93,18 +93,18 @@ module _ {X K : Type 0} (meaning : List ℕ → List X) (content : K → List �
     | inr ne ↦ tracked.ordered p ∙ rw (words-mid p ne) refl
   ]
 
-  tracked-one-mid : 0 < length list → IsTracked meaning content spelled m.changes m.leavings (with_at word to) (Some list) now
+  tracked-one-mid : 0 < length list → IsTracked meaning content spelled m.max_writes m.leavings (with_at word to) (Some list) now
   tracked-one-mid some =
       let old = tracked.each o word entry word-was entry-was in
       record { version = old.version; left = old.left; some = some; long = refl; away = λ gone. absurd (not-remote (with_at word to) (local-at word to its-place) gone); copy = copy-at word to ∙ old.copy; far = old.far }
 
   pub tracked-mid : 0 < length list → AreTracked meaning content spelled mid
   tracked-mid some = record {
-    even = length-set m.entries o now ∙ tracked.even ∙ sym (ap (λ l. length l) words-are ∙ length-set m.memory.words o (with_at word to));
+    same_length = length-set m.entries o now ∙ tracked.same_length ∙ sym (ap (λ l. length l) words-are ∙ length-set m.memory.words o (with_at word to));
     few = rw (length-set m.entries o now) tracked.few;
     each = each-one meaning content m mid o others-mid spelled tracked refl refl
-        (λ w e ws es. rw change.here (subst (λ (k : Pointer). IsTracked meaning content spelled m.changes m.leavings k (Some list) e) (some-one (word_of mid o) ws word-mid)
-        (subst (IsTracked meaning content spelled m.changes m.leavings (with_at word to) (Some list)) (some-one (entry_of mid o) es entry-mid) (tracked-one-mid some))));
+        (λ w e ws es. rw change.here (subst (λ (k : Pointer). IsTracked meaning content spelled m.max_writes m.leavings k (Some list) e) (some-one (word_of mid o) ws word-mid)
+        (subst (IsTracked meaning content spelled m.max_writes m.leavings (with_at word to) (Some list)) (some-one (entry_of mid o) es entry-mid) (tracked-one-mid some))));
     once = tracked.once;
     ordered = ordered-mid;
   }
@@ -113,7 +113,7 @@ module _ {X K : Type 0} (meaning : List ℕ → List X) (content : K → List �
   version-mid = rw (entry-mid, entry-was) refl
 
   pub free-mid : write_refusal mid o ≡ None
-  free-mid = two-none (absent mid o).0 (written_out mid o).0 (absent mid o).1 (written_out mid o).1 (ap not local-mid) (ap (λ v. not (nat_lt v m.changes)) version-mid ∙ (free-parts m o (length list) free).1)
+  free-mid = two-none (absent mid o).0 (written_out mid o).0 (absent mid o).1 (written_out mid o).1 (ap not local-mid) (ap (λ v. not (nat_lt v m.max_writes)) version-mid ∙ (free-parts m o (length list) free).1)
 
   -- the objects once it is marked
   module _ (new : Movement X K) (marks : new ≡ written mid o) where

@@ -101,15 +101,15 @@ rises-pairs from (x ∷ xs) low h = (low 0 (omega arith), rises-pairs (x + 1) xs
 
 -- numbers that do not fall and differ rise
 pub rises-sorted : (xs : List ℕ) → IsNonDecreasing xs → AllPairs (λ o p. o ≢ p) xs → Rises 0 xs
-rises-sorted xs up apart = rises-pairs 0 xs (λ d lt. omega arith) (λ i j d lt within. elim (cases_lt (get_or xs i d) (get_or xs j d)) [
+rises-sorted xs up disjoint = rises-pairs 0 xs (λ d lt. omega arith) (λ i j d lt within. elim (cases_lt (get_or xs i d) (get_or xs j d)) [
   | inl less ↦ less
-  | inr more ↦ absurd (apart i j d lt within (omega (arith, more, up i j d (omega (arith, lt)) within)))
+  | inr more ↦ absurd (disjoint i j d lt within (omega (arith, more, up i j d (omega (arith, lt)) within)))
 ])
 
 -- numbers that rise are each once
-pub rises-apart : (from : ℕ) (xs : List ℕ) → Rises from xs → AllPairs (λ o p. o ≢ p) xs
-rises-apart from [] h = λ i j d lt within. absurd (omega (arith, within))
-rises-apart from (x ∷ xs) h = AllPairs-cons (λ o p. o ≢ p) x xs (λ k d lt e. let least = rises-least (x + 1) xs (get_or xs k d) h.1 (in-read xs k d lt) in omega (arith, least, e)) (rises-apart (x + 1) xs h.1)
+pub rises-disjoint : (from : ℕ) (xs : List ℕ) → Rises from xs → AllPairs (λ o p. o ≢ p) xs
+rises-disjoint from [] h = λ i j d lt within. absurd (omega (arith, within))
+rises-disjoint from (x ∷ xs) h = AllPairs-cons (λ o p. o ≢ p) x xs (λ k d lt e. let least = rises-least (x + 1) xs (get_or xs k d) h.1 (in-read xs k d lt) in omega (arith, least, e)) (rises-disjoint (x + 1) xs h.1)
 
 -- two lists that rise and have the same numbers are one
 pub same-rising : (from : ℕ) (xs ys : List ℕ) → Rises from xs → Rises from ys → ((o : ℕ) → Contains xs o → Contains ys o) → ((o : ℕ) → Contains ys o → Contains xs o) → xs ≡ ys

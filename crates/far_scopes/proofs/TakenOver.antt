@@ -11,7 +11,7 @@ module _ {X : Type 0} (place place' : ℕ → Option At) (part part' : At → Op
     (is : place' o ≡ Some to) (gone : place' last ≡ None) (others : (p : ℕ) → p ≢ o → p ≢ last → place' p ≡ place p)
     (dropped : part' at ≡ None) (parts : (q : At) → q ≢ at → part' q ≡ part q) where
   not_at : (p : ℕ) (q : At) → p ≢ o → place p ≡ Some q → q ≢ at
-  not_at p q ne taken same = ne (own.apart p o at (subst (λ k. place p ≡ Some k) same taken) was)
+  not_at p q ne taken same = ne (own.disjoint p o at (subst (λ k. place p ≡ Some k) same taken) was)
 
   to_not_at : to ≢ at
   to_not_at = not_at last to (λ same. other (sym same)) lay
@@ -31,14 +31,14 @@ module _ {X : Type 0} (place place' : ℕ → Option At) (part part' : At → Op
       | inl (same, new) ↦ subst (λ k. IsSome (part' k)) (sym new) (subst IsSome (sym (parts to to_not_at)) (own.placed last to lay))
       | inr (ne, ne', old) ↦ subst IsSome (sym (parts q (not_at p q ne old))) (own.placed p q old)
     ];
-    apart = λ p r q taken also. elim (taken_or_not p q taken) [
+    disjoint = λ p r q taken also. elim (taken_or_not p q taken) [
       | inl (same, new) ↦ elim (taken_or_not r q also) [
         | inl (same', new') ↦ same ∙ sym same'
-        | inr (ne, ne', old) ↦ absurd (ne' (own.apart r last to (subst (λ k. place r ≡ Some k) new old) lay))
+        | inr (ne, ne', old) ↦ absurd (ne' (own.disjoint r last to (subst (λ k. place r ≡ Some k) new old) lay))
       ]
       | inr (ne, ne', old) ↦ elim (taken_or_not r q also) [
-        | inl (same', new') ↦ absurd (ne' (own.apart p last to (subst (λ k. place p ≡ Some k) new' old) lay))
-        | inr (far, far', old') ↦ own.apart p r q old old'
+        | inl (same', new') ↦ absurd (ne' (own.disjoint p last to (subst (λ k. place p ≡ Some k) new' old) lay))
+        | inr (far, far', old') ↦ own.disjoint p r q old old'
       ]
     ];
     only = λ q h. elim (cases_At q at) [

@@ -5,15 +5,15 @@ use Rattle.std.proofs.Math.Seq.{take-append_seam}
 use Rattle.far_pointer.specs.declared.pointer.At.{At}
 use Rattle.far_pointer.specs.declared.pointer.Pointer.{Pointer}
 use Rattle.far_pointer.specs.Layout.{with_at}
-use Rattle.far_log.specs.Room.{Room, part_of, segment_of, IsRegion}
-use Rattle.far_log.specs.Changes.{ChangesOnly, with_segment, without_part}
+use Rattle.far_log.specs.RegionState.{RegionState, part_of, segment_of, IsRegion}
+use Rattle.far_log.specs.Effects.{ChangesOnly, with_segment, without_part}
 use Rattle.far_scopes.specs.Memory.{Memory, at_of, place_of, list_in, IsMemory}
 use Rattle.far_scopes.specs.Replacing.{taken_over}
 use Rattle.far_scopes.proofs.WordPlaces.{word-read, place-read, place-set_same, place-set_other, place-push_last, place-push_other, place-end, last-of}
 use Rattle.far_scopes.proofs.MemoryLaws.{at-moved}
 use Rattle.far_scopes.proofs.TakenOver.{own-taken, list-taken, lists-beside}
 
-module _ {X : Type 0} (rest words : List Pointer) (last word : Pointer) (is : words ≡ rest ++ last ∷ []) (room room' : Room X) (m : IsMemory words room)
+module _ {X : Type 0} (rest words : List Pointer) (last word : Pointer) (is : words ≡ rest ++ last ∷ []) (state state' : RegionState X) (m : IsMemory words state)
     (o : ℕ) (lt : o < length words - 1) (to at : At) (lies : at_of last ≡ Some to) (read : word ≡ get_or rest o word) (here : at_of word ≡ Some at) where
   within : o < length rest
   within = omega (arith, lt, last-of words rest last is)
@@ -39,20 +39,20 @@ module _ {X : Type 0} (rest words : List Pointer) (last word : Pointer) (is : wo
   not-last : o ≢ length rest
   not-last e = omega (arith, within, e)
 
-  pub taken-is : room' ≡ with_segment room at.segment (without_part (segment_of room at.segment) at.offset) → (let new : Memory X = record { words = words'; room = room' } in new) ≡ taken_over record { words = words; room = room } o
+  pub taken-is : state' ≡ with_segment state at.segment (without_part (segment_of state at.segment) at.offset) → (let new : Memory X = record { words = words'; state = state' } in new) ≡ taken_over record { words = words; state = state } o
   taken-is dropped =
       let there = word-read rest o word within read in
       rw (last-of words rest last is, lay, was, is, take-append_seam rest (last ∷ []), there, dropped) refl
 
-  module _ (change : ChangesOnly room room' at None) where
-    pub memory-taken : IsRegion room' → IsMemory words' room'
+  module _ (change : ChangesOnly state state' at None) where
+    pub memory-taken : IsRegion state' → IsMemory words' state'
     memory-taken region = record {
       region = region;
-      own = own-taken (place_of words) (place_of words') (part_of room) (part_of room') m.own o (length rest) not-last at to was lay now gone others change.here change.others;
+      own = own-taken (place_of words) (place_of words') (part_of state) (part_of state') m.own o (length rest) not-last at to was lay now gone others change.here change.others;
     }
 
-    pub list-here : list_in record { words = words'; room = room' } o ≡ list_in record { words = words; room = room } (length words - 1)
-    list-here = rw (last-of words rest last is) (list-taken (place_of words) (place_of words') (part_of room) (part_of room') m.own o (length rest) not-last at to was lay now gone others change.here change.others)
+    pub list-here : list_in record { words = words'; state = state' } o ≡ list_in record { words = words; state = state } (length words - 1)
+    list-here = rw (last-of words rest last is) (list-taken (place_of words) (place_of words') (part_of state) (part_of state') m.own o (length rest) not-last at to was lay now gone others change.here change.others)
 
-    pub lists-others : (p : ℕ) → p ≢ o → p ≢ length words - 1 → list_in record { words = words'; room = room' } p ≡ list_in record { words = words; room = room } p
-    lists-others p ne ne' = lists-beside (place_of words) (place_of words') (part_of room) (part_of room') m.own o (length rest) not-last at to was lay now gone others change.here change.others p ne (λ e. ne' (e ∙ sym (last-of words rest last is)))
+    pub lists-others : (p : ℕ) → p ≢ o → p ≢ length words - 1 → list_in record { words = words'; state = state' } p ≡ list_in record { words = words; state = state } p
+    lists-others p ne ne' = lists-beside (place_of words) (place_of words') (part_of state) (part_of state') m.own o (length rest) not-last at to was lay now gone others change.here change.others p ne (λ e. ne' (e ∙ sym (last-of words rest last is)))

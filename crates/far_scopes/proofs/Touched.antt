@@ -5,7 +5,7 @@ use Rattle.std.specs.Option.{option_map_or, option_and_then}
 use Rattle.far_pointer.specs.declared.pointer.Pointer.{Pointer}
 use Rattle.far_pointer.specs.declared.pointer.Pointer.TheVariants.{Local, Remote}
 use Rattle.far_pointer.specs.Layout.{is_dirty, with_dirty, with_hot}
-use Rattle.far_scopes.specs.declared.entry.Entry.{Entry}
+use Rattle.far_scopes.specs.declared.object_record.ObjectRecord.{ObjectRecord}
 use Rattle.far_scopes.specs.Recency.{used}
 use Rattle.far_scopes.specs.Memory.{at_of, list_in}
 use Rattle.far_scopes.specs.Placing.{heated, marked}
@@ -69,7 +69,7 @@ module _ {X K : Type 0} (meaning : List ℕ → List X) (content : K → List �
 
     pub tracked-touched : AreTracked meaning content spelled touched_m
     tracked-touched = record {
-      even = tracked.even ∙ sym (words-length m.memory o heat at-hot);
+      same_length = tracked.same_length ∙ sym (words-length m.memory o heat at-hot);
       few = tracked.few;
       each = each-one meaning content m touched_m o others-touched spelled tracked refl refl
           (λ word entry now was. let w = words-same m.memory o heat at-hot word now in let t = tracked.each o w.0 entry w.1 was in
@@ -91,11 +91,11 @@ module _ {X K : Type 0} (meaning : List ℕ → List X) (content : K → List �
     clean-touched clean = clean-one meaning content m touched_m o others-touched clean (λ c. rw (lists o) (clean o (sym dirty-touched ∙ c)))
 
   -- it is written
-  module _ (entry : Entry K) (was : entry_of m o ≡ Some entry) (local : is_local m o ≡ true) (left : entry.version < m.changes) (lists : (p : ℕ) → list_in (marked m.memory o) p ≡ list_in m.memory p) where
+  module _ (entry : ObjectRecord K) (was : entry_of m o ≡ Some entry) (local : is_local m o ≡ true) (left : entry.version < m.max_writes) (lists : (p : ℕ) → list_in (marked m.memory o) p ≡ list_in m.memory p) where
     abbrev mark : Pointer → Pointer
     mark word = with_hot (with_dirty word) true
 
-    abbrev now : Entry K
+    abbrev now : ObjectRecord K
     now = record entry { version = entry.version + 1 }
 
     abbrev pub written_m : Movement X K

@@ -5,7 +5,7 @@ use Rattle.std.specs.Option.{option_map_or, option_and_then}
 use Rattle.std.proofs.lemmas.Bool.{cases_eq}
 use Rattle.far_pointer.specs.declared.pointer.Pointer.{Pointer}
 use Rattle.far_pointer.specs.Layout.{is_dirty}
-use Rattle.far_scopes.specs.declared.entry.Entry.{Entry}
+use Rattle.far_scopes.specs.declared.object_record.ObjectRecord.{ObjectRecord}
 use Rattle.far_scopes.specs.Memory.{place_of, list_in, ChangesList}
 use Rattle.far_scopes.proofs.Places.{cases_option}
 use Rattle.far_scopes.proofs.WordPlaces.{word-read, place-within, some-true}
@@ -26,7 +26,7 @@ module _ {X K : Type 0} (meaning : List ℕ → List X) (content : K → List �
     pub clean-one : AreClean meaning content old → (dirty new o ≡ false → list_of meaning content new o ≡ option_map (λ ticket. meaning (content ticket)) (ticket_of new o)) → AreClean meaning content new
     clean-one clean here p = elim (cases_eq p o) [
       | inl same ↦ subst (λ k. dirty new k ≡ false → list_of meaning content new k ≡ option_map (λ ticket. meaning (content ticket)) (ticket_of new k)) (sym same) here
-      | inr ne ↦ λ c. list-other p ne ∙ clean p (ap (λ w. option_map_or is_dirty w false) (sym (others.words p ne)) ∙ c) ∙ ap (λ e. option_map (λ ticket. meaning (content ticket)) (option_and_then (λ (x : Entry K). x.ticket) e)) (sym (others.entries p ne))
+      | inr ne ↦ λ c. list-other p ne ∙ clean p (ap (λ w. option_map_or is_dirty w false) (sym (others.words p ne)) ∙ c) ∙ ap (λ e. option_map (λ ticket. meaning (content ticket)) (option_and_then (λ (x : ObjectRecord K). x.ticket) e)) (sym (others.entries p ne))
     ]
 
     pub list-one : (now : Option (List X)) → list_of meaning content new o ≡ now → ChangesList (list_of meaning content old) (list_of meaning content new) o now
@@ -40,19 +40,19 @@ module _ {X K : Type 0} (meaning : List ℕ → List X) (content : K → List �
 
     module _ (spelled : List X → List ℕ → Type 0) (tracked : AreTracked meaning content spelled old) where
       -- what holds of each object, where it holds of the one that changes
-      pub each-one : new.changes ≡ old.changes → new.leavings ≡ old.leavings
-          → ((word : Pointer) (entry : Entry K) → word_of new o ≡ Some word → entry_of new o ≡ Some entry → IsTracked meaning content spelled new.changes new.leavings word (list_in new.memory o) entry)
-          → (p : ℕ) (word : Pointer) (entry : Entry K) → word_of new p ≡ Some word → entry_of new p ≡ Some entry → IsTracked meaning content spelled new.changes new.leavings word (list_in new.memory p) entry
-      each-one changes leavings here p word entry w e = elim (cases_eq p o) [
-        | inl same ↦ subst (λ k. IsTracked meaning content spelled new.changes new.leavings word (list_in new.memory k) entry) (sym same) (here word entry (subst (λ k. word_of new k ≡ Some word) same w) (subst (λ k. entry_of new k ≡ Some entry) same e))
-        | inr ne ↦ rw (changes, leavings, others.lists p ne) (tracked.each p word entry (sym (others.words p ne) ∙ w) (sym (others.entries p ne) ∙ e))
+      pub each-one : new.max_writes ≡ old.max_writes → new.leavings ≡ old.leavings
+          → ((word : Pointer) (entry : ObjectRecord K) → word_of new o ≡ Some word → entry_of new o ≡ Some entry → IsTracked meaning content spelled new.max_writes new.leavings word (list_in new.memory o) entry)
+          → (p : ℕ) (word : Pointer) (entry : ObjectRecord K) → word_of new p ≡ Some word → entry_of new p ≡ Some entry → IsTracked meaning content spelled new.max_writes new.leavings word (list_in new.memory p) entry
+      each-one max_writes leavings here p word entry w e = elim (cases_eq p o) [
+        | inl same ↦ subst (λ k. IsTracked meaning content spelled new.max_writes new.leavings word (list_in new.memory k) entry) (sym same) (here word entry (subst (λ k. word_of new k ≡ Some word) same w) (subst (λ k. entry_of new k ≡ Some entry) same e))
+        | inr ne ↦ rw (max_writes, leavings, others.lists p ne) (tracked.each p word entry (sym (others.words p ne) ∙ w) (sym (others.entries p ne) ∙ e))
       ]
 
 -- the list of a local object is as long as its record, which was read, says
 pub long-read : {X K : Type 0} (meaning : List ℕ → List X) (content : K → List ℕ) (spelled : List X → List ℕ → Type 0) (m : Movement X K) → AreTracked meaning content spelled m
-    → (o : ℕ) (entry : Entry K) → is_local m o ≡ true → entry ≡ get_or m.entries o entry → IfSome (list_in m.memory o) (λ list. length list ≡ entry.len)
+    → (o : ℕ) (entry : ObjectRecord K) → is_local m o ≡ true → entry ≡ get_or m.entries o entry → IfSome (list_in m.memory o) (λ list. length list ≡ entry.len)
 long-read meaning content spelled m tracked o entry local read =
-    let within : o < length m.entries = omega (arith, place-within m.memory.words o (some-true (place_of m.memory.words o) local), tracked.even) in
+    let within : o < length m.entries = omega (arith, place-within m.memory.words o (some-true (place_of m.memory.words o) local), tracked.same_length) in
     elim (cases_option (word_of m o)) [
       | inl none ↦ rw none tt
       | inr (word, w) ↦ (tracked.each o word entry w (word-read m.entries o entry within read)).long

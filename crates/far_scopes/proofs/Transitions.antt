@@ -7,7 +7,7 @@ use Rattle.std.proofs.lemmas.List.{length-set}
 use Rattle.std.proofs.lemmas.Option.{slice_get_within}
 use Rattle.far_pointer.specs.declared.pointer.Pointer.{Pointer}
 use Rattle.far_pointer.specs.declared.pointer.Pointer.TheVariants.{Remote}
-use Rattle.far_scopes.specs.declared.entry.Entry.{Entry}
+use Rattle.far_scopes.specs.declared.object_record.ObjectRecord.{ObjectRecord}
 use Rattle.far_scopes.specs.Recency.{has, Once}
 use Rattle.far_scopes.specs.Placing.{with_word}
 use Rattle.far_scopes.proofs.Places.{cases_option, none_or_some}
@@ -23,9 +23,9 @@ pub true-or-false : (b : Bool) → not b ≡ false → b ≡ false → ⊥
 true-or-false true local away = cc
 true-or-false false local away = cc
 
-module _ {X K : Type 0} (meaning : List ℕ → List X) (content : K → List ℕ) (spelled : List X → List ℕ → Type 0) (m : Movement X K) (tracked : AreTracked meaning content spelled m) (o : ℕ) (entry now : Entry K) (was : entry_of m o ≡ Some entry) where
+module _ {X K : Type 0} (meaning : List ℕ → List X) (content : K → List ℕ) (spelled : List X → List ℕ → Type 0) (m : Movement X K) (tracked : AreTracked meaning content spelled m) (o : ℕ) (entry now : ObjectRecord K) (was : entry_of m o ≡ Some entry) where
   -- the records once that of object o is another
-  abbrev pub entries' : List (Entry K)
+  abbrev pub entries' : List (ObjectRecord K)
   entries' = slice_set m.entries o now
 
   pub entry-same : slice_get entries' o ≡ Some now
@@ -34,8 +34,8 @@ module _ {X K : Type 0} (meaning : List ℕ → List X) (content : K → List �
   pub entry-other : (p : ℕ) → p ≢ o → slice_get entries' p ≡ slice_get m.entries p
   entry-other p ne = slice_get-set_other m.entries o p now ne
 
-  abbrev ticket-in : Option (Entry K) → Option K
-  ticket-in e = option_and_then (λ (x : Entry K). x.ticket) e
+  abbrev ticket-in : Option (ObjectRecord K) → Option K
+  ticket-in e = option_and_then (λ (x : ObjectRecord K). x.ticket) e
 
   pub ticket-same : now.ticket ≡ entry.ticket → ticket-in (slice_get entries' o) ≡ ticket-in (slice_get m.entries o)
   ticket-same same = ap ticket-in entry-same ∙ same ∙ sym (ap ticket-in was)
@@ -55,27 +55,27 @@ module _ {X K : Type 0} (meaning : List ℕ → List X) (content : K → List �
     clean-changed same marks clean = clean-one meaning content m changed o others clean (λ c. rw (lists o, ticket-same same) (clean o (marks c)))
 
     pub tracked-changed : length memory.words ≡ length m.memory.words → Once order → ((p : ℕ) → has order p ≡ is_some (place_of memory.words p))
-        → ((word : Pointer) → slice_get memory.words o ≡ Some word → IsTracked meaning content spelled m.changes m.leavings word (list_in m.memory o) now) → AreTracked meaning content spelled changed
-    tracked-changed even once ordered here = record {
-      even = length-set m.entries o now ∙ tracked.even ∙ sym even;
+        → ((word : Pointer) → slice_get memory.words o ≡ Some word → IsTracked meaning content spelled m.max_writes m.leavings word (list_in m.memory o) now) → AreTracked meaning content spelled changed
+    tracked-changed same_length once ordered here = record {
+      same_length = length-set m.entries o now ∙ tracked.same_length ∙ sym same_length;
       few = rw (length-set m.entries o now) tracked.few;
       each = each-one meaning content m changed o others spelled tracked refl refl
-          (λ word e w is. subst (IsTracked meaning content spelled m.changes m.leavings word (list_in memory o)) (some-one (slice_get entries' o) is entry-same) (subst (λ l. IsTracked meaning content spelled m.changes m.leavings word l now) (sym (lists o)) (here word w)));
+          (λ word e w is. subst (IsTracked meaning content spelled m.max_writes m.leavings word (list_in memory o)) (some-one (slice_get entries' o) is entry-same) (subst (λ l. IsTracked meaning content spelled m.max_writes m.leavings word l now) (sym (lists o)) (here word w)));
       once = once;
       ordered = ordered;
     }
 
   -- only its record changes
-  pub tracked-recorded : ((word : Pointer) → word_of m o ≡ Some word → IsTracked meaning content spelled m.changes m.leavings word (list_in m.memory o) now) → AreTracked meaning content spelled record m { entries = entries' }
+  pub tracked-recorded : ((word : Pointer) → word_of m o ≡ Some word → IsTracked meaning content spelled m.max_writes m.leavings word (list_in m.memory o) now) → AreTracked meaning content spelled record m { entries = entries' }
   tracked-recorded here = tracked-changed m.memory m.order (λ p ne. refl) (λ p. refl) refl tracked.once tracked.ordered here
 
   pub clean-recorded : now.ticket ≡ entry.ticket → AreClean meaning content m → AreClean meaning content record m { entries = entries' }
   clean-recorded same = clean-changed m.memory m.order (λ p ne. refl) (λ p. refl) same (λ c. c)
 
 -- the same object with more pins or less, if it is local
-pub tracked-pins : {X K : Type 0} (meaning : List ℕ → List X) (content : K → List ℕ) (spelled : List X → List ℕ → Type 0) (changes leavings : ℕ) (word : Pointer) (list : Option (List X)) (entry : Entry K) (pins : ℕ)
-    → IsTracked meaning content spelled changes leavings word list entry → (word ≡ Remote → pins ≡ 0) → IsTracked meaning content spelled changes leavings word list record entry { pins = pins }
-tracked-pins meaning content spelled changes leavings word list entry pins t away =
+pub tracked-pins : {X K : Type 0} (meaning : List ℕ → List X) (content : K → List ℕ) (spelled : List X → List ℕ → Type 0) (max_writes leavings : ℕ) (word : Pointer) (list : Option (List X)) (entry : ObjectRecord K) (pins : ℕ)
+    → IsTracked meaning content spelled max_writes leavings word list entry → (word ≡ Remote → pins ≡ 0) → IsTracked meaning content spelled max_writes leavings word list record entry { pins = pins }
+tracked-pins meaning content spelled max_writes leavings word list entry pins t away =
     record { version = t.version; left = t.left; some = t.some; long = t.long; away = λ is. (away is, (t.away is).1); copy = t.copy; far = t.far }
 
 -- the words once one of them is marked as it is used or written: which objects are local stays

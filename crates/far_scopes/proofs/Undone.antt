@@ -7,14 +7,14 @@ use Rattle.std.proofs.lemmas.List.Elements.{filter-append}
 use Rattle.far_types.specs.declared.name.Name.{Name}
 use Rattle.far_pointer.specs.declared.pointer.Pointer.{Pointer}
 use Rattle.far_pointer.specs.declared.pointer.Pointer.TheVariants.{Local}
-use Rattle.far_log.specs.Room.{Part, SegmentRoom, Room, IsLaid, fill_of, list_at, segment_of, target_of, IsRegion}
-use Rattle.far_log.specs.Changes.{with_part, without_part}
+use Rattle.far_log.specs.RegionState.{Part, SegmentState, RegionState, IsLayout, fill_of, list_at, segment_of, target_of, IsRegion}
+use Rattle.far_log.specs.Effects.{with_part, without_part}
 use Rattle.far_log.proofs.Laid.{no-list-at-fill}
-use Rattle.far_log.proofs.RoomLaws.{laid-segment}
+use Rattle.far_log.proofs.RegionLaws.{laid-segment}
 use Rattle.far_scopes.specs.Memory.{Memory}
 use Rattle.far_scopes.specs.Placing.{spot, with_new, without_at, added, removed}
 use Rattle.far_scopes.specs.Movement.{Movement}
-use Rattle.far_scopes.specs.Effects.{new_entry, created, uncreated}
+use Rattle.far_scopes.specs.Effects.{new_entry, after_create, after_uncreate}
 use Rattle.far_scopes.proofs.WordPlaces.{last-of, take-last, place-push_last}
 use Rattle.far_scopes.proofs.RecencyLaws.{without-cons}
 
@@ -37,31 +37,31 @@ module _ {X : Type 0} where
     | inr ne ↦ rw ne (ap (λ l. p ∷ l) (filter-free ps k (subst (λ b. cond b (Some p.list) (list_at ps k) ≡ None) ne free)))
   ]
 
-  part-dropped : (s : SegmentRoom X) (list : List X) → IsLaid s → without_part (with_part s list) (fill_of s) ≡ s
+  part-dropped : (s : SegmentState X) (list : List X) → IsLayout s → without_part (with_part s list) (fill_of s) ≡ s
   part-dropped s list laid =
       let q : Part X = record { offset = fill_of s; list = list } in
       let rest : filter (λ p. not (nat_eq p.offset (fill_of s))) (s.parts ++ q ∷ []) ≡ s.parts =
       filter-append (λ p. not (nat_eq p.offset (fill_of s))) s.parts (q ∷ []) ∙ rw (eq-eqb (fill_of s) (fill_of s) refl, filter-free s.parts (fill_of s) (no-list-at-fill 0 s.size s.parts laid)) (append-nil s.parts) in
-      ap (λ (parts : List (Part X)). let t : SegmentRoom X = record { parts = parts; size = s.size } in t) rest
+      ap (λ (parts : List (Part X)). let t : SegmentState X = record { parts = parts; size = s.size } in t) rest
 
-  room-back : (room : Room X) (list : List X) → IsRegion room → without_at (with_new room list) (Some (spot room (length list))) ≡ room
-  room-back room list region =
-      let k : ℕ = unwrap_or (target_of room (length list)) 0 in
-      let none : SegmentRoom X = record { parts = []; size = 0 } in
-      elim (cases_lt k (length room)) [
-        | inl within ↦ rw (get_or-set_same room k (with_part (segment_of room k) list) none within, part-dropped (segment_of room k) list (laid-segment room k region within))
-            (set-twice room k (with_part (segment_of room k) list) (segment_of room k) ∙ set-get_or room k none)
-        | inr past ↦ set-twice room k _ _ ∙ set-past room k _ past
+  state-back : (state : RegionState X) (list : List X) → IsRegion state → without_at (with_new state list) (Some (spot state (length list))) ≡ state
+  state-back state list region =
+      let k : ℕ = unwrap_or (target_of state (length list)) 0 in
+      let none : SegmentState X = record { parts = []; size = 0 } in
+      elim (cases_lt k (length state)) [
+        | inl within ↦ rw (get_or-set_same state k (with_part (segment_of state k) list) none within, part-dropped (segment_of state k) list (laid-segment state k region within))
+            (set-twice state k (with_part (segment_of state k) list) (segment_of state k) ∙ set-get_or state k none)
+        | inr past ↦ set-twice state k _ _ ∙ set-past state k _ past
       ]
 
   -- the local memory
-  pub removed-added : (memory : Memory X) (list : List X) → IsRegion memory.room → removed (added memory list) ≡ memory
+  pub removed-added : (memory : Memory X) (list : List X) → IsRegion memory.state → removed (added memory list) ≡ memory
   removed-added memory list region =
-      let word : Pointer = Local (spot memory.room (length list)) true true false in
-      rw (take-last (memory.words ++ word ∷ []) memory.words word refl, last-of (memory.words ++ word ∷ []) memory.words word refl, place-push_last memory.words word, room-back memory.room list region) refl
+      let word : Pointer = Local (spot memory.state (length list)) true true false in
+      rw (take-last (memory.words ++ word ∷ []) memory.words word refl, last-of (memory.words ++ word ∷ []) memory.words word refl, place-push_last memory.words word, state-back memory.state list region) refl
 
 -- all objects, where it is so of the local memory
-pub uncreated-created : {X K : Type 0} (m : Movement X K) (name : Name) (list : List X) → removed (added m.memory list) ≡ m.memory → uncreated (created m name list) ≡ m
+pub uncreated-created : {X K : Type 0} (m : Movement X K) (name : Name) (list : List X) → removed (added m.memory list) ≡ m.memory → after_uncreate (after_create m name list) ≡ m
 uncreated-created {K = K} m name list back =
     let entry = new_entry {K = K} name (length list) in
     rw (back, take-last (m.entries ++ entry ∷ []) m.entries entry refl, last-of (m.entries ++ entry ∷ []) m.entries entry refl, without-cons m.order (length m.entries)) refl

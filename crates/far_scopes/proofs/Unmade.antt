@@ -42,7 +42,7 @@ module _ {X K : Type 0} (meaning : List ℕ → List X) (content : K → List �
   last = length m.entries - 1
 
   last-is : last ≡ length m.memory.words - 1
-  last-is = ap (λ n. n - 1) tracked.even
+  last-is = ap (λ n. n - 1) tracked.same_length
 
   before : (p : ℕ) → p ≢ last → p ≢ length m.memory.words - 1
   before p ne same = ne (same ∙ sym last-is)
@@ -81,7 +81,7 @@ module _ {X K : Type 0} (meaning : List ℕ → List X) (content : K → List �
 
   pub tracked-unmade : AreTracked meaning content spelled without_last
   tracked-unmade = record {
-    even = cut-length m.entries ∙ last-is ∙ sym (ap (λ l. length l) words ∙ cut-length m.memory.words);
+    same_length = cut-length m.entries ∙ last-is ∙ sym (ap (λ l. length l) words ∙ cut-length m.memory.words);
     few = rw (cut-length m.entries) (omega (arith, tracked.few));
     each = each-one meaning content m without_last last others-unmade spelled tracked refl refl
         (λ word e w is. absurd (no_some (entry_of without_last last) no-entry is));

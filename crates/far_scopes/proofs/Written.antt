@@ -5,10 +5,10 @@ use Rattle.std.proofs.lemmas.Bool.{cases_eq}
 use Rattle.std.proofs.lemmas.List.{get_or-set_same, get_or-set_other}
 use Rattle.far_pointer.specs.declared.pointer.At.{At}
 use Rattle.far_pointer.specs.declared.pointer.Pointer.{Pointer}
-use Rattle.far_log.specs.Room.{Part, Room, list_at, segment_of, part_of}
-use Rattle.far_log.specs.Changes.{written, written_at, overwritten, WritesPart}
+use Rattle.far_log.specs.RegionState.{Part, RegionState, list_at, segment_of, part_of}
+use Rattle.far_log.specs.Effects.{written, written_at, overwritten, WritesPart}
 use Rattle.far_log.proofs.Laid.{laid-written}
-use Rattle.far_log.proofs.RoomLaws.{region-set, laid-segment, part-there}
+use Rattle.far_log.proofs.RegionLaws.{region-set, laid-segment, part-there}
 use Rattle.far_scopes.specs.Memory.{place_of, list_in, ChangesList, IsMemory}
 use Rattle.far_scopes.specs.Placing.{overwritten as overwritten_in}
 use Rattle.far_scopes.proofs.Places.{own-same, lists-written}
@@ -35,40 +35,40 @@ module _ {X : Type 0} where
     | false ↦ kept-begin from ws ps k
   ]
 
-  kept-part : (room : Room X) (at : At) (i : ℕ) (ws : List X) (q : At) → at.segment < length room → is_some (part_of (written_at room at i ws) q) ≡ is_some (part_of room q)
-  kept-part room at i ws q within = elim (cases_eq q.segment at.segment) [
-    | inl same ↦ rw (same, get_or-set_same room at.segment (written (segment_of room at.segment) (at.offset + i) ws) record { parts = []; size = 0 } within) (kept-begin (at.offset + i) ws (segment_of room at.segment).parts q.offset)
-    | inr ne ↦ rw (get_or-set_other room at.segment q.segment (written (segment_of room at.segment) (at.offset + i) ws) record { parts = []; size = 0 } ne) refl
+  kept-part : (state : RegionState X) (at : At) (i : ℕ) (ws : List X) (q : At) → at.segment < length state → is_some (part_of (written_at state at i ws) q) ≡ is_some (part_of state q)
+  kept-part state at i ws q within = elim (cases_eq q.segment at.segment) [
+    | inl same ↦ rw (same, get_or-set_same state at.segment (written (segment_of state at.segment) (at.offset + i) ws) record { parts = []; size = 0 } within) (kept-begin (at.offset + i) ws (segment_of state at.segment).parts q.offset)
+    | inr ne ↦ rw (get_or-set_other state at.segment q.segment (written (segment_of state at.segment) (at.offset + i) ws) record { parts = []; size = 0 } ne) refl
   ]
 
-  module _ (words : List Pointer) (room : Room X) (m : IsMemory words room) (o : ℕ) (at : At) (was : place_of words o ≡ Some at) where
-    within : at.segment < length room
-    within = part-there room at (m.own.placed o at was)
+  module _ (words : List Pointer) (state : RegionState X) (m : IsMemory words state) (o : ℕ) (at : At) (was : place_of words o ≡ Some at) where
+    within : at.segment < length state
+    within = part-there state at (m.own.placed o at was)
 
-    pub memory-written : (i : ℕ) (ws : List X) → IsMemory words (written_at room at i ws)
+    pub memory-written : (i : ℕ) (ws : List X) → IsMemory words (written_at state at i ws)
     memory-written i ws = record {
-      region = region-set room at.segment (written (segment_of room at.segment) (at.offset + i) ws) m.region within refl (laid-written (segment_of room at.segment) (at.offset + i) ws (laid-segment room at.segment m.region within));
-      own = own-same (place_of words) (place_of words) (part_of room) (part_of (written_at room at i ws)) m.own (λ p. refl)
-          (λ q. some-is (part_of (written_at room at i ws) q) (part_of room q) (kept-part room at i ws q within))
-          (λ q. some-is (part_of room q) (part_of (written_at room at i ws) q) (sym (kept-part room at i ws q within)));
+      region = region-set state at.segment (written (segment_of state at.segment) (at.offset + i) ws) m.region within refl (laid-written (segment_of state at.segment) (at.offset + i) ws (laid-segment state at.segment m.region within));
+      own = own-same (place_of words) (place_of words) (part_of state) (part_of (written_at state at i ws)) m.own (λ p. refl)
+          (λ q. some-is (part_of (written_at state at i ws) q) (part_of state q) (kept-part state at i ws q within))
+          (λ q. some-is (part_of state q) (part_of (written_at state at i ws) q) (sym (kept-part state at i ws q within)));
     }
 
-    pub overwritten-is : (i : ℕ) (ws : List X) → overwritten_in record { words = words; room = room } o i ws ≡ record { words = words; room = written_at room at i ws }
+    pub overwritten-is : (i : ℕ) (ws : List X) → overwritten_in record { words = words; state = state } o i ws ≡ record { words = words; state = written_at state at i ws }
     overwritten-is i ws = rw was refl
 
-    pub list-is : list_in record { words = words; room = room } o ≡ part_of room at
+    pub list-is : list_in record { words = words; state = state } o ≡ part_of state at
     list-is = rw was refl
 
-    pub list-written : (i : ℕ) (ws list : List X) → WritesPart room (written_at room at i ws) at list → ChangesList (list_in record { words = words; room = room }) (list_in (overwritten_in record { words = words; room = room } o i ws)) o (Some list)
-    list-written i ws list writes = rw (overwritten-is i ws) (lists-written (place_of words) (place_of words) (part_of room) (part_of (written_at room at i ws)) m.own (λ p. refl) o at list was writes.change.here writes.change.others)
+    pub list-written : (i : ℕ) (ws list : List X) → WritesPart state (written_at state at i ws) at list → ChangesList (list_in record { words = words; state = state }) (list_in (overwritten_in record { words = words; state = state } o i ws)) o (Some list)
+    list-written i ws list writes = rw (overwritten-is i ws) (lists-written (place_of words) (place_of words) (part_of state) (part_of (written_at state at i ws)) m.own (λ p. refl) o at list was writes.change.here writes.change.others)
 
     -- the same of a range
     abbrev WritesRange : ℕ → ℕ → List X → Type 0
-    WritesRange from to list = (range : List X) → length range ≡ to - from → WritesPart room (written_at room at from range) at (take from list ++ (range ++ drop to list))
+    WritesRange from to list = (range : List X) → length range ≡ to - from → WritesPart state (written_at state at from range) at (take from list ++ (range ++ drop to list))
 
     abbrev ChangesRange : ℕ → ℕ → List X → Type 0
     ChangesRange from to list = (range : List X) → length range ≡ to - from →
-        ChangesList (list_in record { words = words; room = room }) (list_in (overwritten_in record { words = words; room = room } o from range)) o (Some (take from list ++ (range ++ drop to list)))
+        ChangesList (list_in record { words = words; state = state }) (list_in (overwritten_in record { words = words; state = state } o from range)) o (Some (take from list ++ (range ++ drop to list)))
 
-    pub range-written : (from to : ℕ) → IsSomeAnd (part_of room at) (WritesRange from to) → IsSomeAnd (list_in record { words = words; room = room } o) (ChangesRange from to)
-    range-written from to writes = rw list-is (some-and (WritesRange from to) (ChangesRange from to) (part_of room at) (λ list alone range long. list-written from range (take from list ++ (range ++ drop to list)) (alone range long)) writes)
+    pub range-written : (from to : ℕ) → IsSomeAnd (part_of state at) (WritesRange from to) → IsSomeAnd (list_in record { words = words; state = state } o) (ChangesRange from to)
+    range-written from to writes = rw list-is (some-and (WritesRange from to) (ChangesRange from to) (part_of state at) (λ list alone range long. list-written from range (take from list ++ (range ++ drop to list)) (alone range long)) writes)

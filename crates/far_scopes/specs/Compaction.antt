@@ -5,8 +5,8 @@ use Rattle.far_pointer.specs.declared.pointer.At.{At}
 use Rattle.far_pointer.specs.declared.pointer.Pointer.{Pointer}
 use Rattle.far_pointer.specs.declared.pointer.Pointer.TheVariants.{Local, Remote}
 use Rattle.far_pointer.specs.Layout.{is_hot}
-use Rattle.far_log.specs.Room.{Room, Part, segment_of}
-use Rattle.far_log.specs.Changes.{list_or_none, compacted, IsEmptyOther}
+use Rattle.far_log.specs.RegionState.{RegionState, Part, segment_of}
+use Rattle.far_log.specs.Effects.{list_or_none, compacted, IsEmptyOther}
 use Rattle.far_scopes.specs.Memory.{Memory}
 
 -- whether a word says that the list of its object begins here
@@ -20,14 +20,14 @@ hot_at words here = list_any (λ word. begins_at here word && is_hot word) words
 
 module _ {X : Type 0} where
   -- where the parts of a segment begin, by rising offset
-  abbrev pub offsets_in : Room X → ℕ → List ℕ
-  offsets_in room segment = map (λ p. p.offset) (segment_of room segment).parts
+  abbrev pub offsets_in : RegionState X → ℕ → List ℕ
+  offsets_in state segment = map (λ p. p.offset) (segment_of state segment).parts
 
   -- the order of a compaction: where the parts of hot objects begin, then where the others do, each by rising offset
   abbrev pub hot_first : Memory X → ℕ → List ℕ
   hot_first memory segment =
       let hot : ℕ → Bool = λ offset. hot_at memory.words record { segment = segment; offset = offset }
-      in filter hot (offsets_in memory.room segment) ++ filter (λ offset. not (hot offset)) (offsets_in memory.room segment)
+      in filter hot (offsets_in memory.state segment) ++ filter (λ offset. not (hot offset)) (offsets_in memory.state segment)
 
   -- where the part that began at this offset begins in an order: behind all that come before it
   abbrev pub offset_after : List (Part X) → List ℕ → ℕ → ℕ
@@ -46,12 +46,12 @@ module _ {X : Type 0} where
   compacted_into memory from to =
       let order : List ℕ = hot_first memory from
       in record {
-        words = map (moved_word (segment_of memory.room from).parts order from to) memory.words;
-        room = compacted memory.room from to order;
+        words = map (moved_word (segment_of memory.state from).parts order from to) memory.words;
+        state = compacted memory.state from to order;
       }
 
   -- new is old with segment `from` compacted: into the lowest other segment without parts
   pub record IsCompacted (old new : Memory X) (from : ℕ) : Type 0 where
     pub to : ℕ
-    pub target : IsEmptyOther old.room from to
+    pub target : IsEmptyOther old.state from to
     pub memory : new ≡ compacted_into old from to

@@ -5,26 +5,26 @@ use Rattle.far_types.specs.declared.refusal.Refusal.{Refusal}
 use Rattle.far_types.specs.declared.refusal.Refusal.TheVariants as refusal
 use Rattle.far_scopes.specs.Movement.{Movement, pins_of}
 use Rattle.far_scopes.specs.Refusing.{first_absent}
-use Rattle.far_scopes.specs.Effects.{pinned, unpinned}
+use Rattle.far_scopes.specs.Effects.{after_pin, after_unpin}
 
 module _ {X K : Type 0} where
   -- each listed object has one pin more for each time that it is listed
-  abbrev pub pinned_all : Movement X K → List ℕ → Movement X K
-  pinned_all m [] = m
-  pinned_all m (o ∷ objects) = pinned_all (pinned m o) objects
+  abbrev pub after_pin_all : Movement X K → List ℕ → Movement X K
+  after_pin_all m [] = m
+  after_pin_all m (o ∷ objects) = after_pin_all (after_pin m o) objects
 
   -- the refusal where some listed object has 65,535 pins when its turn comes
   abbrev pub pins_overflow : Movement X K → List ℕ → Option Refusal
   pins_overflow m [] = None
-  pins_overflow m (o ∷ objects) = if pins_of m o == 65535 then Some refusal.EditsUsedUp else pins_overflow (pinned m o) objects
+  pins_overflow m (o ∷ objects) = if pins_of m o == 65535 then Some refusal.EditsUsedUp else pins_overflow (after_pin m o) objects
 
   abbrev pub enter_refusal : Movement X K → List ℕ → Option Refusal
   enter_refusal m objects = option_or (first_absent m objects) (pins_overflow m objects)
 
   -- what a scope's objects are once their pins are taken back, one for each listing where there is one, and how many
   -- pins that were
-  abbrev pub closed : Movement X K → List ℕ → Movement X K × ℕ
-  closed m [] = (m, 0)
-  closed m (o ∷ objects) =
-      if pins_of m o == 0 then closed m objects
-      else (let rest : Movement X K × ℕ = closed (unpinned m o) objects in (rest.0, rest.1 + 1))
+  abbrev pub after_close : Movement X K → List ℕ → Movement X K × ℕ
+  after_close m [] = (m, 0)
+  after_close m (o ∷ objects) =
+      if pins_of m o == 0 then after_close m objects
+      else (let rest : Movement X K × ℕ = after_close (after_unpin m o) objects in (rest.0, rest.1 + 1))

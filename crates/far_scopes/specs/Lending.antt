@@ -1,4 +1,5 @@
 -- What objects are once a list that they lent is given back.
+-- Internal: no public contract cites it.
 use Rattle.std.specs.Prelude.{ℕ, List}
 use Rattle.std.specs.Borrow.{Lends, Fml, RattleType, MutBor, Array}
 use Rattle.far_scopes.specs.Memory.{Memory}

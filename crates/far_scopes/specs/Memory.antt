@@ -1,14 +1,14 @@
--- The local memory of objects: what the pointer word of each says, and the room in which the lists of the local ones lie.
+-- The local memory of objects: what the pointer word of each says, and the region in which the lists of the local ones lie.
 use Rattle.std.specs.Prelude.{◌≡◌, ◌≢◌, ℕ, List, Option, None, Some, IsSome, slice_get}
 use Rattle.std.specs.Option.{option_and_then}
 use Rattle.far_pointer.specs.declared.pointer.At.{At}
 use Rattle.far_pointer.specs.declared.pointer.Pointer.{Pointer}
 use Rattle.far_pointer.specs.declared.pointer.Pointer.TheVariants.{Local, Remote}
-use Rattle.far_log.specs.Room.{Room, part_of, IsRegion}
+use Rattle.far_log.specs.RegionState.{RegionState, part_of, IsRegion}
 
 pub record Memory (X : Type 0) : Type 0 where
   pub words : List Pointer
-  pub room : Room X
+  pub state : RegionState X
 
 -- where the list of a local object begins
 abbrev pub at_of : Pointer → Option At
@@ -21,7 +21,7 @@ place_of words o = option_and_then at_of (slice_get words o)
 
 -- the list of an object, if it is local
 abbrev pub list_in : {X : Type 0} → Memory X → ℕ → Option (List X)
-list_in memory o = option_and_then (part_of memory.room) (place_of memory.words o)
+list_in memory o = option_and_then (part_of memory.state) (place_of memory.words o)
 
 -- the lists of objects by number change in one: `now` is what there is of object o
 pub record ChangesList {X : Type 0} (old new : ℕ → Option (List X)) (o : ℕ) (now : Option (List X)) : Type 0 where
@@ -32,10 +32,10 @@ pub record ChangesList {X : Type 0} (old new : ℕ → Option (List X)) (o : ℕ
 -- something lies there, and nothing lies elsewhere
 pub record OwnPlaces {X : Type 0} (place : ℕ → Option At) (part : At → Option (List X)) : Type 0 where
   pub placed : (o : ℕ) (at : At) → place o ≡ Some at → IsSome (part at)
-  pub apart : (o p : ℕ) (at : At) → place o ≡ Some at → place p ≡ Some at → o ≡ p
+  pub disjoint : (o p : ℕ) (at : At) → place o ≡ Some at → place p ≡ Some at → o ≡ p
   pub only : (at : At) → IsSome (part at) → (o : ℕ) × (place o ≡ Some at)
 
--- each local object has one part of the room, which is no other's, and there is no other part
-pub record IsMemory {X : Type 0} (words : List Pointer) (room : Room X) : Type 0 where
-  pub region : IsRegion room
-  pub own : OwnPlaces (place_of words) (part_of room)
+-- each local object has one part of the region, which is no other's, and there is no other part
+pub record IsMemory {X : Type 0} (words : List Pointer) (state : RegionState X) : Type 0 where
+  pub region : IsRegion state
+  pub own : OwnPlaces (place_of words) (part_of state)

@@ -5,7 +5,7 @@ use Rattle.std.specs.Option.{option_map_or, option_and_then, option_or}
 use Rattle.far_pointer.specs.declared.pointer.Pointer.{Pointer}
 use Rattle.far_pointer.specs.declared.pointer.Pointer.TheVariants.{Local, Remote}
 use Rattle.far_pointer.specs.Layout.{is_dirty, is_hot}
-use Rattle.far_scopes.specs.declared.entry.Entry.{Entry}
+use Rattle.far_scopes.specs.declared.object_record.ObjectRecord.{ObjectRecord}
 use Rattle.far_scopes.specs.Recency.{has, Once}
 use Rattle.far_scopes.specs.Memory.{Memory, place_of, list_in}
 
@@ -14,10 +14,10 @@ use Rattle.far_scopes.specs.Memory.{Memory, place_of, list_in}
 -- use, the last used first
 pub record Movement (X K : Type 0) : Type 0 where
   pub number : ℕ
-  pub changes : ℕ
+  pub max_writes : ℕ
   pub leavings : ℕ
   pub memory : Memory X
-  pub entries : List (Entry K)
+  pub entries : List (ObjectRecord K)
   pub order : List ℕ
 
 -- every object but o has the word and the record that it had
@@ -34,7 +34,7 @@ module _ {X K : Type 0} where
   abbrev pub word_of : Movement X K → ℕ → Option Pointer
   word_of m o = slice_get m.memory.words o
 
-  abbrev pub entry_of : Movement X K → ℕ → Option (Entry K)
+  abbrev pub entry_of : Movement X K → ℕ → Option (ObjectRecord K)
   entry_of m o = slice_get m.entries o
 
   abbrev pub is_local : Movement X K → ℕ → Bool
@@ -59,7 +59,7 @@ module _ {X K : Type 0} where
   abbrev pub ticket_of : Movement X K → ℕ → Option K
   ticket_of m o = option_and_then (λ e. e.ticket) (entry_of m o)
 
-  -- each ticket is one of the store of this name
+  -- each ticket is one of the store with this id
   abbrev pub AreHere : (K → List ℕ → Type 0) → List ℕ → Movement X K → Type 0
   AreHere is_of name m = (o : ℕ) → IfSome (ticket_of m o) (λ ticket. is_of ticket name)
 
@@ -78,8 +78,8 @@ module _ {X K : Type 0} where
 
     module _ (spelled : List X → List ℕ → Type 0) where
       -- what holds of one object, by its word, its list if it is local, and its record
-      pub record IsTracked (changes leavings : ℕ) (word : Pointer) (list : Option (List X)) (entry : Entry K) : Type 0 where
-        pub version : entry.version ≤ changes
+      pub record IsTracked (max_writes leavings : ℕ) (word : Pointer) (list : Option (List X)) (entry : ObjectRecord K) : Type 0 where
+        pub version : entry.version ≤ max_writes
         pub left : entry.leavings ≤ leavings
         pub some : 0 < entry.len
         pub long : IfSome list (λ xs. length xs ≡ entry.len)
@@ -89,8 +89,8 @@ module _ {X K : Type 0} where
 
       -- what holds of all objects: each has a word and a record, and those in the order of use are the local ones
       pub record AreTracked (m : Movement X K) : Type 0 where
-        pub even : length m.entries ≡ length m.memory.words
+        pub same_length : length m.entries ≡ length m.memory.words
         pub few : length m.entries ≤ 2 ^ 28
-        pub each : (o : ℕ) (word : Pointer) (entry : Entry K) → word_of m o ≡ Some word → entry_of m o ≡ Some entry → IsTracked m.changes m.leavings word (list_in m.memory o) entry
+        pub each : (o : ℕ) (word : Pointer) (entry : ObjectRecord K) → word_of m o ≡ Some word → entry_of m o ≡ Some entry → IsTracked m.max_writes m.leavings word (list_in m.memory o) entry
         pub once : Once m.order
         pub ordered : (o : ℕ) → has m.order o ≡ is_local m o

@@ -7,9 +7,9 @@ use Rattle.far_scopes.specs.Movement.{Movement}
 abbrev pub no_objects : {X K : Type 0} → ℕ → ObjectLimits → Movement X K
 no_objects number limits = record {
   number = number;
-  changes = limits.changes;
+  max_writes = limits.max_writes;
   leavings = limits.leavings;
-  memory = record { words = []; room = replicate limits.segments record { parts = []; size = limits.size } };
+  memory = record { words = []; state = replicate limits.segments record { parts = []; size = limits.size } };
   entries = [];
   order = [];
 }

@@ -5,40 +5,40 @@ use Rattle.far_pointer.specs.declared.pointer.At.{At}
 use Rattle.far_pointer.specs.declared.pointer.Pointer.{Pointer}
 use Rattle.far_pointer.specs.declared.pointer.Pointer.TheVariants.{Local, Remote}
 use Rattle.far_pointer.specs.Layout.{with_dirty, with_hot, with_at}
-use Rattle.far_log.specs.Room.{Room, segment_of, fill_of, target_of}
-use Rattle.far_log.specs.Changes.{with_segment, with_part, without_part, written_at}
+use Rattle.far_log.specs.RegionState.{RegionState, segment_of, fill_of, target_of}
+use Rattle.far_log.specs.Effects.{with_segment, with_part, without_part, written_at}
 use Rattle.far_scopes.specs.Memory.{Memory, place_of}
 
 module _ {X : Type 0} where
   -- where a new part of n elements goes: to the lowest segment that takes it, at its fill
-  abbrev pub spot : Room X → ℕ → At
-  spot room n =
-      let segment : ℕ = unwrap_or (target_of room n) 0
-      in record { segment = segment; offset = fill_of (segment_of room segment) }
+  abbrev pub spot : RegionState X → ℕ → At
+  spot state n =
+      let segment : ℕ = unwrap_or (target_of state n) 0
+      in record { segment = segment; offset = fill_of (segment_of state segment) }
 
-  -- the room with a new part
-  abbrev pub with_new : Room X → List X → Room X
-  with_new room list =
-      let segment : ℕ = unwrap_or (target_of room (length list)) 0
-      in with_segment room segment (with_part (segment_of room segment) list)
+  -- the region with a new part
+  abbrev pub with_new : RegionState X → List X → RegionState X
+  with_new state list =
+      let segment : ℕ = unwrap_or (target_of state (length list)) 0
+      in with_segment state segment (with_part (segment_of state segment) list)
 
-  -- the room without the part at a place
-  abbrev pub without_at : Room X → Option At → Room X
-  without_at room None = room
-  without_at room (Some at) = with_segment room at.segment (without_part (segment_of room at.segment) at.offset)
+  -- the region without the part at a place
+  abbrev pub without_at : RegionState X → Option At → RegionState X
+  without_at state None = state
+  without_at state (Some at) = with_segment state at.segment (without_part (segment_of state at.segment) at.offset)
 
   -- one object more, with this list: dirty and hot, and without a far copy
   abbrev pub added : Memory X → List X → Memory X
   added memory list = record {
-    words = memory.words ++ Local (spot memory.room (length list)) true true false ∷ [];
-    room = with_new memory.room list;
+    words = memory.words ++ Local (spot memory.state (length list)) true true false ∷ [];
+    state = with_new memory.state list;
   }
 
   -- without the last object
   abbrev pub removed : Memory X → Memory X
   removed memory =
       let last : ℕ = length memory.words - 1
-      in record { words = take last memory.words; room = without_at memory.room (place_of memory.words last) }
+      in record { words = take last memory.words; state = without_at memory.state (place_of memory.words last) }
 
   -- another word for object o, made of its word
   abbrev pub with_word : Memory X → ℕ → (Pointer → Pointer) → Memory X
@@ -56,25 +56,25 @@ module _ {X : Type 0} where
   abbrev pub sent_away : Memory X → ℕ → Memory X
   sent_away memory o = record {
     words = slice_set memory.words o Remote;
-    room = without_at memory.room (place_of memory.words o);
+    state = without_at memory.state (place_of memory.words o);
   }
 
   -- object o, which was away, is local with this list: clean and hot
   abbrev pub brought : Memory X → ℕ → List X → Memory X
   brought memory o list = record {
-    words = slice_set memory.words o (Local (spot memory.room (length list)) false true true);
-    room = with_new memory.room list;
+    words = slice_set memory.words o (Local (spot memory.state (length list)) false true true);
+    state = with_new memory.state list;
   }
 
   -- ws is written over the elements of object o from the i-th on
   abbrev pub overwritten : Memory X → ℕ → ℕ → List X → Memory X
   overwritten memory o i ws = record memory {
-    room = option_map_or (λ at. written_at memory.room at i ws) (place_of memory.words o) memory.room;
+    state = option_map_or (λ at. written_at memory.state at i ws) (place_of memory.words o) memory.state;
   }
 
   -- object o, which is local, has another list, placed while the old one was still there
   abbrev pub replaced : Memory X → ℕ → List X → Memory X
   replaced memory o list = record {
-    words = (with_word memory o (λ word. with_at word (spot memory.room (length list)))).words;
-    room = without_at (with_new memory.room list) (place_of memory.words o);
+    words = (with_word memory o (λ word. with_at word (spot memory.state (length list)))).words;
+    state = without_at (with_new memory.state list) (place_of memory.words o);
   }

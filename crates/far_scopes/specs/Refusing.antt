@@ -6,10 +6,10 @@ use Rattle.std.specs.Option.{option_map_or, option_or}
 use Rattle.far_types.specs.declared.refusal.Refusal.{Refusal}
 use Rattle.far_types.specs.declared.refusal.Refusal.TheVariants as refusal
 use Rattle.far_types.specs.FirstOf.{first_of}
-use Rattle.far_log.specs.Room.{fits_in}
+use Rattle.far_log.specs.RegionState.{fits_in}
 use Rattle.far_scopes.specs.declared.replacement.Replacement.{Replacement}
 use Rattle.far_scopes.specs.Movement.{Movement, entry_of, is_local, version_of, pins_of}
-use Rattle.far_scopes.specs.Replacing.{no_room_for_all}
+use Rattle.far_scopes.specs.Replacing.{no_space_for_all}
 
 -- the refusal that a call answered
 abbrev pub refusal_in : {A : Type 0} → Result A Refusal → Option Refusal
@@ -23,7 +23,7 @@ module _ {X K : Type 0} (m : Movement X K) (o : ℕ) where
 
   -- its writes are used up
   abbrev pub written_out : Bool × Refusal
-  written_out = (not (nat_lt (version_of m o) m.changes), refusal.EditsUsedUp)
+  written_out = (not (nat_lt (version_of m o) m.max_writes), refusal.EditsUsedUp)
 
   -- its pins are
   abbrev pub pinned_out : Bool × Refusal
@@ -42,11 +42,11 @@ module _ {X K : Type 0} (m : Movement X K) (o : ℕ) where
   unpin_refusal = first_of ((pins_of m o == 0, refusal.NotPinned) ∷ [])
 
   -- no segment takes a list of n elements
-  abbrev pub no_room : ℕ → Bool × Refusal
-  no_room n = (not (fits_in m.memory.room n), refusal.RegionFull)
+  abbrev pub no_space : ℕ → Bool × Refusal
+  no_space n = (not (fits_in m.memory.state n), refusal.RegionFull)
 
   abbrev pub replace_refusal : ℕ → Option Refusal
-  replace_refusal n = first_of (absent ∷ no_room n ∷ written_out ∷ [])
+  replace_refusal n = first_of (absent ∷ no_space n ∷ written_out ∷ [])
 
 module _ {X K : Type 0} where
   -- the refusal that names the first listed object that is away
@@ -60,4 +60,4 @@ module _ {X K : Type 0} where
 
   abbrev pub replace_all_refusal : Movement X K → List (Replacement X) → Option Refusal
   replace_all_refusal m lists =
-      option_or (first_absent m (map (λ r. r.object) lists)) (first_of (no_room_for_all m.memory.room lists ∷ any_written_out m lists ∷ []))
+      option_or (first_absent m (map (λ r. r.object) lists)) (first_of (no_space_for_all m.memory.state lists ∷ any_written_out m lists ∷ []))

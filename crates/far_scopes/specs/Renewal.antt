@@ -4,7 +4,7 @@ use Rattle.std.specs.List.{zip}
 use Rattle.std.specs.Option.{option_and_then}
 use Rattle.far_pointer.specs.declared.pointer.Pointer.{Pointer}
 use Rattle.far_pointer.specs.declared.pointer.Pointer.TheVariants.{Local, Remote}
-use Rattle.far_scopes.specs.declared.entry.Entry.{Entry}
+use Rattle.far_scopes.specs.declared.object_record.ObjectRecord.{ObjectRecord}
 use Rattle.far_scopes.specs.Memory.{Memory}
 use Rattle.far_scopes.specs.Movement.{Movement, is_local, ticket_of}
 
@@ -19,17 +19,17 @@ renewed_memory memory = record memory { words = map renewed_word memory.words }
 
 module _ {K L : Type 0} where
   -- the record of an object with another ticket, or none
-  abbrev pub renewed_entry : Entry K → Option L → Entry L
+  abbrev pub renewed_entry : ObjectRecord K → Option L → ObjectRecord L
   renewed_entry entry ticket = record { name = entry.name; len = entry.len; version = entry.version; leavings = entry.leavings; pins = entry.pins; ticket = ticket }
 
   -- the objects under other tickets, listed by object number
-  abbrev pub renewed : {X : Type 0} → Movement X K → List (Option L) → Movement X L
-  renewed m tickets = record {
+  abbrev pub after_renew : {X : Type 0} → Movement X K → List (Option L) → Movement X L
+  after_renew m tickets = record {
     number = m.number;
-    changes = m.changes;
+    max_writes = m.max_writes;
     leavings = m.leavings;
     memory = renewed_memory m.memory;
-    entries = map (λ (e : Entry K × Option L). renewed_entry e.0 e.1) (zip m.entries tickets);
+    entries = map (λ (e : ObjectRecord K × Option L). renewed_entry e.0 e.1) (zip m.entries tickets);
     order = m.order;
   }
 
@@ -39,9 +39,9 @@ ticket_in tickets o = option_and_then (λ ticket. ticket) (slice_get tickets o)
 
 -- these tickets renew the objects: each object that is away has one with the content of its own ticket, a local one none
 pub record Renews {X K L : Type 0} (content : K → List ℕ) (new_content : L → List ℕ) (m : Movement X K) (tickets : List (Option L)) : Type 0 where
-  pub even : length tickets ≡ length m.entries
+  pub same_length : length tickets ≡ length m.entries
   pub each : (o : ℕ) → option_map new_content (ticket_in tickets o) ≡ (if is_local m o then None else option_map content (ticket_of m o))
 
--- each of these tickets is one of the store of this name
+-- each of these tickets is one of the store with this id
 abbrev pub AreTicketsHere : {L : Type 0} → (L → List ℕ → Type 0) → List ℕ → List (Option L) → Type 0
 AreTicketsHere is_of name tickets = (o : ℕ) → IfSome (ticket_in tickets o) (λ ticket. is_of ticket name)

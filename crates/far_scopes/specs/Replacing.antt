@@ -6,7 +6,7 @@ use Rattle.far_types.specs.declared.refusal.Refusal.TheVariants as refusal
 use Rattle.far_pointer.specs.declared.pointer.At.{At}
 use Rattle.far_pointer.specs.declared.pointer.Pointer.{Pointer}
 use Rattle.far_pointer.specs.Layout.{with_at}
-use Rattle.far_log.specs.Room.{Room, spaces_of, fits_in, fit_in_order}
+use Rattle.far_log.specs.RegionState.{RegionState, spaces_of, fits_in, fit_in_order}
 use Rattle.far_scopes.specs.declared.replacement.Replacement.{Replacement}
 use Rattle.far_scopes.specs.Memory.{Memory, place_of}
 use Rattle.far_scopes.specs.Placing.{spot, with_new, without_at}
@@ -31,34 +31,34 @@ module _ {X : Type 0} where
     pub others : (p : ℕ) → IsUnlisted lists p → new p ≡ old p
 
   -- the new lists do not find room, placed one after the other
-  abbrev pub no_room_for_all : Room X → List (Replacement X) → Bool × Refusal
-  no_room_for_all room lists = (not (fit_in_order (spaces_of room) (map (λ r. length r.list.items) lists)), refusal.RegionFull)
+  abbrev pub no_space_for_all : RegionState X → List (Replacement X) → Bool × Refusal
+  no_space_for_all state lists = (not (fit_in_order (spaces_of state) (map (λ r. length r.list.items) lists)), refusal.RegionFull)
 
   -- the first of the new lists finds room, where there is one
-  abbrev pub first_fits : Room X → List (Replacement X) → Bool
-  first_fits room [] = true
-  first_fits room (r ∷ rs) = fits_in room (length r.list.items)
+  abbrev pub first_fits : RegionState X → List (Replacement X) → Bool
+  first_fits state [] = true
+  first_fits state (r ∷ rs) = fits_in state (length r.list.items)
 
-  -- the room with the new lists, placed one after the other
-  abbrev pub with_all : Room X → List (Replacement X) → Room X
-  with_all room [] = room
-  with_all room (r ∷ rs) = with_all (with_new room r.list.items) rs
+  -- the region with the new lists, placed one after the other
+  abbrev pub with_all : RegionState X → List (Replacement X) → RegionState X
+  with_all state [] = state
+  with_all state (r ∷ rs) = with_all (with_new state r.list.items) rs
 
-  -- the room without the parts of these objects
-  abbrev pub without_all : Room X → List Pointer → List (Replacement X) → Room X
-  without_all room words [] = room
-  without_all room words (r ∷ rs) = without_at (without_all room words rs) (place_of words r.object)
+  -- the region without the parts of these objects
+  abbrev pub without_all : RegionState X → List Pointer → List (Replacement X) → RegionState X
+  without_all state words [] = state
+  without_all state words (r ∷ rs) = without_at (without_all state words rs) (place_of words r.object)
 
   -- the words, of which those of these objects say where the new lists are placed
-  abbrev pub moved_all : Room X → List Pointer → List (Replacement X) → List Pointer
-  moved_all room words [] = words
-  moved_all room words (r ∷ rs) = with_place (moved_all (with_new room r.list.items) words rs) r.object (spot room (length r.list.items))
+  abbrev pub moved_all : RegionState X → List Pointer → List (Replacement X) → List Pointer
+  moved_all state words [] = words
+  moved_all state words (r ∷ rs) = with_place (moved_all (with_new state r.list.items) words rs) r.object (spot state (length r.list.items))
 
   -- each of these objects, which are local, has its new list; all of them were placed before an old one was dropped
   abbrev pub replaced_all : Memory X → List (Replacement X) → Memory X
   replaced_all memory lists = record {
-    words = moved_all memory.room memory.words lists;
-    room = without_all (with_all memory.room lists) memory.words lists;
+    words = moved_all memory.state memory.words lists;
+    state = without_all (with_all memory.state lists) memory.words lists;
   }
 
   -- without the last object, whose part is now that of object o
@@ -67,7 +67,7 @@ module _ {X : Type 0} where
       let last : ℕ = length memory.words - 1
       in record {
         words = option_map_or (with_place (take last memory.words) o) (place_of memory.words last) memory.words;
-        room = without_at memory.room (place_of memory.words o);
+        state = without_at memory.state (place_of memory.words o);
       }
 
   -- the list of each object that is clean and not listed is what its ticket means

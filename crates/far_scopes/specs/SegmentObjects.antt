@@ -1,4 +1,5 @@
 -- The objects whose parts lie in a segment.
+-- Internal: no public contract cites it.
 use Rattle.std.specs.Prelude.{◌≡◌, ◌≢◌, ℕ, ◌<◌, ◌==◌, ◌&&◌, not, if◌then◌else◌, Bool, List, ◌++◌, length, map, Option, Some, None, All, AllPairs, Contains, slice_get, slice_index, slice_index_or, option_map, true, false}
 use Rattle.std.specs.Option.{option_and_then}
 use Rattle.std.specs.List.Sorted.{IsNonDecreasing}
@@ -24,7 +25,7 @@ pub record AreObjects (words : List Pointer) (segment : ℕ) (hot : Bool) (n : �
   pub once : AllPairs (λ o p. o ≢ p) (map (λ found. found.object) objects)
 
 -- all of them, by rising offset
-pub record AreRising (words : List Pointer) (segment : ℕ) (hot : Bool) (objects : List SegmentObject) : Type 0 where
+pub record AreSorted (words : List Pointer) (segment : ℕ) (hot : Bool) (objects : List SegmentObject) : Type 0 where
   pub all : AreObjects words segment hot (length words) objects
   pub rising : IsNonDecreasing (map (λ found. found.offset) objects)
 
@@ -33,8 +34,8 @@ pub record AreHotFirst (words : List Pointer) (segment : ℕ) (objects : List Se
   pub hot : List SegmentObject
   pub others : List SegmentObject
   pub joined : objects ≡ hot ++ others
-  pub first : AreRising words segment true hot
-  pub rest : AreRising words segment false others
+  pub first : AreSorted words segment true hot
+  pub rest : AreSorted words segment false others
 
 -- new is old, but that the words of these objects say that they lie in segment `to` at these offsets and are not hot
 pub record Settles (old new : List Pointer) (objects : List SegmentObject) (to : ℕ) (offsets : List ℕ) (n : ℕ) : Type 0 where

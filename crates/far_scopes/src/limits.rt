@@ -8,7 +8,7 @@ pub struct ObjectLimits {
     /// How many elements one of them holds.
     pub size: u32,
     /// How often an object may be written.
-    pub changes: u64,
+    pub max_writes: u64,
     /// How often an object may go away.
     pub leavings: u64,
 }

@@ -1,8 +1,8 @@
 // The local memory of objects.
 ghost use Rattle.std.specs.Prelude.{◌≡◌, ℕ, ◌-◌, ◌<◌, ◌≤◌, ◌^◌, ◌↔◌, ◌⊎◌, List, [], length, replicate, All, true, false, Some, None, IsSome, IsTrue, IfSome, IfOk, IfErr, OnOk, OnErr, IsErrOf, slice_get, is_some};
 ghost use Rattle.std.specs.Borrow.{sem};
-ghost use Rattle.far_pointer.specs.Layout.{HasWord};
-ghost use Rattle.far_log.specs.Room.{fits_in, fit_in_order, spaces_of, space_of, capacity_of};
+ghost use Rattle.far_pointer.specs.Layout.{HasWord, with_dirty, with_hot};
+ghost use Rattle.far_log.specs.RegionState.{fits_in, fit_in_order, spaces_of, space_of, capacity_of};
 ghost use Rattle.far_scopes.specs.Memory.{at_of as word_at, place_of, list_in, ChangesList, IsMemory};
 ghost use Rattle.far_scopes.specs.Cool.{cool_of, cool_in};
 ghost use Rattle.far_pointer.specs.declared.pointer.Pointer.{Pointer};
@@ -37,7 +37,7 @@ impl<T> Model for LocalMemory<T> {
 
     ghost use Rattle.far_scopes.specs.Cool.{IsCounted};
 
-    ghost view = { λ m. record { words = m.words.items; room = m.region } };
+    ghost view = { λ m. record { words = m.words.items; state = m.region } };
 
     ghost invariant = { λ m. IsCounted m.words.items m.region m.cool };
 }
@@ -46,7 +46,7 @@ impl<T: Elem> LocalMemory<T> {
     /// No object, and all memory for elements.
     pub fn new(alloc: Global, segments: u32, size: u32) -> Result<LocalMemory<T>, Refusal>
         requires { segments ≤ 65536 }
-        ensures empty { IfOk result (λ m. m ≡ record { words = []; room = replicate segments record { parts = []; size = size } }) }
+        ensures empty { IfOk result (λ m. m ≡ record { words = []; state = replicate segments record { parts = []; size = size } }) }
         ensures memory { IfErr result (λ e. e ≡ Refusal.NoMemory) }
     {
         Ok(LocalMemory {
@@ -70,7 +70,7 @@ impl<T: Elem> LocalMemory<T> {
     /// For the proof: gives that each local object has a part of the region for itself, and that there is no other part.
     #[inline(always)]
     pub fn known_own(&self)
-        ensures { IsMemory self.now.words self.now.room }
+        ensures { IsMemory self.now.words self.now.state }
     {
         let _region = &self.region;
     }
@@ -97,7 +97,7 @@ impl<T: Elem> LocalMemory<T> {
         ensures ok { OnOk result (self.new ≡ added self.old items.now) }
         ensures list { OnOk result (ChangesList (list_in self.old) (list_in self.new) (length self.old.words) (Some items.now)) }
         ensures undone { OnOk result (removed self.new ≡ self.old) }
-        ensures full { IsErrOf result Refusal.RegionFull ↔ (fits_in self.old.room (length items.now) ≡ false) }
+        ensures full { IsErrOf result Refusal.RegionFull ↔ (fits_in self.old.state (length items.now) ≡ false) }
         ensures refused { IfErr result (λ e. (e ≡ Refusal.RegionFull) ⊎ (e ≡ Refusal.NoMemory)) }
         ensures err { OnErr result (self.new ≡ self.old) }
     {
@@ -142,7 +142,7 @@ impl<T: Elem> LocalMemory<T> {
         requires away { slice_get self.old.words o ≡ Some Pointer.Remote }
         ensures ok { OnOk result (self.new ≡ brought self.old o items.now) }
         ensures list { OnOk result (ChangesList (list_in self.old) (list_in self.new) o (Some items.now)) }
-        ensures full { IsErrOf result Refusal.RegionFull ↔ (fits_in self.old.room (length items.now) ≡ false) }
+        ensures full { IsErrOf result Refusal.RegionFull ↔ (fits_in self.old.state (length items.now) ≡ false) }
         ensures refused { IfErr result (λ e. (e ≡ Refusal.RegionFull) ⊎ (e ≡ Refusal.NoMemory)) }
         ensures err { OnErr result (self.new ≡ self.old) }
     {
@@ -158,7 +158,7 @@ impl<T: Elem> LocalMemory<T> {
         requires local { IsSome (place_of self.old.words o) }
         ensures ok { OnOk result (self.new ≡ replaced self.old o items.now) }
         ensures list { OnOk result (ChangesList (list_in self.old) (list_in self.new) o (Some items.now)) }
-        ensures full { IsErrOf result Refusal.RegionFull ↔ (fits_in self.old.room (length items.now) ≡ false) }
+        ensures full { IsErrOf result Refusal.RegionFull ↔ (fits_in self.old.state (length items.now) ≡ false) }
         ensures refused { IfErr result (λ e. (e ≡ Refusal.RegionFull) ⊎ (e ≡ Refusal.NoMemory)) }
         ensures err { OnErr result (self.new ≡ self.old) }
     {
@@ -171,21 +171,21 @@ impl<T: Elem> LocalMemory<T> {
 
     /// Whether a list of so many elements can be placed.
     pub fn fits(&self, len: usize) -> bool
-        ensures { result ≡ fits_in self.now.room len }
+        ensures { result ≡ fits_in self.now.state len }
     {
         self.region.fits(len)
     }
 
     /// How many elements there is space for, in all segments together.
     pub fn space(&self) -> usize
-        ensures { result ≡ space_of self.now.room }
+        ensures { result ≡ space_of self.now.state }
     {
         self.region.space()
     }
 
     /// For how many elements all segments are made together.
     pub fn capacity(&self) -> usize
-        ensures { result ≡ capacity_of self.now.room }
+        ensures { result ≡ capacity_of self.now.state }
     {
         self.region.capacity()
     }
@@ -194,7 +194,7 @@ impl<T: Elem> LocalMemory<T> {
     pub fn fits_in_order(&self, lens: &[usize]) -> bool
         requires few { length lens.now ≤ 16 }
         requires some { All (λ len. 0 < len) lens.now }
-        ensures { result ≡ fit_in_order (spaces_of self.now.room) lens.now }
+        ensures { result ≡ fit_in_order (spaces_of self.now.state) lens.now }
     {
         self.region.fits_in_order(lens)
     }
@@ -217,6 +217,9 @@ impl<T: Elem> LocalMemory<T> {
         ensures lists { (p : ℕ) → list_in self.new p ≡ list_in self.old p }
     {
         let word = self.words[o];
+        if is_marked(word) {
+            return;
+        }
         self.words[o] = word.with_dirty().with_hot(true);
         self.cool -= cool_of(word);
     }
@@ -231,6 +234,15 @@ fn at_of(word: Word) -> At
         unreachable!()
     };
     at
+}
+
+// Whether the word of an object says that it is dirty and hot, as that of one that is written again and again.
+fn is_marked(word: Word) -> bool
+    ensures { IsTrue result → with_hot (with_dirty word) true ≡ word }
+{
+    let dirty = word.dirty();
+    let hot = word.hot();
+    dirty && hot
 }
 
 // 1 for the word of a local object that is not hot, else 0.

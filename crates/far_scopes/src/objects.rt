@@ -18,9 +18,9 @@ mod renewing;
 mod replacing;
 mod scopes;
 
-use super::entry::Entry;
 use super::limits::ObjectLimits;
 use super::memory::LocalMemory;
+use super::object_record::ObjectRecord;
 use super::recency::Recency;
 use far_codec::Elem;
 use far_pointer::Word;
@@ -33,10 +33,10 @@ use std::marker::Model;
 #[derive(Drop)]
 pub struct Objects<T: Elem, S: FarTickets> {
     number: u32,
-    changes: u64,
+    max_writes: u64,
     leavings: u64,
     memory: LocalMemory<T>,
-    entries: Vec<Entry<S::Ticket>>,
+    entries: Vec<ObjectRecord<S::Ticket>>,
     order: Recency,
 }
 
@@ -48,9 +48,9 @@ impl<T: Elem, S: FarTickets> Model for Objects<T, S> {
     ghost use Rattle.far_codec.specs.Spelling.{IsSpelled};
     ghost use Rattle.far_scopes.specs.Movement.{AreTracked};
 
-    ghost view = { λ a. record { number = a.number; changes = a.changes; leavings = a.leavings; memory = a.memory; entries = a.entries.items; order = a.order } };
+    ghost view = { λ a. record { number = a.number; max_writes = a.max_writes; leavings = a.leavings; memory = a.memory; entries = a.entries.items; order = a.order } };
 
-    ghost invariant = { λ a. AreTracked T.meaning S.content (IsSpelled T.in_range T.has_spelling T.spelling) record { number = a.number; changes = a.changes; leavings = a.leavings; memory = a.memory; entries = a.entries.items; order = a.order } };
+    ghost invariant = { λ a. AreTracked T.meaning S.content (IsSpelled T.in_range T.has_spelling T.spelling) record { number = a.number; max_writes = a.max_writes; leavings = a.leavings; memory = a.memory; entries = a.entries.items; order = a.order } };
 }
 
 impl<T: Elem, S: FarTickets> Objects<T, S> {
@@ -64,7 +64,7 @@ impl<T: Elem, S: FarTickets> Objects<T, S> {
     {
         Ok(Objects {
             number,
-            changes: limits.changes,
+            max_writes: limits.max_writes,
             leavings: limits.leavings,
             memory: LocalMemory::new(alloc, limits.segments, limits.size)?,
             entries: Vec::new(alloc),
@@ -72,20 +72,20 @@ impl<T: Elem, S: FarTickets> Objects<T, S> {
         })
     }
 
-    /// The number that was given to `new`. Takes no memory.
+    /// The number that was given to `new`. Allocates nothing.
     ///
     /// It tells what holds of all objects (`tracked`), and that each local object has a part of the region for itself and
     /// there is no other part (`own`).
     pub fn number(&self) -> u32
         ensures number { result ≡ self.now.number }
         ensures tracked { AreTracked T.meaning S.content (IsSpelled T.in_range T.has_spelling T.spelling) self.now }
-        ensures own { IsMemory self.now.memory.words self.now.memory.room }
+        ensures own { IsMemory self.now.memory.words self.now.memory.state }
     {
         self.memory.known_own();
         self.number
     }
 
-    /// The pointer word of an object. Takes no memory.
+    /// The pointer word of an object. Allocates nothing.
     pub fn word(&self, o: u32) -> Word
         requires { o < length self.now.entries }
         ensures word { word_of self.now o ≡ Some result }
@@ -94,7 +94,7 @@ impl<T: Elem, S: FarTickets> Objects<T, S> {
         self.memory.word(o as usize)
     }
 
-    /// How often an object was written. Takes no memory.
+    /// How often an object was written. Allocates nothing.
     pub fn version(&self, o: u32) -> u64
         requires { o < length self.now.entries }
         ensures { result ≡ version_of self.now o }
@@ -102,7 +102,7 @@ impl<T: Elem, S: FarTickets> Objects<T, S> {
         self.entries[o as usize].version
     }
 
-    /// How often an object went away. Takes no memory.
+    /// How often an object went away. Allocates nothing.
     pub fn leavings(&self, o: u32) -> u64
         requires { o < length self.now.entries }
         ensures { result ≡ leavings_of self.now o }
@@ -110,7 +110,7 @@ impl<T: Elem, S: FarTickets> Objects<T, S> {
         self.entries[o as usize].leavings
     }
 
-    /// How many pins an object has. Takes no memory.
+    /// How many pins an object has. Allocates nothing.
     pub fn pins(&self, o: u32) -> u32
         requires { o < length self.now.entries }
         ensures { result ≡ pins_of self.now o }
@@ -118,7 +118,7 @@ impl<T: Elem, S: FarTickets> Objects<T, S> {
         u32::from(self.entries[o as usize].pins)
     }
 
-    /// The newest far copy that there is of an object. Takes no memory.
+    /// The newest far copy that there is of an object. Allocates nothing.
     pub fn ticket(&self, o: u32) -> Option<&S::Ticket>
         requires { o < length self.now.entries }
         ensures ticket { option_map (λ ticket. ticket.now) result ≡ ticket_of self.now o }

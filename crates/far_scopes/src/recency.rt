@@ -1,5 +1,5 @@
 // The order in which objects were used.
-ghost use Rattle.std.specs.Prelude.{◌≡◌, [], ◌∷◌, IfOk, IfErr, IsTrue, OnOk, OnErr, false};
+ghost use Rattle.std.specs.Prelude.{◌≡◌, [], ◌∷◌, length, IfOk, IfErr, IsTrue, OnOk, OnErr, false};
 ghost use Rattle.std.specs.Map.{keys_of};
 ghost use Rattle.far_scopes.specs.Recency.{has, without, used};
 
@@ -36,6 +36,13 @@ impl Recency {
         })
     }
 
+    /// How many objects are in the order. Allocates nothing.
+    pub fn len(&self) -> usize
+        ensures { result ≡ length self.now }
+    {
+        self.cache.len()
+    }
+
     /// Puts an object first that is not in the order.
     pub fn add(&mut self, o: u32) -> Result<(), Refusal>
         requires { has self.old o ≡ false }
@@ -48,14 +55,14 @@ impl Recency {
         Ok(())
     }
 
-    /// Takes an object out. Takes no memory.
+    /// Takes an object out. Allocates nothing.
     pub fn remove(&mut self, o: u32)
         ensures { self.new ≡ without self.old o }
     {
         self.cache.pop(&o);
     }
 
-    /// Puts an object first that is in the order. Takes no memory.
+    /// Puts an object first that is in the order. Allocates nothing.
     pub fn touch(&mut self, o: u32)
         ensures { self.new ≡ used self.old o }
     {
@@ -74,7 +81,7 @@ impl Recency {
         }
     }
 
-    /// The objects, the last used first. Takes no memory.
+    /// The objects, the last used first. Allocates nothing.
     pub fn iter(&self) -> Iter<'_, u32, ()>
         ensures { keys_of result ≡ self.now }
     {

@@ -1,17 +1,17 @@
 // The far copies of objects in another store.
-use super::entry::Entry;
+use super::object_record::ObjectRecord;
 use far_store::FarTickets;
 use std::marker::Model;
 
 /// The far copies that `Objects::renewal` put into another store. Contracts see, by object number, the ticket of each
 /// object that was away, and `None` for each that was local.
 ///
-/// It has the room for the records of the objects too, so that `Objects::renew` takes no memory.
+/// It has the room for the records of the objects too, so that `Objects::renew` allocates nothing.
 #[derive(Drop)]
 pub struct Renewal<N: FarTickets> {
     pub(crate) tickets: Vec<Option<N::Ticket>>,
     /// The room: no record, and space for one for each ticket.
-    pub(crate) entries: Vec<Entry<N::Ticket>>,
+    pub(crate) entries: Vec<ObjectRecord<N::Ticket>>,
 }
 
 impl<N: FarTickets> Model for Renewal<N> {

@@ -1,8 +1,8 @@
 -- Fields, one after the other.
-use Rattle.std.proofs.Common.{◌≡◌, ◌==◌, ℕ, suc, ◌+◌, ◌≤◌, ◌<◌, ◌∙◌, Bool, true, false, ◌&&◌, zero, List, [], ◌∷◌, ◌++◌, Option, None, Some, not, nat_lt, if◌then◌else◌, drop, length, slice_get, append_assoc, append-nil, refl, sym, ap, arith}
+use Rattle.std.proofs.Common.{◌≡◌, ◌==◌, ℕ, suc, ◌+◌, ◌≤◌, ◌<◌, ◌∙◌, Bool, true, false, ◌&&◌, zero, List, [], ◌∷◌, ◌++◌, Option, None, Some, not, nat_lt, if◌then◌else◌, drop, take, set, length, slice_get, append_assoc, append-nil, refl, sym, ap, arith}
 use Rattle.std.specs.List.{list_any, slice_split, position_or_len, before_first, after_first}
 use Rattle.std.proofs.lemmas.Bool.{eqb-true}
-use Rattle.std.proofs.lemmas.List.{length-drop, take_all}
+use Rattle.std.proofs.lemmas.List.{length-drop, take_all, take_more_set}
 use Rattle.std.proofs.lemmas.List.Sums.{prefix_len-le-length}
 use Rattle.std.proofs.lemmas.List.Splits.{slice_split_first}
 use Rattle.csv.specs.Records.{field_at}
@@ -63,6 +63,10 @@ pub cells-go-on : (kinds : List Kind) (cells : List Cell) (n : ℕ) (rest behind
     → after ++ cells-left kinds m more behind ≡ whole
 cells-go-on kinds cells n rest behind whole column after m more grown of next left goes e =
     rw (grown, of, next, left, goes) (next-cell (nat_lt (position_or_len is_comma rest) (length rest)) kinds cells n rest whole refl e)
+
+-- a cell that is written behind those so far
+pub cell-written : (old mid : List Cell) (n : ℕ) (cell : Cell) → n < length mid → take n mid ≡ take n old → take (n + 1) (set mid n cell) ≡ take n old ++ cell ∷ []
+cell-written old mid n cell within same = take_more_set mid n cell within ∙ ap (λ (cells : List Cell). cells ++ cell ∷ []) same
 
 -- how much there is to read
 abbrev pub length-left : Bool → List ℕ → ℕ

@@ -1,5 +1,5 @@
 -- What is read and printed, one part after another.
-use Rattle.std.proofs.Common.{◌≡◌, ◌+◌, ◌-◌, ◌≤◌, ◌<◌, ℕ, suc, List, [], ◌∷◌, ◌++◌, length, take, drop, slice_index, slice_range, Option, append_assoc, append-nil, length-append, take-append-drop, ◌∙◌, refl, sym, ap, subst, arith}
+use Rattle.std.proofs.Common.{◌≡◌, ◌+◌, ◌-◌, ◌≤◌, ◌<◌, ℕ, suc, Bool, true, false, List, [], ◌∷◌, ◌++◌, length, take, drop, slice_index, slice_range, Option, append_assoc, append-nil, length-append, take-append-drop, ◌∙◌, refl, sym, ap, subst, arith}
 use Rattle.std.proofs.Math.Seq.{take-add, drop-cons}
 use Rattle.std.proofs.lemmas.List.{take_rest, length-take, length-take-le, take-take}
 use Rattle.std.proofs.lemmas.List.Folds.{drop_split}
@@ -65,6 +65,23 @@ range-front xs from to n low =
 pub range-within : (xs : List ℕ) (from to n : ℕ) → n ≤ length (slice_range xs from to) → n ≤ to - from
 range-within xs from to n h = let l = length-take (to - from) (drop from xs) in grind (arith, l, h)
 
+-- no more reads are left than there were
+pub fewer : (left made all : ℕ) → left + made ≤ all → left ≤ all
+fewer left made all h = omega (arith, h)
+
+-- a script has no more turns than that
+pub turns-past : (left made all : ℕ) → left + made ≤ all → all ≤ 1048576 → 1048577 ≤ made → ⊥
+turns-past left made all h few past = omega (arith, h, few, past)
+
+-- each read gave a byte
+pub made-then : (n a b c x y : ℕ) → a ≤ b + x → b ≤ c + y → n ≡ x + y → a ≤ c + n
+made-then n a b c x y p q r = omega (arith, p, q, r)
+
+-- the end that is not found now was not found before
+pub not-before : (a b : Bool) → (a ≡ true → b ≡ true) → b ≡ false → a ≡ false
+not-before true b f e = sym (f refl) ∙ e
+not-before false b f e = refl
+
 pub added : (n a b c x y : ℕ) → b + x ≡ a → c + y ≡ b → n ≡ x + y → c + n ≡ a
 added n a b c x y p q r = omega (arith, p, q, r)
 
@@ -75,6 +92,7 @@ module _ {R : Type 0} (read : Ghosts R) where
     consumed = Consumes-nil (read.remaining old.source.reader);
     taken = append-nil (unread read old);
     counted = omega arith;
+    made = λ e. omega arith;
     none = λ e. refl;
     ended = λ e. e;
   }
@@ -86,6 +104,7 @@ module _ {R : Type 0} (read : Ghosts R) where
     consumed = subst (λ s. Consumes (read.remaining old.source.reader) (read.remaining s.reader) []) (sym same) (Consumes-nil (read.remaining old.source.reader));
     taken = append-nil (unread read old) ∙ split;
     counted = subst (λ s. s.bytes + 0 ≡ old.source.bytes) (sym same) (omega arith);
+    made = λ e. subst (λ s. old.source.reads ≤ s.reads + 0) (sym same) (omega arith);
     none = λ e. refl;
     ended = λ e. ap (λ s. s.ended) same ∙ e;
   }
@@ -97,6 +116,7 @@ module _ {R : Type 0} (read : Ghosts R) where
     taken = sym (append_assoc (unread read old) p.came q.came) ∙ ap (λ (t : List ℕ). t ++ q.came) p.taken
         ∙ append_assoc bytes (unread read mid) q.came ∙ ap (λ (t : List ℕ). bytes ++ t) q.taken ∙ sym (append_assoc bytes more (unread read new));
     counted = added (length (p.came ++ q.came)) old.source.bytes mid.source.bytes new.source.bytes (length p.came) (length q.came) p.counted q.counted (length-append p.came q.came);
+    made = λ e. made-then (length (p.came ++ q.came)) old.source.reads mid.source.reads new.source.reads (length p.came) (length q.came) (p.made (not-before mid.source.ended new.source.ended q.ended e)) (q.made e) (length-append p.came q.came);
     none = λ e. ap (λ (t : List ℕ). t ++ q.came) (p.none e) ∙ q.none (p.ended e);
     ended = λ e. q.ended (p.ended e);
   }

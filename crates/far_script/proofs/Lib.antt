@@ -13,3 +13,4 @@ pub mod StopLaws
 pub mod DigitLaws
 pub mod PlainDigits
 pub mod PlainLines
+pub mod Feeds

@@ -1,9 +1,9 @@
--- The faults, and the exit statuses of the program.
-use Rattle.std.specs.Prelude.{ℕ, ⊤}
+-- The faults of a script, the exit status of the program for each, and what stops a reader.
+use Rattle.std.specs.Prelude.{◌≡◌, ℕ, ◌+◌, ⊤, ◌⊎◌, ◌≤◌, ◌<◌, List, length, Option, IfSome}
 use Rattle.far_script.specs.declared.fault.ShellFault.{ShellFault}
 use Rattle.far_script.specs.declared.fault.ShellFault.TheVariants.{BadStart, Input, Output, Memory, Turns}
 
--- 0 is the end of the script; 1 is left to what ends a program from outside
+-- the exit status for each fault. A script that runs to its end has status 0
 abbrev pub status_of : ShellFault → ℕ
 status_of BadStart = 2
 status_of Input = 3
@@ -18,3 +18,10 @@ IfInput Input holds = holds
 IfInput Output holds = ⊤
 IfInput Memory holds = ⊤
 IfInput Turns holds = ⊤
+
+-- why a reader gives no more, though its end was not found: readers of its type may fail. Or no reads are left, and at least as many bytes
+-- came as there were reads. Or no bytes are left, and those that come, if they are known, are more than there were. The numbers are the reads
+-- and the bytes there were, and those that are left
+abbrev pub IsCut : Type 0 → ℕ → ℕ → ℕ → ℕ → Option (List ℕ) → Type 0
+IsCut may_fail reads bytes reads_left bytes_left known =
+    may_fail ⊎ (((reads_left ≡ 0) × (reads + bytes_left ≤ bytes)) ⊎ ((bytes_left ≡ 0) × IfSome known (λ coming. bytes < length coming)))

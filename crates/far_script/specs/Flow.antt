@@ -1,16 +1,16 @@
 -- What goes through a reader and a writer, and what is held on the way.
-use Rattle.std.specs.Prelude.{◌≡◌, ℕ, ◌+◌, ◌==◌, Bool, List, [], ◌∷◌, ◌++◌, length, Option, true, false, slice_range, drop, ◌≤◌, ◌<◌, IfSome}
+use Rattle.std.specs.Prelude.{◌≡◌, ℕ, ◌+◌, ◌==◌, Bool, List, [], ◌∷◌, ◌++◌, length, Option, true, false, slice_range, drop, ◌≤◌, ◌<◌, ◌⊎◌, IfSome}
 use Rattle.std.specs.List.{list_any}
 use Rattle.std.specs.Io.BufRead.{strip_last}
 use Rattle.std.specs.Io.KnownBytes.{Appends, Consumes}
 use Rattle.std.specs.declared.io.traits.Read.{Ghosts}
 use Rattle.far_script.specs.declared.fault.ShellFault.{ShellFault}
 use Rattle.far_script.specs.declared.input.Input.{Input}
-use Rattle.far_script.specs.declared.input.Span.{Span}
+use Rattle.far_script.specs.declared.input.ByteRange.{ByteRange}
 use Rattle.far_script.specs.declared.input.Line.{Line}
 use Rattle.far_script.specs.declared.input.Line.TheVariants as line
 use Rattle.far_script.specs.declared.output.Output.{Output}
-use Rattle.far_script.specs.Faults.{IfInput}
+use Rattle.far_script.specs.Faults.{IfInput, IsCut}
 
 -- a text was printed: what was held before it and the text went to the writer, or are held still
 abbrev pub Prints : Option (List ℕ) → List ℕ → List ℕ → Option (List ℕ) → List ℕ → Type 0
@@ -24,26 +24,31 @@ has_failed output = output.failed
 abbrev pub IsFrontOf : Option (List ℕ) → List ℕ → List ℕ → Type 0
 IsFrontOf known bytes rest = IfSome known (λ script. script ≡ bytes ++ rest) × (length bytes ≤ 16777216)
 
+-- these bytes came from a reader, and no more: unless no bytes are left to be taken, where more may have come and are lost
+abbrev pub Leaves : Option (List ℕ) → Option (List ℕ) → List ℕ → ℕ → Type 0
+Leaves old new came bytes_left = (lost : List ℕ) × Consumes old new (came ++ lost) × (0 < bytes_left → lost ≡ [])
+
 module _ {R : Type 0} (read : Ghosts R) where
   -- what was read and not taken yet
   abbrev pub unread : Input R read → List ℕ
   unread input = drop input.start input.held
 
   -- a span lies within what is held of a script
-  abbrev pub Holds : Input R read → Span → Type 0
+  abbrev pub Holds : Input R read → ByteRange → Type 0
   Holds input span = (span.from ≤ span.to) × (span.to ≤ length input.held)
 
   -- the bytes of a span
-  abbrev pub spanned : Input R read → Span → List ℕ
+  abbrev pub spanned : Input R read → ByteRange → List ℕ
   spanned input span = slice_range input.held span.from span.to
 
   -- bytes of a script were taken: what was held before and what came from the reader were taken, or are held still. What
-  -- came counts, and nothing comes after the end
+  -- came counts, each read gave a byte as long as the end was not found, and nothing comes after the end
   pub record Reads (old : Input R read) (bytes : List ℕ) (new : Input R read) : Type 0 where
     pub came : List ℕ
     pub consumed : Consumes (read.remaining old.source.reader) (read.remaining new.source.reader) came
     pub taken : unread old ++ came ≡ bytes ++ unread new
     pub counted : new.source.bytes + length came ≡ old.source.bytes
+    pub made : new.source.ended ≡ false → old.source.reads ≤ new.source.reads + length came
     pub none : old.source.ended ≡ true → came ≡ []
     pub ended : old.source.ended ≡ true → new.source.ended ≡ true
 
@@ -54,7 +59,7 @@ module _ {R : Type 0} (read : Ghosts R) where
   TakesLine old (line.Last span) new =
       (list_any (λ c. c == 10) (spanned new span) ≡ false) × (unread new ≡ []) × (new.source.ended ≡ true) × Reads old (spanned new span) new
 
-  abbrev pub span_of : Line → Span
+  abbrev pub span_of : Line → ByteRange
   span_of (line.Whole span) = span
   span_of (line.Last span) = span
 
@@ -62,23 +67,33 @@ module _ {R : Type 0} (read : Ghosts R) where
   abbrev pub IsSpent : Input R read → Type 0
   IsSpent input = (unread input ≡ []) × (input.source.ended ≡ true)
 
-  -- the end of a script was not seen, though the reader was asked, or may not be asked any more
-  abbrev pub IsUnseen : Input R read → Input R read → Type 0
-  IsUnseen old new = (new.source.ended ≡ false) × (0 < new.source.reads → new.source.reads < old.source.reads)
+  -- the end of a script was not seen, before and now, though the reader was asked, or may not be asked any more; and why no more came
+  abbrev pub IsUnseen : Type 0 → Input R read → Input R read → Type 0
+  IsUnseen may_fail old new = (old.source.ended ≡ false) × (new.source.ended ≡ false) × (0 < new.source.reads → new.source.reads < old.source.reads)
+      × IsCut may_fail old.source.reads old.source.bytes new.source.reads new.source.bytes (read.remaining old.source.reader)
+
+  -- the end of a script was seen, and there is no rest
+  abbrev pub IsOver : Input R read → List ℕ → Type 0
+  IsOver new rest = (new.source.ended ≡ true) × (rest ≡ [])
+
+  -- why a load lacks bytes, with the rest of the script, which did not come: the end was seen, and there is no rest; or it was not seen
+  abbrev pub IsShort : Type 0 → Input R read → Input R read → List ℕ → Type 0
+  IsShort may_fail old new rest = IsOver new rest ⊎ IsUnseen may_fail old new
 
   -- what is left of a script, where it is known, is these bytes and the rest behind them
   abbrev pub StartsWith : Input R read → List ℕ → List ℕ → Type 0
   StartsWith input bytes rest = IfSome (read.remaining input.source.reader) (λ coming. unread input ++ coming ≡ bytes ++ rest)
       × (IsSpent input → bytes ++ rest ≡ [])
 
-  -- bytes are at hand, those that were held and those that came since, and they were counted
+  -- bytes are at hand, those that were held and those that came since, and they were counted. An end that was found stays found
   abbrev pub Counts : Input R read → List ℕ → Input R read → Type 0
-  Counts old bytes new = new.source.bytes + length bytes ≡ old.source.bytes + length (unread old)
+  Counts old bytes new = (new.source.bytes + length bytes ≡ old.source.bytes + length (unread old)) × (old.source.ended ≡ true → new.source.ended ≡ true)
+      × ((came : List ℕ) × (unread old ++ came ≡ bytes) × Leaves (read.remaining old.source.reader) (read.remaining new.source.reader) came new.source.bytes)
 
   -- what is left of a script is these bytes and the rest. Where the input is at fault, the bytes are all that came
   abbrev pub Gives : ShellFault → Input R read → Input R read → List ℕ → List ℕ → Type 0
   Gives why old new bytes rest = StartsWith old bytes rest × IfInput why (Counts old bytes new)
 
-  -- the input is at fault, and this is said of all bytes that came
-  abbrev pub Stops : (List ℕ → Type 0) → Input R read → Input R read → Type 0
-  Stops said old new = (bytes : List ℕ) × (rest : List ℕ) × StartsWith old bytes rest × Counts old bytes new × said bytes
+  -- the input is at fault, and this is said of all bytes that came, and of the rest
+  abbrev pub Stops : (List ℕ → List ℕ → Type 0) → Input R read → Input R read → Type 0
+  Stops said old new = (bytes : List ℕ) × (rest : List ℕ) × StartsWith old bytes rest × Counts old bytes new × said bytes rest

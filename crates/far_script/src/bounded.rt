@@ -22,6 +22,7 @@ pub struct Bounded<R: Read + Drop> {
     pub bytes: u32,
     /// Whether a read found the end. The reader is not asked again after it.
     pub ended: bool,
+    ghost few: { reads ≤ 1048576 },
     ghost most: { bytes ≤ 16777216 },
     ghost end: { IsTrue ended → unwrap_or (R.remaining reader) [] ≡ [] },
 }

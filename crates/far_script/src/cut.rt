@@ -14,7 +14,17 @@ pub fn cut(text: &str, wanted: u8) -> Option<(&str, &str)>
     }
 }
 
-/// What stands behind the first such byte of ASCII, whose place is known, or nothing where there is none.
+/// What stands before the first such byte of ASCII, whose place is known, or all where there is none.
+#[inline(always)]
+pub(crate) fn before(text: &str, at: usize, wanted: u8) -> &str
+    requires ascii { wanted < 128 }
+    requires first { at ≡ position_or_len (λ b. b == wanted) text.now }
+    ensures { result.now ≡ before_first (λ b. b == wanted) text.now }
+{
+    if at < text.len() { &text[..at] } else { text }
+}
+
+/// What stands behind the first such byte of ASCII, whose place is known, or nothing if there is none.
 #[inline(always)]
 pub(crate) fn behind(text: &str, at: usize, wanted: u8) -> &str
     requires ascii { wanted < 128 }

@@ -8,10 +8,11 @@ use thiserror::Error;
 /// What ends a script before its end. What was answered before stands.
 #[derive(Drop, Debug, Clone, Copy, PartialEq, Eq, Error)]
 pub enum ShellFault {
-    /// The first command opens no table.
-    #[error("the first command opens no table")]
+    /// The first command opens no table and asks for no sessions.
+    #[error("the first command opens no table and asks for no sessions")]
     BadStart,
-    /// A read failed, the script is too long or no UTF-8, or a load ends before its bytes.
+    /// A read failed, the script is too long or needs too many reads, a line or a load is no UTF-8, or the script ends before the bytes of
+    /// a load.
     #[error("the script could not be read")]
     Input,
     /// A write failed.

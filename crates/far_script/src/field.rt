@@ -1,5 +1,6 @@
 // Fields as cells and rows.
-ghost use Rattle.std.specs.Prelude.{◌≡◌, ◌==◌, ◌+◌, ◌++◌, ◌∷◌, [], vec_len, IfOk, IfErr, OnOk, option_map, slice_get, None, Some, length};
+ghost use Rattle.std.specs.Prelude.{◌≡◌, ◌==◌, ◌+◌, ◌<◌, ◌≤◌, ◌++◌, ◌∷◌, [], vec_len, IfOk, IfErr, OnOk, option_map, slice_get, None, Some, length, take};
+ghost use Rattle.std.specs.String.{string_bytes};
 ghost use Rattle.std.specs.List.{slice_split, list_any, position_or_len, before_first};
 ghost use Rattle.csv.specs.Records.{fields_of};
 ghost use Rattle.far_script.specs.OneRecord.{one_record, is_comma};
@@ -11,6 +12,7 @@ use super::record::{is_plain, read_record};
 use csv::StringRecord;
 use far_types::{Cell, Kind, Refusal, Row, Text};
 use std::alloc::Global;
+use std::mem;
 
 /// Whether a field stands for no value: it reads `\N`.
 fn is_missing_mark(field: &str) -> bool
@@ -25,15 +27,7 @@ pub fn cell(alloc: Global, column: Option<Kind>, field: &str) -> Result<Cell, Re
     ensures cell { IfOk result (λ cell. cell ≡ cell_of column field.now) }
     ensures memory { IfErr result (λ e. e ≡ Refusal.NoMemory) }
 {
-    if is_missing_mark(field) {
-        return Ok(Cell::Missing);
-    }
-    if let Some(Kind::Int) = column {
-        if let Some(number) = signed_number(field) {
-            return Ok(Cell::Int(number));
-        }
-    }
-    Ok(Cell::Text(Text::new(String::from_str(alloc, field)?)))
+    cell_in(alloc, Cell::Missing, column, field)
 }
 
 /// The kind of a column, where there is such a column.
@@ -53,28 +47,91 @@ fn first_field(text: &str) -> &str
     }
 }
 
-/// Adds the cell of the first field of a text, and says how long that field is. Most numbers are read in one go with their comma.
+/// An equal string, in the memory of a cell that is needed no more, if it is a text. Refused with `NoMemory` (1) alone.
+fn string_in(alloc: Global, spare: Cell, field: &str) -> Result<String, Refusal>
+    ensures string { IfOk result (λ string. string_bytes string ≡ field.now) }
+    ensures memory { IfErr result (λ e. e ≡ Refusal.NoMemory) }
+{
+    let Cell::Text(text) = spare else {
+        return Ok(String::from_str(alloc, field)?);
+    };
+    let mut string = text.into_string();
+    string.clear();
+    string.push_str(field)?;
+    Ok(string)
+}
+
+/// A field as a cell, as `cell` reads it, in the memory of a cell that is needed no more.
+fn cell_in(alloc: Global, spare: Cell, column: Option<Kind>, field: &str) -> Result<Cell, Refusal>
+    ensures cell { IfOk result (λ cell. cell ≡ cell_of column field.now) }
+    ensures memory { IfErr result (λ e. e ≡ Refusal.NoMemory) }
+{
+    if is_missing_mark(field) {
+        return Ok(Cell::Missing);
+    }
+    if let Some(Kind::Int) = column {
+        if let Some(number) = signed_number(field) {
+            return Ok(Cell::Int(number));
+        }
+    }
+    Ok(Cell::Text(Text::new(string_in(alloc, spare, field)?)))
+}
+
+/// Writes the cell of the first field of a text behind the first `at` cells of a list, over one that is needed no more if there
+/// is one, and says how long that field is. Most numbers are read in one go with their comma.
 #[inline(always)]
-fn push_cell(
+fn write_cell(
     alloc: Global,
     cells: &mut Vec<Cell>,
+    at: usize,
     column: Option<Kind>,
     text: &str,
 ) -> Result<usize, Refusal>
+    requires { at ≤ vec_len cells.old }
     ensures len { IfOk result (λ len. len ≡ position_or_len is_comma text.now) }
-    ensures cell { OnOk result (cells.new.items ≡ cells.old.items ++ cell_of column (before_first is_comma text.now) ∷ []) }
-    ensures count { OnOk result (vec_len cells.new ≡ vec_len cells.old + 1) }
+    ensures cell { OnOk result (take (at + 1) cells.new.items ≡ take at cells.old.items ++ cell_of column (before_first is_comma text.now) ∷ []) }
+    ensures there { OnOk result (at < vec_len cells.new) }
     ensures memory { IfErr result (λ e. e ≡ Refusal.NoMemory) }
 {
+    if at == cells.len() {
+        cells.push(Cell::Missing)?;
+    }
     if let Some(Kind::Int) = column {
         if let Some((number, len)) = first_signed(text.as_bytes()) {
-            cells.push(Cell::Int(number))?;
+            cells[at] = Cell::Int(number);
             return Ok(len);
         }
     }
     let field = first_field(text);
-    cells.push(cell(alloc, column, field)?)?;
+    let spare = mem::replace(&mut cells[at], Cell::Missing);
+    cells[at] = cell_in(alloc, spare, column, field)?;
     Ok(field.len())
+}
+
+/// The cells of what stands between the commas of a text, in the memory of cells that are needed no more. Refused with
+/// `NoMemory` (1) alone.
+pub fn cells_in(
+    alloc: Global,
+    spare: Vec<Cell>,
+    kinds: &[Kind],
+    text: &str,
+) -> Result<Vec<Cell>, Refusal>
+    ensures cells { IfOk result (λ cells. cells.items ≡ cells_from kinds.now 0 (slice_split is_comma text.now)) }
+    ensures memory { IfErr result (λ e. e ≡ Refusal.NoMemory) }
+{
+    let mut cells = spare;
+    let mut rest = text;
+    let mut count = 0;
+    let mut more = true;
+    while more {
+        let column = kind_of(kinds, count);
+        let len = write_cell(alloc, &mut cells, count, column, rest)?;
+        count += 1;
+        more = len < rest.len();
+        rest = behind(rest, len, b',');
+    }
+    cells.truncate(count);
+    Ok(cells)
 }
 
 /// The cells of what stands between the commas of a text. Refused with `NoMemory` (1) alone.
@@ -82,16 +139,8 @@ pub fn plain_cells(alloc: Global, kinds: &[Kind], text: &str) -> Result<Vec<Cell
     ensures cells { IfOk result (λ cells. cells.items ≡ cells_from kinds.now 0 (slice_split is_comma text.now)) }
     ensures memory { IfErr result (λ e. e ≡ Refusal.NoMemory) }
 {
-    let mut cells = Vec::with_capacity(alloc, kinds.len())?;
-    let mut rest = text;
-    let mut more = true;
-    while more {
-        let column = kind_of(kinds, cells.len());
-        let len = push_cell(alloc, &mut cells, column, rest)?;
-        more = len < rest.len();
-        rest = behind(rest, len, b',');
-    }
-    Ok(cells)
+    let cells = Vec::with_capacity(alloc, kinds.len())?;
+    cells_in(alloc, cells, kinds, text)
 }
 
 /// The cells of a record's fields.
@@ -112,7 +161,7 @@ pub fn record_cells(
     Ok(cells)
 }
 
-/// The row of a text that is exactly one record, or `None` where it is not. Refused with `NoMemory` (1) alone.
+/// The row of a text that is exactly one record, or `None` if it is not. Refused with `NoMemory` (1) alone.
 pub fn row(alloc: Global, kinds: &[Kind], text: &str) -> Result<Option<Row>, Refusal>
     ensures row { IfOk result (λ row. row ≡ row_of kinds.now text.now) }
     ensures memory { IfErr result (λ e. e ≡ Refusal.NoMemory) }
@@ -153,7 +202,7 @@ fn lone_record_cell(
     }
 }
 
-/// The cell of a text that is exactly one record of one field, or `None` where it is not. Refused with `NoMemory` (1)
+/// The cell of a text that is exactly one record of one field, or `None` if it is not. Refused with `NoMemory` (1)
 /// alone. A number is such a record as it stands.
 pub fn lone_cell(alloc: Global, column: Option<Kind>, text: &str) -> Result<Option<Cell>, Refusal>
     ensures cell { IfOk result (λ cell. cell ≡ lone_cell_of column text.now) }

@@ -12,7 +12,7 @@ use std::io::Read;
 
 /// Where a line or a load stands in what was read.
 #[derive(Clone, Copy, Debug, Drop)]
-pub struct Span {
+pub struct ByteRange {
     /// Where it begins.
     pub from: usize,
     /// The place behind its last byte.
@@ -23,9 +23,9 @@ pub struct Span {
 #[derive(Clone, Copy, Debug, Drop)]
 pub enum Line {
     /// One with its end.
-    Whole(Span),
+    Whole(ByteRange),
     /// What stands behind the last end of a line. It may be empty.
-    Last(Span),
+    Last(ByteRange),
 }
 
 /// A script that is read as it is answered: at most one line or one load of it is held, and what came with it. It is read

@@ -14,13 +14,15 @@ mod output;
 mod page;
 pub mod print;
 mod record;
+mod source;
 pub mod verb;
 pub mod watch;
 mod words;
 
 pub use fault::ShellFault;
-pub use input::{Input, Line, Span};
+pub use input::{ByteRange, Input, Line};
 pub use opening::{FirstLine, Opening};
 pub use output::Output;
 pub use page::Page;
+pub use source::{Fallible, Source};
 pub use words::Words;

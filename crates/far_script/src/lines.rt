@@ -1,10 +1,12 @@
 // The lines of a text whose records are its lines.
-ghost use Rattle.std.specs.Prelude.{◌≡◌, ◌<◌, length};
-ghost use Rattle.std.specs.List.{list_any};
+ghost use Rattle.std.specs.Prelude.{◌≡◌, ◌<◌, length, MatchOption};
+ghost use Rattle.std.specs.List.{list_any, position_or_len};
+ghost use Rattle.far_script.specs.Lines.{is_line_feed};
 ghost use Rattle.far_script.specs.PlainLines.{are_plain_lines, is_break, line_of, lines_behind};
 
-use super::cut::cut;
+use super::cut::{before, behind};
 use super::record::may_begin_with_order_mark;
+use memchr::memchr;
 
 /// Whether there is a quote or a carriage return. Each is looked for by itself, which tests many bytes at a time.
 fn has_break(bytes: &[u8]) -> bool
@@ -22,14 +24,21 @@ pub fn are_plain_lines(text: &str) -> bool
     !may_begin_with_order_mark(bytes) && !has_break(bytes)
 }
 
+/// The place of the first end of a line. It is looked for in many bytes at a time.
+pub(crate) fn first_feed(bytes: &[u8]) -> Option<usize>
+    ensures { MatchOption result (position_or_len is_line_feed bytes.now ≡ length bytes.now) (λ at. (at < length bytes.now) × (at ≡ position_or_len is_line_feed bytes.now)) }
+{
+    memchr(b'\n', bytes)
+}
+
 /// The first line of a text, without its end, and what stands behind it.
 pub fn next_line(text: &str) -> (&str, &str)
     ensures line { result.0.now ≡ line_of text.now }
     ensures behind { result.1.now ≡ lines_behind text.now }
     ensures shorter { 0 < length text.now → length result.1.now < length text.now }
 {
-    match cut(text, b'\n') {
-        Some(parts) => parts,
+    match first_feed(text.as_bytes()) {
+        Some(at) => (before(text, at, b'\n'), behind(text, at, b'\n')),
         None => (text, ""),
     }
 }

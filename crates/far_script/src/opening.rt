@@ -14,7 +14,7 @@ use std::alloc::Global;
 pub struct Opening {
     /// The kinds of the columns, as many as were named.
     pub kinds: Vec<Kind>,
-    /// The limits, which nobody looked at yet.
+    /// The limits, not yet validated.
     pub limits: Limits,
 }
 
@@ -147,7 +147,7 @@ fn read_threads(mut words: Words) -> Option<FirstLine>
     Some(FirstLine::Threads { sessions, edits })
 }
 
-/// What the first line of a script says, or `None` where it is no such line. Refused with `NoMemory` (1) alone.
+/// What the first line of a script says, or `None` if it is no such line. Refused with `NoMemory` (1) alone.
 pub fn first_line(alloc: Global, line: &str) -> Result<Option<FirstLine>, Refusal>
     ensures start { IfOk result (λ found. option_map start_of found ≡ start_in line.now) }
     ensures within { IfOk result (λ found. IfSome found (λ first. IsWithin (start_of first))) }

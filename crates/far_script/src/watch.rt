@@ -205,7 +205,7 @@ fn spec_with_tests(
     }
 }
 
-/// `FOLD COLUMN [by COLUMN] [if COLUMN OPERATOR CONSTANT]..`, or `None` where the words are no aggregate. Refused with
+/// `FOLD COLUMN [by COLUMN] [if COLUMN OPERATOR CONSTANT]..`, or `None` if the words are no aggregate. Refused with
 /// `NoMemory` (1) alone.
 pub fn spec(alloc: Global, kinds: &[Kind], mut words: Words) -> Result<Option<Spec>, Refusal>
     ensures spec { IfOk result (λ spec. spec ≡ spec_of kinds.now words.entry) }

@@ -48,7 +48,7 @@ impl<N: Naming, B: Rooms> Cells<N, B> {
 
     /// What the history of a stripe so far leaves. Takes no stripe's lock, and reads one cell once.
     ///
-    /// Refused with `OutOfRange` (14) where there is no such stripe; the session is then as it was.
+    /// Refused with `OutOfRange` (14) if there is no such stripe; the session is then as it was.
     pub fn gauge<R: Wait>(
         &self,
         rt: &R,

@@ -143,7 +143,7 @@ pub struct Opened<N: Naming, B: Rooms> {
 }
 
 impl<N: Naming> Made<N> {
-    /// Makes the four cells. Refused where memory is out.
+    /// Makes the four cells. Refused if memory is out.
     pub fn make(alloc: Global) -> Result<Made<N>, AllocError> {
         let mut spacers = Vec::new(alloc);
         Ok(Made {
@@ -155,7 +155,7 @@ impl<N: Naming> Made<N> {
         })
     }
 
-    /// The keepers of the four empty histories, the cells, and as many sessions as the plan has. Refused where memory is out.
+    /// The keepers of the four empty histories, the cells, and as many sessions as the plan has. Refused if memory is out.
     pub fn open<B: Rooms>(self, alloc: Global, count: u64) -> Result<Opened<N, B>, AllocError>
         requires names { (self.zero ≡ B.cells 0) × (self.one ≡ B.cells 1) × (self.two ≡ B.cells 2) × (self.three ≡ B.cells 3) }
         requires count { count ≡ N.plan.sessions }

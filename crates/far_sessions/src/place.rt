@@ -30,6 +30,14 @@ impl<B: Rooms, const I: usize> Model for Place<B, I> {
 }
 
 /// A session, at each of the four stripes.
+///
+/// Reads a stripe's gauge without its lock:
+///
+/// ```
+/// let Ok(reading) = cells.gauge(rt, &mut me, home) else {
+///     unreachable!()
+/// };
+/// ```
 #[derive(Drop)]
 pub struct Session<B: Rooms> {
     pub(crate) number: u64,

@@ -25,7 +25,7 @@ module _ (p : Planned) (zero one two three : List Entry) (t0 t1 t2 t3 : Table) (
   gauge-left : left_in_all 0 t0 t1 t2 t3 ≡ 0
   gauge-left = rw is0.gauge (rw is1.gauge (rw is2.gauge (rw is3.gauge refl)))
 
-  -- the gauge answers, want of memory aside
+  -- the gauge answers, running out of memory aside
   pub gauge-answers : (given : Refusal) → FourRefusal 0 t0 t1 t2 t3 given → given ≡ refusal.NoMemory
   gauge-answers given (inl none) =
       absurd (none.1 (record { second = gauge-like p zero one t0 t1 is0 is1; third = gauge-like p zero two t0 t2 is0 is2; fourth = gauge-like p zero three t0 t3 is0 is3 }))

@@ -1,4 +1,4 @@
--- What calls keep of the rows over objects: a slot for each column, and the number that their objects bear.
+-- What calls keep of the rows over objects: an index for each column, and the number that their objects bear.
 use Rattle.std.proofs.Common.{◌≡◌, ℕ, suc, ◌+◌, Bool, true, false, if◌then◌else◌, List, [], ◌∷◌, length, refl, sym, ap, subst, ◌∙◌, Option, None, Some, IfSome, IsSomeAnd, Result, IfOk, IfErr}
 use Rattle.std.specs.Prelude.{ℤ, option_map, slice_get}
 use Rattle.std.specs.Option.{option_map_or}
@@ -10,7 +10,7 @@ use Rattle.far_types.specs.declared.limits.Limits.{Limits}
 use Rattle.far_types.specs.declared.edit.Edit.TheVariants as edit
 use Rattle.far_types.specs.declared.refusal.Refusal.{Refusal}
 use Rattle.far_scopes.specs.Movement.{Movement}
-use Rattle.far_scopes.specs.Effects.{created, written, written_all, replaced_all, with_lens, arrived}
+use Rattle.far_scopes.specs.Effects.{after_create, written, written_all, after_replace_all, with_lens, after_arrive}
 use Rattle.far_scopes.specs.Replacing.{replaced_all as replaced_all_in}
 use Rattle.far_scopes.specs.declared.replacement.Replacement.{Replacement}
 use Rattle.far_vector.specs.Vector.{Vector}
@@ -18,16 +18,16 @@ use Rattle.far_vector.specs.Effects.{is_full, next_group, next_name, pushed_in, 
 use Rattle.far_columns.specs.NumbersTogether.{NumberColumns, all_pushed_in}
 use Rattle.far_columns.specs.Numbers.{Numbers, number_lists}
 use Rattle.far_evacuator.specs.Jobs.{CarriedEvacuation, CarriedFetch}
-use Rattle.far_texts.specs.Changes.{set_in as text_set_in}
+use Rattle.far_texts.specs.Effects.{set_in as text_set_in}
 use Rattle.far_texts.specs.Texts.{Texts, lists_of}
 use Rattle.far_texts.specs.Together.{all_begin, all_created}
 use Rattle.far_rows.specs.declared.job.ByKind.{ByKind}
 use Rattle.far_rows.specs.declared.job.ByKind.TheVariants as by_kind
 use Rattle.far_rows.specs.declared.new_cell.NewCell.{NewCell}
 use Rattle.far_rows.specs.declared.new_cell.NewCell.TheVariants as new_cell
-use Rattle.far_rows.specs.declared.slot.Slot.{Slot}
-use Rattle.far_rows.specs.declared.slot.Slot.TheVariants as slot
-use Rattle.far_rows.specs.Slots.{kind_of, slots_from}
+use Rattle.far_rows.specs.declared.column_index.ColumnIndex.{ColumnIndex}
+use Rattle.far_rows.specs.declared.column_index.ColumnIndex.TheVariants as column_index
+use Rattle.far_rows.specs.ColumnIndexes.{kind_of, column_indexes_from}
 use Rattle.far_rows.specs.Rows.{Rows, TextsMoved}
 use Rattle.far_rows.specs.Setting.{set_in}
 use Rattle.far_rows.specs.Opening.{empty_rows}
@@ -39,11 +39,11 @@ use Rattle.far_frame.specs.Jobs.{WorkOf, Commits, Installs, Merges}
 use Rattle.far_frame.specs.State.{State}
 use Rattle.far_shared.specs.Stripes.{AreRowsOf, KeepsColumns}
 
--- there is a slot for each kind
-pub slots-length : (numbers texts : ℕ) (kinds : List Kind) → length (slots_from numbers texts kinds) ≡ length kinds
-slots-length numbers texts [] = refl
-slots-length numbers texts (kind.Int ∷ kinds) = ap suc (slots-length (numbers + 1) texts kinds)
-slots-length numbers texts (kind.Text ∷ kinds) = ap suc (slots-length numbers (texts + 1) kinds)
+-- there is an index for each kind
+pub column_indexes-length : (numbers texts : ℕ) (kinds : List Kind) → length (column_indexes_from numbers texts kinds) ≡ length kinds
+column_indexes-length numbers texts [] = refl
+column_indexes-length numbers texts (kind.Int ∷ kinds) = ap suc (column_indexes-length (numbers + 1) texts kinds)
+column_indexes-length numbers texts (kind.Text ∷ kinds) = ap suc (column_indexes-length numbers (texts + 1) kinds)
 
 module _ {X K : Type 0} where
   either-number : (b : Bool) (x y m : Movement X K) → x.number ≡ m.number → y.number ≡ m.number → (if b then x else y).number ≡ m.number
@@ -55,13 +55,13 @@ module _ {X K : Type 0} where
   found-number (Some a) f m same = same a
 
   pushed-number : (m : Movement X K) (v : Vector X) (x : X) → (pushed_in m v x).number ≡ m.number
-  pushed-number m v x = either-number (is_full v) (created m (next_name v) (next_group v x)) (range_written m v v.len (x ∷ [])) m refl refl
+  pushed-number m v x = either-number (is_full v) (after_create m (next_name v) (next_group v x)) (range_written m v v.len (x ∷ [])) m refl refl
 
   written-number : (m : Movement X K) (lists : List (Replacement X)) → (written_all m lists).number ≡ m.number
   written-number m [] = refl
   written-number m (r ∷ rs) = written-number (written m r.object) rs
 
-  replaced-number : (m : Movement X K) (lists : List (Replacement X)) → (replaced_all m lists).number ≡ m.number
+  replaced-number : (m : Movement X K) (lists : List (Replacement X)) → (after_replace_all m lists).number ≡ m.number
   replaced-number m lists = written-number (record m { memory = replaced_all_in m.memory lists; entries = with_lens m.entries lists }) lists
 
 module _ {K : Type 0} where
@@ -73,7 +73,7 @@ module _ {K : Type 0} where
   all-created-number : (m : Movement ℕ K) (columns : List Texts) (forms : List (ℕ × List ℕ)) → (all_created m columns forms).number ≡ m.number
   all-created-number m [] forms = refl
   all-created-number m (c ∷ columns) [] = refl
-  all-created-number m (c ∷ columns) (form ∷ forms) = all-created-number (created m record { column = c.column; group = length c.objects } form.1) columns forms
+  all-created-number m (c ∷ columns) (form ∷ forms) = all-created-number (after_create m record { column = c.column; group = length c.objects } form.1) columns forms
 
   texts-number : (content : K → List ℕ) (r : Rows K) (texts : List (Option (List ℕ))) (now : Movement ℕ K) → TextsMoved content r texts now → now.number ≡ r.text_objects.number
   texts-number content r texts now moved = by (all_begin r.texts) refl
@@ -85,28 +85,28 @@ module _ {K : Type 0} where
   -- rows that are the same
   pub same-columns : (old new : Rows K) → new ≡ old → KeepsColumns old new
   same-columns old new same = record {
-    slots = ap (λ (r : Rows K). r.slots) same;
+    column_indexes = ap (λ (r : Rows K). r.column_indexes) same;
     numbers = ap (λ (r : Rows K). r.number_objects.number) same;
     texts = ap (λ (r : Rows K). r.text_objects.number) same;
   }
 
   -- rows of a schema stay such rows
   pub still-of : (kinds : List Kind) (n : ℕ) (old new : Rows K) → KeepsColumns old new → AreRowsOf kinds n old → AreRowsOf kinds n new
-  still-of kinds n old new kept of = record { slots = ap length kept.slots ∙ of.slots; numbers = kept.numbers ∙ of.numbers; texts = kept.texts ∙ of.texts }
+  still-of kinds n old new kept of = record { column_indexes = ap length kept.column_indexes ∙ of.column_indexes; numbers = kept.numbers ∙ of.numbers; texts = kept.texts ∙ of.texts }
 
   -- a table begins with such rows
   pub empty-of : (kinds : List Kind) (limits : Limits) (n : ℕ) → AreRowsOf kinds n (empty_rows {K = K} kinds limits n)
-  empty-of kinds limits n = record { slots = slots-length 0 0 kinds; numbers = refl; texts = refl }
+  empty-of kinds limits n = record { column_indexes = column_indexes-length 0 0 kinds; numbers = refl; texts = refl }
 
-  set-columns : (content : K → List ℕ) (old : Rows K) (s : Slot) (place : ℕ) (value : NewCell) → KeepsColumns old (set_in content old s place value)
-  set-columns content old (slot.Number i) place (new_cell.Number number) =
-      record { slots = refl; numbers = found-number (slice_get old.numbers i) (λ c. range_written old.number_objects c place (number ∷ [])) old.number_objects (λ c. refl); texts = refl }
-  set-columns content old (slot.Text i) place (new_cell.Text text) =
-      record { slots = refl; numbers = refl; texts = found-number (slice_get old.texts i) (λ c. text_set_in content old.text_objects c place text) old.text_objects (λ c. refl) }
-  set-columns content old (slot.Number i) place (new_cell.Text text) = same-columns old old refl
-  set-columns content old (slot.Text i) place (new_cell.Number number) = same-columns old old refl
+  set-columns : (content : K → List ℕ) (old : Rows K) (s : ColumnIndex) (place : ℕ) (value : NewCell) → KeepsColumns old (set_in content old s place value)
+  set-columns content old (column_index.Number i) place (new_cell.Number number) =
+      record { column_indexes = refl; numbers = found-number (slice_get old.numbers i) (λ c. range_written old.number_objects c place (number ∷ [])) old.number_objects (λ c. refl); texts = refl }
+  set-columns content old (column_index.Text i) place (new_cell.Text text) =
+      record { column_indexes = refl; numbers = refl; texts = found-number (slice_get old.texts i) (λ c. text_set_in content old.text_objects c place text) old.text_objects (λ c. refl) }
+  set-columns content old (column_index.Number i) place (new_cell.Text text) = same-columns old old refl
+  set-columns content old (column_index.Text i) place (new_cell.Number number) = same-columns old old refl
 
-  found-set : (content : K → List ℕ) (old new : Rows K) (found : Option Slot) (of : Kind) (place : ℕ) (value : NewCell)
+  found-set : (content : K → List ℕ) (old new : Rows K) (found : Option ColumnIndex) (of : Kind) (place : ℕ) (value : NewCell)
       → option_map kind_of found ≡ Some of → IfSome found (λ s. new ≡ set_in content old s place value) → KeepsColumns old new
   found-set content old new None of place value there moved = absurd (let none : None ≡ Some of = there in cc)
   found-set content old new (Some s) of place value there moved = subst (KeepsColumns old) (sym moved) (set-columns content old s place value)
@@ -114,16 +114,16 @@ module _ {K : Type 0} where
   -- an edit keeps them
   pub edit-columns : (content : K → List ℕ) (old : Rows K) (e : Edit) (new : Rows K) → Moves content old e new → KeepsColumns old new
   edit-columns content old (edit.Insert row) new h = record {
-    slots = h.2.slots;
+    column_indexes = h.2.column_indexes;
     numbers = ap (λ (m : Movement (Option ℤ) K). m.number) h.2.number_objects ∙ all-pushed-number old.number_objects old.numbers h.0.numbers;
     texts = texts-number content old h.0.texts new.text_objects h.2.text_objects;
   }
-  edit-columns content old (edit.Set p c cell) new h = found-set content old new (slice_get old.slots c) _ p h.0 h.2 h.3.moved
-  edit-columns content old (edit.Remove p) new h = subst (KeepsColumns old) (sym h) (record { slots = refl; numbers = refl; texts = refl })
+  edit-columns content old (edit.Set p c cell) new h = found-set content old new (slice_get old.column_indexes c) _ p h.0 h.2 h.3.moved
+  edit-columns content old (edit.Remove p) new h = subst (KeepsColumns old) (sym h) (record { column_indexes = refl; numbers = refl; texts = refl })
 
   commit-columns : (old : Rows K) (carried : ByKind (CarriedEvacuation K) (CarriedEvacuation K)) → KeepsColumns old (after_commit old carried)
-  commit-columns old (by_kind.Numbers carried) = record { slots = refl; numbers = refl; texts = refl }
-  commit-columns old (by_kind.Texts carried) = record { slots = refl; numbers = refl; texts = refl }
+  commit-columns old (by_kind.Numbers carried) = record { column_indexes = refl; numbers = refl; texts = refl }
+  commit-columns old (by_kind.Texts carried) = record { column_indexes = refl; numbers = refl; texts = refl }
 
   found-back : {A : Type 0} (o : Option A) (old new : Rows K) (f : A → Rows K) → ((x : A) → KeepsColumns old (f x)) → IsSomeAnd o (λ x. new ≡ f x) → KeepsColumns old new
   found-back None old new f keeps h = absurd h
@@ -131,9 +131,9 @@ module _ {K : Type 0} where
 
   install-columns : (content : K → List ℕ) (old new : Rows K) (fetched : ByKind (CarriedFetch K) (CarriedFetch K)) → IsAfterInstall content old fetched new → KeepsColumns old new
   install-columns content old new (by_kind.Numbers fetched) h =
-      found-back (number_lists content old.number_objects fetched.job.object) old new (λ list. record old { number_objects = arrived old.number_objects fetched.job.object list }) (λ list. record { slots = refl; numbers = refl; texts = refl }) h
+      found-back (number_lists content old.number_objects fetched.job.object) old new (λ list. record old { number_objects = after_arrive old.number_objects fetched.job.object list }) (λ list. record { column_indexes = refl; numbers = refl; texts = refl }) h
   install-columns content old new (by_kind.Texts fetched) h =
-      found-back (lists_of content old.text_objects fetched.job.object) old new (λ list. record old { text_objects = arrived old.text_objects fetched.job.object list }) (λ list. record { slots = refl; numbers = refl; texts = refl }) h
+      found-back (lists_of content old.text_objects fetched.job.object) old new (λ list. record old { text_objects = after_arrive old.text_objects fetched.job.object list }) (λ list. record { column_indexes = refl; numbers = refl; texts = refl }) h
 
   -- a job that is accepted keeps them
   pub commits-columns : (number_of : K → ℕ) (old new : State K) (w : WorkOf K) → Commits number_of old w new → KeepsColumns old.rows new.rows

@@ -12,6 +12,7 @@ use Rattle.std.proofs.option.Option.TheSendSync as option
 use Rattle.std.proofs.sync.RwLock.TheSendSync as locked
 use Rattle.crossbeam_utils.specs.contracts.cache_padded.CachePadded as padded
 use Rattle.crossbeam_utils.proofs.cache_padded.CachePadded.TheSendSync as padding
+use Rattle.far_reciprocal.proofs.Reciprocal.TheSendSync as reciprocal
 use Rattle.far_types.proofs.key.Key.TheSendSync as key
 use Rattle.far_types.proofs.spec.Spec.TheSendSync as spec
 use Rattle.far_store.specs.declared.store.FarTickets.{Ghosts as Tickets}
@@ -95,10 +96,10 @@ aggregate_sync : IsSync aggregate.the_row
 aggregate_sync = struct_syncs aggregate.the_type (spec.the_field_sync, (search sendable, (pending_groups.the_sync, (accumulator_sync, tt))))
 
 aggregates_send : IsSend aggregates.the_row
-aggregates_send = view_send aggregates.TheInside.the_row _ _ _ _ (struct_sends aggregates.TheInside.the_type (heap.Vec-send _ (option.the_send _ aggregate_send), (pending.the_field_send, (spare_keys.the_field_send, tt))))
+aggregates_send = view_send aggregates.TheInside.the_row _ _ _ _ (struct_sends aggregates.TheInside.the_type (heap.Vec-send _ (option.the_send _ aggregate_send), (pending.the_field_send, (spare_keys.the_field_send, (reciprocal.the_field_send, tt)))))
 
 aggregates_sync : IsSync aggregates.the_row
-aggregates_sync = view_sync aggregates.TheInside.the_row _ _ _ _ (struct_syncs aggregates.TheInside.the_type (heap.Vec-sync _ (option.the_sync _ aggregate_sync), (pending.the_field_sync, (spare_keys.the_field_sync, tt))))
+aggregates_sync = view_sync aggregates.TheInside.the_row _ _ _ _ (struct_syncs aggregates.TheInside.the_type (heap.Vec-sync _ (option.the_sync _ aggregate_sync), (pending.the_field_sync, (spare_keys.the_field_sync, (reciprocal.the_field_sync, tt)))))
 
 -- ---- a table
 module _ (S T : RattleType) (g : Tickets S.Denot T.Denot) where

@@ -8,12 +8,12 @@ use Rattle.far_types.specs.declared.refusal.Refusal.{Refusal}
 use Rattle.far_types.specs.Edits.{edited, edit_faults, edit_refusal, overfills}
 use Rattle.far_types.specs.FirstOf.{first_of}
 use Rattle.far_types.specs.MayRefuse.{MayRefuse}
-use Rattle.far_rows.specs.declared.slot.Slot.{Slot}
+use Rattle.far_rows.specs.declared.column_index.ColumnIndex.{ColumnIndex}
 use Rattle.far_rows.specs.Rows.{Rows}
 use Rattle.far_rows.specs.Refusing.{absents, absents_from}
-use Rattle.far_table.specs.Edits.{edit_due, group_of, no_room}
+use Rattle.far_table.specs.Edits.{edit_due, group_of, no_space}
 use Rattle.far_table.specs.State.{State}
-use Rattle.far_frame.specs.Changes.{Accepts, Refuses, edit_reply}
+use Rattle.far_frame.specs.Effects.{Accepts, Refuses, edit_reply}
 use Rattle.far_frame.specs.State.{State as Whole, live}
 use Rattle.far_frame.specs.declared.step.Reply.{Reply}
 use Rattle.far_frame.specs.declared.step.Reply.TheVariants as reply
@@ -26,12 +26,12 @@ first-holds true b both = refl
 first-holds false b both = absurd cc
 
 module _ (columns group : ℕ) (some long : Bool) where
-  absents-tell : {K : Type 0} (r : Rows K) (n : ℕ) (slots : List Slot) → n + length slots ≤ columns → AllTell (IsOfObjects columns group some long) (absents_from r group n slots)
+  absents-tell : {K : Type 0} (r : Rows K) (n : ℕ) (column_indexes : List ColumnIndex) → n + length column_indexes ≤ columns → AllTell (IsOfObjects columns group some long) (absents_from r group n column_indexes)
   absents-tell r n [] few = tt
-  absents-tell r n (s ∷ slots) few = ((λ away. (omega (arith, few), refl)), absents-tell r (n + 1) slots (omega (arith, few)))
+  absents-tell r n (s ∷ column_indexes) few = ((λ away. (omega (arith, few), refl)), absents-tell r (n + 1) column_indexes (omega (arith, few)))
 
-module _ {K : Type 0} (s : State K) (slots : length s.rows.slots ≡ length s.table.schema) where
-  room-tells : (e : Edit) (columns group : ℕ) (long : Bool) → long ≡ false → AllTell (IsOfObjects columns group (places_cells s.table.schema e) long) (no_room s e)
+module _ {K : Type 0} (s : State K) (column_indexes : length s.rows.column_indexes ≡ length s.table.schema) where
+  room-tells : (e : Edit) (columns group : ℕ) (long : Bool) → long ≡ false → AllTell (IsOfObjects columns group (places_cells s.table.schema e) long) (no_space s e)
   room-tells (edit.Insert row) columns group long short = ((λ full. (refl, short)), ((λ full. (refl, short)), tt))
   room-tells (edit.Set p c cell) columns group long short = ((λ full. (first-holds (is_text (slice_get s.table.schema c)) _ full, short)), tt)
   room-tells (edit.Remove p) columns group long short = tt
@@ -43,7 +43,7 @@ module _ {K : Type 0} (s : State K) (slots : length s.rows.slots ≡ length s.ta
 
   -- what a table over objects accepts, the plain table accepts
   pub plain-accepts : (e : Edit) → edit_due s e ≡ None → edit_refusal s.table e ≡ None
-  plain-accepts e free = free-plain (edit_faults s.table.schema s.table.limits s.table.places e) (absents s.rows (group_of s e)) (no_room s e) _ _ free
+  plain-accepts e free = free-plain (edit_faults s.table.schema s.table.limits s.table.places e) (absents s.rows (group_of s e)) (no_space s e) _ _ free
 
   pub plain-refuses : (e : Edit) (given : Refusal) → MayRefuse (edit_due s e) true given → WhyNot s.table e given
   plain-refuses e given may = by (edit_due s e) refl may
@@ -55,17 +55,17 @@ module _ {K : Type 0} (s : State K) (slots : length s.rows.slots ≡ length s.ta
           let some : Bool = places_cells s.table.schema e in
           let long : Bool = overfills s.table.schema s.table.limits e s.table.places in
           let of_objects : Refusal → Type 0 = IsOfObjects (length s.table.schema) (group_of s e) some long in
-          told (found-plain of_objects (edit_faults s.table.schema s.table.limits s.table.places e) (absents s.rows (group_of s e)) (no_room s e) _ _ given
-          (absents-tell (length s.table.schema) (group_of s e) some long s.rows 0 s.rows.slots (omega (arith, slots)))
+          told (found-plain of_objects (edit_faults s.table.schema s.table.limits s.table.places e) (absents s.rows (group_of s e)) (no_space s e) _ _ given
+          (absents-tell (length s.table.schema) (group_of s e) some long s.rows 0 s.rows.column_indexes (omega (arith, column_indexes)))
           (λ short. room-tells e (length s.table.schema) (group_of s e) long short) found)
         where
           told : (edit_refusal s.table e ≡ Some given) ⊎ ((first_of (edit_faults s.table.schema s.table.limits s.table.places e) ≡ None) × IsOfObjects (length s.table.schema) (group_of s e) (places_cells s.table.schema e) (overfills s.table.schema s.table.limits e s.table.places) given) → WhyNot s.table e given
           told (inl plain) = inl plain
           told (inr objects) = inr (inl (objects.0, subst (λ g. IsOfObjects (length s.table.schema) g (places_cells s.table.schema e) (overfills s.table.schema s.table.limits e s.table.places) given) (same-group e) objects.1))
 
-module _ {K : Type 0} (content : K → List ℕ) (old new : Whole K) (slots : length old.rows.slots ≡ length old.table.schema) where
+module _ {K : Type 0} (content : K → List ℕ) (old new : Whole K) (column_indexes : length old.rows.column_indexes ≡ length old.table.schema) where
   pub made-free : (e : Edit) (given : Reply) → Accepts content old (step.Edit e) given new → edit_refusal old.table e ≡ None
-  made-free e given h = plain-accepts (live old) slots e h.1.changed.due
+  made-free e given h = plain-accepts (live old) column_indexes e h.1.changed.due
 
   -- the reply to an edit that is made is the plain table's
   pub made-accepted : (e : Edit) (given : Reply) → Accepts content old (step.Edit e) given new → Accepts content old (step.Edit e) (edit_reply old.table e) new
@@ -78,4 +78,4 @@ module _ {K : Type 0} (content : K → List ℕ) (old new : Whole K) (slots : le
   made-place row place h = (let is : reply.Place place ≡ reply.Place (length old.table.places) = h.0 in cc)
 
   pub made-refused : (e : Edit) (given : Refusal) → Refuses old (step.Edit e) given new → WhyNot old.table e given
-  made-refused e given h = plain-refuses (live old) slots e given h.1
+  made-refused e given h = plain-refuses (live old) column_indexes e given h.1

@@ -1,11 +1,11 @@
--- How many row groups are left to be built into the aggregates of a table.
+-- How many row groups are still pending in the aggregates of a table.
 use Rattle.std.proofs.Common.{◌≡◌, ℕ, zero, suc, ◌+◌, ◌*◌, ◌/◌, ◌-◌, ◌<◌, ◌≤◌, ◌^◌, true, false, List, [], ◌∷◌, length, Option, None, Some, refl, sym, subst, arith, mul-le-mul_left}
 use Rattle.std.proofs.Math.Nat.{div-lt_iff_lt-mul, mul-one}
 use Rattle.std.specs.Prelude.{replicate, slice_get, slice_set}
 use Rattle.far_types.specs.declared.spec.Spec.{Spec}
 use Rattle.far_types.specs.Table.{Table, Registered, groups}
 use Rattle.far_aggregates.specs.Aggregates.{is_left, joined}
-use Rattle.far_aggregates.specs.Scans.{built_slot}
+use Rattle.far_aggregates.specs.Scans.{scanned_slot}
 use Rattle.far_aggregates.proofs.RegisterLaws.{count-replicate}
 use Rattle.far_aggregates.proofs.ScanLaws.{left-cleared}
 use Rattle.far_table.specs.Watching.{registered_now}
@@ -76,6 +76,6 @@ set-fewer (y ∷ ys) (suc a) zero x less = no-more _ _ refl
 set-fewer (y ∷ ys) (suc a) (suc b) x less = set-fewer ys a b x less
 
 -- a row group that is built in is one less
-pub built-fewer : (aggregate : Option Registered) (g : ℕ) → is_left aggregate g ≡ true → left_in (built_slot g aggregate) ≤ left_in aggregate
+pub built-fewer : (aggregate : Option Registered) (g : ℕ) → is_left aggregate g ≡ true → left_in (scanned_slot g aggregate) ≤ left_in aggregate
 built-fewer None g left = absurd (let off : false ≡ true = left in cc)
 built-fewer (Some r) g left = one-less _ _ (left-cleared r.unbuilt g left)

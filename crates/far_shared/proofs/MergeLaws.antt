@@ -16,50 +16,50 @@ use Rattle.far_types.specs.declared.spec.Spec.{Spec}
 use Rattle.far_types.specs.Cells.{cells_of}
 use Rattle.far_types.specs.Filters.{keeps}
 use Rattle.far_types.specs.Pairs.{Pair, pair_in, kept, pairs_of}
-use Rattle.far_types.specs.Answers.{ByKey, values_of, tally, totals, extrema, total_lines, extrema_lines, or_zero, answer_of, answer_over}
+use Rattle.far_types.specs.Answers.{ByKey, values_of, count_sum, totals, extrema, total_lines, extrema_lines, or_zero, answer_of, answer_over}
 use Rattle.far_types.specs.Table.{Place, Registered, rows_of}
 use Rattle.far_aggregates.specs.Aggregates.{Answers}
-use Rattle.far_types.specs.Changes.{add_tallies, join_spans, joined}
+use Rattle.far_types.specs.Effects.{add_count_sums, join_spans, joined}
 use Rattle.far_types.proofs.Grouping.{same}
-use Rattle.far_types.proofs.ByKeyMaps.{AreApart, by_key, sorted_apart, with_all, with_all-joined}
+use Rattle.far_types.proofs.ByKeyMaps.{HaveDistinctKeys, by_key, sorted_distinct, with_all, with_all-joined}
 use Rattle.far_types.proofs.LineLaws.{keys-ascend, entries-folded}
 use Rattle.far_types.proofs.TotalLaws.{totals-append, extrema-append}
 use Rattle.far_shared.specs.Fours.{IsOf, left_in}
-use Rattle.far_shared.specs.Lines.{tallies_in, spans_in}
+use Rattle.far_shared.specs.Lines.{count_sums_in, spans_in}
 
 of_entries : {V : Type 0} (m : ByKey V) → by_key (fin.entries m) ≡ m
 of_entries m = same _ _ (λ q. fin.get-from_entries line_total (fin.entries m) q ∙ sym (fin.get-entries m q))
 
-entries_apart : {V : Type 0} (m : ByKey V) → AreApart (fin.entries m)
-entries_apart m = sorted_apart (fin.entries m) (keys-ascend m)
+entries_distinct : {V : Type 0} (m : ByKey V) → HaveDistinctKeys (fin.entries m)
+entries_distinct m = sorted_distinct (fin.entries m) (keys-ascend m)
 
 -- all that stands by key in one map, added to another
 with_map : {V : Type 0} (join : V → V → V) (m n : ByKey V) → with_all join m (fin.entries n) ≡ joined join m n
-with_map join m n = with_all-joined join m (fin.entries n) (entries_apart n) ∙ ap (joined join m) (of_entries n)
+with_map join m n = with_all-joined join m (fin.entries n) (entries_distinct n) ∙ ap (joined join m) (of_entries n)
 
 some_rows : (n m : ℕ) → n ≡ m → 1 ≤ m → (n == 0) ≡ false
 some_rows n m e h = grind (arith, nat_tests)
 
 -- each line of totals stands for rows
-counted : (ps : List Pair) (es : List (Option Key × (ℕ × ℤ))) → AllByRecursion (λ (e : Option Key × (ℕ × ℤ)). (e.1 ≡ tally (values_of e.0 ps)) × (1 ≤ length (values_of e.0 ps))) es → tallies_in (map (λ (entry : Option Key × (ℕ × ℤ)). (entry.0, entry.1.0, entry.1.1)) es) ≡ es
+counted : (ps : List Pair) (es : List (Option Key × (ℕ × ℤ))) → AllByRecursion (λ (e : Option Key × (ℕ × ℤ)). (e.1 ≡ count_sum (values_of e.0 ps)) × (1 ≤ length (values_of e.0 ps))) es → count_sums_in (map (λ (entry : Option Key × (ℕ × ℤ)). (entry.0, entry.1.0, entry.1.1)) es) ≡ es
 counted ps [] h = refl
 counted ps (e ∷ es) h =
-    ap (λ b. cond b (tallies_in (map (λ (entry : Option Key × (ℕ × ℤ)). (entry.0, entry.1.0, entry.1.1)) es)) ((e.0, (e.1.0, e.1.1)) ∷ tallies_in (map (λ (entry : Option Key × (ℕ × ℤ)). (entry.0, entry.1.0, entry.1.1)) es)))
+    ap (λ b. cond b (count_sums_in (map (λ (entry : Option Key × (ℕ × ℤ)). (entry.0, entry.1.0, entry.1.1)) es)) ((e.0, (e.1.0, e.1.1)) ∷ count_sums_in (map (λ (entry : Option Key × (ℕ × ℤ)). (entry.0, entry.1.0, entry.1.1)) es)))
     (some_rows e.1.0 (length (values_of e.0 ps)) (ap (λ t. t.0) h.0.0) h.0.1)
     ∙ ap (λ rest. e ∷ rest) (counted ps es h.1)
 
 -- but for the line of no rows
-without_zero : (key : Option ℕ) (lines : List (Option Key × ℕ × ℤ)) → tallies_in (or_zero key lines) ≡ tallies_in lines
+without_zero : (key : Option ℕ) (lines : List (Option Key × ℕ × ℤ)) → count_sums_in (or_zero key lines) ≡ count_sums_in lines
 without_zero None [] = refl
 without_zero None (line ∷ lines) = refl
 without_zero (Some column) lines = refl
 
 -- the lines of an answer, added to the totals of some pairs
-pub with_totals : (key : Option ℕ) (some others : List Pair) (m : ByKey (ℕ × ℤ)) (lines : List (Option Key × ℕ × ℤ)) → m ≡ totals some → lines ≡ or_zero key (total_lines (totals others)) → with_all add_tallies m (tallies_in lines) ≡ totals (some ++ others)
+pub with_totals : (key : Option ℕ) (some others : List Pair) (m : ByKey (ℕ × ℤ)) (lines : List (Option Key × ℕ × ℤ)) → m ≡ totals some → lines ≡ or_zero key (total_lines (totals others)) → with_all add_count_sums m (count_sums_in lines) ≡ totals (some ++ others)
 with_totals key some others m lines e h =
-    (λ i. with_all add_tallies (e i) (tallies_in (h i)))
-    ∙ ap (with_all add_tallies (totals some)) (without_zero key (total_lines (totals others)) ∙ counted others (fin.entries (totals others)) (entries-folded tally others))
-    ∙ with_map add_tallies (totals some) (totals others)
+    (λ i. with_all add_count_sums (e i) (count_sums_in (h i)))
+    ∙ ap (with_all add_count_sums (totals some)) (without_zero key (total_lines (totals others)) ∙ counted others (fin.entries (totals others)) (entries-folded count_sum others))
+    ∙ with_map add_count_sums (totals some) (totals others)
     ∙ sym (totals-append some others)
 
 lines_back : (es : List (Option Key × (ℤ × ℤ))) → spans_in (map (λ (entry : Option Key × (ℤ × ℤ)). (entry.0, entry.1.0, entry.1.1)) es) ≡ es

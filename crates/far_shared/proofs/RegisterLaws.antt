@@ -19,7 +19,7 @@ use Rattle.far_aggregates.specs.Aggregates.{joined, free_from}
 use Rattle.far_rows.specs.Jobs.{AreAt}
 use Rattle.far_table.specs.State.{State as LiveState}
 use Rattle.far_table.specs.Watching.{lowest_free, watch_refusal, with_aggregate, registered_at, registered_now}
-use Rattle.far_frame.specs.Changes.{Accepts, Refuses}
+use Rattle.far_frame.specs.Effects.{Accepts, Refuses}
 use Rattle.far_frame.specs.State.{State, empty_state}
 use Rattle.far_frame.specs.declared.step.Reply.{Reply}
 use Rattle.far_frame.specs.declared.step.Reply.TheVariants as reply
@@ -127,7 +127,7 @@ module _ (p : Planned) (is : IsPlan p) where
           registered : Spec → List Bool → Registered
           registered spec unbuilt = record { spec = spec; registration = 0; unbuilt = unbuilt }
 
-  -- the gauge is registered, want of memory aside
+  -- the gauge is registered, running out of memory aside
   pub gauge-free : watch_refusal (empty_table p.schema p.limits) p.gauge ≡ None
   gauge-free = ap (λ (due : Option Refusal). option_or due (first_of ((false, refusal.TooManyAggregates) ∷ (false, refusal.TooManyAggregates) ∷ []))) (plan-checked p is)
 
@@ -220,7 +220,7 @@ module _ {K : Type 0} (content : K → List ℕ) (old new : State K) where
             ∙ ap (registered_at h.0 spec) is-fresh
             ∙ ap (λ (x : Spec). registered_at h.0 x (empty_table p.schema p.limits)) gauge
 
-    -- it is registered, want of memory aside
+    -- it is registered, running out of memory aside
     pub empty-refused : (given : Refusal) → Refuses old (step.Watch spec) given new → given ≡ refusal.NoMemory
     empty-refused given h =
         let free : watch_refusal old.table spec ≡ None =

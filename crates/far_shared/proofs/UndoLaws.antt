@@ -9,7 +9,7 @@ use Rattle.far_types.specs.MayRefuse.{MayRefuse}
 use Rattle.far_types.specs.Table.{Table, Registered}
 use Rattle.far_aggregates.specs.Aggregates.{free_from, joined}
 use Rattle.far_table.specs.Watching.{lowest_free, registered_at, registered_now, unwatch_refusal, with_aggregate}
-use Rattle.far_frame.specs.Changes.{Accepts, Refuses}
+use Rattle.far_frame.specs.Effects.{Accepts, Refuses}
 use Rattle.far_frame.specs.State.{State}
 use Rattle.far_frame.specs.declared.step.Reply.{Reply}
 use Rattle.far_frame.specs.declared.step.Reply.TheVariants as reply
@@ -20,7 +20,7 @@ use Rattle.far_shared.specs.Stripes.{Held, IsStripe}
 use Rattle.far_shared.specs.Watching.{registered, uncounted, unregistered}
 use Rattle.far_shared.proofs.RegisterLaws.{free-within, number-free}
 
--- a reader finds nothing where nothing is
+-- a reader finds nothing if nothing is
 pub none-found : {A B C : Type 0} (found : Option A) (there : Option B) (f : A → C) (h : B → C) (b : Bool) → is_some found ≡ not b → option_map f found ≡ option_map h there → b ≡ is_none there
 none-found None None f h true some same = refl
 none-found None None f h false some same = absurd cc
@@ -43,16 +43,16 @@ taken-head n None xs taken = absurd cc
 taken-head n (Some r) xs taken = refl
 
 module _ (xs : List (Option Registered)) (a : ℕ) (within : a < length xs) where
-  slot : joined (slice_get xs a) ≡ get_or xs a None
-  slot = ap joined (slice_get-get_or xs a None within)
+  column_index : joined (slice_get xs a) ≡ get_or xs a None
+  column_index = ap joined (slice_get-get_or xs a None within)
 
   -- the lowest free number from one on, where it is free
   pub free-here : is_none (joined (slice_get xs a)) ≡ true → free_from a (drop a xs) ≡ Some a
-  free-here free = ap (free_from a) (drop_more xs a None within) ∙ free-head a (get_or xs a None) (drop (a + 1) xs) (ap is_none (sym slot) ∙ free)
+  free-here free = ap (free_from a) (drop_more xs a None within) ∙ free-head a (get_or xs a None) (drop (a + 1) xs) (ap is_none (sym column_index) ∙ free)
 
   -- where it is taken, it is the lowest from the next one on
   pub free-past : is_none (joined (slice_get xs a)) ≡ false → free_from a (drop a xs) ≡ free_from (a + 1) (drop (a + 1) xs)
-  free-past taken = ap (free_from a) (drop_more xs a None within) ∙ taken-head a (get_or xs a None) (drop (a + 1) xs) (ap is_none (sym slot) ∙ taken)
+  free-past taken = ap (free_from a) (drop_more xs a None within) ∙ taken-head a (get_or xs a None) (drop (a + 1) xs) (ap is_none (sym column_index) ∙ taken)
 
 -- where all are taken, none is free
 pub free-end : (xs : List (Option Registered)) (a : ℕ) → length xs ≤ a → free_from a (drop a xs) ≡ None

@@ -7,7 +7,7 @@ use Rattle.far_types.specs.declared.refusal.Refusal.TheVariants as refusal
 use Rattle.far_types.specs.declared.spec.Spec.{Spec}
 use Rattle.far_types.specs.Bounds.{spec_refusal}
 use Rattle.far_rows.specs.Jobs.{AreAt}
-use Rattle.far_frame.specs.Changes.{Accepts, Refuses}
+use Rattle.far_frame.specs.Effects.{Accepts, Refuses}
 use Rattle.far_frame.specs.State.{State, empty_state}
 use Rattle.far_frame.specs.declared.step.Reply.{Reply}
 use Rattle.far_frame.specs.declared.step.Reply.TheVariants as reply
@@ -24,7 +24,7 @@ use Rattle.far_shared.proofs.RegisterLaws.{watched-here, unwatched-here, stripe-
 pub faulty : (p : Planned) (schema : List Kind) (spec : Spec) (given : Refusal) → schema ≡ p.schema → spec_refusal schema spec ≡ Some given → WatchRefusal p.schema spec given
 faulty p schema spec given same due = inl (subst (λ kinds. spec_refusal kinds spec ≡ Some given) same due)
 
--- an aggregate without one is refused for want of memory
+-- an aggregate without one is refused for lack of memory
 pub no-memory : (p : Planned) (schema : List Kind) (spec : Spec) (given : Refusal) → schema ≡ p.schema → spec_refusal schema spec ≡ None → given ≡ refusal.NoMemory → WatchRefusal p.schema spec given
 no-memory p schema spec given same free memory = inr (subst (λ kinds. spec_refusal kinds spec ≡ None) same free, inr memory)
 
@@ -67,6 +67,6 @@ module _ {K : Type 0} (content : K → List ℕ) (old new : State K) where
     pub opened-empty : (is_of : K → List ℕ → Type 0) (given : Reply) → ((name : List ℕ) → AreAt is_of name old.rows) → Accepts content old (step.Watch spec) given new → IsEmpty is_of q n new
     opened-empty is_of given here h = subst (λ (r : Planned). IsEmpty is_of r n new) same (empty-watched content old new p is n as-empty spec gauge is_of given here h)
 
-    -- that is refused for want of memory alone
+    -- that is refused for lack of memory alone
     pub opened-refused : (given : Refusal) → Refuses old (step.Watch spec) given new → given ≡ refusal.NoMemory
     opened-refused given h = empty-refused content old new p is n as-empty spec gauge given h

@@ -12,11 +12,11 @@ use Rattle.far_types.specs.declared.spec.Spec.{Spec}
 use Rattle.far_types.specs.FirstOf.{first_of}
 use Rattle.far_scopes.specs.Refusing.{refusal_in}
 use Rattle.far_types.specs.MayRefuse.{MayRefuse}
-use Rattle.far_types.specs.Table.{Table, Registered, is_unbuilt}
+use Rattle.far_types.specs.Table.{Table, Registered, is_pending}
 use Rattle.far_aggregates.specs.Aggregates.{is_left, joined}
-use Rattle.far_aggregates.specs.Scans.{built_slot}
-use Rattle.far_aggregates.proofs.BuiltLaws.{none_left}
-use Rattle.far_rows.specs.declared.slot.Slot.{Slot}
+use Rattle.far_aggregates.specs.Scans.{scanned_slot}
+use Rattle.far_aggregates.proofs.ScannedLaws.{none_left}
+use Rattle.far_rows.specs.declared.column_index.ColumnIndex.{ColumnIndex}
 use Rattle.far_rows.specs.Rows.{Rows}
 use Rattle.far_rows.specs.Jobs.{fetch_refusal}
 use Rattle.far_rows.specs.Moving.{object_at}
@@ -59,7 +59,7 @@ get-set_other (y ∷ xs) (suc i) (suc k) x h = get-set_other xs i k x (λ e. h (
 -- an aggregate of which a row group is left is not one of which none is
 some-left : (aggregate : Option Registered) (g : ℕ) → is_left aggregate g ≡ true → left_in aggregate ≡ 0 → ⊥
 some-left None g h none = (let off : false ≡ true = h in cc)
-some-left (Some r) g h none = (let on : is_unbuilt r.unbuilt g ≡ true = h in let off = none_left r.unbuilt g none in cc)
+some-left (Some r) g h none = (let on : is_pending r.unbuilt g ≡ true = h in let off = none_left r.unbuilt g none in cc)
 
 -- a row group that is left is built in
 pub scanned-keeps : (t : Table) (b g : ℕ) → is_left (aggregate_at t b) g ≡ true → KeepsRows t (scanned_at b g t)
@@ -70,11 +70,11 @@ scanned-keeps t b g h = record {
   edits = refl;
   aggregates = length-set t.aggregates b _;
   built = λ a none. ap joined (get-set_other t.aggregates b a _ (λ e. some-left (aggregate_at t b) g h (ap (λ n. left_in (aggregate_at t n)) (sym e) ∙ none)));
-  fewer = λ a. set-fewer t.aggregates b a (built_slot g (aggregate_at t b)) (built-fewer (aggregate_at t b) g h);
+  fewer = λ a. set-fewer t.aggregates b a (scanned_slot g (aggregate_at t b)) (built-fewer (aggregate_at t b) g h);
 }
 
 -- the row group of a build that is accepted was left
-left-some : (o : Option Registered) (g : ℕ) (P : Registered → Type 0) → ((r : Registered) → P r → is_unbuilt r.unbuilt g ≡ true) → IsSomeAnd o P → is_left o g ≡ true
+left-some : (o : Option Registered) (g : ℕ) (P : Registered → Type 0) → ((r : Registered) → P r → is_pending r.unbuilt g ≡ true) → IsSomeAnd o P → is_left o g ≡ true
 left-some None g P f h = absurd h
 left-some (Some r) g P f h = f r h
 
@@ -107,7 +107,7 @@ module _ {K : Type 0} where
   installs-keeps number_of content old (work_of.Offload build) new h = absurd h
   installs-keeps number_of content old (work_of.Offloaded build) new h = absurd h
 
-  -- a call that keeps the rows where it is done, and changes nothing where it is refused
+  -- a call that keeps the rows where it is done, and changes nothing if it is refused
   pub either-keeps : {A : Type 0} (r : Result A Refusal) (old new : State K) (P : A → Type 0) (Q : Refusal → Type 0) → ((x : A) → P x → KeepsRows old.table new.table) → ((e : Refusal) → Q e → new ≡ old) → IfOk r P → IfErr r Q → KeepsRows old.table new.table
   either-keeps (Ok x) old new P Q f g done refused = f x done
   either-keeps (Err e) old new P Q f g done refused = same-keeps old.table new.table (ap (λ (s : State K). s.table) (g e refused))
@@ -145,34 +145,34 @@ module _ {K : Type 0} where
 
     pub scan-left : (o : Option Registered) (g : ℕ) → scan_refusal s o g ≡ None → is_left o g ≡ true
     scan-left None g free = absurd (let some : Some refusal.NoAggregate ≡ None = free in cc)
-    scan-left (Some r) g free = second-free (not (nat_lt g (group_count s.table))) (is_unbuilt r.unbuilt g) refusal.OutOfRange refusal.StaleJob (needed_from s.rows r.spec g 0 s.rows.slots) free
+    scan-left (Some r) g free = second-free (not (nat_lt g (group_count s.table))) (is_pending r.unbuilt g) refusal.OutOfRange refusal.StaleJob (needed_from s.rows r.spec g 0 s.rows.column_indexes) free
 
     -- a scan that is accepted changes no row
     pub scan-keeps : (new : LiveState K) (a g : ℕ) → IsScanned s new a g → KeepsRows s.table new.table
     scan-keeps new a g h = subst (KeepsRows s.table) (sym (ap (λ (t : LiveState K). t.table) h.state)) (scanned-keeps s.table a g (scan-left (aggregate_at s.table a) g h.due))
 
     module _ (numbers : List ℕ) where
-      all-needed : IsOneOf numbers (refusal.Absent 0 0) → (spec : Spec) (g n : ℕ) (slots : List Slot) → AllByRecursion (λ (c : Bool × Refusal). IsOneOf numbers c.1) (needed_from s.rows spec g n slots)
+      all-needed : IsOneOf numbers (refusal.Absent 0 0) → (spec : Spec) (g n : ℕ) (column_indexes : List ColumnIndex) → AllByRecursion (λ (c : Bool × Refusal). IsOneOf numbers c.1) (needed_from s.rows spec g n column_indexes)
       all-needed one spec g n [] = tt
-      all-needed one spec g n (slot ∷ slots) = (one, all-needed one spec g (n + 1) slots)
+      all-needed one spec g n (column_index ∷ column_indexes) = (one, all-needed one spec g (n + 1) column_indexes)
 
-      all-dirty : IsOneOf numbers refusal.StaleJob → (spec : Spec) (g n : ℕ) (slots : List Slot) → AllByRecursion (λ (c : Bool × Refusal). IsOneOf numbers c.1) (dirty_from s.rows spec g n slots)
+      all-dirty : IsOneOf numbers refusal.StaleJob → (spec : Spec) (g n : ℕ) (column_indexes : List ColumnIndex) → AllByRecursion (λ (c : Bool × Refusal). IsOneOf numbers c.1) (dirty_from s.rows spec g n column_indexes)
       all-dirty one spec g n [] = tt
-      all-dirty one spec g n (slot ∷ slots) = (one, all-dirty one spec g (n + 1) slots)
+      all-dirty one spec g n (column_index ∷ column_indexes) = (one, all-dirty one spec g (n + 1) column_indexes)
 
     -- how a scan may be refused
     pub scan-numbers : (o : Option Registered) (g : ℕ) (e : Refusal) → MayRefuse (scan_refusal s o g) true e → IsOneOf (12 ∷ 14 ∷ 20 ∷ 16 ∷ 1 ∷ []) e
     scan-numbers None g e h = of-one (12 ∷ 14 ∷ 20 ∷ 16 ∷ 1 ∷ []) refusal.NoAggregate e refl h
     scan-numbers (Some r) g e h =
         may-among (12 ∷ 14 ∷ 20 ∷ 16 ∷ 1 ∷ []) (scan_refusal s (Some r) g) e
-        (λ due. first-among (12 ∷ 14 ∷ 20 ∷ 16 ∷ 1 ∷ []) ((not (nat_lt g (group_count s.table)), refusal.OutOfRange) ∷ (not (is_unbuilt r.unbuilt g), refusal.StaleJob) ∷ needed_from s.rows r.spec g 0 s.rows.slots) e (refl, (refl, all-needed (12 ∷ 14 ∷ 20 ∷ 16 ∷ 1 ∷ []) refl r.spec g 0 s.rows.slots)) due)
+        (λ due. first-among (12 ∷ 14 ∷ 20 ∷ 16 ∷ 1 ∷ []) ((not (nat_lt g (group_count s.table)), refusal.OutOfRange) ∷ (not (is_pending r.unbuilt g), refusal.StaleJob) ∷ needed_from s.rows r.spec g 0 s.rows.column_indexes) e (refl, (refl, all-needed (12 ∷ 14 ∷ 20 ∷ 16 ∷ 1 ∷ []) refl r.spec g 0 s.rows.column_indexes)) due)
         refl h
 
     pub offload-numbers : (o : Option Registered) (g : ℕ) (e : Refusal) → is_left o g ≡ true → MayRefuse (offload_refusal s o g) true e → IsOneOf (14 ∷ 20 ∷ 1 ∷ []) e
     offload-numbers None g e on h = absurd (let off : false ≡ true = on in cc)
     offload-numbers (Some r) g e on h =
         may-among (14 ∷ 20 ∷ 1 ∷ []) (offload_refusal s (Some r) g) e
-        (λ due. first-among (14 ∷ 20 ∷ 1 ∷ []) ((not (nat_lt g (group_count s.table)), refusal.OutOfRange) ∷ (not (is_unbuilt r.unbuilt g), refusal.StaleJob) ∷ dirty_from s.rows r.spec g 0 s.rows.slots) e (refl, (refl, all-dirty (14 ∷ 20 ∷ 1 ∷ []) refl r.spec g 0 s.rows.slots)) due)
+        (λ due. first-among (14 ∷ 20 ∷ 1 ∷ []) ((not (nat_lt g (group_count s.table)), refusal.OutOfRange) ∷ (not (is_pending r.unbuilt g), refusal.StaleJob) ∷ dirty_from s.rows r.spec g 0 s.rows.column_indexes) e (refl, (refl, all-dirty (14 ∷ 20 ∷ 1 ∷ []) refl r.spec g 0 s.rows.column_indexes)) due)
         refl h
 
 past-none : {X : Type 0} (xs : List X) (n : ℕ) → length xs ≤ n → is_none (slice_get xs n) ≡ true
@@ -186,9 +186,9 @@ within-some (x ∷ xs) zero h = refl
 within-some (x ∷ xs) (suc n) h = within-some xs n (omega (arith, h))
 
 module _ {K A : Type 0} (r : Rows K) (column group : ℕ) (result : Result A Refusal) (is : refusal_in result ≡ fetch_refusal r column group) where
-  -- a fetch of what no slot is of is refused so
-  pub fetch-column : length r.slots ≤ column → IsErrOf result refusal.NoColumn
-  fetch-column past = by result (is_none (slice_get r.slots column)) (is_none (object_at r column group)) (not (absent_in r column group).0) is (past-none r.slots column past)
+  -- a fetch of what has no index is refused so
+  pub fetch-column : length r.column_indexes ≤ column → IsErrOf result refusal.NoColumn
+  fetch-column past = by result (is_none (slice_get r.column_indexes column)) (is_none (object_at r column group)) (not (absent_in r column group).0) is (past-none r.column_indexes column past)
     where
       by : (result : Result A Refusal) (a b d : Bool) → refusal_in result ≡ option_or (first_of ((a, refusal.NoColumn) ∷ (b, refusal.OutOfRange) ∷ [])) (first_of ((d, refusal.StaleJob) ∷ [])) → a ≡ true → IsErrOf result refusal.NoColumn
       by (Ok x) true b d due on = absurd (let some : None ≡ Some refusal.NoColumn = due in cc)
@@ -196,8 +196,8 @@ module _ {K A : Type 0} (r : Rows K) (column group : ℕ) (result : Result A Ref
       by result false b d due on = absurd cc
 
   -- any other is refused by these
-  pub fetch-numbers : column < length r.slots → IfErr result (IsOneOf (14 ∷ 20 ∷ []))
-  fetch-numbers within = by result (is_none (slice_get r.slots column)) (is_none (object_at r column group)) (not (absent_in r column group).0) is (within-some r.slots column within)
+  pub fetch-numbers : column < length r.column_indexes → IfErr result (IsOneOf (14 ∷ 20 ∷ []))
+  fetch-numbers within = by result (is_none (slice_get r.column_indexes column)) (is_none (object_at r column group)) (not (absent_in r column group).0) is (within-some r.column_indexes column within)
     where
       by : (result : Result A Refusal) (a b d : Bool) → refusal_in result ≡ option_or (first_of ((a, refusal.NoColumn) ∷ (b, refusal.OutOfRange) ∷ [])) (first_of ((d, refusal.StaleJob) ∷ [])) → a ≡ false → IfErr result (IsOneOf (14 ∷ 20 ∷ []))
       by (Ok x) a b d due off = tt

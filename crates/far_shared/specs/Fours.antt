@@ -26,7 +26,7 @@ pub record AreAlike (a : ℕ) (one two three four : Table) : Type 0 where
   pub third : AreLike a one three
   pub fourth : AreLike a one four
 
--- how many row groups are still to be built into an aggregate
+-- how many row groups are still pending in an aggregate
 abbrev pub left_in : Option Registered → ℕ
 left_in aggregate = option_map_or (λ there. left there.unbuilt) aggregate 0
 

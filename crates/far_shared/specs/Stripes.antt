@@ -16,19 +16,19 @@ pub record Held (K : Type 0) : Type 0 where
   pub log : List Entry
   pub state : State K
 
--- an aggregate that was registered first of all, before there was a row: nothing was ever left to be built into it
+-- an aggregate that was registered first of all, before there was a row: nothing was ever still pending in it
 abbrev pub first_registered : Spec → Registered
 first_registered spec = record { spec = spec; registration = 0; unbuilt = [] }
 
--- the rows of a table with this schema have a slot for each column, and their objects bear the number of their stripe
+-- the rows of a table with this schema have an index for each column, and their objects bear the number of their stripe
 pub record AreRowsOf {K : Type 0} (schema : List Kind) (n : ℕ) (r : Rows K) : Type 0 where
-  pub slots : length r.slots ≡ length schema
+  pub column_indexes : length r.column_indexes ≡ length schema
   pub numbers : r.number_objects.number ≡ n
   pub texts : r.text_objects.number ≡ n
 
 -- a call keeps these
 pub record KeepsColumns {K : Type 0} (old new : Rows K) : Type 0 where
-  pub slots : new.slots ≡ old.slots
+  pub column_indexes : new.column_indexes ≡ old.column_indexes
   pub numbers : new.number_objects.number ≡ old.number_objects.number
   pub texts : new.text_objects.number ≡ old.text_objects.number
 

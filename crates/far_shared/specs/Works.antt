@@ -84,19 +84,19 @@ pub record KeepsRows (old new : Table) : Type 0 where
 
 module _ {K : Type 0} (s : State K) where
   -- no row group of any aggregate is left
-  abbrev pub IsAllBuilt : Type 0
-  IsAllBuilt = (a g : ℕ) → is_left (aggregate_at s.table a) g ≡ false
+  abbrev pub IsAllScanned : Type 0
+  IsAllScanned = (a g : ℕ) → is_left (aggregate_at s.table a) g ≡ false
 
   -- a row group that is left is built in by a job, or none is left
   abbrev pub IsBuildJob : Option (JobRecord K) → Type 0
-  IsBuildJob None = IsAllBuilt
+  IsBuildJob None = IsAllScanned
   IsBuildJob (Some job) = (a : ℕ) × (g : ℕ) × (is_left (aggregate_at s.table a) g ≡ true) × IsOffloadJob s a g job
 
   -- why a row group that is left is not built in by a job: the far store does not have what it needs, or memory is wanted
   abbrev pub BuildRefusal : Refusal → Type 0
   BuildRefusal given = (a : ℕ) × (g : ℕ) × (is_left (aggregate_at s.table a) g ≡ true) × MayRefuse (offload_refusal (live s) (aggregate_at s.table a) g) true given
 
-  -- the job that a work begins, or none where there is nothing to do
+  -- the job that a work begins, or none if there is nothing to do
   abbrev pub Begins : Work → Option (JobRecord K) → Type 0
   Begins (work.Evacuate stripe) job = IsColdestJob s.rows job
   Begins (work.Fetch stripe name) job = IsSomeAnd job (IsFetchJob s.rows name.column name.group)
@@ -110,7 +110,7 @@ module _ {K : Type 0} (s : State K) where
 
   -- a row group that is left is built in by a scan where it can be, else by a job
   abbrev pub BeginsBuild : Building (JobRecord K) → Type 0
-  BeginsBuild building.Nothing = IsAllBuilt
+  BeginsBuild building.Nothing = IsAllScanned
   BeginsBuild (building.Scan a g) = (is_left (aggregate_at s.table a) g ≡ true) × (scan_refusal (live s) (aggregate_at s.table a) g ≡ None)
   BeginsBuild (building.Offload job) = (a : ℕ) × (g : ℕ) × (is_left (aggregate_at s.table a) g ≡ true) × (is_none (scan_refusal (live s) (aggregate_at s.table a) g) ≡ false) × IsOffloadJob s a g job
 
@@ -128,14 +128,14 @@ module _ {K : Type 0} (number_of : K → ℕ) (content : K → List ℕ) (old : 
   EndRefusal kind.Offload done given = MergeRefusal number_of old done given
 
 module _ {K : Type 0} (is_of : K → List ℕ → Type 0) (name : List ℕ) where
-  -- what a build holds is of the store of this name
+  -- what a build holds is of the store with this id
   abbrev pub IsBuildingAt : Building (JobRecord K) → Type 0
   IsBuildingAt building.Nothing = Unit {0}
   IsBuildingAt (building.Scan a g) = Unit {0}
   IsBuildingAt (building.Offload job) = IsJobAt is_of name job
 
 module _ {K : Type 0} where
-  -- what a job does that was begun; none where it was carried
+  -- what a job does that was begun; none if it was carried
   abbrev pub begun_kind : WorkOf K → Option JobKind
   begun_kind (work_of.Evac evac) = Some kind.Evac
   begun_kind (work_of.Fetch fetch) = Some kind.Fetch

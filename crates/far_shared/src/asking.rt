@@ -83,7 +83,7 @@ fn read_under<'a, N: Naming, B: Site, S: FarTickets, const I: usize, R: Wait>(
 }
 
 impl<N: Naming, B: Site, S: FarTickets> Shared<N, B, S> {
-    /// The stripe of this number under its read lock. Refused with `OutOfRange` (14) exactly where there is no such stripe.
+    /// The stripe of this number under its read lock. Refused with `OutOfRange` (14) exactly if there is no such stripe.
     pub fn scope<R: Wait>(&self, rt: &R, stripe: u32) -> Result<Scope<'_, N, B, S>, Refusal>
         ensures ok { OnOk result (stripe < 4) }
         ensures refused { IfErr result (λ e. (e ≡ Refusal.OutOfRange) × (4 ≤ stripe)) }
@@ -100,9 +100,9 @@ impl<N: Naming, B: Site, S: FarTickets> Shared<N, B, S> {
     /// What an aggregate that the four stripes have under one number answers over the rows of the four, one stripe after the other.
     /// Holds all four read locks.
     ///
-    /// Refused as `answer_four` is, over the four tables as they stand under their locks: with `NoAggregate` (12) exactly where one of them
+    /// Refused as `answer_four` is, over the four tables as they stand under their locks: with `NoAggregate` (12) exactly if one of them
     /// lacks the aggregate or it is not the same in all, so always for a number from 32 on; else with `Building` (15) and how many row
-    /// groups are left exactly where some are; else with `NoMemory` (1) alone. The gauge, whose number is 0, is refused with `NoMemory`
+    /// groups are left exactly if some are; else with `NoMemory` (1) alone. The gauge, whose number is 0, is refused with `NoMemory`
     /// alone.
     pub fn ask_all<R: Wait>(&self, rt: &R, a: u32) -> Result<Answer, Refusal>
         ensures answer { IfOk result (IsAnswer N.plan a) }

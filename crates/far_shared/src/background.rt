@@ -20,7 +20,7 @@ fn serve<N: Naming, B: Site, S: FarStore, R: Wait>(
     store: &S,
     work: &Work,
 ) -> Result<(), Refusal>
-    requires store { S.name store.now ≡ B.store }
+    requires store { S.store_id store.now ≡ B.store }
     ensures refused { RefusedFor (length N.plan.schema) (columns_for work.now) (stripe_of work.now) (work_refusals work.now) result }
 {
     let mut meter = Meter::new();
@@ -51,7 +51,7 @@ fn serve_all<N: Naming, B: Site, S: FarStore, R: Wait>(
     store: &S,
     works: &[Work],
 ) -> Report
-    requires store { S.name store.now ≡ B.store }
+    requires store { S.store_id store.now ≡ B.store }
     ensures all { works_in result ≡ length works.now }
 {
     let mut report = Report {
@@ -105,13 +105,13 @@ fn serve_chunks<
     workers: u32,
     works: &[Work],
 ) -> Result<Report, AllocError>
-    requires store { S.name store.now ≡ B.store }
+    requires store { S.store_id store.now ≡ B.store }
     requires some { 0 < workers }
     ensures all { IfOk result (λ report. works_in report ≡ length works.now) }
 {
     let size = chunk_for(works.len(), workers);
     let serve_some = |_: usize, chunk: &[Work]| -> Report
-        requires { S.name store.now ≡ B.store }
+        requires { S.store_id store.now ≡ B.store }
         ensures { works_in result ≡ length chunk.now }
     { serve_all(rt, shared, store, chunk) };
     let reports = thread::map_chunks(rt, shared.alloc, works, size, &serve_some)?;
@@ -119,6 +119,15 @@ fn serve_chunks<
 }
 
 /// Threads that do work in the background.
+///
+/// A list of works is done by so many threads, without a lock while one waits for the store:
+///
+/// ```
+/// match list_of(alloc, works_in(works)) {
+///     Ok(list) => worked(Background::run(rt, shared, store, workers, list)),
+///     Err(_) => Err(Refusal::NoMemory),
+/// }
+/// ```
 #[derive(Clone, Copy, Debug)]
 pub struct Background {}
 
@@ -126,7 +135,7 @@ impl Background {
     /// Does works on at most so many threads, each of which is given consecutive ones. The report counts each of them, as done or as
     /// refused; a work for which there was nothing to do is done. No row changes.
     ///
-    /// Refused with `OutOfRange` (14) unless there are 1 to 8 workers, before any work, and with `NoMemory` (1) where the threads or
+    /// Refused with `OutOfRange` (14) unless there are 1 to 8 workers, before any work, and with `NoMemory` (1) if the threads or
     /// their reports find none: some works may be done then, or all.
     pub fn run<
         N: Naming + Send + Sync,
@@ -140,7 +149,7 @@ impl Background {
         workers: u32,
         works: Vec<Work>,
     ) -> Result<Report, Refusal>
-        requires store { S.name store.now ≡ B.store }
+        requires store { S.store_id store.now ≡ B.store }
         ensures all { IfOk result (λ report. report.done + report.refused ≡ vec_len works) }
         ensures workers { OnOk result ((1 ≤ workers) × (workers ≤ 8)) }
         ensures refused { IfErr result (λ e. ((e ≡ Refusal.OutOfRange) × ((workers ≡ 0) ⊎ (8 < workers))) ⊎ ((e ≡ Refusal.NoMemory) × ((1 ≤ workers) × (workers ≤ 8)))) }

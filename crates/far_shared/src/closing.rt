@@ -97,7 +97,7 @@ impl<N: Naming, B: Site, S: FarTickets> Shared<N, B, S> {
     /// Ends all sessions, and gives the four tables. The entries of each table's history are just those that its sessions know as
     /// their own.
     ///
-    /// Refused with `OutOfRange` (14) exactly where a session is missing; the shared table and the sessions are then given back.
+    /// Refused with `OutOfRange` (14) exactly if a session is missing; the shared table and the sessions are then given back.
     pub fn close<R: Wait>(
         self,
         rt: &R,

@@ -3,7 +3,7 @@ ghost use Rattle.std.specs.Prelude.{◌≡◌, ◌+◌, ◌<◌, ◌^◌, ℕ, L
 ghost use Rattle.far_types.specs.Edits.{edited, edit_refusal};
 ghost use Rattle.far_rows.specs.Jobs.{AreAt};
 ghost use Rattle.far_table.specs.Watching.{aggregate_at};
-ghost use Rattle.far_frame.specs.Changes.{Accepts, edit_reply};
+ghost use Rattle.far_frame.specs.Effects.{Accepts, edit_reply};
 ghost use Rattle.far_frame.specs.declared.step.Step.TheVariants as step;
 ghost use Rattle.far_history.specs.Histories.{folded};
 ghost use Rattle.far_shared.specs.Applying.{place_of, WhyNot};
@@ -24,7 +24,7 @@ pub(crate) struct Changed {
 
 /// Makes an edit. Gives the place of the row that it appends, or the one that it names.
 fn make<S: FarTickets>(frame: &mut Frame<S>, edit: Edit) -> Result<u32, Refusal>
-    requires slots { length frame.old.rows.slots ≡ length frame.old.table.schema }
+    requires column_indexes { length frame.old.rows.column_indexes ≡ length frame.old.table.schema }
     ensures may { OnOk result (edit_refusal frame.old.table edit ≡ None) }
     ensures made { OnOk result (frame.new.table ≡ edited edit frame.old.table) }
     ensures accepted { OnOk result (Accepts S.content frame.old (step.Edit edit) (edit_reply frame.old.table edit) frame.new) }
@@ -71,7 +71,7 @@ pub(crate) fn change<N: Naming, S: FarTickets>(
 ) -> Result<Changed, Refusal>
     requires plan { IsPlan N.plan }
     requires gauge { aggregate_at frame.old.table 0 ≡ Some (first_registered N.plan.gauge) }
-    requires slots { length frame.old.rows.slots ≡ length frame.old.table.schema }
+    requires column_indexes { length frame.old.rows.column_indexes ≡ length frame.old.table.schema }
     requires few { edits < 2 ^ 63 }
     ensures may { OnOk result (edit_refusal frame.old.table edit ≡ None) }
     ensures made { OnOk result (frame.new.table ≡ edited edit frame.old.table) }

@@ -56,7 +56,7 @@ fn are_alike<S: FarTickets>(
     are_like(one, two, a) && are_like(one, three, a) && are_like(one, four, a)
 }
 
-/// How many row groups are still to be built into an aggregate of a number, and what it answers; `None` where it cannot.
+/// How many row groups are still pending in an aggregate of a number, and what it answers; `None` if it cannot.
 fn asked<S: FarTickets>(frame: &Frame<S>, spec: &Spec, a: u32) -> (u32, Option<Answer>)
     requires { spec_at frame.now.table a ≡ Some spec.now }
     ensures left { result.0 ≡ left_in (aggregate_at frame.now.table a) }
@@ -72,7 +72,7 @@ fn asked<S: FarTickets>(frame: &Frame<S>, spec: &Spec, a: u32) -> (u32, Option<A
     }
 }
 
-/// The sum of four numbers; `None` where it is no number of 32 bits. Takes no memory.
+/// The sum of four numbers; `None` if it is no number of 32 bits. Allocates nothing.
 fn sum_of(one: u32, two: u32, three: u32, four: u32) -> Option<u32>
     ensures fits { IfSome result (λ n. n ≡ one + two + three + four) }
     ensures past { IfNone result (2 ^ 32 ≤ one + two + three + four) }
@@ -142,7 +142,7 @@ fn merge(
 }
 
 /// What an aggregate that four tables have under one number answers over the rows of the four. Refused with `Building` (15) and how many
-/// row groups are left exactly where that is not 0 and a number of 32 bits, else with `NoMemory` (1) alone.
+/// row groups are left exactly if that is not 0 and a number of 32 bits, else with `NoMemory` (1) alone.
 fn answer_alike<S: FarTickets>(
     alloc: Global,
     spec: &Spec,
@@ -180,8 +180,8 @@ fn answer_alike<S: FarTickets>(
 
 /// What an aggregate that four tables have under one number answers over the rows of the four, one table after the other.
 ///
-/// Refused with `NoAggregate` (12) exactly where one of them lacks the aggregate, or the four schemas or the four aggregates differ;
-/// else with `Building` (15) and how many row groups are left in all four exactly where that is not 0 and below 2^32, as it always is in four
+/// Refused with `NoAggregate` (12) exactly if one of them lacks the aggregate, or the four schemas or the four aggregates differ;
+/// else with `Building` (15) and how many row groups are left in all four exactly if that is not 0 and below 2^32, as it always is in four
 /// stripes; else with `NoMemory` (1) alone.
 pub fn answer_four<S: FarTickets>(
     alloc: Global,

@@ -22,7 +22,7 @@ pub(crate) fn begin_under<N: Naming, B: Site, S: FarTickets, const I: usize, R: 
 ) -> Result<Option<Job<S>>, Refusal>
     requires own { stripe_of work.now ≡ I }
     requires column { columns_for work.now ≤ length N.plan.schema }
-    requires store { S.name store.now ≡ B.store }
+    requires store { S.store_id store.now ≡ B.store }
     ensures begun { IfOk result (IsJobOf work.now) }
     ensures here { IfOk result (λ job. IfSome job (IsJobAt S.is_of B.store)) }
     ensures refused { RefusedBy (begin_refusals work.now) result }
@@ -39,7 +39,7 @@ pub(crate) fn finish_under<N: Naming, B: Site, S: FarTickets, const I: usize, R:
     job: &Job<S>,
 ) -> Result<(), Refusal>
     requires own { stripe ≡ I }
-    requires store { S.name store.now ≡ B.store }
+    requires store { S.store_id store.now ≡ B.store }
     requires here { IsJobAt S.is_of B.store job.now }
     ensures carried { OnOk result (begun_kind job.now.work ≡ None) }
     ensures refused { RefusedBy (end_refusals (kind_of job.now)) result }
@@ -53,7 +53,7 @@ fn building_under<N: Naming, B: Site, S: FarTickets, const I: usize, R: Wait>(
     lock: &RwLock<Stripe<N, B, S, I>>,
     store: &S,
 ) -> Result<Building<Job<S>>, Refusal>
-    requires store { S.name store.now ≡ B.store }
+    requires store { S.store_id store.now ≡ B.store }
     ensures begun { IfOk result IsBuildOf }
     ensures here { IfOk result (IsBuildingAt S.is_of B.store) }
     ensures refused { RefusedBy (14 ∷ 20 ∷ 1 ∷ []) result }
@@ -102,7 +102,7 @@ fn complete_under<N: Naming, B: Site, S: FarStore, const I: usize, R: Wait>(
 ) -> Result<(), Refusal>
     requires own { stripe ≡ I }
     requires few { meter.old < 2 ^ 63 }
-    requires store { S.name store.now ≡ B.store }
+    requires store { S.store_id store.now ≡ B.store }
     requires here { IsJobAt S.is_of B.store job }
     ensures faults { meter.new ≡ meter.old + faults_in result }
     ensures refused { RefusedBy (job_refusals (kind_of job)) result }
@@ -111,14 +111,14 @@ fn complete_under<N: Naming, B: Site, S: FarStore, const I: usize, R: Wait>(
         job.carry(alloc, store, meter),
         |carried: Job<S>| -> Result<(), Refusal>
             requires own { stripe ≡ I }
-            requires store { S.name store.now ≡ B.store }
+            requires store { S.store_id store.now ≡ B.store }
             requires here { IsJobAt S.is_of B.store carried }
             ensures { RefusedBy (end_refusals (kind_of carried)) result }
         { finish_under(rt, lock, stripe, store, &carried) },
     )
 }
 
-/// Sends the coldest object of a stripe away, and tells which; `None` where there is none that may go.
+/// Sends the coldest object of a stripe away, and tells which; `None` if there is none that may go.
 pub(crate) fn evacuate_under<N: Naming, B: Site, S: FarStore, const I: usize, R: Wait>(
     rt: &R,
     alloc: Global,
@@ -129,7 +129,7 @@ pub(crate) fn evacuate_under<N: Naming, B: Site, S: FarStore, const I: usize, R:
 ) -> Result<Option<Name>, Refusal>
     requires own { stripe ≡ I }
     requires few { meter.old < 2 ^ 63 }
-    requires store { S.name store.now ≡ B.store }
+    requires store { S.store_id store.now ≡ B.store }
     ensures faults { meter.new ≡ meter.old + faults_in result }
     ensures refused { RefusedBy (21 ∷ 22 ∷ 20 ∷ 19 ∷ 1 ∷ []) result }
 {
@@ -154,7 +154,7 @@ pub(crate) fn fetch_under<N: Naming, B: Site, S: FarStore, const I: usize, R: Wa
     requires own { stripe ≡ I }
     requires column { name.column < length N.plan.schema }
     requires few { meter.old < 2 ^ 63 }
-    requires store { S.name store.now ≡ B.store }
+    requires store { S.store_id store.now ≡ B.store }
     ensures faults { meter.new ≡ meter.old + faults_in result }
     ensures refused { RefusedBy (14 ∷ 20 ∷ 21 ∷ 17 ∷ 1 ∷ []) result }
 {
@@ -175,7 +175,7 @@ pub(crate) fn build_under<N: Naming, B: Site, S: FarStore, const I: usize, R: Wa
 ) -> Result<bool, Refusal>
     requires own { stripe ≡ I }
     requires few { meter.old < 2 ^ 63 }
-    requires store { S.name store.now ≡ B.store }
+    requires store { S.store_id store.now ≡ B.store }
     ensures faults { meter.new ≡ meter.old + faults_in result }
     ensures refused { RefusedBy (14 ∷ 12 ∷ 20 ∷ 16 ∷ 21 ∷ 1 ∷ []) result }
 {

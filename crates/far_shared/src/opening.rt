@@ -52,7 +52,7 @@ fn all_four<T: Drop>(
     })
 }
 
-/// What is made of two things. Refused as the first was, else with `NoMemory` (1) where the second found no memory, and else not.
+/// What is made of two things. Refused as the first was, else with `NoMemory` (1) if the second found no memory, and else not.
 ///
 /// It knows nothing of what they are, as `all_four` does not.
 fn both<A: Drop, B: Drop, T, F: FnOnce(A, B) -> T + Drop>(
@@ -72,7 +72,7 @@ fn both<A: Drop, B: Drop, T, F: FnOnce(A, B) -> T + Drop>(
     }
 }
 
-/// One thing beside another. Refused with `NoMemory` (1) exactly where the other found no memory.
+/// One thing beside another. Refused with `NoMemory` (1) exactly if the other found no memory.
 fn beside<A: Drop, B: Drop>(one: A, other: Result<B, AllocError>) -> Result<(A, B), Refusal>
     ensures one { IfOk result (λ both. both.0 ≡ one) }
     ensures other { IfOk result (λ both. IsOkAnd other (λ y. y ≡ both.1)) }

@@ -8,6 +8,16 @@ use std::marker::Model;
 
 /// What a shared table is made for: the schema and the limits of each stripe, the aggregate that is its gauge, and how many sessions
 /// use it. Contracts see these four.
+///
+/// For a column of numbers whose count and sum are the gauge of each stripe:
+///
+/// ```
+/// let limits = Limits::in_groups_of(4);
+/// let gauge = Spec::totals(alloc, 0);
+/// let Ok(plan) = Plan::new(schema, limits, gauge, u64::from(sessions)) else {
+///     unreachable!()
+/// };
+/// ```
 #[derive(Drop)]
 pub struct Plan {
     pub(crate) schema: Schema,
@@ -37,7 +47,7 @@ fn is_plain(gauge: &Spec) -> bool
     }
 }
 
-/// Whether the aggregate may be the gauge of tables with this schema. Refused with `BadSpec` (3) where it is not totals without key
+/// Whether the aggregate may be the gauge of tables with this schema. Refused with `BadSpec` (3) if it is not totals without key
 /// column, else as `Spec::check` says.
 fn check_gauge(schema: &Schema, gauge: &Spec) -> Result<(), Refusal>
     ensures ok { OnOk result (gauge_refusal schema.now gauge.now ≡ None) }
@@ -50,10 +60,10 @@ fn check_gauge(schema: &Schema, gauge: &Spec) -> Result<(), Refusal>
 }
 
 impl Plan {
-    /// The plan of a shared table. Takes no memory.
+    /// The plan of a shared table. Allocates nothing.
     ///
-    /// Refused with `BadSchema` (2) where a table may not have the limits; `BadSpec` (3) where the gauge is not totals without key
-    /// column, has more than 4 tests or too long a constant; `NoColumn` (4) or `WrongKind` (5) where the gauge cannot be had over
+    /// Refused with `BadSchema` (2) if a table may not have the limits; `BadSpec` (3) if the gauge is not totals without key
+    /// column, has more than 4 tests or too long a constant; `NoColumn` (4) or `WrongKind` (5) if the gauge cannot be had over
     /// the schema; `OutOfRange` (14) unless there are 1 to 64 sessions: the first that applies.
     pub fn new(schema: Schema, limits: Limits, gauge: Spec, sessions: u64) -> Result<Plan, Refusal>
         ensures plan { IfOk result (λ plan. plan ≡ record { schema = schema; limits = limits; gauge = gauge; sessions = sessions }) }

@@ -27,6 +27,33 @@ pub(crate) struct Count<N: Naming> {
 ///
 /// A session is used with the shared table that made it: its type says which. No two stripes are on one cache line, so that who writes
 /// in one does not slow the next.
+///
+/// What a plan made is opened:
+///
+/// ```
+/// let Ok((shared, sessions)) = made.open::<B>(alloc) else {
+///     return Err(Stop::Memory);
+/// };
+/// ```
+///
+/// A session makes an edit; a refusal may be one that a fetch or an eviction mends:
+///
+/// ```
+/// let edit = Edit::Insert(row_of_one(alloc)?);
+/// match shared.apply(rt, me, stripe, edit) {
+///     Ok(_) => return Ok(()),
+///     Err(refusal) => clear_way(rt, shared, store, stripe, refusal)?,
+/// }
+/// ```
+///
+/// All stripes are asked:
+///
+/// ```
+/// match shared.ask_all(rt, 0) {
+///     Ok(answer) => Ok((sessions, Outcome { gauges, answer })),
+///     Err(_) => Err(Stop::Memory),
+/// }
+/// ```
 #[derive(Drop)]
 pub struct Shared<N: Naming, B: Site, S: FarTickets> {
     pub(crate) alloc: Global,
@@ -61,7 +88,7 @@ impl<N: Naming, B: Site, S: FarTickets> Shared<N, B, S> {
     /// Makes an edit on a stripe, as this session, under the stripe's write lock. The session has then seen the stripe's history
     /// up to the edit; at the other stripes it stays as it was.
     ///
-    /// Refused with `OutOfRange` (14) where there is no such stripe; the session is then as it was. Else refused as `Frame`'s call of
+    /// Refused with `OutOfRange` (14) if there is no such stripe; the session is then as it was. Else refused as `Frame`'s call of
     /// the edit is, and the session has then seen the history so far.
     pub fn apply<R: Wait>(
         &self,

@@ -15,12 +15,12 @@ use far_types::{Name, Refusal};
 use std::sync::Wait;
 
 impl<N: Naming, B: Site, S: FarTickets> Shared<N, B, S> {
-    /// Begins a work under the read lock of its stripe; `None` where there is nothing to do.
+    /// Begins a work under the read lock of its stripe; `None` if there is nothing to do.
     ///
-    /// Refused with `NoColumn` (4) where a fetch names no column of the schema; else with `OutOfRange` (14) where there is no such stripe;
+    /// Refused with `NoColumn` (4) if a fetch names no column of the schema; else with `OutOfRange` (14) if there is no such stripe;
     /// else as `Stripe::begin` is.
     pub fn begin<R: Wait>(&self, rt: &R, store: &S, work: &Work) -> Result<Option<Job<S>>, Refusal>
-        requires store { S.name store.now ≡ B.store }
+        requires store { S.store_id store.now ≡ B.store }
         ensures begun { IfOk result (IsJobOf work.now) }
         ensures here { IfOk result (λ job. IfSome job (IsJobAt S.is_of B.store)) }
         ensures refused { RefusedFor (length N.plan.schema) (columns_for work.now) (stripe_of work.now) (begin_refusals work.now) result }
@@ -39,7 +39,7 @@ impl<N: Naming, B: Site, S: FarTickets> Shared<N, B, S> {
 
     /// Ends a carried job of a stripe under its write lock. No row changes, and no other job is accepted.
     ///
-    /// Refused with `OutOfRange` (14) where there is no such stripe, else as `Stripe::finish` is.
+    /// Refused with `OutOfRange` (14) if there is no such stripe, else as `Stripe::finish` is.
     pub fn finish<R: Wait>(
         &self,
         rt: &R,
@@ -47,7 +47,7 @@ impl<N: Naming, B: Site, S: FarTickets> Shared<N, B, S> {
         store: &S,
         job: &Job<S>,
     ) -> Result<(), Refusal>
-        requires store { S.name store.now ≡ B.store }
+        requires store { S.store_id store.now ≡ B.store }
         requires here { IsJobAt S.is_of B.store job.now }
         ensures carried { OnOk result (begun_kind job.now.work ≡ None) }
         ensures refused { RefusedAt stripe (end_refusals (kind_of job.now)) result }
@@ -63,10 +63,10 @@ impl<N: Naming, B: Site, S: FarTickets> Shared<N, B, S> {
 }
 
 impl<N: Naming, B: Site, S: FarStore> Shared<N, B, S> {
-    /// Sends the coldest object of a stripe away, and tells which; `None` where there was none that may go.
+    /// Sends the coldest object of a stripe away, and tells which; `None` if there was none that may go.
     ///
-    /// Refused with `OutOfRange` (14) where there is no such stripe; else with `NoMemory` (1), `FarFault` (21) exactly where the meter
-    /// rises, by one, `FarFull` (22), `StaleJob` (20) where the object was written or away meanwhile, and `Pinned` (19).
+    /// Refused with `OutOfRange` (14) if there is no such stripe; else with `NoMemory` (1), `FarFault` (21) exactly if the meter
+    /// rises, by one, `FarFull` (22), `StaleJob` (20) if the object was written or away meanwhile, and `Pinned` (19).
     pub fn evacuate_once<R: Wait>(
         &self,
         rt: &R,
@@ -75,7 +75,7 @@ impl<N: Naming, B: Site, S: FarStore> Shared<N, B, S> {
         meter: &mut Meter,
     ) -> Result<Option<Name>, Refusal>
         requires few { meter.old < 2 ^ 63 }
-        requires store { S.name store.now ≡ B.store }
+        requires store { S.store_id store.now ≡ B.store }
         ensures faults { meter.new ≡ meter.old + faults_in result }
         ensures refused { RefusedAt stripe (21 ∷ 22 ∷ 20 ∷ 19 ∷ 1 ∷ []) result }
     {
@@ -91,9 +91,9 @@ impl<N: Naming, B: Site, S: FarStore> Shared<N, B, S> {
 
     /// Brings the object of a column and a row group of a stripe back.
     ///
-    /// Refused with `NoColumn` (4) where the schema has no such column; else with `OutOfRange` (14) where there is no such stripe; else
-    /// with `OutOfRange` (14) where no place of the row group is used, `StaleJob` (20) where the object is local or was away again
-    /// meanwhile, `FarFault` (21) exactly where the meter rises, by one, `RegionFull` (17) and `NoMemory` (1).
+    /// Refused with `NoColumn` (4) if the schema has no such column; else with `OutOfRange` (14) if there is no such stripe; else
+    /// with `OutOfRange` (14) if no place of the row group is used, `StaleJob` (20) if the object is local or was away again
+    /// meanwhile, `FarFault` (21) exactly if the meter rises, by one, `RegionFull` (17) and `NoMemory` (1).
     pub fn fetch<R: Wait>(
         &self,
         rt: &R,
@@ -104,7 +104,7 @@ impl<N: Naming, B: Site, S: FarStore> Shared<N, B, S> {
         meter: &mut Meter,
     ) -> Result<(), Refusal>
         requires few { meter.old < 2 ^ 63 }
-        requires store { S.name store.now ≡ B.store }
+        requires store { S.store_id store.now ≡ B.store }
         ensures faults { meter.new ≡ meter.old + faults_in result }
         ensures refused { RefusedFor (length N.plan.schema) (column + 1) stripe (14 ∷ 20 ∷ 21 ∷ 17 ∷ 1 ∷ []) result }
     {
@@ -125,8 +125,8 @@ impl<N: Naming, B: Site, S: FarStore> Shared<N, B, S> {
     /// Builds a row group of a stripe that is left into its aggregate: by a scan where all that the aggregate needs was local at the
     /// beginning, else from the far store's copies. False where nothing was left.
     ///
-    /// Refused with `OutOfRange` (14) where there is no such stripe; else with `NoAggregate` (12), `StaleJob` (20), `Absent` (16),
-    /// `FarFault` (21) exactly where the meter rises, by one, and `NoMemory` (1).
+    /// Refused with `OutOfRange` (14) if there is no such stripe; else with `NoAggregate` (12), `StaleJob` (20), `Absent` (16),
+    /// `FarFault` (21) exactly if the meter rises, by one, and `NoMemory` (1).
     pub fn build_once<R: Wait>(
         &self,
         rt: &R,
@@ -135,7 +135,7 @@ impl<N: Naming, B: Site, S: FarStore> Shared<N, B, S> {
         meter: &mut Meter,
     ) -> Result<bool, Refusal>
         requires few { meter.old < 2 ^ 63 }
-        requires store { S.name store.now ≡ B.store }
+        requires store { S.store_id store.now ≡ B.store }
         ensures faults { meter.new ≡ meter.old + faults_in result }
         ensures refused { RefusedAt stripe (14 ∷ 12 ∷ 20 ∷ 16 ∷ 21 ∷ 1 ∷ []) result }
     {

@@ -1,7 +1,7 @@
 // What lies under the lock of a stripe.
 ghost use Rattle.std.specs.Prelude.{◌≡◌, ◌++◌, ◌∷◌, [], length, IfOk, IfErr, OnOk, OnErr};
 ghost use mathlib.Core.List.{IsPrefix};
-ghost use Rattle.far_frame.specs.Changes.{Accepts, edit_reply};
+ghost use Rattle.far_frame.specs.Effects.{Accepts, edit_reply};
 ghost use Rattle.far_frame.specs.declared.step.Step.TheVariants as step;
 ghost use Rattle.far_history.specs.Histories.{replay, by_session, IsLegal};
 ghost use Rattle.far_history.specs.Rule.{entry};

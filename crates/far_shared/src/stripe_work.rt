@@ -1,7 +1,7 @@
 // Work in the background, on what lies under the lock of a stripe.
 ghost use Rattle.std.specs.Prelude.{◌≡◌, ◌<◌, ◌≤◌, [], ◌∷◌, None, length, IfOk, IfErr, IfSome, IsErrOf, OnOk, OnErr};
 ghost use Rattle.far_store.specs.Faults.{RefusedBy};
-ghost use Rattle.far_frame.specs.Changes.{Accepts, Refuses};
+ghost use Rattle.far_frame.specs.Effects.{Accepts, Refuses};
 ghost use Rattle.far_frame.specs.declared.step.Reply.TheVariants as reply;
 ghost use Rattle.far_frame.specs.declared.step.Step.TheVariants as step;
 ghost use Rattle.far_frame.specs.Jobs.{IsJobAt, kind_of};
@@ -16,13 +16,13 @@ use far_store::FarTickets;
 use far_types::Refusal;
 
 impl<N: Naming, B: Site, S: FarTickets, const I: usize> Stripe<N, B, S, I> {
-    /// Begins a work; `None` where there is nothing to do. Nothing is changed.
+    /// Begins a work; `None` if there is nothing to do. Nothing is changed.
     ///
-    /// An evacuation is refused with `NoMemory` (1) alone; a fetch with `NoColumn` (4), `OutOfRange` (14) where no place of the row
-    /// group is used, `StaleJob` (20) where the object is local: the first that applies; a build with `StaleJob` (20) where an object
+    /// An evacuation is refused with `NoMemory` (1) alone; a fetch with `NoColumn` (4), `OutOfRange` (14) if no place of the row
+    /// group is used, `StaleJob` (20) if the object is local: the first that applies; a build with `StaleJob` (20) if an object
     /// that its aggregate needs is dirty, and with `NoMemory` (1).
     pub fn begin(&self, store: &S, work: &Work) -> Result<Option<Job<S>>, Refusal>
-        requires store { S.name store.now ≡ B.store }
+        requires store { S.store_id store.now ≡ B.store }
         ensures begins { IfOk result (Begins self.now.state work.now) }
         ensures begun { IfOk result (IsJobOf work.now) }
         ensures here { IfOk result (λ job. IfSome job (IsJobAt S.is_of B.store)) }
@@ -38,7 +38,7 @@ impl<N: Naming, B: Site, S: FarTickets, const I: usize> Stripe<N, B, S, I> {
     ///
     /// Refused as `Frame::commit`, `Frame::install` and `Frame::merge` are. Then nothing is changed.
     pub fn finish(&mut self, store: &S, job: &Job<S>) -> Result<(), Refusal>
-        requires store { S.name store.now ≡ B.store }
+        requires store { S.store_id store.now ≡ B.store }
         requires here { IsJobAt S.is_of B.store job.now }
         ensures same { self.new.log ≡ self.old.log }
         ensures ended { OnOk result (Ends S.number_of S.content self.old.state (kind_of job.now) job.now.work self.new.state) }
@@ -55,7 +55,7 @@ impl<N: Naming, B: Site, S: FarTickets, const I: usize> Stripe<N, B, S, I> {
     ///
     /// Refused as a build is in `begin`, where no scan is possible.
     pub fn building(&self, store: &S) -> Result<Building<Job<S>>, Refusal>
-        requires store { S.name store.now ≡ B.store }
+        requires store { S.store_id store.now ≡ B.store }
         ensures begins { IfOk result (BeginsBuild self.now.state) }
         ensures begun { IfOk result IsBuildOf }
         ensures here { IfOk result (IsBuildingAt S.is_of B.store) }

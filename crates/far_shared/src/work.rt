@@ -16,7 +16,7 @@ pub enum Work {
 }
 
 impl Work {
-    /// The number of its stripe. Takes no memory.
+    /// The number of its stripe. Allocates nothing.
     pub fn stripe(&self) -> u32
         ensures { result ≡ stripe_of self.now }
     {
@@ -27,7 +27,7 @@ impl Work {
         }
     }
 
-    /// How many columns the schema must have for what it names. Takes no memory.
+    /// How many columns the schema must have for what it names. Allocates nothing.
     pub fn columns(&self) -> u64
         ensures { result ≡ columns_for self.now }
     {

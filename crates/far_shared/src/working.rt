@@ -2,7 +2,7 @@
 ghost use Rattle.std.specs.Prelude.{◌≡◌, ◌<◌, ◌≤◌, [], ◌∷◌, Some, None, length, IfOk, IfErr, IfSome, IsErrOf, OnOk, OnErr};
 ghost use Rattle.far_store.specs.Faults.{RefusedBy};
 ghost use Rattle.far_rows.specs.Jobs.{AreAt, fetch_refusal};
-ghost use Rattle.far_frame.specs.Changes.{Accepts, Refuses};
+ghost use Rattle.far_frame.specs.Effects.{Accepts, Refuses};
 ghost use Rattle.far_frame.specs.declared.step.Reply.TheVariants as reply;
 ghost use Rattle.far_frame.specs.declared.step.Step.TheVariants as step;
 ghost use Rattle.far_frame.specs.Jobs.{IsFetchJob, IsJobAt, kind_of};
@@ -14,16 +14,16 @@ use far_frame::{Frame, Job, JobKind};
 use far_store::FarTickets;
 use far_types::{Name, Refusal};
 
-/// Begins to build a row group that is left from the far store's copies; `None` exactly where none is left. Nothing is changed.
+/// Begins to build a row group that is left from the far store's copies; `None` exactly if none is left. Nothing is changed.
 ///
-/// Refused with `StaleJob` (20) where an object that its aggregate needs is dirty, and with `NoMemory` (1).
+/// Refused with `StaleJob` (20) if an object that its aggregate needs is dirty, and with `NoMemory` (1).
 pub(crate) fn build_on<S: FarTickets>(
     frame: &Frame<S>,
     store: &S,
 ) -> Result<Option<Job<S>>, Refusal>
-    requires here { AreAt S.is_of (S.name store.now) frame.now.rows }
+    requires here { AreAt S.is_of (S.store_id store.now) frame.now.rows }
     ensures begun { IfOk result (IsBuildJob frame.now) }
-    ensures here { IfOk result (λ job. IfSome job (IsJobAt S.is_of (S.name store.now))) }
+    ensures here { IfOk result (λ job. IfSome job (IsJobAt S.is_of (S.store_id store.now))) }
     ensures refused { IfErr result (BuildRefusal frame.now) }
     ensures numbers { RefusedBy (14 ∷ 20 ∷ 1 ∷ []) result }
 {
@@ -35,34 +35,34 @@ pub(crate) fn build_on<S: FarTickets>(
 
 /// Begins to bring an object back. Nothing is changed.
 ///
-/// Refused with `NoColumn` (4) exactly where there is no such column; else with `OutOfRange` (14) where no place of the row group is used,
-/// `StaleJob` (20) where the object is local: the first that applies.
+/// Refused with `NoColumn` (4) exactly if there is no such column; else with `OutOfRange` (14) if no place of the row group is used,
+/// `StaleJob` (20) if the object is local: the first that applies.
 fn fetch_on<S: FarTickets>(frame: &Frame<S>, store: &S, name: Name) -> Result<Job<S>, Refusal>
-    requires here { AreAt S.is_of (S.name store.now) frame.now.rows }
+    requires here { AreAt S.is_of (S.store_id store.now) frame.now.rows }
     ensures begun { IfOk result (IsFetchJob frame.now.rows name.column name.group) }
-    ensures here { IfOk result (IsJobAt S.is_of (S.name store.now)) }
+    ensures here { IfOk result (IsJobAt S.is_of (S.store_id store.now)) }
     ensures refused { IfErr result (λ e. fetch_refusal frame.now.rows name.column name.group ≡ Some e) }
-    ensures column { length frame.now.rows.slots ≤ name.column → IsErrOf result Refusal.NoColumn }
-    ensures numbers { name.column < length frame.now.rows.slots → RefusedBy (14 ∷ 20 ∷ []) result }
+    ensures column { length frame.now.rows.column_indexes ≤ name.column → IsErrOf result Refusal.NoColumn }
+    ensures numbers { name.column < length frame.now.rows.column_indexes → RefusedBy (14 ∷ 20 ∷ []) result }
 {
     frame.begin_fetch(store, name.column, name.group)
 }
 
-/// Begins a work; `None` where there is nothing to do. Nothing is changed.
+/// Begins a work; `None` if there is nothing to do. Nothing is changed.
 ///
-/// An evacuation is refused with `NoMemory` (1) alone; a fetch with `NoColumn` (4), `OutOfRange` (14) where no place of the row group
-/// is used, `StaleJob` (20) where the object is local: the first that applies; a build as `build_on` says.
+/// An evacuation is refused with `NoMemory` (1) alone; a fetch with `NoColumn` (4), `OutOfRange` (14) if no place of the row group
+/// is used, `StaleJob` (20) if the object is local: the first that applies; a build as `build_on` says.
 pub(crate) fn begin_on<S: FarTickets>(
     frame: &Frame<S>,
     store: &S,
     work: &Work,
 ) -> Result<Option<Job<S>>, Refusal>
-    requires here { AreAt S.is_of (S.name store.now) frame.now.rows }
+    requires here { AreAt S.is_of (S.store_id store.now) frame.now.rows }
     ensures begun { IfOk result (Begins frame.now work.now) }
-    ensures here { IfOk result (λ job. IfSome job (IsJobAt S.is_of (S.name store.now))) }
+    ensures here { IfOk result (λ job. IfSome job (IsJobAt S.is_of (S.store_id store.now))) }
     ensures refused { IfErr result (BeginRefusal frame.now work.now) }
-    ensures column { length frame.now.rows.slots < columns_for work.now → IsErrOf result Refusal.NoColumn }
-    ensures numbers { columns_for work.now ≤ length frame.now.rows.slots → RefusedBy (begin_refusals work.now) result }
+    ensures column { length frame.now.rows.column_indexes < columns_for work.now → IsErrOf result Refusal.NoColumn }
+    ensures numbers { columns_for work.now ≤ length frame.now.rows.column_indexes → RefusedBy (begin_refusals work.now) result }
 {
     match work {
         Work::Evacuate(_) => frame.begin_coldest(store),
@@ -80,15 +80,15 @@ pub(crate) fn finish_on<S: FarTickets>(
     store: &S,
     job: &Job<S>,
 ) -> Result<(), Refusal>
-    requires here { AreAt S.is_of (S.name store.now) frame.old.rows }
-    requires job_here { IsJobAt S.is_of (S.name store.now) job.now }
+    requires here { AreAt S.is_of (S.store_id store.now) frame.old.rows }
+    requires job_here { IsJobAt S.is_of (S.store_id store.now) job.now }
     ensures ended { OnOk result (Ends S.number_of S.content frame.old (kind_of job.now) job.now.work frame.new) }
     ensures refused { IfErr result (EndRefusal S.number_of S.content frame.old (kind_of job.now) job.now.work) }
     ensures err { OnErr result (frame.new ≡ frame.old) }
     ensures carried { OnOk result (begun_kind job.now.work ≡ None) }
     ensures numbers { RefusedBy (end_refusals (kind_of job.now)) result }
     ensures keeps { KeepsRows frame.old.table frame.new.table }
-    ensures here { AreAt S.is_of (S.name store.now) frame.new.rows }
+    ensures here { AreAt S.is_of (S.store_id store.now) frame.new.rows }
     ensures columns { KeepsColumns frame.old.rows frame.new.rows }
 {
     match job.kind() {
@@ -105,9 +105,9 @@ pub(crate) fn building_on<S: FarTickets>(
     frame: &Frame<S>,
     store: &S,
 ) -> Result<Building<Job<S>>, Refusal>
-    requires here { AreAt S.is_of (S.name store.now) frame.now.rows }
+    requires here { AreAt S.is_of (S.store_id store.now) frame.now.rows }
     ensures begun { IfOk result (BeginsBuild frame.now) }
-    ensures here { IfOk result (IsBuildingAt S.is_of (S.name store.now)) }
+    ensures here { IfOk result (IsBuildingAt S.is_of (S.store_id store.now)) }
     ensures refused { IfErr result (BuildRefusal frame.now) }
     ensures numbers { RefusedBy (14 ∷ 20 ∷ 1 ∷ []) result }
 {

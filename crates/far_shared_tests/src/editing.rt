@@ -16,7 +16,7 @@ enum Call {
     Remove(u32),
 }
 
-// What the edits so far leave: the number of each place, or none where it is removed.
+// What the edits so far leave: the number of each place, or none if it is removed.
 #[derive(Drop)]
 struct Rows {
     numbers: Vec<Option<i64>>,

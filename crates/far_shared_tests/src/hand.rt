@@ -48,14 +48,14 @@ fn complete<N: Naming, B: Site, S: FarStore, R: Wait>(
     stripe: u32,
     job: Job<S>,
 ) -> Replied
-    requires store { S.name store.now ≡ B.store }
+    requires store { S.store_id store.now ≡ B.store }
     requires here { IsJobAt S.is_of B.store job }
 {
     let mut meter = Meter::new();
     once_carried(
         job.carry(alloc, store, &mut meter),
         |carried: Job<S>| -> Replied
-            requires store { S.name store.now ≡ B.store }
+            requires store { S.store_id store.now ≡ B.store }
             requires here { IsJobAt S.is_of B.store carried }
         { done(shared.finish(rt, stripe, store, &carried)) },
     )
@@ -69,13 +69,13 @@ pub fn complete_work<N: Naming, B: Site, S: FarStore, R: Wait>(
     store: &S,
     work: Work,
 ) -> Replied
-    requires store { S.name store.now ≡ B.store }
+    requires store { S.store_id store.now ≡ B.store }
 {
     let stripe = work.stripe();
     once_begun(
         shared.begin(rt, store, &work),
         |job: Job<S>| -> Replied
-            requires store { S.name store.now ≡ B.store }
+            requires store { S.store_id store.now ≡ B.store }
             requires here { IsJobAt S.is_of B.store job }
         { complete(rt, alloc, shared, store, stripe, job) },
     )

@@ -27,7 +27,7 @@ fn opened<
     R: Threads + Wait + Sync,
 >(rt: &R, alloc: Global, made: Made<N, S>, store: &S, scene: &Scene) -> Result<bool, Refusal>
     requires names { AreNamed made B.cells }
-    requires store { S.name store.now ≡ B.store }
+    requires store { S.store_id store.now ≡ B.store }
 {
     let Ok((shared, sessions)) = made.open::<B>(alloc) else {
         return Err(Refusal::NoMemory);

@@ -17,7 +17,7 @@ use std::alloc::{AllocError, Global};
 use std::sync::Wait;
 use std::thread::{self, Threads};
 
-// A session that has played its role, and what it says that it left on its home stripe. It is refused where something did not come
+// A session that has played its role, and what it says that it left on its home stripe. It is refused if something did not come
 // out as it should.
 #[derive(Drop)]
 pub struct Played<P> {
@@ -56,12 +56,12 @@ fn play_as<
     me: &mut Session<B>,
     number: u64,
 ) -> Result<Left, Refusal>
-    requires store { S.name store.now ≡ B.store }
+    requires store { S.store_id store.now ≡ B.store }
 {
     let alloc = stage.alloc;
     let bells = &stage.bells;
     let call = |me: &mut Session<B>, step: Step| -> Replied
-        requires { S.name store.now ≡ B.store }
+        requires { S.store_id store.now ≡ B.store }
     { serve(rt, alloc, shared, store, bells, me, step) };
     match role_of(&stage.scene, number) {
         Role::Plays(lines) => left_if(Ok(play_lines(&call, me, lines))),
@@ -82,7 +82,7 @@ fn play<
     stage: &Stage,
     mut me: Session<B>,
 ) -> Played<Session<B>>
-    requires store { S.name store.now ≡ B.store }
+    requires store { S.store_id store.now ≡ B.store }
 {
     let number = me.number();
     let left = if stage.bells.gathers(stage.scene.roles.len() as u64) {
@@ -106,10 +106,10 @@ fn play_all<
     stage: &Stage,
     sessions: Vec<Session<B>>,
 ) -> Result<Vec<Played<Session<B>>>, AllocError>
-    requires store { S.name store.now ≡ B.store }
+    requires store { S.store_id store.now ≡ B.store }
 {
     let play_one = |me: Session<B>| -> Played<Session<B>>
-        requires { S.name store.now ≡ B.store }
+        requires { S.store_id store.now ≡ B.store }
     { play(rt, shared, store, stage, me) };
     thread::map_vec(rt, sessions, &play_one)
 }
@@ -140,7 +140,7 @@ pub fn play_to_end<
     sessions: Vec<Session<B>>,
     scene: &Scene,
 ) -> Result<Finale<Session<B>>, Refusal>
-    requires store { S.name store.now ≡ B.store }
+    requires store { S.store_id store.now ≡ B.store }
 {
     let stage = Stage {
         alloc,

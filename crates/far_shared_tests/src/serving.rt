@@ -92,7 +92,7 @@ fn move_or_build<N: Naming, B: Site, S: FarStore, R: Wait>(
     store: &S,
     step: Step,
 ) -> Replied
-    requires store { S.name store.now ≡ B.store }
+    requires store { S.store_id store.now ≡ B.store }
 {
     let mut meter = Meter::new();
     match step {
@@ -135,7 +135,7 @@ pub fn serve<
     me: &mut Session<B>,
     step: Step,
 ) -> Replied
-    requires store { S.name store.now ≡ B.store }
+    requires store { S.store_id store.now ≡ B.store }
 {
     match step {
         Step::AwaitPut | Step::OpenGate | Step::Ring | Step::Await(_) => wait_or_tell(

@@ -62,7 +62,7 @@ pub fn run<N: Naming + Send + Sync, B: Site + Send + Sync, S: FarStore, R: Threa
     workers: u32,
     works: Works,
 ) -> Replied
-    requires store { S.name store.now ≡ B.store }
+    requires store { S.store_id store.now ≡ B.store }
 {
     match list_of(alloc, works_in(works)) {
         Ok(list) => worked(Background::run(rt, shared, store, workers, list)),

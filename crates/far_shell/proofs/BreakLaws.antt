@@ -1,5 +1,5 @@
 -- What was printed up to a fault.
-use Rattle.std.proofs.Common.{◌≡◌, ◌==◌, ℕ, false, ◌⊎◌, inl, inr, List, [], ◌∷◌, ◌++◌, Option, Some, None, append_assoc, append-nil, ◌∙◌, refl, sym, ap, subst}
+use Rattle.std.proofs.Common.{◌≡◌, ◌==◌, ◌+◌, ◌≤◌, ◌<◌, ℕ, true, false, ◌⊎◌, inl, inr, List, [], ◌∷◌, ◌++◌, length, length-append, Option, Some, None, append_assoc, append-nil, ◌∙◌, refl, sym, ap, subst, arith}
 use Rattle.std.specs.Prelude.{codes, IfSome, IsUtf8, unwrap_or}
 use Rattle.std.specs.List.{list_any}
 use Rattle.std.specs.Io.BufRead.{strip_last}
@@ -9,19 +9,20 @@ use Rattle.far_store.specs.declared.store.FarTickets.{Ghosts as Tickets}
 use Rattle.far_script.specs.declared.fault.ShellFault.{ShellFault}
 use Rattle.far_script.specs.declared.fault.ShellFault.TheVariants as fault
 use Rattle.far_script.specs.declared.input.Input.{Input}
+use Rattle.far_types.specs.declared.cell.Kind.{Kind}
 use Rattle.far_commands.specs.Cuts.{Lists, Fails, PrintsCut}
-use Rattle.far_shell.specs.Breaks.{ListsNext, Breaks, BreaksIn, BreaksLater, BreaksOff, EndsBy, HasNotBegun, HasNoTurn, IsBroken, IsRefused, IsUnknown, Rejection, Rejects}
-use Rattle.far_script.specs.Faults.{IfInput}
-use Rattle.far_script.specs.Flow.{Counts, Gives, IsSpent, Prints, Reads, StartsWith, Stops}
+use Rattle.far_shell.specs.Breaks.{ListsNext, Breaks, BreaksIn, BreaksLater, BreaksOff, EndsBy, HasNotBegun, HasNoTurn, IsBroken, IsRefused, IsUnfinished, IsUnknown, Rejection, Rejects}
+use Rattle.far_script.specs.Faults.{IfInput, IsCut}
+use Rattle.far_script.specs.Flow.{Counts, Gives, IsOver, IsShort, IsSpent, IsUnseen, Prints, Reads, StartsWith, Stops, unread}
 use Rattle.far_commands.specs.Progress.{At}
-use Rattle.far_script.specs.Lines.{Blank, IsOneLine}
+use Rattle.far_script.specs.Lines.{Blank, IsOneLine, without_return}
 use Rattle.far_script.specs.Openings.{Opened, Schema, start_in}
 use Rattle.far_commands.proofs.CutLaws.{front-more}
 use Rattle.far_shell.specs.Scripts.{Answers, Begins, Opens}
 use Rattle.far_shell.specs.Sessions.{IsAnswered}
-use Rattle.far_script.proofs.FlowLaws.{no-first, prints, prints-then, prints-nothing-then, prints-then-nothing, reads-none}
-use Rattle.far_shell.proofs.ScriptLaws.{begins-then, opens-then}
-use Rattle.far_script.proofs.StopLaws.{coming, counts-then, gives-then, if-input, spent-rest, starts, starts-split, starts-then, stops-here, stops-more, stops-then}
+use Rattle.far_script.proofs.FlowLaws.{no-first, no-rest, prints, prints-then, prints-nothing-then, prints-then-nothing, reads-none}
+use Rattle.far_shell.proofs.ScriptLaws.{begins-then, either, opens-then}
+use Rattle.far_script.proofs.StopLaws.{coming, counts-then, gives-then, if-input, leaves-same, short-later, spent-rest, starts, starts-split, starts-then, stops-here, stops-more, stops-then}
 
 -- a first line is rejected by no such fault
 rejected-input : (why : ShellFault) (says : List ℕ → Type 0) (text : List ℕ) (P : Type 0) → Rejection why says text → IfInput why P
@@ -33,35 +34,36 @@ rejected-input fault.Turns says text P h = absurd h
 
 module _ {R : Type 0} (read : Ghosts R) where
   -- a whole line came, and is at fault with what came behind it
-  stops-line : (before mid new : Input R read) (raw line : List ℕ) (unseen : Type 0) (fails : List ℕ → List ℕ → Type 0) → IsOneLine raw → line ≡ strip_last 13 raw → Reads read before (raw ++ 10 ∷ []) mid
-      → Stops read (λ behind. fails line behind) mid new → Stops read (HasNoTurn unseen fails) before new
+  stops-line : (before mid new : Input R read) (raw line : List ℕ) (unseen : Type 0) (fails : List ℕ → List ℕ → List ℕ → Type 0) → IsOneLine raw → line ≡ strip_last 13 raw → Reads read before (raw ++ 10 ∷ []) mid
+      → Stops read (λ behind rest. fails rest line behind) mid new → Stops read (λ bytes rest. HasNoTurn unseen (IsOver read new rest) (fails rest) bytes) before new
   stops-line before mid new raw line unseen fails one stripped p s =
-      stops-then read before mid new (raw ++ 10 ∷ []) (λ behind. fails line behind) (HasNoTurn unseen fails) p
-      (λ behind h. inr (raw, behind, one, append_assoc raw (10 ∷ []) behind, subst (λ (z : List ℕ). fails z behind) stripped h)) s
+      stops-then read before mid new (raw ++ 10 ∷ []) (λ behind rest. fails rest line behind) (λ bytes rest. HasNoTurn unseen (IsOver read new rest) (fails rest) bytes) p
+      (λ behind rest h. inr (raw, behind, one, append_assoc raw (10 ∷ []) behind, subst (λ (z : List ℕ). fails rest z behind) stripped h)) s
 
   -- the last one came
-  stops-last : (before mid new : Input R read) (line : List ℕ) (unseen : Type 0) (fails : List ℕ → List ℕ → Type 0) → IsOneLine line → Reads read before line mid → IsSpent read mid
-      → Stops read (λ behind. fails line behind) mid new → Stops read (HasNoTurn unseen fails) before new
+  stops-last : (before mid new : Input R read) (line : List ℕ) (unseen : Type 0) (fails : List ℕ → List ℕ → List ℕ → Type 0) → IsOneLine line → Reads read before line mid → IsSpent read mid
+      → Stops read (λ behind rest. fails rest line behind) mid new → Stops read (λ bytes rest. HasNoTurn unseen (IsOver read new rest) (fails rest) bytes) before new
   stops-last before mid new line unseen fails one p spent s =
       let none : s.0 ≡ [] = no-first s.0 s.1 (s.2.1 spent) in
-      stops-then read before mid new line (λ behind. (behind ≡ []) × fails line behind) (HasNoTurn unseen fails) p
-      (λ behind h. subst (λ (z : List ℕ). HasNoTurn unseen fails z) (sym (ap (λ (z : List ℕ). line ++ z) h.0 ∙ append-nil line)) (inl (one, inr (subst (λ (z : List ℕ). fails line z) h.0 h.1))))
-      (s.0, s.1, s.2, s.3, (none, s.4))
+      let over : IsOver read new s.1 = (s.3.1 spent.1, no-rest s.0 s.1 (s.2.1 spent)) in
+      stops-then read before mid new line (λ behind rest. (behind ≡ []) × IsOver read new rest × fails rest line behind) (λ bytes rest. HasNoTurn unseen (IsOver read new rest) (fails rest) bytes) p
+      (λ behind rest h. subst (λ (z : List ℕ). HasNoTurn unseen (IsOver read new rest) (fails rest) z) (sym (ap (λ (z : List ℕ). line ++ z) h.0 ∙ append-nil line)) (inl (one, inr (h.1, subst (λ (z : List ℕ). fails rest line z) h.0 h.2))))
+      (s.0, s.1, s.2, s.3, (none, over, s.4))
 
   -- a line that came is no text
   pub no-text-line : (before mid : Input R read) (raw line : List ℕ) (unseen : Type 0) → list_any (λ x. x == 10) raw ≡ false → line ≡ strip_last 13 raw → Reads read before (raw ++ 10 ∷ []) mid → (IsUtf8 line → ⊥)
-      → Stops read (HasNoTurn unseen (λ line behind. ¬ (IsUtf8 line))) before mid
-  no-text-line before mid raw line unseen one stripped p h = stops-line before mid mid raw line unseen (λ line behind. ¬ (IsUtf8 line)) one stripped p (stops-here read mid mid (λ behind. ¬ (IsUtf8 line)) refl h)
+      → Stops read (λ bytes rest. HasNoTurn unseen (IsOver read mid rest) (λ line behind. ¬ (IsUtf8 line)) bytes) before mid
+  no-text-line before mid raw line unseen one stripped p h = stops-line before mid mid raw line unseen (λ rest line behind. ¬ (IsUtf8 line)) one stripped p (stops-here read mid mid (λ behind rest. ¬ (IsUtf8 line)) refl (λ e. e) (leaves-same _ _) h)
 
   pub no-text-last : (before mid : Input R read) (line : List ℕ) (unseen : Type 0) → list_any (λ x. x == 10) line ≡ false → Reads read before line mid → IsSpent read mid → (IsUtf8 line → ⊥)
-      → Stops read (HasNoTurn unseen (λ line behind. ¬ (IsUtf8 line))) before mid
-  no-text-last before mid line unseen one p spent h = stops-last before mid mid line unseen (λ line behind. ¬ (IsUtf8 line)) one p spent (stops-here read mid mid (λ behind. ¬ (IsUtf8 line)) refl h)
+      → Stops read (λ bytes rest. HasNoTurn unseen (IsOver read mid rest) (λ line behind. ¬ (IsUtf8 line)) bytes) before mid
+  no-text-last before mid line unseen one p spent h = stops-last before mid mid line unseen (λ rest line behind. ¬ (IsUtf8 line)) one p spent (stops-here read mid mid (λ behind rest. ¬ (IsUtf8 line)) refl (λ e. e) (leaves-same _ _) h)
 
   -- no whole line came, since the end was not seen
-  pub no-line : (why : ShellFault) (unseen : Type 0) (before new : Input R read) → IfInput why unseen → IfInput why (Stops read IsOneLine before new)
-      → IfInput why (Stops read (HasNoTurn unseen (λ line behind. ¬ (IsUtf8 line))) before new)
+  pub no-line : (why : ShellFault) (unseen : Type 0) (before new : Input R read) → IfInput why unseen → IfInput why (Stops read (λ bytes rest. IsOneLine bytes) before new)
+      → IfInput why (Stops read (λ bytes rest. HasNoTurn unseen (IsOver read new rest) (λ line behind. ¬ (IsUtf8 line)) bytes) before new)
   no-line fault.BadStart unseen before new u h = tt
-  no-line fault.Input unseen before new u h = stops-more read before new IsOneLine (HasNoTurn unseen (λ line behind. ¬ (IsUtf8 line))) (λ bytes one. inl (one, inl u)) h
+  no-line fault.Input unseen before new u h = stops-more read before new (λ bytes rest. IsOneLine bytes) (λ bytes rest. HasNoTurn unseen (IsOver read new rest) (λ line behind. ¬ (IsUtf8 line)) bytes) (λ bytes rest one. inl (one, inl u)) h
   no-line fault.Output unseen before new u h = tt
   no-line fault.Memory unseen before new u h = tt
   no-line fault.Turns unseen before new u h = tt
@@ -71,12 +73,16 @@ nothing-printed a b c d h k l m text front q t u none =
     prints-then-nothing a b d h text k m q (prints-then-nothing b c d k [] l m t (subst (λ (z : List ℕ). Prints c l z d m) none u))
 
 module _ {R : Type 0} (read : Ghosts R) {S K : Type 0} (tickets : Tickets S K) (unseen : Type 0) where
+  -- why a load lacks bytes
+  abbrev pub Short : Input R read → List ℕ → Type 0
+  Short new rest = IsOver read new rest ⊎ unseen
+
   -- how the lines of a script break off
   abbrev pub Ending : Input R read → Input R read → Option (List ℕ) → Option (List ℕ) → List ℕ → List ℕ → At K → ShellFault → Type 0
-  Ending first new a b h k old why = (all : List ℕ) × (rest : List ℕ) × (said : List ℕ) × Gives read why first new all rest × Prints a h said b k × BreaksOff tickets unseen old why all said
+  Ending first new a b h k old why = (all : List ℕ) × (rest : List ℕ) × (said : List ℕ) × Gives read why first new all rest × Prints a h said b k × BreaksOff tickets unseen (IsOver read new rest) old why all said
 
   between : (first after new : Input R read) (a b : Option (List ℕ)) (h k : List ℕ) (old at : At K) (bytes text : List ℕ) (why : ShellFault)
-      → IfInput why (Counts read first bytes new) → BreaksIn unseen why at [] [] → Reads read first bytes after → Prints a h text b k → Answers tickets old bytes text at → Ending first new a b h k old why
+      → IfInput why (Counts read first bytes new) → BreaksIn unseen (IsOver read new (coming read after)) why at [] [] → Reads read first bytes after → Prints a h text b k → Answers tickets old bytes text at → Ending first new a b h k old why
   between first after new a b h k old at bytes text why counts cut p q r = (
     bytes,
     coming read after,
@@ -88,7 +94,7 @@ module _ {R : Type 0} (read : Ghosts R) {S K : Type 0} (tickets : Tickets S K) (
 
   -- no whole turn came behind
   stopped : (first after new : Input R read) (a b : Option (List ℕ)) (h k : List ℕ) (old at : At K) (bytes text : List ℕ)
-      → Reads read first bytes after → Prints a h text b k → Answers tickets old bytes text at → Stops read (HasNoTurn unseen (Fails at.world.state.table.schema)) after new → Ending first new a b h k old fault.Input
+      → Reads read first bytes after → Prints a h text b k → Answers tickets old bytes text at → Stops read (λ bytes rest. HasNoTurn unseen (IsOver read new rest) (Fails (Short new rest) at.world.state.table.schema) bytes) after new → Ending first new a b h k old fault.Input
   stopped first after new a b h k old at bytes text p q r s = (
     bytes ++ s.0,
     s.1,
@@ -100,7 +106,7 @@ module _ {R : Type 0} (read : Ghosts R) {S K : Type 0} (tickets : Tickets S K) (
 
   -- a script breaks off between two lines
   pub breaks-between : (first after new : Input R read) (a b : Option (List ℕ)) (h k : List ℕ) (old at : At K) (bytes text : List ℕ) (why : ShellFault) → (why ≡ fault.BadStart → ⊥) → (why ≡ fault.Turns → ⊥)
-      → Reads read first bytes after → Prints a h text b k → Answers tickets old bytes text at → IfInput why unseen → IfInput why (Stops read IsOneLine after new) → Ending first new a b h k old why
+      → Reads read first bytes after → Prints a h text b k → Answers tickets old bytes text at → IfInput why unseen → IfInput why (Stops read (λ bytes rest. IsOneLine bytes) after new) → Ending first new a b h k old why
   breaks-between first after new a b h k old at bytes text fault.BadStart other apart p q r u s = absurd (other refl)
   breaks-between first after new a b h k old at bytes text fault.Input other apart p q r u s = stopped first after new a b h k old at bytes text p q r (s.0, s.1, s.2, s.3, inl (s.4, inl u))
   breaks-between first after new a b h k old at bytes text fault.Output other apart p q r u s = between first after new a b h k old at bytes text fault.Output tt (refl, inl refl) p q r
@@ -109,7 +115,7 @@ module _ {R : Type 0} (read : Ghosts R) {S K : Type 0} (tickets : Tickets S K) (
 
   -- within a line
   within-line : (first before mid new : Input R read) (a b c d : Option (List ℕ)) (h k l m : List ℕ) (old at : At K) (raw bytes text front : List ℕ) (why : ShellFault)
-      → IfInput why (Counts read first (bytes ++ raw) new) → BreaksIn unseen why at raw front
+      → IfInput why (Counts read first (bytes ++ raw) new) → BreaksIn unseen (IsOver read new (10 ∷ coming read mid)) why at raw front
       → Reads read first bytes before → Prints a h text b k → Answers tickets old bytes text at → Reads read before (raw ++ 10 ∷ []) mid → Prints b k [] c l → Prints c l front d m → Ending first new a d h m old why
   within-line first before mid new a b c d h k l m old at raw bytes text front why counts cut p q r s t u = (
     bytes ++ raw,
@@ -126,7 +132,7 @@ module _ {R : Type 0} (read : Ghosts R) {S K : Type 0} (tickets : Tickets S K) (
 
   -- within the last line
   within-last : (first before mid new : Input R read) (a b c d : Option (List ℕ)) (h k l m : List ℕ) (old at : At K) (line bytes text front : List ℕ) (why : ShellFault)
-      → IfInput why (Counts read first (bytes ++ line) new) → BreaksIn unseen why at line front
+      → IfInput why (Counts read first (bytes ++ line) new) → BreaksIn unseen (IsOver read new (coming read mid)) why at line front
       → Reads read first bytes before → Prints a h text b k → Answers tickets old bytes text at → Reads read before line mid → Prints b k [] c l → Prints c l front d m → Ending first new a d h m old why
   within-last first before mid new a b c d h k l m old at line bytes text front why counts cut p q r s t u = (
     bytes ++ line,
@@ -141,11 +147,11 @@ module _ {R : Type 0} (read : Ghosts R) {S K : Type 0} (tickets : Tickets S K) (
   pub breaks-line : (first before mid new : Input R read) (a b c d : Option (List ℕ)) (h k l m : List ℕ) (old at : At K) (line raw bytes text : List ℕ) (why : ShellFault)
       → Reads read first bytes before → Prints a h text b k → Answers tickets old bytes text at
       → list_any (λ x. x == 10) raw ≡ false → line ≡ strip_last 13 raw → Reads read before (raw ++ 10 ∷ []) mid → Prints b k [] c l
-      → PrintsCut why (λ said. Lists at line said) c l d m → IfInput why (Stops read (λ behind. Fails at.world.state.table.schema line behind) mid new)
+      → PrintsCut why (λ said. Lists at line said) c l d m → IfInput why (Stops read (λ behind rest. Fails (Short new rest) at.world.state.table.schema line behind) mid new)
       → Ending first new a d h m old why
   breaks-line first before mid new a b c d h k l m old at line raw bytes text fault.BadStart p q r one stripped s t u v = absurd u.2
   breaks-line first before mid new a b c d h k l m old at line raw bytes text fault.Input p q r one stripped s t u v =
-      stopped first before new a d h m old at bytes text p (nothing-printed a b c d h k l m text u.0 q t u.1 u.2) r (stops-line read before mid new raw line unseen (Fails at.world.state.table.schema) one stripped s v)
+      stopped first before new a d h m old at bytes text p (nothing-printed a b c d h k l m text u.0 q t u.1 u.2) r (stops-line read before mid new raw line unseen (λ rest. Fails (Short new rest) at.world.state.table.schema) one stripped s v)
   breaks-line first before mid new a b c d h k l m old at line raw bytes text fault.Output p q r one stripped s t u v =
       within-line first before mid new a b c d h k l m old at raw bytes text u.0 fault.Output tt
       (one, front-more (λ said. Lists at line said) (ListsNext at raw) u.0 (λ said n. inr (subst (λ (z : List ℕ). Lists at z said) stripped n)) u.2) p q r s t u.1
@@ -158,12 +164,12 @@ module _ {R : Type 0} (read : Ghosts R) {S K : Type 0} (tickets : Tickets S K) (
   pub breaks-last : (first before mid new : Input R read) (a b c d : Option (List ℕ)) (h k l m : List ℕ) (old at : At K) (line bytes text : List ℕ) (why : ShellFault)
       → Reads read first bytes before → Prints a h text b k → Answers tickets old bytes text at
       → list_any (λ x. x == 10) line ≡ false → Reads read before line mid → IsSpent read mid → Prints b k [] c l
-      → PrintsCut why (λ said. Lists at line said) c l d m → IfInput why (Stops read (λ behind. Fails at.world.state.table.schema line behind) mid new)
+      → PrintsCut why (λ said. Lists at line said) c l d m → IfInput why (Stops read (λ behind rest. Fails (Short new rest) at.world.state.table.schema line behind) mid new)
       → Ending first new a d h m old why
   breaks-last first before mid new a b c d h k l m old at line bytes text fault.BadStart p q r one s spent t u v = absurd u.2
   breaks-last first before mid new a b c d h k l m old at line bytes text fault.Input p q r one s spent t u v =
       stopped first before new a d h m old at bytes text p (nothing-printed a b c d h k l m text u.0 q t u.1 u.2) r
-      (stops-last read before mid new line unseen (Fails at.world.state.table.schema) one s spent v)
+      (stops-last read before mid new line unseen (λ rest. Fails (Short new rest) at.world.state.table.schema) one s spent v)
   breaks-last first before mid new a b c d h k l m old at line bytes text fault.Output p q r one s spent t u v =
       within-last first before mid new a b c d h k l m old at line bytes text u.0 fault.Output tt (one, front-more (λ said. Lists at line said) (ListsNext at line) u.0 (λ said n. inl n) u.2) p q r s t u.1
   breaks-last first before mid new a b c d h k l m old at line bytes text fault.Memory p q r one s spent t u v =
@@ -176,42 +182,43 @@ starts-none None = tt
 starts-none (Some xs) = refl
 
 -- a first command is at fault
-not-begun : (unseen : Type 0) (why : ShellFault) (says : List ℕ → Type 0) (bytes rest text : List ℕ) → Rejection why says text → (says text → Rejects bytes (rest ≡ []) text) → HasNotBegun unseen why bytes rest text
-not-begun unseen fault.BadStart says bytes rest text h f = f h
-not-begun unseen fault.Input says bytes rest text h f = absurd h
-not-begun unseen fault.Output says bytes rest text h f = absurd h
-not-begun unseen fault.Memory says bytes rest text h f = h
-not-begun unseen fault.Turns says bytes rest text h f = absurd h
+not-begun : (unseen spent : Type 0) (why : ShellFault) (says : List ℕ → Type 0) (bytes rest text : List ℕ) → Rejection why says text → (says text → Rejects bytes (rest ≡ []) text) → HasNotBegun unseen spent why bytes rest text
+not-begun unseen spent fault.BadStart says bytes rest text h f = f h
+not-begun unseen spent fault.Input says bytes rest text h f = absurd h
+not-begun unseen spent fault.Output says bytes rest text h f = absurd h
+not-begun unseen spent fault.Memory says bytes rest text h f = h
+not-begun unseen spent fault.Turns says bytes rest text h f = absurd h
 
-broken-first : {S K : Type 0} (tickets : Tickets S K) (unseen : Type 0) (why : ShellFault) (bytes rest text : List ℕ) → HasNotBegun unseen why bytes rest text → IsBroken tickets unseen why bytes rest text
-broken-first tickets unseen fault.BadStart bytes rest text h = h
-broken-first tickets unseen fault.Input bytes rest text h = inl h
-broken-first tickets unseen fault.Output bytes rest text h = inl h
-broken-first tickets unseen fault.Memory bytes rest text h = inl h
-broken-first tickets unseen fault.Turns bytes rest text h = absurd h
+broken-first : {S K : Type 0} (tickets : Tickets S K) (unseen spent : List ℕ → Type 0) (why : ShellFault) (bytes rest text : List ℕ) → HasNotBegun (unseen bytes) (spent rest) why bytes rest text → IsBroken tickets unseen spent why bytes rest text
+broken-first tickets unseen spent fault.BadStart bytes rest text h = h
+broken-first tickets unseen spent fault.Input bytes rest text h = inl h
+broken-first tickets unseen spent fault.Output bytes rest text h = inl h
+broken-first tickets unseen spent fault.Memory bytes rest text h = inl h
+broken-first tickets unseen spent fault.Turns bytes rest text h = absurd h
 
-broken-later : {S K : Type 0} (tickets : Tickets S K) (unseen : Type 0) (why : ShellFault) (bytes rest text : List ℕ) → BreaksLater tickets unseen why bytes rest text → IsBroken tickets unseen why bytes rest text
-broken-later tickets unseen fault.BadStart bytes rest text h = absurd h.breaks.cut
-broken-later tickets unseen fault.Input bytes rest text h = inr h
-broken-later tickets unseen fault.Output bytes rest text h = inr h
-broken-later tickets unseen fault.Memory bytes rest text h = inr h
-broken-later tickets unseen fault.Turns bytes rest text h = absurd h.breaks.cut
+broken-later : {S K : Type 0} (tickets : Tickets S K) (unseen spent : List ℕ → Type 0) (why : ShellFault) (bytes rest text : List ℕ) → BreaksLater tickets (unseen bytes) (spent rest) why bytes rest text → IsBroken tickets unseen spent why bytes rest text
+broken-later tickets unseen spent fault.BadStart bytes rest text h = absurd h.breaks.cut
+broken-later tickets unseen spent fault.Input bytes rest text h = inr h
+broken-later tickets unseen spent fault.Output bytes rest text h = inr h
+broken-later tickets unseen spent fault.Memory bytes rest text h = inr h
+broken-later tickets unseen spent fault.Turns bytes rest text h = absurd h.breaks.cut
 
-ends-by : {S K : Type 0} (tickets : Tickets S K) (unseen : Type 0) (why : ShellFault) (bytes rest text lost : List ℕ) → IsBroken tickets unseen why bytes rest text → lost ≡ [] → EndsBy tickets unseen why bytes rest text lost
-ends-by tickets unseen fault.BadStart bytes rest text lost h none = (h, none)
-ends-by tickets unseen fault.Input bytes rest text lost h none = (h, none)
-ends-by tickets unseen fault.Output bytes rest text lost h none = inr (fault.Output, h)
-ends-by tickets unseen fault.Memory bytes rest text lost h none = (h, none)
-ends-by tickets unseen fault.Turns bytes rest text lost h none = (h, none)
+ends-by : {S K : Type 0} (tickets : Tickets S K) (unseen spent : List ℕ → Type 0) (splits : ShellFault → List ℕ → List ℕ → Type 0) (why : ShellFault) (bytes rest text lost : List ℕ) → splits why bytes rest → IsBroken tickets unseen spent why bytes rest text → lost ≡ []
+    → EndsBy tickets unseen spent splits why bytes rest text lost
+ends-by tickets unseen spent splits fault.BadStart bytes rest text lost begins h none = (h, none)
+ends-by tickets unseen spent splits fault.Input bytes rest text lost begins h none = (h, none)
+ends-by tickets unseen spent splits fault.Output bytes rest text lost begins h none = inr (fault.Output, begins, h)
+ends-by tickets unseen spent splits fault.Memory bytes rest text lost begins h none = (h, none)
+ends-by tickets unseen spent splits fault.Turns bytes rest text lost begins h none = (h, none)
 
 module _ {R : Type 0} (read : Ghosts R) (unseen : Type 0) where
   -- how the first command of a script breaks off
   abbrev pub Starting : Input R read → Input R read → Option (List ℕ) → Option (List ℕ) → List ℕ → List ℕ → ShellFault → Type 0
-  Starting first new a b h k why = (bytes : List ℕ) × (rest : List ℕ) × (text : List ℕ) × Gives read why first new bytes rest × Prints a h text b k × HasNotBegun unseen why bytes rest text
+  Starting first new a b h k why = (bytes : List ℕ) × (rest : List ℕ) × (text : List ℕ) × Gives read why first new bytes rest × Prints a h text b k × HasNotBegun unseen (IsOver read new rest) why bytes rest text
 
   -- no command was read yet
   pub breaks-first : (first before new : Input R read) (a b : Option (List ℕ)) (h k blank : List ℕ) (blanks : List (List ℕ)) (why : ShellFault) → (why ≡ fault.BadStart → ⊥) → (why ≡ fault.Turns → ⊥)
-      → Reads read first blank before → Blank blank blanks → Prints a h [] b k → IfInput why (Stops read (HasNoTurn unseen (λ line behind. ¬ (IsUtf8 line))) before new) → Starting first new a b h k why
+      → Reads read first blank before → Blank blank blanks → Prints a h [] b k → IfInput why (Stops read (λ bytes rest. HasNoTurn unseen (IsOver read new rest) (λ line behind. ¬ (IsUtf8 line)) bytes) before new) → Starting first new a b h k why
   breaks-first first before new a b h k blank blanks fault.BadStart other apart p empty q s = absurd (other refl)
   breaks-first first before new a b h k blank blanks fault.Input other apart p empty q s = (
     blank ++ s.0,
@@ -235,7 +242,7 @@ module _ {R : Type 0} (read : Ghosts R) (unseen : Type 0) where
     text,
     (starts read old mid first p, rejected-input why (IsUnknown line) text (Counts read old first mid) h),
     prints-nothing-then u w w held l text left q (prints w l text left e),
-    not-begun unseen why (IsUnknown line) first (coming read mid) text h (λ unknown. inl (line, begins-then first line (IsSpent read mid) (coming read mid ≡ []) (spent-rest read mid) b, inl unknown)),
+    not-begun unseen (IsOver read mid (coming read mid)) why (IsUnknown line) first (coming read mid) text h (λ unknown. inl (line, begins-then first line (IsSpent read mid) (coming read mid ≡ []) (spent-rest read mid) b, inl unknown)),
   )
 
   -- or there is none
@@ -257,12 +264,12 @@ module _ {R : Type 0} (read : Ghosts R) (unseen : Type 0) where
 module _ {R : Type 0} (read : Ghosts R) {S K : Type 0} (tickets : Tickets S K) (unseen : Type 0) where
   -- how a script breaks off
   abbrev pub Breaking : Input R read → Input R read → Option (List ℕ) → Option (List ℕ) → List ℕ → ShellFault → Type 0
-  Breaking first new a b left why = (bytes : List ℕ) × (rest : List ℕ) × (text : List ℕ) × Gives read why first new bytes rest × Prints a [] text b left × IsBroken tickets unseen why bytes rest text
+  Breaking first new a b left why = (bytes : List ℕ) × (rest : List ℕ) × (text : List ℕ) × Gives read why first new bytes rest × Prints a [] text b left × IsBroken tickets (λ _. unseen) (IsOver read new) why bytes rest text
 
   -- before its first command was understood
   pub breaks-start : (old new : Input R read) (u w : Option (List ℕ)) (held left : List ℕ) (why : ShellFault) → held ≡ [] → Starting read unseen old new u w held left why → Breaking old new u w left why
   breaks-start old new u w held left why empty s =
-      (s.0, s.1, s.2, s.3, subst (λ (z : List ℕ). Prints u z s.2 w left) empty s.4, broken-first tickets unseen why s.0 s.1 s.2 s.5)
+      (s.0, s.1, s.2, s.3, subst (λ (z : List ℕ). Prints u z s.2 w left) empty s.4, broken-first tickets (λ _. unseen) (IsOver read new) why s.0 s.1 s.2 s.5)
 
   -- the store of its table cannot be made
   pub breaks-store : (old mid : Input R read) (u w : Option (List ℕ)) (held left first : List ℕ) → held ≡ [] → Reads read old first mid → Prints u held [] w left → Breaking old mid u w left fault.Memory
@@ -279,14 +286,14 @@ module _ {R : Type 0} (read : Ghosts R) {S K : Type 0} (tickets : Tickets S K) (
     text,
     (starts read old mid first p, rejected-input why (IsRefused opened) text (Counts read old first mid) h),
     subst (λ (z : List ℕ). Prints u z text w left) empty (prints-nothing-then u w w held l text left q (prints w l text left e)),
-    broken-first tickets unseen why first (coming read mid) text (not-begun unseen why (IsRefused opened) first (coming read mid) text h
+    broken-first tickets (λ _. unseen) (IsOver read mid) why first (coming read mid) text (not-begun unseen (IsOver read mid (coming read mid)) why (IsRefused opened) first (coming read mid) text h
         (λ refused. inl (line, begins-then first line (IsSpent read mid) (coming read mid ≡ []) (spent-rest read mid) b, inr (opened, asks, refused)))),
   )
 
   -- behind the first command
   pub breaks-later : (old mid new : Input R read) (u v w : Option (List ℕ)) (held k left first bytes rest text : List ℕ) (at : At K) (why : ShellFault)
       → held ≡ [] → Reads read old first mid → Prints u held (codes "ok\n") v k → Opens first (IsSpent read mid) at
-      → Gives read why mid new bytes rest → Prints v k text w left → BreaksOff tickets unseen at why bytes text
+      → Gives read why mid new bytes rest → Prints v k text w left → BreaksOff tickets unseen (IsOver read new rest) at why bytes text
       → Breaking old new u w left why
   breaks-later old mid new u v w held k left first bytes rest text at why empty p q o g t b = (
     first ++ bytes,
@@ -294,114 +301,166 @@ module _ {R : Type 0} (read : Ghosts R) {S K : Type 0} (tickets : Tickets S K) (
     codes "ok\n" ++ text,
     gives-then read old mid new first bytes rest why p g,
     subst (λ (z : List ℕ). Prints u z (codes "ok\n" ++ text) w left) empty (prints-then u v w held (codes "ok\n") k text left q t),
-    broken-later tickets unseen why (first ++ bytes) rest (codes "ok\n" ++ text)
+    broken-later tickets (λ _. unseen) (IsOver read new) why (first ++ bytes) rest (codes "ok\n" ++ text)
         (record { first = first; at = at; more = bytes; tail = text; opens = opens-then first (IsSpent read mid) (bytes ++ rest ≡ []) at g.0.1 o; breaks = b; whole = refl; said = refl }),
   )
 
 -- a script is broken off, and what was printed is written
-pub breaks-written : {S K : Type 0} (tickets : Tickets S K) (unseen : Type 0) (splits : List ℕ → List ℕ → Type 0) (u v w : Option (List ℕ)) (why : ShellFault) (bytes rest text left : List ℕ) → splits bytes rest → Prints u [] text v left → IsBroken tickets unseen why bytes rest text
-    → Prints v left [] w [] → Breaks tickets unseen splits u w why
-breaks-written tickets unseen splits u v w why bytes rest text left begins p b q =
+pub breaks-written : {S K : Type 0} (tickets : Tickets S K) (unseen spent : List ℕ → Type 0) (splits : ShellFault → List ℕ → List ℕ → Type 0) (u v w : Option (List ℕ)) (why : ShellFault) (bytes rest text left : List ℕ) → splits why bytes rest → Prints u [] text v left → IsBroken tickets unseen spent why bytes rest text
+    → Prints v left [] w [] → Breaks tickets unseen spent splits u w why
+breaks-written tickets unseen spent splits u v w why bytes rest text left begins p b q =
     let all = prints-then-nothing u v w [] text left [] p q in
-    record { bytes = bytes; rest = rest; begins = begins; text = text; sent = all.0; lost = []; written = all.1; said = all.2; ends = ends-by tickets unseen why bytes rest text [] b refl }
+    record { bytes = bytes; rest = rest; begins = begins; text = text; sent = all.0; lost = []; written = all.1; said = all.2; ends = ends-by tickets unseen spent splits why bytes rest text [] begins b refl }
 
 -- a script is broken off, and then a write fails
-pub breaks-unwritten : {S K : Type 0} (tickets : Tickets S K) (unseen : Type 0) (splits : List ℕ → List ℕ → Type 0) (u v w : Option (List ℕ)) (why : ShellFault) (bytes rest text left lost : List ℕ) → splits bytes rest → Prints u [] text v left → IsBroken tickets unseen why bytes rest text
-    → Prints v left [] w lost → Breaks tickets unseen splits u w fault.Output
-breaks-unwritten tickets unseen splits u v w why bytes rest text left lost begins p b q =
+pub breaks-unwritten : {S K : Type 0} (tickets : Tickets S K) (unseen spent : List ℕ → Type 0) (splits : ShellFault → List ℕ → List ℕ → Type 0) (u v w : Option (List ℕ)) (why : ShellFault) (bytes rest text left lost : List ℕ) → splits fault.Output bytes rest → splits why bytes rest → Prints u [] text v left → IsBroken tickets unseen spent why bytes rest text
+    → Prints v left [] w lost → Breaks tickets unseen spent splits u w fault.Output
+breaks-unwritten tickets unseen spent splits u v w why bytes rest text left lost begins split p b q =
     let all = prints-then-nothing u v w [] text left lost p q in
-    record { bytes = bytes; rest = rest; begins = begins; text = text; sent = all.0; lost = lost; written = all.1; said = all.2; ends = inr (why, b) }
+    record { bytes = bytes; rest = rest; begins = begins; text = text; sent = all.0; lost = lost; written = all.1; said = all.2; ends = inr (why, split, b) }
 
 -- a script is answered, and then a write fails
-pub whole-unwritten : {S K : Type 0} (tickets : Tickets S K) (unseen : Type 0) (splits : List ℕ → List ℕ → Type 0) (u v w : Option (List ℕ)) (script rest text left lost : List ℕ) → splits script rest → Prints u [] text v left → IsAnswered tickets script (rest ≡ []) text → Prints v left [] w lost
-    → Breaks tickets unseen splits u w fault.Output
-whole-unwritten tickets unseen splits u v w script rest text left lost begins p s q =
+pub whole-unwritten : {S K : Type 0} (tickets : Tickets S K) (unseen spent : List ℕ → Type 0) (splits : ShellFault → List ℕ → List ℕ → Type 0) (u v w : Option (List ℕ)) (script rest text left lost : List ℕ) → splits fault.Output script rest → Prints u [] text v left → IsAnswered tickets script (rest ≡ []) text → Prints v left [] w lost
+    → Breaks tickets unseen spent splits u w fault.Output
+whole-unwritten tickets unseen spent splits u v w script rest text left lost begins p s q =
     let all = prints-then-nothing u v w [] text left lost p q in
     record { bytes = script; rest = rest; begins = begins; text = text; sent = all.0; lost = lost; written = all.1; said = all.2; ends = inl s }
 
-on-left : {A B C : Type 0} → (A → B) → A ⊎ C → B ⊎ C
-on-left f (inl x) = inl (f x)
-on-left f (inr y) = inr y
-
 -- why no more came, in other words
-turn-as : (P Q : Type 0) (fails : List ℕ → List ℕ → Type 0) (bytes : List ℕ) → (P → Q) → HasNoTurn P fails bytes → HasNoTurn Q fails bytes
-turn-as P Q fails bytes f (inl h) = inl (h.0, on-left f h.1)
-turn-as P Q fails bytes f (inr h) = inr h
+fails-as : (A B : Type 0) (kinds : List Kind) (line behind : List ℕ) → (A → B) → Fails A kinds line behind → Fails B kinds line behind
+fails-as A B kinds line behind f (inl h) = inl h
+fails-as A B kinds line behind f (inr h) = inr (h.0, h.1, either (λ low. (low.0, f low.1)) (λ u. u) h.2)
 
-not-begun-as : (P Q : Type 0) (why : ShellFault) (bytes rest text : List ℕ) → (P → Q) → HasNotBegun P why bytes rest text → HasNotBegun Q why bytes rest text
-not-begun-as P Q fault.BadStart bytes rest text f h = h
-not-begun-as P Q fault.Input bytes rest text f h = let s = h.0 in
-    (record { blanks = s.blanks; blank = s.blank; empty = s.empty; next = s.next; none = turn-as P Q (λ line behind. ¬ (IsUtf8 line)) s.next f s.none; whole = s.whole }, h.1)
-not-begun-as P Q fault.Output bytes rest text f h = h
-not-begun-as P Q fault.Memory bytes rest text f h = h
-not-begun-as P Q fault.Turns bytes rest text f h = h
+-- what holds at each fault
+pub always : (why : ShellFault) (P : Type 0) → P → IfInput why P
+always fault.BadStart P h = tt
+always fault.Input P h = h
+always fault.Output P h = tt
+always fault.Memory P h = tt
+always fault.Turns P h = tt
 
-breaks-in-as : {K : Type 0} (P Q : Type 0) (why : ShellFault) (at : At K) (next front : List ℕ) → (P → Q) → BreaksIn P why at next front → BreaksIn Q why at next front
-breaks-in-as P Q fault.BadStart at next front f h = h
-breaks-in-as P Q fault.Input at next front f h = (h.0, turn-as P Q (Fails at.world.state.table.schema) next f h.1)
-breaks-in-as P Q fault.Output at next front f h = h
-breaks-in-as P Q fault.Memory at next front f h = h
-breaks-in-as P Q fault.Turns at next front f h = h
+turn-as : (P Q A B : Type 0) (fails others : List ℕ → List ℕ → Type 0) (bytes : List ℕ) → (P → Q) → (A → B) → ((line behind : List ℕ) → fails line behind → others line behind) → HasNoTurn P A fails bytes → HasNoTurn Q B others bytes
+turn-as P Q A B fails others bytes f s g (inl h) = inl (h.0, either f (λ (x : A × fails bytes []). (s x.0, g bytes [] x.1)) h.1)
+turn-as P Q A B fails others bytes f s g (inr h) = inr (h.0, h.1, h.2, h.3, g (without_return h.0) h.1 h.4)
 
-module _ {S K : Type 0} (tickets : Tickets S K) (P Q : Type 0) where
-  pub breaks-off-as : (old : At K) (why : ShellFault) (bytes text : List ℕ) → (P → Q) → BreaksOff tickets P old why bytes text → BreaksOff tickets Q old why bytes text
-  breaks-off-as old why bytes text f b = record {
+not-begun-as : (P Q A B : Type 0) (why : ShellFault) (bytes rest text : List ℕ) → IfInput why (P → Q) → (A → B) → HasNotBegun P A why bytes rest text → HasNotBegun Q B why bytes rest text
+not-begun-as P Q A B fault.BadStart bytes rest text f s h = h
+not-begun-as P Q A B fault.Input bytes rest text f s h =
+    let b = h.0 in
+    let none = turn-as P Q A B (λ line behind. ¬ (IsUtf8 line)) (λ line behind. ¬ (IsUtf8 line)) b.next f s (λ line behind x. x) b.none in
+    (record { blanks = b.blanks; blank = b.blank; empty = b.empty; next = b.next; none = none; whole = b.whole }, h.1)
+not-begun-as P Q A B fault.Output bytes rest text f s h = h
+not-begun-as P Q A B fault.Memory bytes rest text f s h = h
+not-begun-as P Q A B fault.Turns bytes rest text f s h = h
+
+breaks-in-as : {K : Type 0} (P Q A B : Type 0) (why : ShellFault) (at : At K) (next front : List ℕ) → IfInput why (P → Q) → (A → B) → BreaksIn P A why at next front → BreaksIn Q B why at next front
+breaks-in-as P Q A B fault.BadStart at next front f s h = h
+breaks-in-as P Q A B fault.Input at next front f s h =
+    let kinds = at.world.state.table.schema in
+    (h.0, turn-as P Q A B (Fails (A ⊎ P) kinds) (Fails (B ⊎ Q) kinds) next f s (λ line behind x. fails-as (A ⊎ P) (B ⊎ Q) kinds line behind (λ short. either s f short) x) h.1)
+breaks-in-as P Q A B fault.Output at next front f s h = h
+breaks-in-as P Q A B fault.Memory at next front f s h = h
+breaks-in-as P Q A B fault.Turns at next front f s h = h
+
+module _ {S K : Type 0} (tickets : Tickets S K) (P Q A B : Type 0) where
+  pub breaks-off-as : (old : At K) (why : ShellFault) (bytes text : List ℕ) → IfInput why (P → Q) → (A → B) → BreaksOff tickets P A old why bytes text → BreaksOff tickets Q B old why bytes text
+  breaks-off-as old why bytes text f s b = record {
     before = b.before;
     printed = b.printed;
     mid = b.mid;
     answered = b.answered;
     next = b.next;
     front = b.front;
-    cut = breaks-in-as P Q why b.mid b.next b.front f b.cut;
+    cut = breaks-in-as P Q A B why b.mid b.next b.front f s b.cut;
     whole = b.whole;
     said = b.said;
   }
 
-  later-as : (why : ShellFault) (bytes rest text : List ℕ) → (P → Q) → BreaksLater tickets P why bytes rest text → BreaksLater tickets Q why bytes rest text
-  later-as why bytes rest text f b =
-      record { first = b.first; at = b.at; more = b.more; tail = b.tail; opens = b.opens; breaks = breaks-off-as b.at why b.more b.tail f b.breaks; whole = b.whole; said = b.said }
+  later-as : (why : ShellFault) (bytes rest text : List ℕ) → IfInput why (P → Q) → (A → B) → BreaksLater tickets P A why bytes rest text → BreaksLater tickets Q B why bytes rest text
+  later-as why bytes rest text f s b =
+      record { first = b.first; at = b.at; more = b.more; tail = b.tail; opens = b.opens; breaks = breaks-off-as b.at why b.more b.tail f s b.breaks; whole = b.whole; said = b.said }
 
   -- before or behind the first command
-  first-or-later : (why : ShellFault) (bytes rest text : List ℕ) → (P → Q) → HasNotBegun P why bytes rest text ⊎ BreaksLater tickets P why bytes rest text
-      → HasNotBegun Q why bytes rest text ⊎ BreaksLater tickets Q why bytes rest text
-  first-or-later why bytes rest text f (inl h) = inl (not-begun-as P Q why bytes rest text f h)
-  first-or-later why bytes rest text f (inr h) = inr (later-as why bytes rest text f h)
+  first-or-later : (why : ShellFault) (bytes rest text : List ℕ) → IfInput why (P → Q) → (A → B) → HasNotBegun P A why bytes rest text ⊎ BreaksLater tickets P A why bytes rest text
+      → HasNotBegun Q B why bytes rest text ⊎ BreaksLater tickets Q B why bytes rest text
+  first-or-later why bytes rest text f s h = either (λ x. not-begun-as P Q A B why bytes rest text f s x) (λ x. later-as why bytes rest text f s x) h
 
-  broken-as : (why : ShellFault) (bytes rest text : List ℕ) → (P → Q) → IsBroken tickets P why bytes rest text → IsBroken tickets Q why bytes rest text
-  broken-as fault.BadStart bytes rest text f h = h
-  broken-as fault.Input bytes rest text f h = first-or-later fault.Input bytes rest text f h
-  broken-as fault.Output bytes rest text f h = first-or-later fault.Output bytes rest text f h
-  broken-as fault.Memory bytes rest text f h = first-or-later fault.Memory bytes rest text f h
-  broken-as fault.Turns bytes rest text f h = h
+module _ {S K : Type 0} (tickets : Tickets S K) (P Q A B : List ℕ → Type 0) where
+  broken-as : (why : ShellFault) (bytes rest text : List ℕ) → IfInput why (P bytes → Q bytes) → (A rest → B rest) → IsBroken tickets P A why bytes rest text → IsBroken tickets Q B why bytes rest text
+  broken-as fault.BadStart bytes rest text f s h = h
+  broken-as fault.Input bytes rest text f s h = first-or-later tickets (P bytes) (Q bytes) (A rest) (B rest) fault.Input bytes rest text f s h
+  broken-as fault.Output bytes rest text f s h = first-or-later tickets (P bytes) (Q bytes) (A rest) (B rest) fault.Output bytes rest text f s h
+  broken-as fault.Memory bytes rest text f s h = first-or-later tickets (P bytes) (Q bytes) (A rest) (B rest) fault.Memory bytes rest text f s h
+  broken-as fault.Turns bytes rest text f s h = h
 
-  unwritten-as : (bytes rest text : List ℕ) → (P → Q) → IsAnswered tickets bytes (rest ≡ []) text ⊎ ((why : ShellFault) × IsBroken tickets P why bytes rest text)
-      → IsAnswered tickets bytes (rest ≡ []) text ⊎ ((why : ShellFault) × IsBroken tickets Q why bytes rest text)
-  unwritten-as bytes rest text f (inl h) = inl h
-  unwritten-as bytes rest text f (inr h) = inr (h.0, broken-as h.0 bytes rest text f h.1)
+module _ {S K : Type 0} (tickets : Tickets S K) (P Q A B : List ℕ → Type 0) (splits others : ShellFault → List ℕ → List ℕ → Type 0) (f : (why : ShellFault) (bytes rest : List ℕ) → splits why bytes rest → IfInput why (P bytes → Q bytes))
+    (s : (rest : List ℕ) → A rest → B rest) (g : (why : ShellFault) (bytes rest : List ℕ) → splits why bytes rest → others why bytes rest) where
+  unwritten-as : (bytes rest text : List ℕ) → IsAnswered tickets bytes (rest ≡ []) text ⊎ ((why : ShellFault) × splits why bytes rest × IsBroken tickets P A why bytes rest text)
+      → IsAnswered tickets bytes (rest ≡ []) text ⊎ ((why : ShellFault) × others why bytes rest × IsBroken tickets Q B why bytes rest text)
+  unwritten-as bytes rest text (inl h) = inl h
+  unwritten-as bytes rest text (inr h) = inr (h.0, g h.0 bytes rest h.1, broken-as tickets P Q A B h.0 bytes rest text (f h.0 bytes rest h.1) (s rest) h.2)
 
-  ends-as : (why : ShellFault) (bytes rest text lost : List ℕ) → (P → Q) → EndsBy tickets P why bytes rest text lost → EndsBy tickets Q why bytes rest text lost
-  ends-as fault.BadStart bytes rest text lost f h = h
-  ends-as fault.Input bytes rest text lost f h = (broken-as fault.Input bytes rest text f h.0, h.1)
-  ends-as fault.Output bytes rest text lost f h = unwritten-as bytes rest text f h
-  ends-as fault.Memory bytes rest text lost f h = (broken-as fault.Memory bytes rest text f h.0, h.1)
-  ends-as fault.Turns bytes rest text lost f h = h
+  ends-as : (why : ShellFault) (bytes rest text lost : List ℕ) → splits why bytes rest → EndsBy tickets P A splits why bytes rest text lost → EndsBy tickets Q B others why bytes rest text lost
+  ends-as fault.BadStart bytes rest text lost begins h = h
+  ends-as fault.Input bytes rest text lost begins h = (broken-as tickets P Q A B fault.Input bytes rest text (f fault.Input bytes rest begins) (s rest) h.0, h.1)
+  ends-as fault.Output bytes rest text lost begins h = unwritten-as bytes rest text h
+  ends-as fault.Memory bytes rest text lost begins h = (broken-as tickets P Q A B fault.Memory bytes rest text tt (s rest) h.0, h.1)
+  ends-as fault.Turns bytes rest text lost begins h = h
 
-  -- the same of another split
-  pub breaks-as : (splits others : List ℕ → List ℕ → Type 0) (u v : Option (List ℕ)) (why : ShellFault) → (P → Q) → ((bytes rest : List ℕ) → splits bytes rest → others bytes rest) → Breaks tickets P splits u v why
-      → Breaks tickets Q others u v why
-  breaks-as splits others u v why g f b = record {
+  -- the same in other words, and of another split
+  pub breaks-as : (u v : Option (List ℕ)) (why : ShellFault) → Breaks tickets P A splits u v why → Breaks tickets Q B others u v why
+  breaks-as u v why b = record {
     bytes = b.bytes;
     rest = b.rest;
-    begins = f b.bytes b.rest b.begins;
+    begins = g why b.bytes b.rest b.begins;
     text = b.text;
     sent = b.sent;
     lost = b.lost;
     written = b.written;
     said = b.said;
-    ends = ends-as why b.bytes b.rest b.text b.lost g b.ends;
+    ends = ends-as why b.bytes b.rest b.text b.lost b.begins b.ends;
   }
 
+-- as many bytes came as reads are made
+reads-made : (reads bytes reads_left bytes_left n held : ℕ) → reads ≡ 1048576 → held ≡ 0 → bytes_left + n ≡ bytes + held → reads + bytes_left ≤ bytes → 1048576 ≤ n
+reads-made reads bytes reads_left bytes_left n held many none counted past = omega (arith, many, none, counted, past)
+
+-- or as many as a script may have
+bytes-made : (bytes bytes_left n held : ℕ) → bytes ≡ 16777216 → held ≡ 0 → bytes_left + n ≡ bytes + held → bytes_left ≡ 0 → 1048576 ≤ n
+bytes-made bytes bytes_left n held many none counted past = omega (arith, many, none, counted, past)
+
+cut-unfinished : (may_fail : Type 0) (known : Option (List ℕ)) (reads bytes reads_left bytes_left held : ℕ) (came : List ℕ) → reads ≡ 1048576 → bytes ≡ 16777216 → held ≡ 0 → bytes_left + length came ≡ bytes + held
+    → IsCut may_fail reads bytes reads_left bytes_left known → IsUnfinished may_fail came
+cut-unfinished may_fail known reads bytes reads_left bytes_left held came many most none counted (inl h) = inl h
+cut-unfinished may_fail known reads bytes reads_left bytes_left held came many most none counted (inr (inl h)) = inr (reads-made reads bytes reads_left bytes_left (length came) held many none counted h.1)
+cut-unfinished may_fail known reads bytes reads_left bytes_left held came many most none counted (inr (inr h)) = inr (bytes-made bytes bytes_left (length came) held most none counted h.0)
+
+module _ {R : Type 0} (read : Ghosts R) (may_fail : Type 0) where
+  -- why a load lacks bytes, also counted from an earlier read
+  pub if-short : (why : ShellFault) (old mid new : Input R read) (bytes : List ℕ) → Reads read old bytes mid → mid.source.reads ≤ old.source.reads → (kinds : List Kind) (line : List ℕ)
+      → IfInput why (Stops read (λ behind rest. Fails (IsShort read may_fail mid new rest) kinds line behind) mid new) → IfInput why (Stops read (λ behind rest. Fails (IsShort read may_fail old new rest) kinds line behind) mid new)
+  if-short why old mid new bytes p low kinds line h =
+      if-input why _ _ (λ s. stops-more read mid new (λ behind rest. Fails (IsShort read may_fail mid new rest) kinds line behind) (λ behind rest. Fails (IsShort read may_fail old new rest) kinds line behind)
+      (λ behind rest f. fails-as (IsShort read may_fail mid new rest) (IsShort read may_fail old new rest) kinds line behind (λ short. short-later read may_fail old mid new bytes rest p low short) f) s) h
+
+  -- no more came of a script of which nothing was read before
+  pub unfinished : (input new : Input R read) (bytes : List ℕ) → input.source.reads ≡ 1048576 → input.source.bytes ≡ 16777216 → unread read input ≡ [] → Counts read input bytes new → IsUnseen read may_fail input new
+      → IsUnfinished may_fail bytes
+  unfinished input new bytes reads most none counts u =
+      cut-unfinished may_fail (read.remaining input.source.reader) input.source.reads input.source.bytes new.source.reads new.source.bytes (length (unread read input)) bytes reads most (ap (λ (t : List ℕ). length t) none) counts.0 u.3
+
+short-unfinished : (script bytes rest : List ℕ) → length script < 1048576 → script ≡ bytes ++ rest → IsUnfinished ⊥ bytes → ⊥
+short-unfinished script bytes rest low split (inl h) = h
+short-unfinished script bytes rest low split (inr many) = omega (arith, low, many, ap (λ (t : List ℕ). length t) split, length-append bytes rest)
+
+-- all bytes of a short script come
+pub short-whole : {S K : Type 0} (tickets : Tickets S K) (script : List ℕ) (u v : Option (List ℕ)) (why : ShellFault) → length script < 1048576 → Breaks tickets (IsUnfinished ⊥) (λ rest. rest ≡ []) (λ _ bytes rest. script ≡ bytes ++ rest) u v why
+    → Breaks tickets (λ _. ⊥) (λ rest. rest ≡ []) (λ _ bytes rest. script ≡ bytes ++ rest) u v why
+short-whole tickets script u v why low b =
+    breaks-as tickets (IsUnfinished ⊥) (λ _. ⊥) (λ rest. rest ≡ []) (λ rest. rest ≡ []) (λ _ bytes rest. script ≡ bytes ++ rest) (λ _ bytes rest. script ≡ bytes ++ rest)
+    (λ at bytes rest split. always at (IsUnfinished ⊥ bytes → ⊥) (λ unfinished. short-unfinished script bytes rest low split unfinished)) (λ rest none. none) (λ at bytes rest split. split) u v why b
+
 -- nothing was read
-pub breaks-none : {S K : Type 0} (tickets : Tickets S K) (unseen : Type 0) (known u : Option (List ℕ)) → Breaks tickets unseen (λ bytes rest. IfSome known (λ script. script ≡ bytes ++ rest)) u u fault.Memory
-breaks-none tickets unseen known u =
+pub breaks-none : {S K : Type 0} (tickets : Tickets S K) (unseen spent : List ℕ → Type 0) (known u : Option (List ℕ)) → Breaks tickets unseen spent (λ why bytes rest. IfSome known (λ script. script ≡ bytes ++ rest)) u u fault.Memory
+breaks-none tickets unseen spent known u =
     record { bytes = []; rest = unwrap_or known []; begins = starts-none known; text = []; sent = []; lost = []; written = Appends-nil u; said = refl; ends = (inl refl, refl) }

@@ -7,7 +7,7 @@ use Rattle.far_store.specs.declared.store.FarTickets.{Ghosts as Tickets}
 use Rattle.far_script.specs.declared.input.Input.{Input}
 use Rattle.far_script.specs.Flow.{Prints, Reads, unread, IsSpent}
 use Rattle.far_commands.specs.Progress.{At}
-use Rattle.std.specs.Prelude.{codes}
+use Rattle.std.specs.Prelude.{IsUtf8, codes}
 use Rattle.std.specs.Io.BufRead.{strip_last}
 use Rattle.far_commands.specs.Replies.{AnswersLine}
 use Rattle.far_script.specs.Lines.{Blank, without_return}
@@ -79,7 +79,7 @@ blank-more bytes raw (line ∷ lines) h e = (
   blank-more h.0 raw lines h.3 e,
 )
 
-either : {A B C D : Type 0} → (A → B) → (C → D) → A ⊎ C → B ⊎ D
+pub either : {A B C D : Type 0} → (A → B) → (C → D) → A ⊎ C → B ⊎ D
 either f g (inl x) = inl (f x)
 either f g (inr y) = inr (g y)
 
@@ -91,6 +91,7 @@ begins-then bytes line P Q f b = record {
   raw = b.raw;
   one = b.one;
   some = b.some;
+  text = b.text;
   is = either (λ x. x) (λ y. (y.0, y.1, f y.2)) b.is;
 }
 
@@ -119,21 +120,21 @@ module _ {R : Type 0} (read : Ghosts R) where
   -- the first command, a whole line
   pub begins-line : (old before mid : Input R read) (bytes raw line text : List ℕ) (blanks : List (List ℕ))
       → Reads read old bytes before → Blank bytes blanks → list_any (λ x. x == 10) raw ≡ false → line ≡ strip_last 13 raw → Reads read before (raw ++ 10 ∷ []) mid
-      → text ≡ line → (length line ≡ 0 → ⊥)
+      → text ≡ line → IsUtf8 text → (length line ≡ 0 → ⊥)
       → (first : List ℕ) × Reads read old first mid × Begins first (IsSpent read mid) text
-  begins-line old before mid bytes raw line text blanks p b one stripped s same some = (
+  begins-line old before mid bytes raw line text blanks p b one stripped s same utf8 some = (
     bytes ++ (raw ++ 10 ∷ []),
     reads-then read old before mid bytes (raw ++ 10 ∷ []) p s,
-    record { blanks = blanks; blank = bytes; empty = b; raw = raw; one = one; some = λ none. some (ap (λ (t : List ℕ). length t) (sym same ∙ none)); is = inl (refl, same ∙ stripped) },
+    record { blanks = blanks; blank = bytes; empty = b; raw = raw; one = one; some = λ none. some (ap (λ (t : List ℕ). length t) (sym same ∙ none)); text = utf8; is = inl (refl, same ∙ stripped) },
   )
 
   -- or the last one
   pub begins-last : (old before mid : Input R read) (bytes line text : List ℕ) (blanks : List (List ℕ))
       → Reads read old bytes before → Blank bytes blanks → list_any (λ x. x == 10) line ≡ false → Reads read before line mid → IsSpent read mid
-      → text ≡ line → (length line ≡ 0 → ⊥)
+      → text ≡ line → IsUtf8 text → (length line ≡ 0 → ⊥)
       → (first : List ℕ) × Reads read old first mid × Begins first (IsSpent read mid) text
-  begins-last old before mid bytes line text blanks p b one s spent same some = (
+  begins-last old before mid bytes line text blanks p b one s spent same utf8 some = (
     bytes ++ line,
     reads-then read old before mid bytes line p s,
-    record { blanks = blanks; blank = bytes; empty = b; raw = line; one = one; some = λ none. some (ap (λ (t : List ℕ). length t) (sym same ∙ none)); is = inr (refl, same, spent) },
+    record { blanks = blanks; blank = bytes; empty = b; raw = line; one = one; some = λ none. some (ap (λ (t : List ℕ). length t) (sym same ∙ none)); text = utf8; is = inr (refl, same, spent) },
   )

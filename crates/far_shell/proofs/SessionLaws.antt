@@ -19,7 +19,7 @@ use Rattle.far_shell.specs.Scripts.{Begins}
 use Rattle.far_shell.specs.Sessions.{CutOutcome, IsAnswered, IsThreads, TellsOutcome, gauges_text, line_of, outcome_text}
 use Rattle.far_shell.proofs.BreakLaws.{Breaking}
 use Rattle.far_commands.proofs.RowLaws.{drop-past}
-use Rattle.far_shell.proofs.ScriptLaws.{begins-then}
+use Rattle.far_shell.proofs.ScriptLaws.{begins-then, either}
 
 -- a gauge line more
 pub gauges-more : (readings : List Reading) (i : ℕ) (told : Reading) (page after whole : List ℕ) → i < length readings → after ≡ page ++ line_of i (get_or readings i told)
@@ -51,10 +51,6 @@ pub cut-unwritten : (old new : Option (List ℕ)) (sessions edits : ℕ) (text p
     → (sent : List ℕ) × CutOutcome fault.Output sessions edits sent × Appends old new sent
 cut-unwritten old new sessions edits text page left told is p =
     (p.0, (left, subst (λ (z : List ℕ). TellsOutcome sessions edits z) (sym is ∙ sym (append-nil page) ∙ p.2) told), p.1)
-
-either : {A B C D : Type 0} → (A → B) → (C → D) → A ⊎ C → B ⊎ D
-either f g (inl x) = inl (f x)
-either f g (inr y) = inr (g y)
 
 -- nothing comes behind, in other words
 pub answered-then : {S K : Type 0} (tickets : Tickets S K) (bytes text : List ℕ) (P Q : Type 0) → (P → Q) → IsAnswered tickets bytes P text → IsAnswered tickets bytes Q text

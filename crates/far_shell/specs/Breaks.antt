@@ -1,5 +1,5 @@
 -- What was printed of a script that a fault ends early.
-use Rattle.std.specs.Prelude.{◌≡◌, ◌⊎◌, ℕ, List, [], ◌∷◌, ◌++◌, Option, None, Some, IsUtf8, codes}
+use Rattle.std.specs.Prelude.{◌≡◌, ◌⊎◌, ◌≤◌, ℕ, List, [], ◌∷◌, ◌++◌, length, Option, None, Some, IsUtf8, codes}
 use Rattle.std.specs.Io.KnownBytes.{Appends}
 use Rattle.far_types.specs.declared.refusal.Refusal.TheVariants as refusal
 use Rattle.far_types.specs.Bounds.{IsSchema, AreLimits}
@@ -14,10 +14,10 @@ use Rattle.far_script.specs.Lines.{Blank, IsOneLine, without_return}
 use Rattle.far_shell.specs.Scripts.{Answers, Begins, Opens}
 use Rattle.far_shell.specs.Sessions.{AsksSessions, IsAnswered}
 
--- bytes that begin with no line that can be answered. Either none has its end, and why no more came is the first argument, or they are the
--- last line and at fault. Or the first line is at fault
-abbrev pub HasNoTurn : Type 0 → (List ℕ → List ℕ → Type 0) → List ℕ → Type 0
-HasNoTurn unseen fails bytes = (IsOneLine bytes × (unseen ⊎ fails bytes []))
+-- bytes that begin with no line that can be answered. Either none has its end, and why no more came is the first argument. Or they are the
+-- last line, and at fault; that nothing comes behind it is the second argument. Or the first line is at fault
+abbrev pub HasNoTurn : Type 0 → Type 0 → (List ℕ → List ℕ → Type 0) → List ℕ → Type 0
+HasNoTurn unseen spent fails bytes = (IsOneLine bytes × (unseen ⊎ (spent × fails bytes [])))
     ⊎ ((line : List ℕ) × (behind : List ℕ) × IsOneLine line × (bytes ≡ line ++ 10 ∷ behind) × fails (without_return line) behind)
 
 -- a line is no first line, and this is printed for it
@@ -49,21 +49,21 @@ abbrev pub Rejects : List ℕ → Type 0 → List ℕ → Type 0
 Rejects bytes spent text = ((line : List ℕ) × Begins bytes spent line × IsRejected line text) ⊎ (HasNoCommand bytes spent × (text ≡ []))
 
 -- no first command came: behind empty lines none has its end, or the first is no text
-pub record HasNoStart (unseen : Type 0) (bytes : List ℕ) : Type 0 where
+pub record HasNoStart (unseen spent : Type 0) (bytes : List ℕ) : Type 0 where
   pub blanks : List (List ℕ)
   pub blank : List ℕ
   pub empty : Blank blank blanks
   pub next : List ℕ
-  pub none : HasNoTurn unseen (λ line behind. ¬ (IsUtf8 line)) next
+  pub none : HasNoTurn unseen spent (λ line behind. ¬ (IsUtf8 line)) next
   pub whole : bytes ≡ blank ++ next
 
 -- a fault comes before any first command was understood, and this is printed
-abbrev pub HasNotBegun : Type 0 → ShellFault → List ℕ → List ℕ → List ℕ → Type 0
-HasNotBegun unseen fault.BadStart bytes rest text = Rejects bytes (rest ≡ []) text
-HasNotBegun unseen fault.Input bytes rest text = HasNoStart unseen bytes × (text ≡ [])
-HasNotBegun unseen fault.Output bytes rest text = text ≡ []
-HasNotBegun unseen fault.Memory bytes rest text = text ≡ []
-HasNotBegun unseen fault.Turns bytes rest text = ⊥
+abbrev pub HasNotBegun : Type 0 → Type 0 → ShellFault → List ℕ → List ℕ → List ℕ → Type 0
+HasNotBegun unseen spent fault.BadStart bytes rest text = Rejects bytes (rest ≡ []) text
+HasNotBegun unseen spent fault.Input bytes rest text = HasNoStart unseen spent bytes × (text ≡ [])
+HasNotBegun unseen spent fault.Output bytes rest text = text ≡ []
+HasNotBegun unseen spent fault.Memory bytes rest text = text ≡ []
+HasNotBegun unseen spent fault.Turns bytes rest text = ⊥
 
 module _ {K : Type 0} where
   -- the same of a line that may have lost a carriage return
@@ -71,16 +71,17 @@ module _ {K : Type 0} where
   ListsNext at bytes text = Lists at bytes text ⊎ Lists at (without_return bytes) text
 
   -- what follows the lines that were answered, and what is printed for it. Of an input at fault it is all that came: no whole
-  -- turn. Else it is a line, and where it asks for a dump, a front of it may be printed
-  abbrev pub BreaksIn : Type 0 → ShellFault → At K → List ℕ → List ℕ → Type 0
-  BreaksIn unseen fault.BadStart at next front = ⊥
-  BreaksIn unseen fault.Input at next front = (front ≡ []) × HasNoTurn unseen (Fails at.world.state.table.schema) next
-  BreaksIn unseen fault.Output at next front = IsOneLine next × IsFront (ListsNext at next) front
-  BreaksIn unseen fault.Memory at next front = IsOneLine next × IsFront (ListsNext at next) front
-  BreaksIn unseen fault.Turns at next front = ⊥
+  -- turn. Else it is a line, and where it asks for a dump, a front of it may be printed. The first two arguments say why no more came
+  -- though the end was not seen, and that nothing comes behind. A load lacks bytes by either
+  abbrev pub BreaksIn : Type 0 → Type 0 → ShellFault → At K → List ℕ → List ℕ → Type 0
+  BreaksIn unseen spent fault.BadStart at next front = ⊥
+  BreaksIn unseen spent fault.Input at next front = (front ≡ []) × HasNoTurn unseen spent (Fails (spent ⊎ unseen) at.world.state.table.schema) next
+  BreaksIn unseen spent fault.Output at next front = IsOneLine next × IsFront (ListsNext at next) front
+  BreaksIn unseen spent fault.Memory at next front = IsOneLine next × IsFront (ListsNext at next) front
+  BreaksIn unseen spent fault.Turns at next front = ⊥
 
--- the second argument tells why no more came of a script whose end was not seen
-module _ {S K : Type 0} (tickets : Tickets S K) (unseen : Type 0) where
+-- the second and the third argument say why no more came
+module _ {S K : Type 0} (tickets : Tickets S K) (unseen spent : Type 0) where
   -- behind the first command a script breaks off: whole lines are answered, and then no more
   pub record BreaksOff (old : At K) (why : ShellFault) (bytes text : List ℕ) : Type 0 where
     pub before : List ℕ
@@ -89,7 +90,7 @@ module _ {S K : Type 0} (tickets : Tickets S K) (unseen : Type 0) where
     pub answered : Answers tickets old before printed mid
     pub next : List ℕ
     pub front : List ℕ
-    pub cut : BreaksIn unseen why mid next front
+    pub cut : BreaksIn unseen spent why mid next front
     pub whole : bytes ≡ before ++ next
     pub said : text ≡ printed ++ front
 
@@ -104,31 +105,37 @@ module _ {S K : Type 0} (tickets : Tickets S K) (unseen : Type 0) where
     pub whole : bytes ≡ first ++ more
     pub said : text ≡ codes "ok\n" ++ tail
 
+-- why no more came is told of these first bytes, and that nothing comes behind them is told of the rest
+module _ {S K : Type 0} (tickets : Tickets S K) (unseen spent : List ℕ → Type 0) where
   -- what these first bytes of a script, with the rest behind them, are answered up to a fault
   abbrev pub IsBroken : ShellFault → List ℕ → List ℕ → List ℕ → Type 0
-  IsBroken fault.BadStart bytes rest text = HasNotBegun unseen fault.BadStart bytes rest text
-  IsBroken fault.Input bytes rest text = HasNotBegun unseen fault.Input bytes rest text ⊎ BreaksLater fault.Input bytes rest text
-  IsBroken fault.Output bytes rest text = HasNotBegun unseen fault.Output bytes rest text ⊎ BreaksLater fault.Output bytes rest text
-  IsBroken fault.Memory bytes rest text = HasNotBegun unseen fault.Memory bytes rest text ⊎ BreaksLater fault.Memory bytes rest text
+  IsBroken fault.BadStart bytes rest text = HasNotBegun (unseen bytes) (spent rest) fault.BadStart bytes rest text
+  IsBroken fault.Input bytes rest text = HasNotBegun (unseen bytes) (spent rest) fault.Input bytes rest text ⊎ BreaksLater tickets (unseen bytes) (spent rest) fault.Input bytes rest text
+  IsBroken fault.Output bytes rest text = HasNotBegun (unseen bytes) (spent rest) fault.Output bytes rest text ⊎ BreaksLater tickets (unseen bytes) (spent rest) fault.Output bytes rest text
+  IsBroken fault.Memory bytes rest text = HasNotBegun (unseen bytes) (spent rest) fault.Memory bytes rest text ⊎ BreaksLater tickets (unseen bytes) (spent rest) fault.Memory bytes rest text
   IsBroken fault.Turns bytes rest text = (text ≡ []) × ((sessions : ℕ) × (edits : ℕ) × AsksSessions bytes (rest ≡ []) sessions edits)
 
-  -- the same, with what the writer did not take: all was written, unless the fault is the writer's
-  abbrev pub EndsBy : ShellFault → List ℕ → List ℕ → List ℕ → List ℕ → Type 0
-  EndsBy fault.BadStart bytes rest text lost = IsBroken fault.BadStart bytes rest text × (lost ≡ [])
-  EndsBy fault.Input bytes rest text lost = IsBroken fault.Input bytes rest text × (lost ≡ [])
-  EndsBy fault.Memory bytes rest text lost = IsBroken fault.Memory bytes rest text × (lost ≡ [])
-  EndsBy fault.Turns bytes rest text lost = IsBroken fault.Turns bytes rest text × (lost ≡ [])
-  EndsBy fault.Output bytes rest text lost = IsAnswered tickets bytes (rest ≡ []) text ⊎ ((why : ShellFault) × IsBroken why bytes rest text)
+  -- the same, with what the writer did not take: all was written, unless the fault is the writer's. How a script is split at a fault is told
+  -- by the first argument
+  abbrev pub EndsBy : (ShellFault → List ℕ → List ℕ → Type 0) → ShellFault → List ℕ → List ℕ → List ℕ → List ℕ → Type 0
+  EndsBy splits fault.BadStart bytes rest text lost = IsBroken fault.BadStart bytes rest text × (lost ≡ [])
+  EndsBy splits fault.Input bytes rest text lost = IsBroken fault.Input bytes rest text × (lost ≡ [])
+  EndsBy splits fault.Memory bytes rest text lost = IsBroken fault.Memory bytes rest text × (lost ≡ [])
+  EndsBy splits fault.Turns bytes rest text lost = IsBroken fault.Turns bytes rest text × (lost ≡ [])
+  EndsBy splits fault.Output bytes rest text lost = IsAnswered tickets bytes (rest ≡ []) text ⊎ ((why : ShellFault) × splits why bytes rest × IsBroken why bytes rest text)
 
-  -- a script ends early: of what its first bytes are answered a front was written. How it is split is told by the first
-  -- argument
-  pub record Breaks (splits : List ℕ → List ℕ → Type 0) (old new : Option (List ℕ)) (why : ShellFault) : Type 0 where
+  -- a script ends early: of what its first bytes are answered a front was written
+  pub record Breaks (splits : ShellFault → List ℕ → List ℕ → Type 0) (old new : Option (List ℕ)) (why : ShellFault) : Type 0 where
     pub bytes : List ℕ
     pub rest : List ℕ
-    pub begins : splits bytes rest
+    pub begins : splits why bytes rest
     pub text : List ℕ
     pub sent : List ℕ
     pub lost : List ℕ
     pub written : Appends old new sent
     pub said : text ≡ sent ++ lost
-    pub ends : EndsBy why bytes rest text lost
+    pub ends : EndsBy splits why bytes rest text lost
+
+-- why no more came of a script behind these bytes: readers of this type may fail, or the bytes are at least as many as reads are made
+abbrev pub IsUnfinished : Type 0 → List ℕ → Type 0
+IsUnfinished may_fail bytes = may_fail ⊎ (1048576 ≤ length bytes)

@@ -1,5 +1,5 @@
 -- What the lines of a script are answered, and a whole script.
-use Rattle.std.specs.Prelude.{◌≡◌, ◌⊎◌, ℕ, List, [], ◌∷◌, ◌++◌, Some, codes}
+use Rattle.std.specs.Prelude.{◌≡◌, ◌⊎◌, ℕ, List, [], ◌∷◌, ◌++◌, Some, IsUtf8, codes}
 use Rattle.std.specs.List.{flat_map}
 use Rattle.far_store.specs.declared.store.FarTickets.{Ghosts as Tickets}
 use Rattle.far_script.specs.Lines.{Blank, IsOneLine, without_return}
@@ -21,8 +21,8 @@ bytes_of turn = turn.line ++ 10 ∷ turn.rows
 abbrev pub text_of : Turn → List ℕ
 text_of turn = turn.text
 
--- the first command of a script is this line: empty lines stand before it, and it has a byte. It may lack its end only where nothing comes
--- behind it
+-- the first command of a script is this line: empty lines stand before it, it has a byte, and it is text. It may lack its end only if
+-- nothing comes behind it
 pub record Begins (bytes : List ℕ) (spent : Type 0) (line : List ℕ) : Type 0 where
   pub blanks : List (List ℕ)
   pub blank : List ℕ
@@ -30,6 +30,7 @@ pub record Begins (bytes : List ℕ) (spent : Type 0) (line : List ℕ) : Type 0
   pub raw : List ℕ
   pub one : IsOneLine raw
   pub some : ¬ (line ≡ [])
+  pub text : IsUtf8 line
   pub is : ((bytes ≡ blank ++ (raw ++ 10 ∷ [])) × (line ≡ without_return raw)) ⊎ ((bytes ≡ blank ++ raw) × (line ≡ raw) × spent)
 
 module _ {K : Type 0} where

@@ -3,9 +3,10 @@
 //! the script. The language as text is in `far_script`, its commands over a table in `far_commands`, and what sessions on threads do
 //! in `far_threads`.
 
+pub mod laws;
 mod script;
 mod threads;
 
-pub use far_script::{Input, ShellFault};
+pub use far_script::{Fallible, Input, ShellFault, Source};
 pub use script::{run_input, run_script};
 pub use threads::run_threads;

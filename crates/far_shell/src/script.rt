@@ -1,8 +1,8 @@
 // Scripts, read as they are answered.
-ghost use Rattle.std.specs.Prelude.{◌≡◌, ◌≢◌, ◌⊎◌, ℕ, List, [], ◌++◌, ◌≤◌, ⊤, true, codes, IfOk, IfErr, IfSome, OnOk, Some};
+ghost use Rattle.std.specs.Prelude.{◌≡◌, ◌≢◌, ℕ, List, [], ◌++◌, ◌≤◌, true, codes, IfOk, IfErr, IfSome, OnOk, Some};
 ghost use Rattle.std.specs.Io.KnownBytes.{Appends, Keeps};
-ghost use Rattle.far_shell.specs.Breaks.{Breaks, BreaksOff, HasNotBegun, IsBroken, IsRefused, IsUnknown, Rejection};
-ghost use Rattle.far_script.specs.Flow.{Gives, IsFrontOf, IsSpent, IsUnseen, Prints, Reads, has_failed};
+ghost use Rattle.far_shell.specs.Breaks.{Breaks, BreaksOff, HasNotBegun, IsBroken, IsRefused, IsUnfinished, IsUnknown, Rejection};
+ghost use Rattle.far_script.specs.Flow.{Gives, IsFrontOf, IsOver, IsSpent, IsUnseen, Prints, Reads, has_failed};
 ghost use Rattle.far_script.specs.Openings.{IsWithin, start_in, start_of};
 ghost use Rattle.far_shell.specs.Scripts.{Begins, Ends, IsNew};
 ghost use Rattle.far_shell.specs.Sessions.{IsAnswered};
@@ -11,11 +11,11 @@ use super::threads::print_sessions;
 use far_commands::{Agents, Progress, Resources, answer_line, open_table};
 use far_script::bounded::MAX_BYTES;
 use far_script::opening::first_line;
-use far_script::{FirstLine, Input, Line, Opening, Output, Page, ShellFault};
+use far_script::{FirstLine, Input, Line, Opening, Output, ShellFault, Source};
 use far_store::{AgentStore, FarStore, FarTickets};
 use far_types::Refusal;
 use std::alloc::Global;
-use std::io::{Read, Write};
+use std::io::Write;
 use std::sync::Wait;
 use std::thread::Threads;
 
@@ -26,7 +26,7 @@ const MAX_LINES: u32 = MAX_BYTES + 1;
 const STORE_CAPACITY: u64 = 1_048_576;
 
 /// Answers the lines that follow the first command, up to the end of the script.
-fn serve_lines<S: FarStore, A: Resources<S>, R: Read + Drop, W: Write>(
+fn serve_lines<S: FarStore, A: Resources<S>, R: Source + Drop, W: Write>(
     resources: &A,
     progress: &mut Progress<S>,
     input: &mut Input<R>,
@@ -35,7 +35,7 @@ fn serve_lines<S: FarStore, A: Resources<S>, R: Read + Drop, W: Write>(
 ) -> Result<(), ShellFault>
     requires first { progress.old.number ≡ 1 }
     ensures ok { OnOk result ((bytes : List ℕ) × (text : List ℕ) × Reads R.Read input.old bytes input.new × Prints (W.contents writer.old) output.old.page text (W.contents writer.new) output.new.page × Ends S.FarTickets progress.old bytes text × IsSpent R.Read input.new) }
-    ensures err { IfErr result (λ fault. (bytes : List ℕ) × (rest : List ℕ) × (text : List ℕ) × Gives R.Read fault input.old input.new bytes rest × Prints (W.contents writer.old) output.old.page text (W.contents writer.new) output.new.page × BreaksOff S.FarTickets (IsUnseen R.Read input.old input.new) progress.old fault bytes text) }
+    ensures err { IfErr result (λ fault. (bytes : List ℕ) × (rest : List ℕ) × (text : List ℕ) × Gives R.Read fault input.old input.new bytes rest × Prints (W.contents writer.old) output.old.page text (W.contents writer.new) output.new.page × BreaksOff S.FarTickets (IsUnseen R.Read R.may_fail input.old input.new) (IsOver R.Read input.new rest) progress.old fault bytes text) }
     ensures failed { IfErr result (λ fault. fault ≡ ShellFault.Output → has_failed output.new ≡ true) }
     ensures asked { input.new.source.reads ≤ input.old.source.reads }
 {
@@ -71,7 +71,7 @@ fn read_first(alloc: Global, line: &str, output: &mut Output) -> Result<FirstLin
 }
 
 /// The first command of a script. Where there is none, or it is no first line, the fault is `BadStart`.
-fn first_command<R: Read + Drop, W: Write>(
+fn first_command<R: Source + Drop, W: Write>(
     alloc: Global,
     input: &mut Input<R>,
     output: &mut Output,
@@ -80,7 +80,7 @@ fn first_command<R: Read + Drop, W: Write>(
     ensures ok { IfOk result (λ first. (bytes : List ℕ) × (line : List ℕ) × Reads R.Read input.old bytes input.new × Begins bytes (IsSpent R.Read input.new) line × (start_in line ≡ Some (start_of first))) }
     ensures within { IfOk result (λ first. IsWithin (start_of first)) }
     ensures printed { OnOk result (Prints (W.contents writer.old) output.old.page [] (W.contents writer.new) output.new.page) }
-    ensures err { IfErr result (λ fault. (bytes : List ℕ) × (rest : List ℕ) × (text : List ℕ) × Gives R.Read fault input.old input.new bytes rest × Prints (W.contents writer.old) output.old.page text (W.contents writer.new) output.new.page × HasNotBegun (IsUnseen R.Read input.old input.new) fault bytes rest text) }
+    ensures err { IfErr result (λ fault. (bytes : List ℕ) × (rest : List ℕ) × (text : List ℕ) × Gives R.Read fault input.old input.new bytes rest × Prints (W.contents writer.old) output.old.page text (W.contents writer.new) output.new.page × HasNotBegun (IsUnseen R.Read R.may_fail input.old input.new) (IsOver R.Read input.new rest) fault bytes rest text) }
     ensures failed { IfErr result (λ fault. fault ≡ ShellFault.Output → has_failed output.new ≡ true) }
     ensures asked { input.new.source.reads ≤ input.old.source.reads }
 {
@@ -137,7 +137,7 @@ fn serve<
     S: FarStore,
     A: Resources<S>,
     T: AllocGlobal + Sync + Threads + Wait,
-    R: Read + Drop,
+    R: Source + Drop,
     W: Write,
 >(
     rt: &T,
@@ -148,7 +148,7 @@ fn serve<
 ) -> Result<(), ShellFault>
     requires { output.old.page ≡ [] }
     ensures ok { OnOk result ((bytes : List ℕ) × (text : List ℕ) × Reads R.Read input.old bytes input.new × Prints (W.contents writer.old) [] text (W.contents writer.new) output.new.page × IsAnswered S.FarTickets bytes (IsSpent R.Read input.new) text) }
-    ensures err { IfErr result (λ fault. (bytes : List ℕ) × (rest : List ℕ) × (text : List ℕ) × Gives R.Read fault input.old input.new bytes rest × Prints (W.contents writer.old) [] text (W.contents writer.new) output.new.page × IsBroken S.FarTickets (IsUnseen R.Read input.old input.new) fault bytes rest text) }
+    ensures err { IfErr result (λ fault. (bytes : List ℕ) × (rest : List ℕ) × (text : List ℕ) × Gives R.Read fault input.old input.new bytes rest × Prints (W.contents writer.old) [] text (W.contents writer.new) output.new.page × IsBroken S.FarTickets (λ _. IsUnseen R.Read R.may_fail input.old input.new) (IsOver R.Read input.new) fault bytes rest text) }
     ensures failed { IfErr result (λ fault. fault ≡ ShellFault.Output → has_failed output.new ≡ true) }
     ensures asked { input.new.source.reads ≤ input.old.source.reads }
 {
@@ -171,6 +171,8 @@ fn serve<
 }
 
 /// Writes the replies that are left where a fault ends a script. If the fault is a failed write, nothing is written.
+///
+/// For the proof: `fault` is an argument for the contract alone. The body goes by the mark that a failed write leaves in the output.
 fn flush_at<W: Write>(
     fault: ShellFault,
     output: &mut Output,
@@ -189,17 +191,26 @@ fn flush_at<W: Write>(
 /// read. The objects of its table go to a store in this process, which takes 1,048,576 contents. Behind a first command that asks for
 /// sessions no line is read, though its bytes may have come with that command.
 ///
-/// The faults are those of `run_script`. What is left of the reads and bytes afterwards says how many were made: also of a
-/// reader whose bytes nobody knows, as standard input. At the fault `Input` all whole lines that came are answered. If the end of the
-/// script was seen, a line or a load is no UTF-8, or the last load lacks bytes. If it was not seen, the same, or a line lacks its end;
-/// then the reader was asked for more, or no reads are left.
-pub fn run_input<T: AllocGlobal + Sync + Threads + Wait, R: Read + Drop, W: Write>(
+/// The faults are those of `run_script`. Afterwards no more reads are left than before, and each byte that came is taken off those that
+/// were left: also of a reader whose bytes nobody knows, as standard input. At the fault `Input` all whole lines that came are answered, and
+/// the next line or its load came and is no UTF-8, or lacks what did not come:
+///
+/// - the line its end; then the end of the script was not seen;
+/// - the load its bytes; then the end of the script was seen, and nothing is left behind them, or it was not seen.
+///
+/// The last line, which has no end, is no UTF-8 only if the end of the script was seen. Where it was not seen, the reader was asked, or no
+/// reads are left. And one of these holds:
+///
+/// - readers of its type may fail;
+/// - no reads are left, and at least as many bytes came as there were reads;
+/// - no bytes are left, and the bytes of the reader, if they are known, are more than were left.
+pub fn run_input<T: AllocGlobal + Sync + Threads + Wait, R: Source + Drop, W: Write>(
     rt: &T,
     input: &mut Input<R>,
     writer: &mut W,
 ) -> Result<(), ShellFault>
     ensures ok { OnOk result ((bytes : List ℕ) × (text : List ℕ) × Reads R.Read input.old bytes input.new × Appends (W.contents writer.old) (W.contents writer.new) text × IsAnswered ⟦<AgentStore<&'static T> as FarTickets>⟧ bytes (IsSpent R.Read input.new) text) }
-    ensures err { IfErr result (λ fault. Breaks ⟦<AgentStore<&'static T> as FarTickets>⟧ (IsUnseen R.Read input.old input.new) (Gives R.Read fault input.old input.new) (W.contents writer.old) (W.contents writer.new) fault) }
+    ensures err { IfErr result (λ fault. Breaks ⟦<AgentStore<&'static T> as FarTickets>⟧ (λ _. IsUnseen R.Read R.may_fail input.old input.new) (IsOver R.Read input.new) (λ why. Gives R.Read why input.old input.new) (W.contents writer.old) (W.contents writer.new) fault) }
     ensures asked { input.new.source.reads ≤ input.old.source.reads }
 {
     let agents = Agents::new(rt, rt.alloc());
@@ -221,17 +232,29 @@ pub fn run_input<T: AllocGlobal + Sync + Threads + Wait, R: Read + Drop, W: Writ
 /// objects of its table go to a store in this process, which takes 1,048,576 contents. Where the first command asks for sessions, it
 /// is the whole script, as `run_threads` runs it: no line behind it is read.
 ///
-/// A script has at most 16,777,216 bytes and is read in at most 1,048,576 reads; past either the fault is `Input`, and so
-/// where a read fails, the script is no UTF-8, or it ends inside a load. What lies wholly before a fault is answered.
-/// Where a write fails, the fault is `Output`; where the shell itself is refused memory, `Memory`; where the first command
-/// opens no table and asks for no sessions, `BadStart`; where sessions give up on an edit, `Turns`.
-pub fn run_script<T: AllocGlobal + Sync + Threads + Wait, R: Read + Drop, W: Write>(
+/// A script has at most 16,777,216 bytes and is read in at most 1,048,576 reads; past either the fault is `Input`, and so where a read
+/// fails, a line or the bytes of a load are no UTF-8, or the script ends inside a load. So a script of fewer than 1,048,576 bytes, which are
+/// known, does not end by `Input` if each line, and the bytes of each load, are UTF-8, all bytes of each load are there, and readers of this
+/// type never fail ([`a_short_script_at_hand_comes_whole`](crate::laws::a_short_script_at_hand_comes_whole)). What lies wholly before a fault
+/// is answered. Where a write fails, the fault is `Output`; where the shell itself is refused memory, `Memory`; where the first command opens
+/// no table and asks for no sessions, `BadStart`; where sessions give up on an edit, `Turns`.
+///
+/// The program does this:
+///
+/// ```
+/// let mut writer = io::writer(&rt);
+/// match run_script(&rt, Fallible(rt.reader()), &mut writer) {
+///     Ok(()) => ExitCode::SUCCESS,
+///     Err(fault) => ExitCode::from(fault.status()),
+/// }
+/// ```
+pub fn run_script<T: AllocGlobal + Sync + Threads + Wait, R: Source + Drop, W: Write>(
     rt: &T,
     reader: R,
     writer: &mut W,
 ) -> Result<(), ShellFault>
     ensures ok { OnOk result ((bytes : List ℕ) × (rest : List ℕ) × (text : List ℕ) × IsFrontOf (R.remaining reader) bytes rest × Appends (W.contents writer.old) (W.contents writer.new) text × IsAnswered ⟦<AgentStore<&'static T> as FarTickets>⟧ bytes (rest ≡ []) text) }
-    ensures err { IfErr result (λ fault. Breaks ⟦<AgentStore<&'static T> as FarTickets>⟧ ⊤ (λ bytes rest. IfSome (R.remaining reader) (λ script. script ≡ bytes ++ rest)) (W.contents writer.old) (W.contents writer.new) fault) }
+    ensures err { IfErr result (λ fault. Breaks ⟦<AgentStore<&'static T> as FarTickets>⟧ (IsUnfinished R.may_fail) (λ rest. rest ≡ []) (λ _ bytes rest. IfSome (R.remaining reader) (λ script. script ≡ bytes ++ rest)) (W.contents writer.old) (W.contents writer.new) fault) }
 {
     let mut input = Input::new(rt.alloc(), reader)?;
     run_input(rt, &mut input, writer)?;

@@ -1,5 +1,5 @@
 // Sessions on threads, and what they leave as it is printed.
-ghost use Rattle.std.specs.Prelude.{◌≡◌, ◌⊎◌, ◌≤◌, ℕ, List, ◌++◌, IfOk, IfErr, OnOk, OnErr};
+ghost use Rattle.std.specs.Prelude.{◌≡◌, ◌⊎◌, ◌≤◌, ℕ, List, ◌++◌, IfErr, OnOk, OnErr};
 ghost use Rattle.std.specs.Io.KnownBytes.{Appends};
 ghost use Rattle.far_shell.specs.Sessions.{CutOutcome, TellsOutcome, fault_of, gauges_text, line_of, outcome_text};
 

@@ -13,10 +13,26 @@ use std::marker::Model;
 use std::sync::Wait;
 
 /// A far store in this process, over a vector that only grows and that threads share with no lock. It never
-/// fails. Contracts see its name and its capacity.
+/// fails. Contracts see its id and its capacity.
 ///
 /// Reading never waits. A `put` may: where another thread is just making the room for the next contents, it waits
 /// until that room is there.
+///
+/// ```
+/// let Ok(store) = AgentStore::new(rt, alloc, STORE_CAPACITY) else {
+///     return Err(Stop::Memory);
+/// };
+/// ```
+///
+/// What is put in any store is read back:
+///
+/// ```
+/// let mut meter = Meter::new();
+/// let ticket = store.put(alloc, &mut meter, bytes)?;
+/// let mut buffer = Vec::new(alloc);
+/// store.get(alloc, &mut meter, &store.again(&ticket), &mut buffer)?;
+/// Ok(buffer)
+/// ```
 #[derive(Drop)]
 pub struct AgentStore<R> {
     rt: R,
@@ -56,7 +72,7 @@ impl<R: Sync + Drop> FarTickets for AgentStore<R> {
 
     ghost number_of = { λ t. t.index };
 
-    ghost name = { λ s. s.name };
+    ghost store_id = { λ s. s.name };
 
     ghost is_of = { IsOf };
 
@@ -113,7 +129,7 @@ impl<R: Sync + Drop + Wait> FarStore for AgentStore<R> {
         ensures faultless { meter.new ≡ meter.old }
         ensures refused { RefusedBy (22 ∷ 1 ∷ []) result }
     {
-        // A vector that is full takes nothing more, so a put that is refused again and again takes no memory.
+        // A vector that is full takes nothing more, so a put that is refused again and again allocates nothing.
         if self.contents.count() as u64 >= self.capacity {
             return Err(Refusal::FarFull);
         }

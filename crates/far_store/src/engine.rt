@@ -2,6 +2,8 @@
 ghost use Rattle.std.specs.Prelude.{◌≡◌, ℕ, List, [], IfOk, OnOk};
 
 use std::alloc::{AllocError, AllocFailed, Global};
+use std::error::Error;
+use std::fmt;
 
 /// Why an engine did not serve a call.
 #[derive(Drop, Debug)]
@@ -11,6 +13,22 @@ pub enum Failure<E> {
     /// The engine failed, for a reason of its own.
     Engine(E),
 }
+
+/// Prints the failure as a sentence, without a full stop.
+impl<E: fmt::Display> fmt::Display for Failure<E> {
+    ghost use Rattle.far_store.specs.Failures.{failure_text};
+
+    ghost output = { λ failure. failure_text E.output failure };
+
+    fn fmt<W: fmt::Write>(&self, f: &mut fmt::Formatter<W>) -> fmt::Result {
+        match self {
+            Failure::NoMemory => f.write_str("memory ran out"),
+            Failure::Engine(error) => write!(f, "the engine failed: {error}"),
+        }
+    }
+}
+
+impl<E: fmt::Debug + fmt::Display + Drop> Error for Failure<E> {}
 
 impl<E> From<AllocError> for Failure<E> {
     fn from(_: AllocError) -> Failure<E> {
@@ -30,6 +48,34 @@ impl<T: Drop, E> From<AllocFailed<T>> for Failure<E> {
 /// An engine may be written in any repository, and either call may wait: put the bound that this asks for on the `impl`.
 /// It knows nothing of tickets, meters and refusals. All that is believed of an engine beyond this process is the one
 /// clause of [`read`](Engine::read). The split of a table from what moves its bytes is AIFM's device (OSDI 2020).
+///
+/// A log of bytes in memory (far_byte_log) begins so:
+///
+/// ```
+/// impl Engine for ByteLog {
+///     type Key = Extent;
+///
+///     type Error = LogFull;
+///
+///     ghost written = { λ key. map (λ token. token.value) key.written.items };
+///
+///     ghost engine_id = { λ log. log };
+///
+///     ghost is_of = { λ key name. (i : ℕ) → IfSome (slice_get key.written.items i) (λ token. slice_get name (key.offset + i) ≡ Some token.of) };
+///
+///     fn write(&self, alloc: Global, bytes: &[u8]) -> Result<Extent, Failure<LogFull>> {
+///         let mut written = Vec::with_capacity(alloc, bytes.len())?;
+///         let Some(offset) = self.take(bytes.len()) else {
+///             return Err(Failure::Engine(LogFull));
+///         };
+///         // For the proof: the place of a slot is a `usize`.
+///         let _size = self.size();
+///         for (i, byte) in bytes.iter().enumerate() {
+///             written.push(self.write_at(offset + i, *byte)?)?;
+///         }
+///         Ok(Extent { offset, written })
+///     }
+/// ```
 pub trait Engine: Sync + Drop {
     /// By what the engine finds bytes again. It borrows nothing and goes from thread to thread.
     type Key: Send + Sync + Drop;
@@ -41,14 +87,14 @@ pub trait Engine: Sync + Drop {
     ghost written: { Self.Key → List ℕ };
 
     /// Numbers that tell the engine from others. They are the same as long as it lasts.
-    ghost name: { Self → List ℕ };
+    ghost engine_id: { Self → List ℕ };
 
-    /// The key is of the engine of this name.
+    /// The key is of the engine with this id.
     ghost is_of: { Self.Key → List ℕ → Type 0 };
 
     /// Writes these bytes, for good, and gives the key under which they lie.
     fn write(&self, alloc: Global, bytes: &[u8]) -> Result<Self::Key, Failure<Self::Error>>
-        ensures here { IfOk result (λ key. is_of key (name self.now)) }
+        ensures here { IfOk result (λ key. is_of key (engine_id self.now)) }
         ensures written { IfOk result (λ key. written key ≡ bytes.now) };
 
     /// Reads the bytes under a key into the buffer, which is empty. What the buffer holds after a failure is thrown away.
@@ -58,7 +104,7 @@ pub trait Engine: Sync + Drop {
         key: &Self::Key,
         buffer: &mut Vec<u8>,
     ) -> Result<(), Failure<Self::Error>>
-        requires here { is_of key.now (name self.now) }
+        requires here { is_of key.now (engine_id self.now) }
         requires empty { buffer.old.items ≡ [] }
         ensures { OnOk result (buffer.new.items ≡ written key.now) };
 }

@@ -16,11 +16,17 @@ use std::alloc::Global;
 use std::marker::{Model, PhantomData};
 use std::sync::Wait;
 
-/// A far store that keeps its contents in an engine: a server, a file, memory of another machine. Contracts see its
-/// name and its capacity.
+/// A far store that keeps its contents in an engine: a server, a file, memory of another machine. Contracts see its id and its
+/// capacity.
 ///
 /// The store keeps the engine's keys, one for each number. It answers `FarFault` (21) wherever the engine fails, and
-/// counts it. Reading waits only where the engine does; a put may wait for other threads, as an agent's.
+/// counts it. Reading waits only if the engine does; a put may wait for other threads, as an agent's.
+///
+/// Over a log of five bytes, with room for eight contents:
+///
+/// ```
+/// let store = EngineStore::new(rt, alloc, ByteLog::new(alloc, 5)?, 8)?;
+/// ```
 #[derive(Drop)]
 pub struct EngineStore<E: Engine, R> {
     rt: R,
@@ -42,7 +48,7 @@ impl<E: Engine> Keeps<E::Key> for OfEngine<E> {
 }
 
 impl<E: Engine> Names<E> for OfEngine<E> {
-    ghost numbers = { E.name };
+    ghost numbers = { E.engine_id };
 }
 
 impl<E: Engine, R> Model for EngineStore<E, R> {
@@ -55,7 +61,7 @@ impl<E: Engine, R> Model for EngineStore<E, R> {
 
     ghost view = { λ s. record { name = bucket_names s.keys; capacity = s.capacity } };
 
-    ghost invariant = { λ s. s.keys.tag ≡ E.name s.engine };
+    ghost invariant = { λ s. s.keys.tag ≡ E.engine_id s.engine };
 }
 
 impl<E: Engine, R: Drop> EngineStore<E, R> {
@@ -74,7 +80,7 @@ impl<E: Engine, R: Drop> EngineStore<E, R> {
         })
     }
 
-    /// The engine, as for its own figures. Takes no memory.
+    /// The engine, as for its own figures. Allocates nothing.
     pub fn engine(&self) -> &E {
         &self.engine
     }
@@ -87,7 +93,7 @@ impl<E: Engine, R: Sync + Drop> FarTickets for EngineStore<E, R> {
 
     ghost number_of = { λ t. t.index };
 
-    ghost name = { λ s. s.name };
+    ghost store_id = { λ s. s.name };
 
     ghost is_of = { IsOf };
 

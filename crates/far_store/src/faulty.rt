@@ -1,4 +1,4 @@
-// A far store that fails where it is told to.
+// A far store that fails if it is told to.
 ghost use Rattle.std.specs.Prelude.{◌≡◌, ◌<◌, IsTrue};
 
 use crate::Meter;
@@ -29,7 +29,7 @@ impl<S> Model for FaultyStore<S> {
 impl<S> FaultyStore<S> {
     /// A store over `store` whose put number `failing_put` and whose get number `failing_get` are answered with
     /// `FarFault` (21). Calls are counted from 1, and 0 stands for none. A call that is refused for want of
-    /// memory is not counted. Takes no memory.
+    /// memory is not counted. Allocates nothing.
     pub fn new(store: S, failing_put: u64, failing_get: u64) -> FaultyStore<S>
         ensures { result ≡ store }
     {
@@ -48,7 +48,7 @@ impl<S: FarTickets> FarTickets for FaultyStore<S> {
 
     ghost number_of = { S.number_of };
 
-    ghost name = { S.name };
+    ghost store_id = { S.store_id };
 
     ghost is_of = { S.is_of };
 

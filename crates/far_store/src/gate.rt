@@ -42,14 +42,14 @@ impl<S> Model for GateStore<S> {
 }
 
 impl<S> GateStore<S> {
-    /// A store over `store` that holds its first put until `release`. Takes no memory.
+    /// A store over `store` that holds its first put until `release`. Allocates nothing.
     pub fn new(store: S) -> GateStore<S>
         ensures { result ≡ store }
     {
         GateStore::shut(store, Opener::Release)
     }
 
-    /// A store over `store` that holds its first put until a second put begins. Takes no memory.
+    /// A store over `store` that holds its first put until a second put begins. Allocates nothing.
     pub fn two(store: S) -> GateStore<S>
         ensures { result ≡ store }
     {
@@ -67,12 +67,12 @@ impl<S> GateStore<S> {
         }
     }
 
-    /// Opens the gate, for good. Takes no memory.
+    /// Opens the gate, for good. Allocates nothing.
     pub fn release(&self) {
         self.open.store(true, Ordering::SeqCst);
     }
 
-    /// Whether a put has come to the gate, now or earlier. Takes no memory.
+    /// Whether a put has come to the gate, now or earlier. Allocates nothing.
     pub fn held(&self) -> bool {
         self.begun.load(Ordering::SeqCst) > 0
     }
@@ -114,7 +114,7 @@ impl<S: FarTickets> FarTickets for GateStore<S> {
 
     ghost number_of = { S.number_of };
 
-    ghost name = { S.name };
+    ghost store_id = { S.store_id };
 
     ghost is_of = { S.is_of };
 

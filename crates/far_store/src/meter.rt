@@ -6,7 +6,7 @@ use std::marker::Model;
 /// How many faults a caller has met. Contracts see the number.
 ///
 /// A far store is shared by threads, so the count stands with the caller and not with the store: each call that
-/// may fault takes the caller's meter, and raises it by one exactly where it answers `FarFault` (21). Nothing
+/// may fault takes the caller's meter, and raises it by one exactly if it answers `FarFault` (21). Nothing
 /// but a store of this crate counts a fault.
 #[derive(Drop, Debug)]
 pub struct Meter {
@@ -22,21 +22,21 @@ impl Model for Meter {
 }
 
 impl Meter {
-    /// A meter of a caller that has met no fault yet. Takes no memory.
+    /// A meter of a caller that has met no fault yet. Allocates nothing.
     pub fn new() -> Meter
         ensures { result ≡ 0 }
     {
         Meter { faults: 0 }
     }
 
-    /// How many faults were met. Takes no memory.
+    /// How many faults were met. Allocates nothing.
     pub fn faults(&self) -> u64
         ensures { result ≡ self.now }
     {
         self.faults
     }
 
-    /// Adds the faults that another meter has counted, as that of a thread that has ended. Takes no memory.
+    /// Adds the faults that another meter has counted, as that of a thread that has ended. Allocates nothing.
     pub fn join(&mut self, other: Meter)
         requires { self.old + other < 2 ^ 64 }
         ensures { self.new ≡ self.old + other }
@@ -44,7 +44,7 @@ impl Meter {
         self.faults += other.faults;
     }
 
-    /// Counts one fault more. Only a store may, and only where it answers `FarFault`.
+    /// Counts one fault more. Only a store may, and only if it answers `FarFault`.
     pub(crate) fn rise(&mut self)
         requires { self.old < 2 ^ 63 }
         ensures { self.new ≡ self.old + 1 }

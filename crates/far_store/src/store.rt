@@ -22,29 +22,29 @@ pub trait FarTickets: Sync + Drop {
     /// A ticket's number.
     ghost number_of: { Self.Ticket → ℕ };
 
-    /// A store's name, which ties its tickets to it. It is the same as long as the store lasts.
-    ghost name: { Self → List ℕ };
+    /// A store's id, which ties its tickets to it. It is the same as long as the store lasts.
+    ghost store_id: { Self → List ℕ };
 
-    /// The ticket is of the store of this name.
+    /// The ticket is of the store with this id.
     ghost is_of: { Self.Ticket → List ℕ → Type 0 };
 
     /// How many numbers a store may give out.
     ghost capacity_of: { Self → ℕ };
 
-    /// The same ticket once more: its number, its content and its store are the same. Takes no memory.
+    /// The same ticket once more: its number, its content and its store are the same. Allocates nothing.
     fn again(&self, ticket: &Self::Ticket) -> Self::Ticket
-        requires { is_of ticket.now (name self.now) }
+        requires { is_of ticket.now (store_id self.now) }
         ensures { result ≡ ticket.now };
 
-    /// The ticket's number. Takes no memory.
+    /// The ticket's number. Allocates nothing.
     fn number(&self, ticket: &Self::Ticket) -> u64
-        requires { is_of ticket.now (name self.now) }
+        requires { is_of ticket.now (store_id self.now) }
         ensures { result ≡ number_of ticket.now };
 
-    /// Whether two tickets have one number. They then have one content too. Takes no memory.
+    /// Whether two tickets have one number. They then have one content too. Allocates nothing.
     fn same(&self, a: &Self::Ticket, b: &Self::Ticket) -> bool
-        requires a_here { is_of a.now (name self.now) }
-        requires b_here { is_of b.now (name self.now) }
+        requires a_here { is_of a.now (store_id self.now) }
+        requires b_here { is_of b.now (store_id self.now) }
         ensures number { IsTrue result ↔ (number_of a.now ≡ number_of b.now) }
         ensures content { IsTrue result → content a.now ≡ content b.now };
 }
@@ -61,7 +61,7 @@ pub trait FarRead: FarTickets {
         buffer: &mut Vec<u8>,
     ) -> Result<(), Refusal>
         requires few { meter.old < 2 ^ 63 }
-        requires here { Self.is_of ticket.now (Self.name self.now) }
+        requires here { Self.is_of ticket.now (Self.store_id self.now) }
         ensures content { OnOk result (buffer.new.items ≡ Self.content ticket.now) }
         ensures empty { OnErr result (buffer.new.items ≡ []) }
         ensures faults { meter.new ≡ meter.old + faults_in result }
@@ -70,12 +70,12 @@ pub trait FarRead: FarTickets {
 
 /// A far store: contents are put into it, and read by the tickets that it gives for them.
 pub trait FarStore: FarRead {
-    /// Puts these bytes, and gives a ticket for them. Refused with `FarFault` (21) where the store fails in this
-    /// call, with `FarFull` (22) where the number drawn is not below the capacity, and with `NoMemory` (1). A
+    /// Puts these bytes, and gives a ticket for them. Refused with `FarFault` (21) if the store fails in this
+    /// call, with `FarFull` (22) if the number drawn is not below the capacity, and with `NoMemory` (1). A
     /// refused put may have used up a number.
     fn put(&self, alloc: Global, meter: &mut Meter, bytes: &[u8]) -> Result<Self::Ticket, Refusal>
         requires { meter.old < 2 ^ 63 }
-        ensures here { IfOk result (λ ticket. Self.is_of ticket (Self.name self.now)) }
+        ensures here { IfOk result (λ ticket. Self.is_of ticket (Self.store_id self.now)) }
         ensures content { IfOk result (λ ticket. Self.content ticket ≡ bytes.now) }
         ensures number { IfOk result (λ ticket. Self.number_of ticket < Self.capacity_of self.now) }
         ensures faults { meter.new ≡ meter.old + faults_in result }

@@ -21,11 +21,11 @@ use Rattle.far_texts.specs.Texts.{Texts, HasGroups, IsTextColumn, lists_of, text
 use Rattle.far_columns.specs.Numbers.{Numbers, number_lists, numbers_in}
 use Rattle.far_texts.proofs.RowGroups.{texts-of-group}
 use Rattle.far_offload.specs.Columns.{cells_meant, cells_in}
-use Rattle.far_rows.specs.declared.slot.Slot.{Slot}
-use Rattle.far_rows.specs.declared.slot.Slot.TheVariants as slot
+use Rattle.far_rows.specs.declared.column_index.ColumnIndex.{ColumnIndex}
+use Rattle.far_rows.specs.declared.column_index.ColumnIndex.TheVariants as column_index
 use Rattle.far_rows.specs.declared.object.Object.{Object}
 use Rattle.far_rows.specs.declared.object.Object.TheVariants as object
-use Rattle.far_rows.specs.Slots.{IsWithin, column_in}
+use Rattle.far_rows.specs.ColumnIndexes.{IsWithin, column_in}
 use Rattle.far_rows.specs.Rows.{Rows, AreRows, all_numbers, all_texts, cells_of, object_of}
 use Rattle.far_rows.specs.Moving.{object_at}
 use Rattle.far_rows.specs.Places.{places_in}
@@ -63,69 +63,69 @@ front-cell (x ∷ xs) more zero within = refl
 front-cell (x ∷ xs) more (suc i) within = front-cell xs more i (omega (arith, within))
 
 module _ {K : Type 0} (content : K → List ℕ) (r : Rows K) (are : AreRows content r) (column group o : ℕ) where
-  inside : (s : Slot) → slice_get r.slots column ≡ Some s → IsWithin (length r.numbers) (length r.texts) s
-  inside s is = subst (IsWithin (length r.numbers) (length r.texts)) (get_or_from_slice_get r.slots column s s is) (are.slots.within column s (slice_get_within r.slots column s is))
+  inside : (s : ColumnIndex) → slice_get r.column_indexes column ≡ Some s → IsWithin (length r.numbers) (length r.texts) s
+  inside s is = subst (IsWithin (length r.numbers) (length r.texts)) (get_or_from_slice_get r.column_indexes column s s is) (are.column_indexes.within column s (slice_get_within r.column_indexes column s is))
 
-  cells-at : (s : Slot) → slice_get r.slots column ≡ Some s → option_map (in_group r.size group) (slice_get (cells_of content r) column) ≡ Some (in_group r.size group (column_in (all_numbers content r) (all_texts content r) s))
-  cells-at s is = ap (option_map (in_group r.size group)) (slice_get-map (column_in (all_numbers content r) (all_texts content r)) r.slots column ∙ ap (option_map (column_in (all_numbers content r) (all_texts content r))) is)
+  cells-at : (s : ColumnIndex) → slice_get r.column_indexes column ≡ Some s → option_map (in_group r.size group) (slice_get (cells_of content r) column) ≡ Some (in_group r.size group (column_in (all_numbers content r) (all_texts content r) s))
+  cells-at s is = ap (option_map (in_group r.size group)) (slice_get-map (column_in (all_numbers content r) (all_texts content r)) r.column_indexes column ∙ ap (option_map (column_in (all_numbers content r) (all_texts content r))) is)
 
   -- the list of an object of numbers begins with those of its row group
   record HasNumbers (list : Numbers) : Type 0 where
     front : Numbers
-    blanks : Numbers
-    is : list ≡ front ++ blanks
+    default_values : Numbers
+    is : list ≡ front ++ default_values
     used : length front ≡ length (in_group r.size group r.alive)
     cells : option_map (in_group r.size group) (slice_get (cells_of content r) column) ≡ Some (map int_cell front)
 
-  numbers-in : (s : Slot) → slice_get r.slots column ≡ Some s → object_at r column group ≡ Some (object.Number o) → (list : Numbers) → number_lists content r.number_objects o ≡ Some list → HasNumbers list
-  numbers-in (slot.Text i) is at list there = no-number (object_of r (slot.Text i) group) o (sym (found-in content r are column group o (slot.Text i) is) ∙ at)
-  numbers-in (slot.Number i) is at list there =
-      let within : i < length r.numbers = inside (slot.Number i) is in
+  numbers-in : (s : ColumnIndex) → slice_get r.column_indexes column ≡ Some s → object_at r column group ≡ Some (object.Number o) → (list : Numbers) → number_lists content r.number_objects o ≡ Some list → HasNumbers list
+  numbers-in (column_index.Text i) is at list there = no-number (object_of r (column_index.Text i) group) o (sym (found-in content r are column group o (column_index.Text i) is) ∙ at)
+  numbers-in (column_index.Number i) is at list there =
+      let within : i < length r.numbers = inside (column_index.Number i) is in
       let found = found-at r.numbers i within in
       let c : Vector (Option ℤ) = found.0 in
       let same = get_or_from_slice_get r.numbers i c c found.1 in
       let lists = number_lists content r.number_objects in
-      let even = subst (λ (d : Vector (Option ℤ)). (d.size ≡ r.size) × (d.len ≡ length r.alive)) same (are.even_numbers i c within) in
+      let same_length = subst (λ (d : Vector (Option ℤ)). (d.size ≡ r.size) × (d.len ≡ length r.alive)) same (are.same_length_numbers i c within) in
       let shaped = subst IsShaped same (are.shaped i c within) in
-      let vector = subst (IsVector lists) same (are.numbers.beside.each i c within) in
+      let vector = subst (IsVector lists) same (are.numbers.all_disjoint.each i c within) in
       let numbers : Numbers = numbers_in content r.number_objects c in
       let read : get_or (all_numbers content r) i [] ≡ numbers = get_or_from_slice_get (all_numbers content r) i numbers [] (slice_get-map (numbers_in content r.number_objects) r.numbers i ∙ ap (option_map (numbers_in content r.number_objects)) found.1) in
-      let own : slice_get c.objects group ≡ Some o = sym (ap (option_and_then (λ (v : Vector (Option ℤ)). slice_get v.objects group)) found.1) ∙ number-of (object_of r (slot.Number i) group) o (sym (found-in content r are column group o (slot.Number i) is) ∙ at) in
+      let own : slice_get c.objects group ≡ Some o = sym (ap (option_and_then (λ (v : Vector (Option ℤ)). slice_get v.objects group)) found.1) ∙ number-of (object_of r (column_index.Number i) group) o (sym (found-in content r are column group o (column_index.Number i) is) ∙ at) in
       let held : list ≡ group_list c numbers group = same_Some list (group_list c numbers group) (sym there ∙ list-of-group lists c group o shaped vector own) in
       let first : List (Option ℤ) = in_group c.size group numbers in
       record {
         front = first;
-        blanks = replicate (c.size - length first) c.blank;
+        default_values = replicate (c.size - length first) c.default_value;
         is = held;
-        used = group-long c.size group numbers r.alive (length-elements lists c shaped vector ∙ even.1) ∙ ap (λ n. length (in_group n group r.alive)) even.0;
-        cells = cells-at (slot.Number i) is
-            ∙ ap Some (ap (λ ns. in_group r.size group (map int_cell ns)) read ∙ group-map int_cell r.size group numbers ∙ ap (λ n. map int_cell (in_group n group numbers)) (sym even.0));
+        used = group-long c.size group numbers r.alive (length-elements lists c shaped vector ∙ same_length.1) ∙ ap (λ n. length (in_group n group r.alive)) same_length.0;
+        cells = cells-at (column_index.Number i) is
+            ∙ ap Some (ap (λ ns. in_group r.size group (map int_cell ns)) read ∙ group-map int_cell r.size group numbers ∙ ap (λ n. map int_cell (in_group n group numbers)) (sym same_length.0));
       }
 
   -- the form of an object of texts is that of its row group
   record HasTexts (bytes : List ℕ) : Type 0 where
     cells : option_map (in_group r.size group) (slice_get (cells_of content r) column) ≡ Some (map text_cell (texts_meaning bytes))
 
-  texts-in : (s : Slot) → slice_get r.slots column ≡ Some s → object_at r column group ≡ Some (object.Text o) → (form : List ℕ) → lists_of content r.text_objects o ≡ Some form → HasTexts form
-  texts-in (slot.Number i) is at form there = no-text (object_of r (slot.Number i) group) o (sym (found-in content r are column group o (slot.Number i) is) ∙ at)
-  texts-in (slot.Text i) is at form there =
-      let within : i < length r.texts = inside (slot.Text i) is in
+  texts-in : (s : ColumnIndex) → slice_get r.column_indexes column ≡ Some s → object_at r column group ≡ Some (object.Text o) → (form : List ℕ) → lists_of content r.text_objects o ≡ Some form → HasTexts form
+  texts-in (column_index.Number i) is at form there = no-text (object_of r (column_index.Number i) group) o (sym (found-in content r are column group o (column_index.Number i) is) ∙ at)
+  texts-in (column_index.Text i) is at form there =
+      let within : i < length r.texts = inside (column_index.Text i) is in
       let found = found-at r.texts i within in
       let c : Texts = found.0 in
       let same = get_or_from_slice_get r.texts i c c found.1 in
       let lists = lists_of content r.text_objects in
-      let even = subst (λ (d : Texts). (d.size ≡ r.size) × (d.len ≡ length r.alive)) same (are.even_texts i c within) in
+      let same_length = subst (λ (d : Texts). (d.size ≡ r.size) × (d.len ≡ length r.alive)) same (are.same_length_texts i c within) in
       let has = subst HasGroups same (are.grouped i c within) in
-      let column_is = subst (IsTextColumn lists) same (are.texts.beside.each i c within) in
+      let column_is = subst (IsTextColumn lists) same (are.texts.all_disjoint.each i c within) in
       let texts : List (Option (List ℕ)) = texts_in lists c in
       let read : get_or (all_texts content r) i [] ≡ texts = get_or_from_slice_get (all_texts content r) i texts [] (slice_get-map (texts_in lists) r.texts i ∙ ap (option_map (texts_in lists)) found.1) in
-      let own : slice_get c.objects group ≡ Some o = sym (ap (option_and_then (λ (v : Texts). slice_get v.objects group)) found.1) ∙ text-of (object_of r (slot.Text i) group) o (sym (found-in content r are column group o (slot.Text i) is) ∙ at) in
+      let own : slice_get c.objects group ≡ Some o = sym (ap (option_and_then (λ (v : Texts). slice_get v.objects group)) found.1) ∙ text-of (object_of r (column_index.Text i) group) o (sym (found-in content r are column group o (column_index.Text i) is) ∙ at) in
       let group_texts : in_group r.size group texts ≡ texts_meaning form =
-      ap (λ n. in_group n group texts) (sym even.0)
+      ap (λ n. in_group n group texts) (sym same_length.0)
       ∙ sym (texts-of-group lists c group o has column_is own)
       ∙ ap (λ l. texts_meaning (unwrap_or l [])) there in
       record {
-        cells = cells-at (slot.Text i) is
+        cells = cells-at (column_index.Text i) is
             ∙ ap Some (ap (λ ts. in_group r.size group (map text_cell ts)) read ∙ group-map text_cell r.size group texts ∙ ap (map text_cell) group_texts);
       }
 
@@ -152,8 +152,8 @@ module _ {K : Type 0} (content : K → List ℕ) (r : Rows K) (are : AreRows con
       let has = numbers-in column_lies.0 column_lies.1 at list there in
       record {
         form = inl form;
-        cells = begins (map int_cell has.front) (map int_cell has.blanks) (cells_meant (content t)) has.cells (length-map has.front int_cell ∙ has.used)
-            (ints-lent (content t) form ∙ ap (map int_cell) (means ∙ has.is) ∙ map-append int_cell has.front has.blanks);
+        cells = begins (map int_cell has.front) (map int_cell has.default_values) (cells_meant (content t)) has.cells (length-map has.front int_cell ∙ has.used)
+            (ints-lent (content t) form ∙ ap (map int_cell) (means ∙ has.is) ∙ map-append int_cell has.front has.default_values);
       }
 
   -- and of one of texts

@@ -16,11 +16,11 @@ use Rattle.far_types.specs.Edits.{edit_faults, overfills}
 use Rattle.far_types.specs.FirstOf.{first_of}
 use Rattle.far_scopes.specs.Movement.{Movement, version_of}
 use Rattle.far_scopes.specs.Refusing.{written_out}
-use Rattle.far_rows.specs.declared.slot.Slot.{Slot}
-use Rattle.far_rows.specs.declared.slot.Slot.TheVariants as slot
-use Rattle.far_rows.specs.Slots.{Values, kind_of, row_of}
+use Rattle.far_rows.specs.declared.column_index.ColumnIndex.{ColumnIndex}
+use Rattle.far_rows.specs.declared.column_index.ColumnIndex.TheVariants as column_index
+use Rattle.far_rows.specs.ColumnIndexes.{Values, kind_of, row_of}
 use Rattle.far_rows.specs.Rows.{Rows, cells_of, object_of}
-use Rattle.far_rows.specs.Refusing.{absents, no_room_for_texts, no_room_for_numbers, is_written_out, some_written_out}
+use Rattle.far_rows.specs.Refusing.{absents, no_space_for_texts, no_space_for_numbers, is_written_out, some_written_out}
 use Rattle.far_rows.specs.Places.{text_parts}
 use Rattle.far_rows.specs.Plain.{insert_refusal}
 use Rattle.far_table.specs.TableRows.{TableRows, AreWritten, AreKept, asked, rows_in}
@@ -33,8 +33,8 @@ pub not-out : {X K : Type 0} (limits : Limits) (edits : ℕ) (m : Movement X K) 
 not-out limits edits m written few left o =
     let ne = eqb-false edits limits.edits left in
     let at = written.versions o in
-    let below : version_of m o < m.changes = omega (arith, ne, at, few, written.changes) in
-    let e : nat_lt (version_of m o) m.changes ≡ true = grind (arith, nat_tests) in
+    let below : version_of m o < m.max_writes = omega (arith, ne, at, few, written.max_writes) in
+    let e : nat_lt (version_of m o) m.max_writes ≡ true = grind (arith, nat_tests) in
     ap not e
 
 none-any : {A : Type 0} (test : A → Bool) (xs : List A) → ((x : A) → test x ≡ false) → list_any test xs ≡ false
@@ -57,22 +57,22 @@ module _ {K : Type 0} (content : K → List ℕ) (schema : List Kind) (limits : 
   last = first_of ((used, refusal.EditsUsedUp) ∷ [])
 
   none-out : used ≡ false → (g : ℕ) → (some_written_out held g).0 ≡ false
-  none-out left g = none-any (is_written_out held g) held.slots each where
-    each : (s : Slot) → is_written_out held g s ≡ false
-    each (slot.Number i) = none-there (λ o. (written_out held.number_objects o).0) (object_of held (slot.Number i) g) (not-out limits edits held.number_objects kept.numbers_written kept.edits_few left)
-    each (slot.Text i) = none-there (λ o. (written_out held.text_objects o).0) (object_of held (slot.Text i) g) (not-out limits edits held.text_objects kept.texts_written kept.edits_few left)
+  none-out left g = none-any (is_written_out held g) held.column_indexes each where
+    each : (s : ColumnIndex) → is_written_out held g s ≡ false
+    each (column_index.Number i) = none-there (λ o. (written_out held.number_objects o).0) (object_of held (column_index.Number i) g) (not-out limits edits held.number_objects kept.numbers_written kept.edits_few left)
+    each (column_index.Text i) = none-there (λ o. (written_out held.text_objects o).0) (object_of held (column_index.Text i) g) (not-out limits edits held.text_objects kept.texts_written kept.edits_few left)
 
   next-group : length held.alive / held.size ≡ length t.places / limits.group
   next-group = λ i. sym (length-places (cells_of content held) held.alive) i / kept.laid.group i
 
-  taken-due : first_of (edit_faults schema limits t.places (edit.Insert (row_of held.slots new_row))) ≡ None → option_or (insert_refusal content limits held new_row) last ≡ edit_due (asked t) (edit.Insert (row_of held.slots new_row))
+  taken-due : first_of (edit_faults schema limits t.places (edit.Insert (row_of held.column_indexes new_row))) ≡ None → option_or (insert_refusal content limits held new_row) last ≡ edit_due (asked t) (edit.Insert (row_of held.column_indexes new_row))
   taken-due free =
-      let e : Edit = edit.Insert (row_of held.slots new_row) in
+      let e : Edit = edit.Insert (row_of held.column_indexes new_row) in
       let g = length held.alive / held.size in
       let away = absents held g in
-      let over = overfills (map kind_of held.slots) limits e t.places in
-      let texts = no_room_for_texts held (text_parts content limits held e (length t.places / limits.group)) in
-      let numbers = no_room_for_numbers held in
+      let over = overfills (map kind_of held.column_indexes) limits e t.places in
+      let texts = no_space_for_texts held (text_parts content limits held e (length t.places / limits.group)) in
+      let numbers = no_space_for_numbers held in
       let tests : List (Bool × Refusal) = (over, refusal.ChunkFull) ∷ texts ∷ numbers ∷ some_written_out held g ∷ [] in
       let end : List (Bool × Refusal) = texts ∷ numbers ∷ (used, refusal.EditsUsedUp) ∷ [] in
       let tail : option_or (first_of tests) last ≡ first_of ((over, refusal.ChunkFull) ∷ end) =
@@ -86,7 +86,7 @@ module _ {K : Type 0} (content : K → List ℕ) (schema : List Kind) (limits : 
       ∙ sym (passed (edit_faults schema limits t.places e) (absents held (group_of (asked t) e) ++ (overfills schema limits e t.places, refusal.ChunkFull) ∷ end) free)
 
   -- an insert of the row that was taken, which has no fault of its own
-  pub insert-due : (row : List Cell) → row_of held.slots new_row ≡ row → first_of (edit_faults schema limits t.places (edit.Insert row)) ≡ None → option_or (insert_refusal content limits held new_row) last ≡ edit_due (asked t) (edit.Insert row)
+  pub insert-due : (row : List Cell) → row_of held.column_indexes new_row ≡ row → first_of (edit_faults schema limits t.places (edit.Insert row)) ≡ None → option_or (insert_refusal content limits held new_row) last ≡ edit_due (asked t) (edit.Insert row)
   insert-due row is = subst (λ r. first_of (edit_faults schema limits t.places (edit.Insert r)) ≡ None → option_or (insert_refusal content limits held new_row) last ≡ edit_due (asked t) (edit.Insert r)) is taken-due
 
   -- a removal of a place that is alive

@@ -14,19 +14,19 @@ use Rattle.far_types.specs.declared.refusal.Refusal.TheVariants as refusal
 use Rattle.far_types.specs.Bounds.{is_text}
 use Rattle.far_types.specs.Edits.{edit_faults, overfills, text_object_length, places_after}
 use Rattle.far_types.specs.FirstOf.{first_of}
-use Rattle.far_log.specs.Room.{fits_in}
+use Rattle.far_log.specs.RegionState.{fits_in}
 use Rattle.far_vector.specs.Vector.{Vector, IsShaped}
 use Rattle.far_texts.specs.Texts.{Texts, HasGroups}
 use Rattle.far_rows.specs.declared.object.Object.{Object}
 use Rattle.far_rows.specs.declared.new_cell.NewCell.{NewCell}
-use Rattle.far_rows.specs.declared.slot.Slot.{Slot}
-use Rattle.far_rows.specs.declared.slot.Slot.TheVariants as slot
-use Rattle.far_rows.specs.Slots.{Values, IsWithin, kind_of}
+use Rattle.far_rows.specs.declared.column_index.ColumnIndex.{ColumnIndex}
+use Rattle.far_rows.specs.declared.column_index.ColumnIndex.TheVariants as column_index
+use Rattle.far_rows.specs.ColumnIndexes.{Values, IsWithin, kind_of}
 use Rattle.far_rows.specs.Rows.{Rows, AreRows, object_of}
 use Rattle.far_rows.specs.Moving.{object_at, object_in}
 use Rattle.far_rows.specs.Refusing.{absents}
 use Rattle.far_rows.specs.Setting.{cell_of}
-use Rattle.far_rows.specs.Plain.{no_room_alone, writes_used, cell_set_refusal}
+use Rattle.far_rows.specs.Plain.{no_space_alone, writes_used, cell_set_refusal}
 use Rattle.far_table.specs.TableRows.{TableRows, AreKept, asked, rows_in}
 use Rattle.far_table.specs.Edits.{edit_due}
 use Rattle.far_table.proofs.First.{first-behind, passed, or-assoc, last-used}
@@ -39,25 +39,25 @@ found-at (x ∷ xs) (suc i) within = found-at xs i (omega (arith, within))
 
 module _ {K : Type 0} (content : K → List ℕ) (held : Rows K) (are : AreRows content held) where
   -- a column has an object for the row group of each place
-  pub object-there : (c : ℕ) (s : Slot) → slice_get held.slots c ≡ Some s → (p : ℕ) → p < length held.alive → (o : ℕ) × (object_of held s (p / held.size) ≡ Some o)
-  object-there c s lies p below = by s (subst (IsWithin (length held.numbers) (length held.texts)) (get_or_from_slice_get held.slots c s s lies) (are.slots.within c s (slice_get_within held.slots c s lies))) where
-    by : (some : Slot) → IsWithin (length held.numbers) (length held.texts) some → (o : ℕ) × (object_of held some (p / held.size) ≡ Some o)
-    by (slot.Number i) inside =
+  pub object-there : (c : ℕ) (s : ColumnIndex) → slice_get held.column_indexes c ≡ Some s → (p : ℕ) → p < length held.alive → (o : ℕ) × (object_of held s (p / held.size) ≡ Some o)
+  object-there c s lies p below = by s (subst (IsWithin (length held.numbers) (length held.texts)) (get_or_from_slice_get held.column_indexes c s s lies) (are.column_indexes.within c s (slice_get_within held.column_indexes c s lies))) where
+    by : (some : ColumnIndex) → IsWithin (length held.numbers) (length held.texts) some → (o : ℕ) × (object_of held some (p / held.size) ≡ Some o)
+    by (column_index.Number i) inside =
         let found = found-at held.numbers i inside in
         let v : Vector (Option ℤ) = found.0 in
         let same = get_or_from_slice_get held.numbers i v v found.1 in
-        let even = subst (λ (w : Vector (Option ℤ)). (w.size ≡ held.size) × (w.len ≡ length held.alive)) same (are.even_numbers i v inside) in
+        let same_length = subst (λ (w : Vector (Option ℤ)). (w.size ≡ held.size) × (w.len ≡ length held.alive)) same (are.same_length_numbers i v inside) in
         let shaped = subst IsShaped same (are.shaped i v inside) in
-        let object = found-at v.objects (p / v.size) (div_below p v.size (length v.objects) shaped.some (omega (arith, below, even.1, shaped.enough))) in
-        (object.0, ap (option_and_then (λ (w : Vector (Option ℤ)). slice_get w.objects (p / held.size))) found.1 ∙ (λ k. slice_get v.objects (p / sym even.0 k)) ∙ object.1)
-    by (slot.Text i) inside =
+        let object = found-at v.objects (p / v.size) (div_below p v.size (length v.objects) shaped.some (omega (arith, below, same_length.1, shaped.enough))) in
+        (object.0, ap (option_and_then (λ (w : Vector (Option ℤ)). slice_get w.objects (p / held.size))) found.1 ∙ (λ k. slice_get v.objects (p / sym same_length.0 k)) ∙ object.1)
+    by (column_index.Text i) inside =
         let found = found-at held.texts i inside in
         let v : Texts = found.0 in
         let same = get_or_from_slice_get held.texts i v v found.1 in
-        let even = subst (λ (w : Texts). (w.size ≡ held.size) × (w.len ≡ length held.alive)) same (are.even_texts i v inside) in
+        let same_length = subst (λ (w : Texts). (w.size ≡ held.size) × (w.len ≡ length held.alive)) same (are.same_length_texts i v inside) in
         let has = subst HasGroups same (are.grouped i v inside) in
-        let object = found-at v.objects (p / v.size) (div_below p v.size (length v.objects) has.some (omega (arith, below, even.1, has.held))) in
-        (object.0, ap (option_and_then (λ (w : Texts). slice_get w.objects (p / held.size))) found.1 ∙ (λ k. slice_get v.objects (p / sym even.0 k)) ∙ object.1)
+        let object = found-at v.objects (p / v.size) (div_below p v.size (length v.objects) has.some (omega (arith, below, same_length.1, has.held))) in
+        (object.0, ap (option_and_then (λ (w : Texts). slice_get w.objects (p / held.size))) found.1 ∙ (λ k. slice_get v.objects (p / sym same_length.0 k)) ∙ object.1)
 
 module _ {K : Type 0} (content : K → List ℕ) (schema : List Kind) (limits : Limits) (held : Rows K) (new_row : Values) (edits : ℕ) (kept : AreKept content schema limits held new_row edits) where
   abbrev t : TableRows K
@@ -71,33 +71,33 @@ module _ {K : Type 0} (content : K → List ℕ) (schema : List Kind) (limits : 
 
   -- the text that a set writes finds no room
   abbrev crowded : Edit → ℕ → ℕ → Bool
-  crowded e c g = not (fits_in held.text_objects.memory.room (text_object_length limits c g (places_after e t.places)))
+  crowded e c g = not (fits_in held.text_objects.memory.state (text_object_length limits c g (places_after e t.places)))
 
-  room-of : (s : Slot) (e : Edit) (c g o : ℕ) → no_room_alone content limits held e c g (object_in s o) ≡ (is_text (Some (kind_of s)) && crowded e c g, refusal.RegionFull)
-  room-of (slot.Number i) e c g o = refl
-  room-of (slot.Text i) e c g o = refl
+  room-of : (s : ColumnIndex) (e : Edit) (c g o : ℕ) → no_space_alone content limits held e c g (object_in s o) ≡ (is_text (Some (kind_of s)) && crowded e c g, refusal.RegionFull)
+  room-of (column_index.Number i) e c g o = refl
+  room-of (column_index.Text i) e c g o = refl
 
-  writes-of : (s : Slot) (o : ℕ) → writes_used content limits held (object_in s o) ≡ ((writes_used content limits held (object_in s o)).0, refusal.EditsUsedUp)
-  writes-of (slot.Number i) o = refl
-  writes-of (slot.Text i) o = refl
+  writes-of : (s : ColumnIndex) (o : ℕ) → writes_used content limits held (object_in s o) ≡ ((writes_used content limits held (object_in s o)).0, refusal.EditsUsedUp)
+  writes-of (column_index.Number i) o = refl
+  writes-of (column_index.Text i) o = refl
 
-  not-written : (s : Slot) (o : ℕ) → used ≡ false → (writes_used content limits held (object_in s o)).0 ≡ false
-  not-written (slot.Number i) o left = not-out limits edits held.number_objects kept.numbers_written kept.edits_few left o
-  not-written (slot.Text i) o left = not-out limits edits held.text_objects kept.texts_written kept.edits_few left o
+  not-written : (s : ColumnIndex) (o : ℕ) → used ≡ false → (writes_used content limits held (object_in s o)).0 ≡ false
+  not-written (column_index.Number i) o left = not-out limits edits held.number_objects kept.numbers_written kept.edits_few left o
+  not-written (column_index.Text i) o left = not-out limits edits held.text_objects kept.texts_written kept.edits_few left o
 
-  kind-at : (c : ℕ) (s : Slot) → slice_get held.slots c ≡ Some s → Some (kind_of s) ≡ slice_get schema c
-  kind-at c s lies = sym (slice_get-map kind_of held.slots c ∙ ap (option_map kind_of) lies) ∙ ap (λ (kinds : List Kind). slice_get kinds c) kept.kinds
+  kind-at : (c : ℕ) (s : ColumnIndex) → slice_get held.column_indexes c ≡ Some s → Some (kind_of s) ≡ slice_get schema c
+  kind-at c s lies = sym (slice_get-map kind_of held.column_indexes c ∙ ap (option_map kind_of) lies) ∙ ap (λ (kinds : List Kind). slice_get kinds c) kept.kinds
 
-  module _ (are : AreRows content held) (c p : ℕ) (value : NewCell) (s : Slot) (lies : slice_get held.slots c ≡ Some s) (below : p < length held.alive) where
+  module _ (are : AreRows content held) (c p : ℕ) (value : NewCell) (s : ColumnIndex) (lies : slice_get held.column_indexes c ≡ Some s) (below : p < length held.alive) where
     value-due : first_of (edit_faults schema limits t.places (edit.Set p c (cell_of value))) ≡ None → option_or (cell_set_refusal content limits held c p value) last ≡ edit_due (asked t) (edit.Set p c (cell_of value))
     value-due free =
         let e : Edit = edit.Set p c (cell_of value) in
         let g = p / limits.group in
         let there = object-there content held are c s lies p below in
-        let at : object_at held c (p / held.size) ≡ Some (object_in s there.0) = ap (option_and_then (λ (u : Slot). option_map (object_in u) (object_of held u (p / held.size)))) lies ∙ ap (option_map (object_in s)) there.1 in
+        let at : object_at held c (p / held.size) ≡ Some (object_in s there.0) = ap (option_and_then (λ (u : ColumnIndex). option_map (object_in u) (object_of held u (p / held.size)))) lies ∙ ap (option_map (object_in s)) there.1 in
         let out = (writes_used content limits held (object_in s there.0)).0 in
-        let room : option_map_or (no_room_alone content limits held e c g) (object_at held c (p / held.size)) (false, refusal.StaleJob) ≡ (is_text (slice_get schema c) && crowded e c g, refusal.RegionFull) =
-        ap (λ (found : Option Object). option_map_or (no_room_alone content limits held e c g) found (false, refusal.StaleJob)) at
+        let room : option_map_or (no_space_alone content limits held e c g) (object_at held c (p / held.size)) (false, refusal.StaleJob) ≡ (is_text (slice_get schema c) && crowded e c g, refusal.RegionFull) =
+        ap (λ (found : Option Object). option_map_or (no_space_alone content limits held e c g) found (false, refusal.StaleJob)) at
         ∙ room-of s e c g there.0
         ∙ (λ i. (is_text (kind-at c s lies i) && crowded e c g, refusal.RegionFull)) in
         let writes : option_map_or (writes_used content limits held) (object_at held c (p / held.size)) (false, refusal.StaleJob) ≡ (out, refusal.EditsUsedUp) =

@@ -14,12 +14,12 @@ use Rattle.far_types.specs.Cells.{is_of_kind, is_too_long}
 use Rattle.far_types.specs.Edits.{edit_faults, kinds_fit, is_of_other_kind, overfills}
 use Rattle.far_types.specs.FirstOf.{first_of}
 use Rattle.far_types.specs.Table.{Place}
-use Rattle.far_rows.specs.declared.slot.Slot.{Slot}
-use Rattle.far_rows.specs.Slots.{kind_of}
+use Rattle.far_rows.specs.declared.column_index.ColumnIndex.{ColumnIndex}
+use Rattle.far_rows.specs.ColumnIndexes.{kind_of}
 use Rattle.far_rows.specs.Places.{places_of}
 use Rattle.far_rows.specs.Refusing.{absents}
 use Rattle.far_table.specs.State.{State}
-use Rattle.far_table.specs.Edits.{edit_due, obstacles, group_of, no_room}
+use Rattle.far_table.specs.Edits.{edit_due, obstacles, group_of, no_space}
 use Rattle.far_table.proofs.First.{free-head, free-parts}
 use Rattle.far_table.proofs.Places.{flag-there}
 
@@ -69,10 +69,10 @@ some-of : {A : Type 0} (found : Option A) → is_none found ≡ false → (x : A
 some-of None is = absurd cc
 some-of (Some x) is = (x, refl)
 
--- a column of a kind has a slot
-pub slot-of : (found : Option Slot) (kind : Kind) → option_map kind_of found ≡ Some kind → (s : Slot) × (found ≡ Some s)
-slot-of None kind is = absurd (none-some kind is)
-slot-of (Some s) kind is = (s, refl)
+-- a column of a kind has an index
+pub column_index-of : (found : Option ColumnIndex) (kind : Kind) → option_map kind_of found ≡ Some kind → (s : ColumnIndex) × (found ≡ Some s)
+column_index-of None kind is = absurd (none-some kind is)
+column_index-of (Some s) kind is = (s, refl)
 
 -- a place that is there is among the flags
 pub place-below : (columns : List (List Cell)) (flags : List Bool) (p : ℕ) → is_none (slice_get (places_of columns flags) p) ≡ false → p < length flags
@@ -96,7 +96,7 @@ module _ {K : Type 0} (s : State K) (e : Edit) (free : edit_due s e ≡ None) wh
   edits-left =
       let here = (free-parts (absents s.rows (group_of s e)) _ parts.1).1 in
       let room = (free-head (overfills s.table.schema s.table.limits e s.table.places) refusal.ChunkFull _ here).1 in
-      let used = (free-parts (no_room s e) _ room).1 in
+      let used = (free-parts (no_space s e) _ room).1 in
       eqb-false s.table.edits s.table.limits.edits (free-head (s.table.edits == s.table.limits.edits) refusal.EditsUsedUp _ used).0
 
   -- and no object of the row group is away

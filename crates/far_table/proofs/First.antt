@@ -26,7 +26,7 @@ none-of : (first later : Option Refusal) → option_or first later ≡ None → 
 none-of None later free = (refl, free)
 none-of (Some e) later free = absurd cc
 
--- nothing is refused where neither part is
+-- nothing is refused if neither part is
 pub free-parts : (cases more : List (Bool × Refusal)) → first_of (cases ++ more) ≡ None → (first_of cases ≡ None) × (first_of more ≡ None)
 free-parts cases more free = none-of (first_of cases) (first_of more) (sym (first-behind cases more) ∙ free)
 
@@ -38,7 +38,7 @@ pub or-assoc : (a b c : Option Refusal) → option_or (option_or a b) c ≡ opti
 or-assoc None b c = refl
 or-assoc (Some e) b c = refl
 
--- an object is written out only where the table is
+-- an object is written out only if the table is
 pub last-used : (object table : Bool) → (table ≡ false → object ≡ false) → cond object (Some refusal.EditsUsedUp) (cond table (Some refusal.EditsUsedUp) None) ≡ cond table (Some refusal.EditsUsedUp) None
 last-used true true only = refl
 last-used true false only = absurd (let e : true ≡ false = only refl in cc)

@@ -5,9 +5,9 @@ use Rattle.far_types.specs.Cells.{CellFits, RowFits}
 use Rattle.far_types.specs.Edits.{changed_at, with_cell, removed}
 use Rattle.far_types.specs.Lent.{int_cell, text_cell}
 use Rattle.far_types.specs.Table.{Place}
-use Rattle.far_rows.specs.declared.slot.Slot.{Slot}
-use Rattle.far_rows.specs.declared.slot.Slot.TheVariants as slot
-use Rattle.far_rows.specs.Slots.{Values, cell_in, row_of}
+use Rattle.far_rows.specs.declared.column_index.ColumnIndex.{ColumnIndex}
+use Rattle.far_rows.specs.declared.column_index.ColumnIndex.TheVariants as column_index
+use Rattle.far_rows.specs.ColumnIndexes.{Values, cell_in, row_of}
 use Rattle.far_aggregates.specs.Accumulators.{PlacesFit}
 
 pub fit-appended : (row : List Cell) (places : List Place) → PlacesFit places → RowFits row → PlacesFit (places ++ record { cells = row; alive = true } ∷ [])
@@ -38,15 +38,15 @@ none-at (suc n) zero = refl
 none-at (suc n) (suc i) = none-at n i
 
 -- a row without a value has no number
-pub blank-fits : (n m : ℕ) (values : Values) → values ≡ record { numbers = replicate n None; texts = replicate m None } → (slots : List Slot) → RowFits (row_of slots values)
-blank-fits n m values is slots = subst (λ (v : Values). RowFits (row_of slots v)) (sym is) (each slots) where
-  blank : Values
-  blank = record { numbers = replicate n None; texts = replicate m None }
+pub default_value-fits : (n m : ℕ) (values : Values) → values ≡ record { numbers = replicate n None; texts = replicate m None } → (column_indexes : List ColumnIndex) → RowFits (row_of column_indexes values)
+default_value-fits n m values is column_indexes = subst (λ (v : Values). RowFits (row_of column_indexes v)) (sym is) (each column_indexes) where
+  default_value : Values
+  default_value = record { numbers = replicate n None; texts = replicate m None }
 
-  one : (s : Slot) → CellFits (cell_in blank s)
-  one (slot.Number i) = subst (λ (x : Option ℤ). CellFits (int_cell x)) (sym (none-at n i)) tt
-  one (slot.Text i) = subst (λ (x : Option (List ℕ)). CellFits (text_cell x)) (sym (none-at m i)) tt
+  one : (s : ColumnIndex) → CellFits (cell_in default_value s)
+  one (column_index.Number i) = subst (λ (x : Option ℤ). CellFits (int_cell x)) (sym (none-at n i)) tt
+  one (column_index.Text i) = subst (λ (x : Option (List ℕ)). CellFits (text_cell x)) (sym (none-at m i)) tt
 
-  each : (some : List Slot) → RowFits (row_of some blank)
+  each : (some : List ColumnIndex) → RowFits (row_of some default_value)
   each [] = tt
   each (s ∷ some) = (one s, each some)

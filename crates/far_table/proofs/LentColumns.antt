@@ -63,16 +63,16 @@ module _ {K : Type 0} (content : K → List ℕ) (g : GroupRows K) where
     by column under (inl same) = subst (λ (c : ℕ). IsLentOf content g c (get_or (set columns k found) c None)) (sym same) (subst (IsLentOf content g k) (sym (get_or-set_same columns k found None inside)) is)
 
   -- past the columns nothing is there
-  no-column : (column : ℕ) → length g.rows.slots ≤ column → has_column g column ≡ false
-  no-column column past = λ i. is_none (option_or (first_of ((is_none (slice_get_past g.rows.slots column past i), refusal.NoColumn) ∷ (is_none (object_at g.rows column g.group), refusal.OutOfRange) ∷ [])) (first_of (absent_in g.rows column g.group ∷ [])))
+  no-column : (column : ℕ) → length g.rows.column_indexes ≤ column → has_column g column ≡ false
+  no-column column past = λ i. is_none (option_or (first_of ((is_none (slice_get_past g.rows.column_indexes column past i), refusal.NoColumn) ∷ (is_none (object_at g.rows column g.group), refusal.OutOfRange) ∷ [])) (first_of (absent_in g.rows column g.group ∷ [])))
 
   -- all columns were looked at
-  pub all-below : (columns : List (Option LentColumn)) → AreBelow (length g.rows.slots) columns → (column : ℕ) → IsLentOf content g column (get_or columns column None)
-  all-below columns below column = by (cases_order column (length g.rows.slots)) where
-    past-all : length g.rows.slots ≤ column → IsLentOf content g column (get_or columns column None)
+  pub all-below : (columns : List (Option LentColumn)) → AreBelow (length g.rows.column_indexes) columns → (column : ℕ) → IsLentOf content g column (get_or columns column None)
+  all-below columns below column = by (cases_order column (length g.rows.column_indexes)) where
+    past-all : length g.rows.column_indexes ≤ column → IsLentOf content g column (get_or columns column None)
     past-all past = subst (IsLentOf content g column) (sym (below.rest column past)) record { there = λ has. absurd (let no : true ≡ false = sym has ∙ no-column column past in cc); form = tt; cells = tt }
 
-    by : (column ≡ length g.rows.slots) ⊎ ((column < length g.rows.slots) ⊎ (length g.rows.slots < column)) → IsLentOf content g column (get_or columns column None)
+    by : (column ≡ length g.rows.column_indexes) ⊎ ((column < length g.rows.column_indexes) ⊎ (length g.rows.column_indexes < column)) → IsLentOf content g column (get_or columns column None)
     by (inr (inl within)) = below.lent column within
     by (inl same) = past-all (omega (arith, same))
     by (inr (inr more)) = past-all (omega (arith, more))

@@ -17,7 +17,7 @@ use Rattle.far_types.specs.FirstOf.{first_of}
 use Rattle.far_types.specs.MayRefuse.{MayRefuse}
 use Rattle.far_types.specs.Table.{Place, Registered}
 use Rattle.far_rows.specs.declared.new_cell.NewCell.{NewCell}
-use Rattle.far_rows.specs.Slots.{Values, kind_of, row_of}
+use Rattle.far_rows.specs.ColumnIndexes.{Values, kind_of, row_of}
 use Rattle.far_rows.specs.Rows.{Rows, cells_of}
 use Rattle.far_rows.specs.Effects.{IsPushed}
 use Rattle.far_rows.specs.Places.{places_in}
@@ -64,7 +64,7 @@ module _ {K : Type 0} where
   pub refuses-due : (shown seen after : State K) (e : Edit) (r : Refusal) → shown ≡ seen → after ≡ shown → Some r ≡ edit_due shown e → Refuses (edit_due seen e) true seen r after
   refuses-due shown seen after e r same stays is = (stays ∙ same, subst (λ (s : State K). MayRefuse (edit_due s e) true r) same (subst (λ (o : Option Refusal). MayRefuse o true r) is refl))
 
-  -- likewise where nothing is due, for want of memory
+  -- likewise where nothing is due, for lack of memory
   pub refuses-memory : (shown seen after : State K) (e : Edit) (r : Refusal) → shown ≡ seen → after ≡ shown → None ≡ edit_due shown e → r ≡ refusal.NoMemory → Refuses (edit_due seen e) true seen r after
   refuses-memory shown seen after e r same stays free is = (stays ∙ same, subst (λ (s : State K). MayRefuse (edit_due s e) true r) same (subst (λ (o : Option Refusal). MayRefuse o true r) free (is, refl)))
 
@@ -83,13 +83,13 @@ module _ {K : Type 0} where
   made-live old new e r was now made same live kept = record { registrations_few = live.registrations_few; kept = kept; checked = made-checked old new e r was now made same live }
 
   -- the pairs to retract are retracted from what is kept of the new places
-  pub goes-after : (old new : TableRows K) (e : Edit) (p : ℕ) (limits : Limits) (now : List Slot) (pending : Pending) → limits ≡ old.limits → IsMade old new e → RetractsAll limits.group (p / limits.group) (places_after e old.places) now pending → RetractsAll new.limits.group (p / new.limits.group) new.places now pending
-  goes-after old new e p limits now pending same made goes =
+  pub retracts-after : (old new : TableRows K) (e : Edit) (p : ℕ) (limits : Limits) (now : List Slot) (pending : Pending) → limits ≡ old.limits → IsMade old new e → RetractsAll limits.group (p / limits.group) (places_after e old.places) now pending → RetractsAll new.limits.group (p / new.limits.group) new.places now pending
+  retracts-after old new e p limits now pending same made retracts =
       let bounds : limits ≡ new.limits = same ∙ sym made.limits in
-      subst (λ (l : Limits). RetractsAll l.group (p / l.group) new.places now pending) bounds (subst (λ (ps : List Place). RetractsAll limits.group (p / limits.group) ps now pending) (sym made.places) goes)
+      subst (λ (l : Limits). RetractsAll l.group (p / l.group) new.places now pending) bounds (subst (λ (ps : List Place). RetractsAll limits.group (p / limits.group) ps now pending) (sym made.places) retracts)
 
 -- the row that was taken is appended
-module _ {K : Type 0} (content : K → List ℕ) (old mid new : TableRows K) (row : List Cell) (stays : mid ≡ record old { new_row = mid.new_row }) (taken : row_of mid.held.slots mid.new_row ≡ row) (appended : IsAppended content mid new) where
+module _ {K : Type 0} (content : K → List ℕ) (old mid new : TableRows K) (row : List Cell) (stays : mid ≡ record old { new_row = mid.new_row }) (taken : row_of mid.held.column_indexes mid.new_row ≡ row) (appended : IsAppended content mid new) where
   made : IsMade mid new (edit.Insert row)
   made = subst (λ (cells : List Cell). IsMade mid new (edit.Insert cells)) taken appended.made
 
@@ -97,7 +97,7 @@ module _ {K : Type 0} (content : K → List ℕ) (old mid new : TableRows K) (ro
   inserted r was now free same = record {
     due = sym free;
     table = made-table mid new (edit.Insert row) r was now made same ∙ ap (λ (s : State K). edited (edit.Insert row) s.table) (taken-state old mid r was stays);
-    rows = subst (λ (t : TableRows K). (values : Values) × (row_of t.held.slots values ≡ row) × IsPushed content t.held values new.held) stays (mid.new_row, taken, appended.held);
+    rows = subst (λ (t : TableRows K). (values : Values) × (row_of t.held.column_indexes values ≡ row) × IsPushed content t.held values new.held) stays (mid.new_row, taken, appended.held);
   }
 
   pub inserted-live : (r : ℕ) (was now : List Slot) → registered_of now ≡ registered_of was → IsLive old r was → Keeps mid.limits.group (places_after (edit.Insert row) mid.places) now → IsLive new r now
@@ -113,7 +113,7 @@ module _ {K : Type 0} (old new : TableRows K) (p c : ℕ) where
   pub set-inside : (cell : Cell) → IsMade old new (edit.Set p c cell) → p < length old.places → p < length new.places
   set-inside cell made below = let same = ap length made.places ∙ length-changed (with_cell c cell) p old.places in omega (arith, below, same)
 
-  pub put : (content : K → List ℕ) (cell : Cell) (value : NewCell) (r : ℕ) (was now : List Slot) → cell_of value ≡ cell → option_map kind_of (slice_get old.held.slots c) ≡ Some (kind_in value) → IsPut content old new c p value → None ≡ edit_due (asked old) (edit.Set p c cell) → registered_of now ≡ registered_of was → IsEdited content (state_of old r was) (edit.Set p c cell) (state_of new r now)
+  pub put : (content : K → List ℕ) (cell : Cell) (value : NewCell) (r : ℕ) (was now : List Slot) → cell_of value ≡ cell → option_map kind_of (slice_get old.held.column_indexes c) ≡ Some (kind_in value) → IsPut content old new c p value → None ≡ edit_due (asked old) (edit.Set p c cell) → registered_of now ≡ registered_of was → IsEdited content (state_of old r was) (edit.Set p c cell) (state_of new r now)
   put content cell value r was now is of_kind changed free same = record {
     due = sym free;
     table = made-table old new (edit.Set p c cell) r was now (made-with (cell_of value) cell is changed.made) same;
@@ -155,13 +155,13 @@ there-below : (places : List Place) (p : ℕ) → is_none (slice_get places p) �
 there-below places p is = let found = found-some (slice_get places p) is in slice_get_within places p found.0 found.1
 
 -- a row has a cell in each column of the schema
-module _ {K : Type 0} (content : K → List ℕ) (schema : List Kind) (held : Rows K) (kinds : map kind_of held.slots ≡ schema) where
+module _ {K : Type 0} (content : K → List ℕ) (schema : List Kind) (held : Rows K) (kinds : map kind_of held.column_indexes ≡ schema) where
   row-width : (p : ℕ) (row : List Cell) → slice_get (places_in content held) p ≡ Some (alive_with row) → length row ≡ length schema
   row-width p row at =
       let columns : List (List Cell) = cells_of content held in
       let flag = flag-there columns held.alive p (alive_with row) at in
       let same : Some row ≡ Some _ = sym (ap (option_map (λ (place : Place). place.cells)) at) ∙ cells-get columns held.alive p true flag in
-      ap length (same_Some row _ same) ∙ length-map columns _ ∙ length-map held.slots _ ∙ sym (length-map held.slots kind_of) ∙ ap length kinds
+      ap length (same_Some row _ same) ∙ length-map columns _ ∙ length-map held.column_indexes _ ∙ sym (length-map held.column_indexes kind_of) ∙ ap length kinds
 
   pub column-there : (places : List Place) → places ≡ places_in content held → (p c : ℕ) (row : List Cell) → slice_get places p ≡ Some (alive_with row) → is_none (slice_get schema c) ≡ false → IsSome (slice_get row c)
   column-there places same p c row at column =
@@ -199,7 +199,7 @@ module _ {K : Type 0} (t : TableRows K) (p c : ℕ) (cell : Cell) (free : None �
   pub set-row : (row : List Cell) → option_map (λ (place : Place). place.cells) (slice_get t.places p) ≡ Some row → slice_get t.places p ≡ Some (alive_with row)
   set-row row is = remove-alive t.schema t.limits t.places p row behind.1 is
 
-  pub set-column : (content : K → List ℕ) → t.places ≡ places_in content t.held → map kind_of t.held.slots ≡ t.schema → (row : List Cell) → option_map (λ (place : Place). place.cells) (slice_get t.places p) ≡ Some row → IsSome (slice_get row c)
+  pub set-column : (content : K → List ℕ) → t.places ≡ places_in content t.held → map kind_of t.held.column_indexes ≡ t.schema → (row : List Cell) → option_map (λ (place : Place). place.cells) (slice_get t.places p) ≡ Some row → IsSome (slice_get row c)
   set-column content places kinds row is = column-there content t.schema t.held kinds t.places places p c row (set-row row is) behind.0
 
   pub set-here : first_of (absents t.held (p / t.limits.group)) ≡ None

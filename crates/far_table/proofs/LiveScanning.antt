@@ -12,13 +12,13 @@ use Rattle.far_types.specs.declared.spec.Spec.{Spec}
 use Rattle.far_types.specs.Bounds.{needs, spec_refusal}
 use Rattle.far_types.specs.FirstOf.{first_of}
 use Rattle.far_types.specs.Table.{Registered, groups}
-use Rattle.far_rows.specs.declared.slot.Slot.{Slot}
-use Rattle.far_rows.specs.Slots.{kind_of}
+use Rattle.far_rows.specs.declared.column_index.ColumnIndex.{ColumnIndex}
+use Rattle.far_rows.specs.ColumnIndexes.{kind_of}
 use Rattle.far_rows.specs.Rows.{Rows, AreRows}
 use Rattle.far_rows.specs.Refusing.{told_at}
 use Rattle.far_aggregates.specs.Aggregates.{joined}
 use Rattle.far_aggregates.specs.Lending.{IsServed}
-use Rattle.far_aggregates.specs.Scans.{built_slot}
+use Rattle.far_aggregates.specs.Scans.{scanned_slot}
 use Rattle.far_table.specs.State.{IsChecked, AreChecked}
 use Rattle.far_table.specs.Groups.{has_column}
 use Rattle.far_table.specs.Watching.{needed_from}
@@ -40,39 +40,39 @@ and-then false b is free = absurd cc
 
 module _ {K : Type 0} (r : Rows K) (spec : Spec) (g : ℕ) where
   -- no object of a column that is needed is away
-  none-needed : (n : ℕ) (slots : List Slot) → first_of (needed_from r spec g n slots) ≡ None → (k : ℕ) (s : Slot) → slice_get slots k ≡ Some s → needs spec (n + k) ≡ true → (told_at r g s).0 ≡ false
+  none-needed : (n : ℕ) (column_indexes : List ColumnIndex) → first_of (needed_from r spec g n column_indexes) ≡ None → (k : ℕ) (s : ColumnIndex) → slice_get column_indexes k ≡ Some s → needs spec (n + k) ≡ true → (told_at r g s).0 ≡ false
   none-needed n [] free k s at wanted = absurd (none-some s at)
-  none-needed n (t ∷ slots) free zero s at wanted =
+  none-needed n (t ∷ column_indexes) free zero s at wanted =
       let same = same_Some t s at in
       let here : n + 0 ≡ n = omega arith in
-      let head = free-head (needs spec n && (told_at r g t).0) (refusal.Absent n g) (first_of (needed_from r spec g (n + 1) slots)) free in
-      subst (λ (u : Slot). (told_at r g u).0 ≡ false) same (and-then (needs spec n) (told_at r g t).0 (sym (ap (needs spec) here) ∙ wanted) head.0)
-  none-needed n (t ∷ slots) free (suc k) s at wanted =
+      let head = free-head (needs spec n && (told_at r g t).0) (refusal.Absent n g) (first_of (needed_from r spec g (n + 1) column_indexes)) free in
+      subst (λ (u : ColumnIndex). (told_at r g u).0 ≡ false) same (and-then (needs spec n) (told_at r g t).0 (sym (ap (needs spec) here) ∙ wanted) head.0)
+  none-needed n (t ∷ column_indexes) free (suc k) s at wanted =
       let next : n + 1 + k ≡ n + suc k = omega arith in
-      let head = free-head (needs spec n && (told_at r g t).0) (refusal.Absent n g) (first_of (needed_from r spec g (n + 1) slots)) free in
-      none-needed (n + 1) slots head.1 k s at (ap (needs spec) next ∙ wanted)
+      let head = free-head (needs spec n && (told_at r g t).0) (refusal.Absent n g) (first_of (needed_from r spec g (n + 1) column_indexes)) free in
+      none-needed (n + 1) column_indexes head.1 k s at (ap (needs spec) next ∙ wanted)
 
 module _ {K : Type 0} (content : K → List ℕ) (held : Rows K) (are : AreRows content held) (g : ℕ) (inside : g * held.size < length held.alive) where
   -- the columns that an aggregate needs are at hand where none of them is away
   pub scan-served : ((schema : List Kind) (spec : Spec) (some : ℕ → Bool) → spec_refusal schema spec ≡ None → ((c : ℕ) → c < length schema → some c ≡ true) → IsServed some spec)
-      → (schema : List Kind) → map kind_of held.slots ≡ schema → (spec : Spec) → spec_refusal schema spec ≡ None → None ≡ first_of (needed_from held spec g 0 held.slots) → IsServed (has_column record { rows = held; group = g }) spec
+      → (schema : List Kind) → map kind_of held.column_indexes ≡ schema → (spec : Spec) → spec_refusal schema spec ≡ None → None ≡ first_of (needed_from held spec g 0 held.column_indexes) → IsServed (has_column record { rows = held; group = g }) spec
   scan-served law schema kinds spec right free = record {
     tests = (law schema spec (λ c. true) right (λ c within. refl)).tests;
     at_hand = λ c wanted. hand c wanted (below c wanted);
   } where
-    below : (c : ℕ) → needs spec c ≡ true → c < length held.slots
+    below : (c : ℕ) → needs spec c ≡ true → c < length held.column_indexes
     below c wanted =
         let among = (law schema spec (λ k. nat_lt k (length schema)) right (λ k within. grind (arith, nat_tests))).at_hand c wanted in
         let inside-schema : c < length schema = grind (arith, nat_tests) in
         let count = ap length kinds in
-        let mapped = length-map held.slots kind_of in
+        let mapped = length-map held.column_indexes kind_of in
         omega (arith, inside-schema, count, mapped)
 
-    hand : (c : ℕ) → needs spec c ≡ true → c < length held.slots → has_column record { rows = held; group = g } c ≡ true
+    hand : (c : ℕ) → needs spec c ≡ true → c < length held.column_indexes → has_column record { rows = held; group = g } c ≡ true
     hand c wanted within =
-        let found = found-at held.slots c within in
+        let found = found-at held.column_indexes c within in
         let zero-plus : 0 + c ≡ c = omega arith in
-        let told = none-needed held spec g 0 held.slots (sym free) c found.0 found.1 (ap (needs spec) zero-plus ∙ wanted) in
+        let told = none-needed held spec g 0 held.column_indexes (sym free) c found.0 found.1 (ap (needs spec) zero-plus ∙ wanted) in
         ap is_none (lend-at content held are spec g inside c found.0 found.1 ∙ ap (λ (b : Bool). cond b (Some (refusal.Absent c g)) None) told)
 
 -- an aggregate has the specification that is told
@@ -94,17 +94,17 @@ checked-at schema [] a checked = tt
 checked-at schema (other ∷ rest) zero checked = checked.0
 checked-at schema (other ∷ rest) (suc a) checked = checked-at schema rest a checked.1
 
-built-checked : (schema : List Kind) (g : ℕ) (found : Option Registered) → IsChecked schema found → IsChecked schema (built_slot g found)
+built-checked : (schema : List Kind) (g : ℕ) (found : Option Registered) → IsChecked schema found → IsChecked schema (scanned_slot g found)
 built-checked schema g None checked = tt
 built-checked schema g (Some r) checked = checked
 
 -- what is registered may be had over the schema still, whether a row group was built in or not
 pub scanned-checked : {A : Type 0} (schema : List Kind) (aggregates after : List (Option Registered)) (a g : ℕ) (r : Result A Refusal)
-    → OnOk r (after ≡ slice_set aggregates a (built_slot g (joined (slice_get aggregates a)))) → OnErr r (after ≡ aggregates) → AreChecked schema aggregates → AreChecked schema after
+    → OnOk r (after ≡ slice_set aggregates a (scanned_slot g (joined (slice_get aggregates a)))) → OnErr r (after ≡ aggregates) → AreChecked schema aggregates → AreChecked schema after
 scanned-checked schema aggregates after a g (Ok x) built same checked = subst (AreChecked schema) (sym built) (checked-put schema aggregates a _ checked (built-checked schema g (joined (slice_get aggregates a)) (checked-at schema aggregates a checked)))
 scanned-checked schema aggregates after a g (Err e) built same checked = subst (AreChecked schema) (sym same) checked
 
--- a call that is refused for want of memory alone
+-- a call that is refused for lack of memory alone
 pub for-memory-alone : {A P : Type 0} (Q : Refusal → Type 0) (r : Result A Refusal) → IfErr r (λ e. e ≡ refusal.NoMemory) → OnErr r P → ((e : Refusal) → e ≡ refusal.NoMemory → P → Q e) → IfErr r Q
 for-memory-alone Q (Ok x) memory same then = tt
 for-memory-alone Q (Err e) memory same then = then e memory same

@@ -6,9 +6,9 @@ use Rattle.far_types.specs.declared.spec.Spec.{Spec}
 use Rattle.far_types.specs.Bounds.{spec_refusal}
 use Rattle.far_types.specs.FirstOf.{first_of}
 use Rattle.far_types.specs.Table.{Registered, in_group}
-use Rattle.far_rows.specs.declared.slot.Slot.{Slot}
-use Rattle.far_rows.specs.declared.slot.Slot.TheVariants as slot
-use Rattle.far_rows.specs.Slots.{kind_of}
+use Rattle.far_rows.specs.declared.column_index.ColumnIndex.{ColumnIndex}
+use Rattle.far_rows.specs.declared.column_index.ColumnIndex.TheVariants as column_index
+use Rattle.far_rows.specs.ColumnIndexes.{kind_of}
 use Rattle.far_rows.specs.Rows.{Rows, AreRows, cells_of}
 use Rattle.far_rows.specs.Refusing.{absents, absents_from, absent_at}
 use Rattle.far_rows.specs.Places.{places_in}
@@ -21,14 +21,14 @@ use Rattle.far_table.proofs.Served.{all-served}
 
 module _ {K : Type 0} (r : Rows K) (flags : List Bool) where
   -- which objects are away has nothing to do with the flags
-  pub absents-flags : (g n : ℕ) (slots : List Slot) → absents_from (record r { alive = flags }) g n slots ≡ absents_from r g n slots
+  pub absents-flags : (g n : ℕ) (column_indexes : List ColumnIndex) → absents_from (record r { alive = flags }) g n column_indexes ≡ absents_from r g n column_indexes
   absents-flags g n [] = refl
-  absents-flags g n (slot.Number i ∷ slots) = ap (λ (rest : List (Bool × Refusal)). absent_at r n g (slot.Number i) ∷ rest) (absents-flags g (n + 1) slots)
-  absents-flags g n (slot.Text i ∷ slots) = ap (λ (rest : List (Bool × Refusal)). absent_at r n g (slot.Text i) ∷ rest) (absents-flags g (n + 1) slots)
+  absents-flags g n (column_index.Number i ∷ column_indexes) = ap (λ (rest : List (Bool × Refusal)). absent_at r n g (column_index.Number i) ∷ rest) (absents-flags g (n + 1) column_indexes)
+  absents-flags g n (column_index.Text i ∷ column_indexes) = ap (λ (rest : List (Bool × Refusal)). absent_at r n g (column_index.Text i) ∷ rest) (absents-flags g (n + 1) column_indexes)
 
   -- a place is dead, and the same objects are away
   pub absents-cleared : (now : Rows K) (g : ℕ) → now ≡ record r { alive = flags } → absents now g ≡ absents r g
-  absents-cleared now g is = ap (λ (rows : Rows K). absents rows g) is ∙ absents-flags g 0 r.slots
+  absents-cleared now g is = ap (λ (rows : Rows K). absents rows g) is ∙ absents-flags g 0 r.column_indexes
 
 module _ {K : Type 0} (content : K → List ℕ) (t : TableRows K) (places : t.places ≡ places_in content t.held) (size : t.held.size ≡ t.limits.group) where
   -- the places of a row group are those that its objects hold
@@ -37,7 +37,7 @@ module _ {K : Type 0} (content : K → List ℕ) (t : TableRows K) (places : t.p
 
   -- all columns that the aggregates need are at hand
   pub served-here : ((schema : List Kind) (spec : Spec) (some : ℕ → Bool) → spec_refusal schema spec ≡ None → ((c : ℕ) → c < length schema → some c ≡ true) → IsServed some spec)
-      → AreRows content t.held → map kind_of t.held.slots ≡ t.schema → (p : ℕ) → p < length t.places → first_of (absents t.held (p / t.limits.group)) ≡ None
+      → AreRows content t.held → map kind_of t.held.column_indexes ≡ t.schema → (p : ℕ) → p < length t.places → first_of (absents t.held (p / t.limits.group)) ≡ None
       → (aggregates : List (Option Registered)) → AreChecked t.schema aggregates → AreServed (has_column record { rows = t.held; group = p / t.limits.group }) aggregates
   served-here law are kinds p inside free aggregates checked =
       let long : length t.places ≡ length t.held.alive = ap length places ∙ length-places (cells_of content t.held) t.held.alive in

@@ -8,7 +8,7 @@ use Rattle.far_types.specs.declared.cell.Kind.{Kind}
 use Rattle.far_types.specs.declared.spec.Spec.{Spec}
 use Rattle.far_types.specs.Bounds.{needs, spec_refusal}
 use Rattle.far_types.specs.Table.{Registered, in_group}
-use Rattle.far_rows.specs.Slots.{kind_of}
+use Rattle.far_rows.specs.ColumnIndexes.{kind_of}
 use Rattle.far_rows.specs.Rows.{Rows}
 use Rattle.far_aggregates.specs.Aggregates.{is_left}
 use Rattle.far_aggregates.specs.Lending.{IsServed}
@@ -20,12 +20,12 @@ use Rattle.far_table.specs.FarGroups.{AllNeeded, IsCopy, AreCopies}
 
 -- a column that an aggregate needs is one of the table
 pub needed-below : ((schema : List Kind) (spec : Spec) (some : ℕ → Bool) → spec_refusal schema spec ≡ None → ((c : ℕ) → c < length schema → some c ≡ true) → IsServed some spec)
-    → {K : Type 0} (held : Rows K) (schema : List Kind) → map kind_of held.slots ≡ schema → (spec : Spec) → spec_refusal schema spec ≡ None → (c : ℕ) → needs spec c ≡ true → c < length held.slots
+    → {K : Type 0} (held : Rows K) (schema : List Kind) → map kind_of held.column_indexes ≡ schema → (spec : Spec) → spec_refusal schema spec ≡ None → (c : ℕ) → needs spec c ≡ true → c < length held.column_indexes
 needed-below law held schema kinds spec right c wanted =
     let among = (law schema spec (λ k. nat_lt k (length schema)) right (λ k within. grind (arith, nat_tests))).at_hand c wanted in
     let inside-schema : c < length schema = grind (arith, nat_tests) in
     let count = ap length kinds in
-    let mapped = length-map held.slots kind_of in
+    let mapped = length-map held.column_indexes kind_of in
     omega (arith, inside-schema, count, mapped)
 
 pub some-has : {A Q : Type 0} (found : Option A) (P : A → Type 0) → IsSomeAnd found P → ((a : A) → P a → Q) → Q
@@ -38,8 +38,8 @@ module _ {K : Type 0} (number_of : K → ℕ) (s : State K) (build : Build K) wh
   still-alive still = some-has (aggregate_at s.table build.aggregate) (HoldsStill number_of s build) still (λ a holds. holds.alive)
 
   module _ (spec : Spec) (registration : ℕ) (r : Bool) (number : build.number ≡ s.rows.number_objects.number) (made : build.registration ≡ registration) (same : build.job.spec ≡ spec)
-      (alive : build.job.alive ≡ in_group s.rows.size build.group s.rows.alive) (below : (c : ℕ) → needs spec c ≡ true → c < length s.rows.slots)
-      (exact : IsTrue r ↔ AllNeeded (length s.rows.slots) spec (λ c. HaveOneNumber number_of (copy_of s.rows c build.group) (ticket_for build.job.tickets c))) where
+      (alive : build.job.alive ≡ in_group s.rows.size build.group s.rows.alive) (below : (c : ℕ) → needs spec c ≡ true → c < length s.rows.column_indexes)
+      (exact : IsTrue r ↔ AllNeeded (length s.rows.column_indexes) spec (λ c. HaveOneNumber number_of (copy_of s.rows c build.group) (ticket_for build.job.tickets c))) where
     under : (found : Option Registered) → Some spec ≡ option_map (λ (a : Registered). a.spec) found → Some registration ≡ option_map (λ (a : Registered). a.registration) found → is_left found build.group ≡ true → IsTrue r ↔ IsSomeAnd found (HoldsStill number_of s build)
     under None is was left = absurd (none-some spec (sym is))
     under (Some a) is was left = (
@@ -58,8 +58,8 @@ module _ {K : Type 0} (number_of : K → ℕ) (s : State K) (build : Build K) wh
     tickets-decide = under (aggregate_at s.table build.aggregate)
 
 -- the contents are those of the row group
-pub still-copies : {K : Type 0} (content : K → List ℕ) (rows : Rows K) (build : Build K) (spec : Spec) → build.job.spec ≡ spec → build.job.alive ≡ in_group rows.size build.group rows.alive → ((c : ℕ) → needs spec c ≡ true → c < length rows.slots)
-    → AllNeeded (length rows.slots) spec (λ c. IsSomeAnd (ticket_for build.job.tickets c) (IsCopy content rows build.group c)) → AreCopies content record { rows = rows; build = build }
+pub still-copies : {K : Type 0} (content : K → List ℕ) (rows : Rows K) (build : Build K) (spec : Spec) → build.job.spec ≡ spec → build.job.alive ≡ in_group rows.size build.group rows.alive → ((c : ℕ) → needs spec c ≡ true → c < length rows.column_indexes)
+    → AllNeeded (length rows.column_indexes) spec (λ c. IsSomeAnd (ticket_for build.job.tickets c) (IsCopy content rows build.group c)) → AreCopies content record { rows = rows; build = build }
 still-copies content rows build spec same alive below copies = record {
   tickets = λ c wanted. (let needed : needs spec c ≡ true = ap (λ (p : Spec). needs p c) (sym same) ∙ wanted in copies c (below c needed) needed);
   alive = alive;

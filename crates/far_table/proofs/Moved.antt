@@ -10,8 +10,8 @@ use Rattle.far_types.specs.declared.limits.Limits.{Limits}
 use Rattle.far_types.specs.declared.refusal.Refusal.{Refusal}
 use Rattle.far_types.specs.declared.refusal.Refusal.TheVariants as refusal
 use Rattle.far_types.specs.Cells.{RowFits}
-use Rattle.far_scopes.specs.declared.entry.Entry.{Entry}
-use Rattle.far_scopes.specs.Effects.{with_entry, departed, arrived, pinned as pinned_in, unpinned as unpinned_in, touched as touched_in}
+use Rattle.far_scopes.specs.declared.object_record.ObjectRecord.{ObjectRecord}
+use Rattle.far_scopes.specs.Effects.{with_entry, after_leave, after_arrive, after_pin as pinned_in, after_unpin as unpinned_in, after_touch as touched_in}
 use Rattle.far_scopes.specs.Movement.{Movement, version_of}
 use Rattle.far_evacuator.specs.Jobs.{CarriedEvacuation, CarriedFetch}
 use Rattle.far_texts.specs.Texts.{Texts, lists_of}
@@ -21,24 +21,24 @@ use Rattle.far_rows.specs.declared.job.ByKind.{ByKind}
 use Rattle.far_rows.specs.declared.job.ByKind.TheVariants.{Numbers, Texts as OfTexts}
 use Rattle.far_rows.specs.declared.object.Object.{Object}
 use Rattle.far_rows.specs.declared.object.Object.TheVariants as object
-use Rattle.far_rows.specs.declared.slot.Slot.{Slot}
-use Rattle.far_rows.specs.Slots.{Values, kind_of, row_of}
+use Rattle.far_rows.specs.declared.column_index.ColumnIndex.{ColumnIndex}
+use Rattle.far_rows.specs.ColumnIndexes.{Values, kind_of, row_of}
 use Rattle.far_rows.specs.Rows.{Rows, cells_of}
 use Rattle.far_rows.specs.Places.{places_in, places_of}
-use Rattle.far_rows.specs.Moving.{object_at, pinned, unpinned, touched}
-use Rattle.far_rows.specs.Jobs.{IsEvacAccepted, IsFetchAccepted, IsAfterInstall, HasNoRoom, after_commit, pins_by}
+use Rattle.far_rows.specs.Moving.{object_at, after_pin, after_unpin, after_touch}
+use Rattle.far_rows.specs.Jobs.{IsEvacAccepted, IsFetchAccepted, IsAfterInstall, HasNoSpace, after_commit, pins_by}
 use Rattle.far_aggregates.specs.Accumulators.{PlacesFit}
 use Rattle.far_table.specs.TableRows.{TableRows, AreWritten, AreKept, rows_in}
 use Rattle.far_table.specs.Moving.{AreMoved, IsPinned, IsUnpinned, IsTouched, IsCommitted, IsInstalled, IsCompactedOf}
 
 -- objects were written as often as before, and may be written as often
 pub record AreAsWritten {X K L : Type 0} (old : Movement X K) (new : Movement X L) : Type 0 where
-  pub changes : new.changes ≡ old.changes
+  pub max_writes : new.max_writes ≡ old.max_writes
   pub versions : (o : ℕ) → version_of new o ≡ version_of old o
 
 -- only objects moved, none of which was written; they may be of another store
 pub record AreStill {K L : Type 0} (old : Rows K) (new : Rows L) : Type 0 where
-  pub slots : new.slots ≡ old.slots
+  pub column_indexes : new.column_indexes ≡ old.column_indexes
   pub size : new.size ≡ old.size
   pub numbers : new.numbers ≡ old.numbers
   pub texts : new.texts ≡ old.texts
@@ -47,17 +47,17 @@ pub record AreStill {K L : Type 0} (old : Rows K) (new : Rows L) : Type 0 where
   pub text_objects : AreAsWritten old.text_objects new.text_objects
 
 module _ {K : Type 0} where
-  abbrev pub writes : List (Entry K) → ℕ → ℕ
+  abbrev pub writes : List (ObjectRecord K) → ℕ → ℕ
   writes entries o = option_map_or (λ e. e.version) (slice_get entries o) 0
 
-  with-later : (e : Entry K) (entries : List (Entry K)) (o : ℕ) (change : Entry K → Entry K) → with_entry (e ∷ entries) (suc o) change ≡ e ∷ with_entry entries o change
+  with-later : (e : ObjectRecord K) (entries : List (ObjectRecord K)) (o : ℕ) (change : ObjectRecord K → ObjectRecord K) → with_entry (e ∷ entries) (suc o) change ≡ e ∷ with_entry entries o change
   with-later e entries o change = found (slice_get entries o) where
-    found : (at : Option (Entry K)) → option_map_or (λ entry. slice_set (e ∷ entries) (suc o) (change entry)) at (e ∷ entries) ≡ e ∷ option_map_or (λ entry. slice_set entries o (change entry)) at entries
+    found : (at : Option (ObjectRecord K)) → option_map_or (λ entry. slice_set (e ∷ entries) (suc o) (change entry)) at (e ∷ entries) ≡ e ∷ option_map_or (λ entry. slice_set entries o (change entry)) at entries
     found None = refl
     found (Some entry) = refl
 
   -- another record for an object, which says that it was written as often
-  writes-with : (entries : List (Entry K)) (o : ℕ) (change : Entry K → Entry K) → ((e : Entry K) → (change e).version ≡ e.version) → (p : ℕ) → writes (with_entry entries o change) p ≡ writes entries p
+  writes-with : (entries : List (ObjectRecord K)) (o : ℕ) (change : ObjectRecord K → ObjectRecord K) → ((e : ObjectRecord K) → (change e).version ≡ e.version) → (p : ℕ) → writes (with_entry entries o change) p ≡ writes entries p
   writes-with [] o change same p = refl
   writes-with (e ∷ entries) zero change same zero = same e
   writes-with (e ∷ entries) zero change same (suc p) = refl
@@ -66,42 +66,42 @@ module _ {K : Type 0} where
 
   module _ {X : Type 0} (m : Movement X K) where
     unwritten : AreAsWritten m m
-    unwritten = record { changes = refl; versions = λ o. refl }
+    unwritten = record { max_writes = refl; versions = λ o. refl }
 
     pinned-unwritten : (o : ℕ) → AreAsWritten m (pinned_in m o)
-    pinned-unwritten o = record { changes = refl; versions = writes-with m.entries o (λ e. record e { pins = e.pins + 1 }) (λ e. refl) }
+    pinned-unwritten o = record { max_writes = refl; versions = writes-with m.entries o (λ e. record e { pins = e.pins + 1 }) (λ e. refl) }
 
     unpinned-unwritten : (o : ℕ) → AreAsWritten m (unpinned_in m o)
-    unpinned-unwritten o = record { changes = refl; versions = writes-with m.entries o (λ e. record e { pins = e.pins - 1 }) (λ e. refl) }
+    unpinned-unwritten o = record { max_writes = refl; versions = writes-with m.entries o (λ e. record e { pins = e.pins - 1 }) (λ e. refl) }
 
-    departed-unwritten : (o : ℕ) (ticket : K) → AreAsWritten m (departed m o ticket)
-    departed-unwritten o ticket = record { changes = refl; versions = writes-with m.entries o (λ e. record e { leavings = e.leavings + 1; ticket = Some ticket }) (λ e. refl) }
+    departed-unwritten : (o : ℕ) (ticket : K) → AreAsWritten m (after_leave m o ticket)
+    departed-unwritten o ticket = record { max_writes = refl; versions = writes-with m.entries o (λ e. record e { leavings = e.leavings + 1; ticket = Some ticket }) (λ e. refl) }
 
   module _ (r : Rows K) where
     number-still : (m : Movement (Option ℤ) K) → AreAsWritten r.number_objects m → AreStill r (record r { number_objects = m })
-    number-still m same = record { slots = refl; size = refl; numbers = refl; texts = refl; alive = refl; number_objects = same; text_objects = unwritten r.text_objects }
+    number-still m same = record { column_indexes = refl; size = refl; numbers = refl; texts = refl; alive = refl; number_objects = same; text_objects = unwritten r.text_objects }
 
     text-still : (m : Movement ℕ K) → AreAsWritten r.text_objects m → AreStill r (record r { text_objects = m })
-    text-still m same = record { slots = refl; size = refl; numbers = refl; texts = refl; alive = refl; number_objects = unwritten r.number_objects; text_objects = same }
+    text-still m same = record { column_indexes = refl; size = refl; numbers = refl; texts = refl; alive = refl; number_objects = unwritten r.number_objects; text_objects = same }
 
     pub nothing-still : AreStill r r
     nothing-still = number-still r.number_objects (unwritten r.number_objects)
 
-    pinned-one : (some : Object) → AreStill r (pinned r some)
+    pinned-one : (some : Object) → AreStill r (after_pin r some)
     pinned-one (object.Number o) = number-still (pinned_in r.number_objects o) (pinned-unwritten r.number_objects o)
     pinned-one (object.Text o) = text-still (pinned_in r.text_objects o) (pinned-unwritten r.text_objects o)
 
-    unpinned-one : (some : Object) → AreStill r (unpinned r some)
+    unpinned-one : (some : Object) → AreStill r (after_unpin r some)
     unpinned-one (object.Number o) = number-still (unpinned_in r.number_objects o) (unpinned-unwritten r.number_objects o)
     unpinned-one (object.Text o) = text-still (unpinned_in r.text_objects o) (unpinned-unwritten r.text_objects o)
 
-    touched-one : (some : Object) → AreStill r (touched r some)
-    touched-one (object.Number o) = number-still (touched_in r.number_objects o) record { changes = refl; versions = λ p. refl }
-    touched-one (object.Text o) = text-still (touched_in r.text_objects o) record { changes = refl; versions = λ p. refl }
+    touched-one : (some : Object) → AreStill r (after_touch r some)
+    touched-one (object.Number o) = number-still (touched_in r.number_objects o) record { max_writes = refl; versions = λ p. refl }
+    touched-one (object.Text o) = text-still (touched_in r.text_objects o) record { max_writes = refl; versions = λ p. refl }
 
     sent-away : (carried : ByKind (CarriedEvacuation K) (CarriedEvacuation K)) → AreStill r (after_commit r carried)
-    sent-away (Numbers carried) = number-still (departed r.number_objects carried.job.object carried.ticket) (departed-unwritten r.number_objects carried.job.object carried.ticket)
-    sent-away (OfTexts carried) = text-still (departed r.text_objects carried.job.object carried.ticket) (departed-unwritten r.text_objects carried.job.object carried.ticket)
+    sent-away (Numbers carried) = number-still (after_leave r.number_objects carried.job.object carried.ticket) (departed-unwritten r.number_objects carried.job.object carried.ticket)
+    sent-away (OfTexts carried) = text-still (after_leave r.text_objects carried.job.object carried.ticket) (departed-unwritten r.text_objects carried.job.object carried.ticket)
 
     module _ (now : Rows K) where
       one-still : {A : Type 0} (change : A → Rows K) → ((some : A) → AreStill r (change some)) → (found : Option A) → IsSomeAnd found (λ some. now ≡ change some) → AreStill r now
@@ -109,27 +109,27 @@ module _ {K : Type 0} where
       one-still change each (Some one) is = subst (AreStill r) (sym is) (each one)
 
       pub pinned-still : (column group : ℕ) → IsPinned column group r now → AreStill r now
-      pinned-still column group is = one-still (pinned r) pinned-one (object_at r column group) is
+      pinned-still column group is = one-still (after_pin r) pinned-one (object_at r column group) is
 
       pub unpinned-still : (column group : ℕ) → IsUnpinned column group r now → AreStill r now
-      unpinned-still column group is = one-still (unpinned r) unpinned-one (object_at r column group) is
+      unpinned-still column group is = one-still (after_unpin r) unpinned-one (object_at r column group) is
 
       pub touched-still : (column group : ℕ) → IsTouched column group r now → AreStill r now
-      touched-still column group is = one-still (touched r) touched-one (object_at r column group) is
+      touched-still column group is = one-still (after_touch r) touched-one (object_at r column group) is
 
       pub committed-still : (number_of : K → ℕ) (carried : ByKind (CarriedEvacuation K) (CarriedEvacuation K)) → IsCommitted number_of carried r now → AreStill r now
       committed-still number_of carried is = subst (AreStill r) (sym is.away) (sent-away carried)
 
       came-back : (content : K → List ℕ) (fetched : ByKind (CarriedFetch K) (CarriedFetch K)) → IsAfterInstall content r fetched now → AreStill r now
-      came-back content (Numbers fetched) is = one-still (λ (list : List (Option ℤ)). record r { number_objects = arrived r.number_objects fetched.job.object list }) (λ list. number-still (arrived r.number_objects fetched.job.object list) record { changes = refl; versions = λ p. refl }) (number_lists content r.number_objects fetched.job.object) is
-      came-back content (OfTexts fetched) is = one-still (λ (list : List ℕ). record r { text_objects = arrived r.text_objects fetched.job.object list }) (λ list. text-still (arrived r.text_objects fetched.job.object list) record { changes = refl; versions = λ p. refl }) (lists_of content r.text_objects fetched.job.object) is
+      came-back content (Numbers fetched) is = one-still (λ (list : List (Option ℤ)). record r { number_objects = after_arrive r.number_objects fetched.job.object list }) (λ list. number-still (after_arrive r.number_objects fetched.job.object list) record { max_writes = refl; versions = λ p. refl }) (number_lists content r.number_objects fetched.job.object) is
+      came-back content (OfTexts fetched) is = one-still (λ (list : List ℕ). record r { text_objects = after_arrive r.text_objects fetched.job.object list }) (λ list. text-still (after_arrive r.text_objects fetched.job.object list) record { max_writes = refl; versions = λ p. refl }) (lists_of content r.text_objects fetched.job.object) is
 
       pub installed-still : (content : K → List ℕ) (number_of : K → ℕ) (fetched : ByKind (CarriedFetch K) (CarriedFetch K)) → IsInstalled content number_of fetched r now → AreStill r now
       installed-still content number_of fetched is = came-back content fetched is.back
 
       pub compacted-still : (of : Kind) (segment : ℕ) → IsCompactedOf of segment r now → AreStill r now
-      compacted-still kind.Int segment is = subst (AreStill r) (sym is.1) (number-still (record r.number_objects { memory = now.number_objects.memory }) record { changes = refl; versions = λ p. refl })
-      compacted-still kind.Text segment is = subst (AreStill r) (sym is.1) (text-still (record r.text_objects { memory = now.text_objects.memory }) record { changes = refl; versions = λ p. refl })
+      compacted-still kind.Int segment is = subst (AreStill r) (sym is.1) (number-still (record r.number_objects { memory = now.number_objects.memory }) record { max_writes = refl; versions = λ p. refl })
+      compacted-still kind.Text segment is = subst (AreStill r) (sym is.1) (text-still (record r.text_objects { memory = now.text_objects.memory }) record { max_writes = refl; versions = λ p. refl })
 
 some-pin : (n : ℕ) → suc n ≡ 0 → ⊥
 some-pin n is = omega (arith, is)
@@ -144,17 +144,17 @@ not-refused done e h = cc
 module _ {K A : Type 0} (number_of : K → ℕ) (old now : Rows K) where
   pub committed-both : (r : Result A Refusal) (carried : ByKind (CarriedEvacuation K) (CarriedEvacuation K)) → OnOk r (IsEvacAccepted number_of old carried) → OnOk r (now ≡ after_commit old carried)
       → (IsErrOf r refusal.Pinned ↔ (IsEvacAccepted number_of old carried × (pins_by old carried ≢ 0))) → OnOk r (IsCommitted number_of carried old now)
-  committed-both (Ok done) carried accepted away pinned = record { accepted = accepted; free = no-pin (pins_by old carried) (λ some. not-refused done refusal.Pinned (pinned.1 (accepted, some))); away = away }
-  committed-both (Err given) carried accepted away pinned = accepted
+  committed-both (Ok done) carried accepted away after_pin = record { accepted = accepted; free = no-pin (pins_by old carried) (λ some. not-refused done refusal.Pinned (after_pin.1 (accepted, some))); away = away }
+  committed-both (Err given) carried accepted away after_pin = accepted
 
   pub installed-both : (r : Result A Refusal) (content : K → List ℕ) (fetched : ByKind (CarriedFetch K) (CarriedFetch K)) → OnOk r (IsFetchAccepted number_of old fetched) → OnOk r (IsAfterInstall content old fetched now)
-      → (IsErrOf r refusal.RegionFull ↔ (IsFetchAccepted number_of old fetched × HasNoRoom content old fetched)) → OnOk r (IsInstalled content number_of fetched old now)
+      → (IsErrOf r refusal.RegionFull ↔ (IsFetchAccepted number_of old fetched × HasNoSpace content old fetched)) → OnOk r (IsInstalled content number_of fetched old now)
   installed-both (Ok done) content fetched accepted back full = record { accepted = accepted; room = λ none. not-refused done refusal.RegionFull (full.1 (accepted, none)); back = back }
   installed-both (Err given) content fetched accepted back full = accepted
 
 module _ {K : Type 0} (content : K → List ℕ) (schema : List Kind) (limits : Limits) (old : Rows K) (new_row : Values) (edits : ℕ) where
   written-still : {X L : Type 0} (m : Movement X K) (now : Movement X L) → AreAsWritten m now → AreWritten limits edits m → AreWritten limits edits now
-  written-still m now kept are = record { changes = kept.changes ∙ are.changes; versions = λ o. (let before = are.versions o in let same = kept.versions o in omega (arith, before, same)) }
+  written-still m now kept are = record { max_writes = kept.max_writes ∙ are.max_writes; versions = λ o. (let before = are.versions o in let same = kept.versions o in omega (arith, before, same)) }
 
   module _ {L : Type 0} (new_content : L → List ℕ) (now : Rows L) (cells : cells_of new_content now ≡ cells_of content old) (still : AreStill old now) where
     pub still-places : places_in new_content now ≡ places_in content old
@@ -163,7 +163,7 @@ module _ {K : Type 0} (content : K → List ℕ) (schema : List Kind) (limits : 
     pub still-kept : AreKept content schema limits old new_row edits → AreKept new_content schema limits now new_row edits
     still-kept kept = record {
       bounds = kept.bounds;
-      kinds = ap (map kind_of) still.slots ∙ kept.kinds;
+      kinds = ap (map kind_of) still.column_indexes ∙ kept.kinds;
       laid = record { group = still.size ∙ kept.laid.group; limit = subst (λ (cs : List Texts). All (λ c. c.limit ≡ limits.text_size) cs) (sym still.texts) kept.laid.limit };
       few = omega (arith, ap length still.alive, kept.few);
       edits_few = kept.edits_few;
@@ -172,7 +172,7 @@ module _ {K : Type 0} (content : K → List ℕ) (schema : List Kind) (limits : 
       numbers = kept.numbers ∙ sym (ap length still.numbers);
       texts = kept.texts ∙ sym (ap length still.texts);
       fit = subst PlacesFit (sym still-places) kept.fit;
-      new_row_fit = subst (λ (slots : List Slot). RowFits (row_of slots new_row)) (sym still.slots) kept.new_row_fit;
+      new_row_fit = subst (λ (column_indexes : List ColumnIndex). RowFits (row_of column_indexes new_row)) (sym still.column_indexes) kept.new_row_fit;
     }
 
   -- a call moved objects, or was refused

@@ -9,11 +9,11 @@ use Rattle.far_types.specs.declared.limits.Limits.{Limits}
 use Rattle.far_types.specs.Bounds.{AreLimits}
 use Rattle.far_texts.specs.Texts.{Texts}
 use Rattle.far_rows.specs.Opening.{numbers_from, texts_from, empty_rows}
-use Rattle.far_rows.specs.Slots.{Values, kind_of, slots_from}
+use Rattle.far_rows.specs.ColumnIndexes.{Values, kind_of, column_indexes_from}
 use Rattle.far_table.specs.TableRows.{AreKept}
-use Rattle.far_table.proofs.Fits.{blank-fits}
+use Rattle.far_table.proofs.Fits.{default_value-fits}
 
-kinds-opened : (n m : ℕ) (kinds : List Kind) → map kind_of (slots_from n m kinds) ≡ kinds
+kinds-opened : (n m : ℕ) (kinds : List Kind) → map kind_of (column_indexes_from n m kinds) ≡ kinds
 kinds-opened n m [] = refl
 kinds-opened n m (kind.Int ∷ kinds) = ap (λ (ks : List Kind). kind.Int ∷ ks) (kinds-opened (n + 1) m kinds)
 kinds-opened n m (kind.Text ∷ kinds) = ap (λ (ks : List Kind). kind.Text ∷ ks) (kinds-opened n (m + 1) kinds)
@@ -25,16 +25,16 @@ limits-opened size limit n (kind.Text ∷ kinds) = All-cons (λ (c : Texts). c.l
 
 pub opened-kept : {K : Type 0} (content : K → List ℕ) (schema : List Kind) (limits : Limits) (number : ℕ) → AreLimits limits → (n m : ℕ) (values : Values) → values ≡ record { numbers = replicate n None; texts = replicate m None }
     → n ≡ length (numbers_from limits.group 0 schema) → m ≡ length (texts_from limits.group limits.text_size 0 schema) → AreKept content schema limits (empty_rows {K = K} schema limits number) values 0
-opened-kept {K = K} content schema limits number bounds n m values blank ints strings = record {
+opened-kept {K = K} content schema limits number bounds n m values default_value ints strings = record {
   bounds = bounds;
   kinds = kinds-opened 0 0 schema;
   laid = record { group = refl; limit = limits-opened limits.group limits.text_size 0 schema };
   few = omega arith;
   edits_few = omega arith;
-  numbers_written = record { changes = refl; versions = λ o. omega arith };
-  texts_written = record { changes = refl; versions = λ o. omega arith };
-  numbers = ap (λ (v : Values). length v.numbers) blank ∙ length-replicate n None ∙ ints;
-  texts = ap (λ (v : Values). length v.texts) blank ∙ length-replicate m None ∙ strings;
+  numbers_written = record { max_writes = refl; versions = λ o. omega arith };
+  texts_written = record { max_writes = refl; versions = λ o. omega arith };
+  numbers = ap (λ (v : Values). length v.numbers) default_value ∙ length-replicate n None ∙ ints;
+  texts = ap (λ (v : Values). length v.texts) default_value ∙ length-replicate m None ∙ strings;
   fit = tt;
-  new_row_fit = blank-fits n m values blank (slots_from 0 0 schema);
+  new_row_fit = default_value-fits n m values default_value (column_indexes_from 0 0 schema);
 }

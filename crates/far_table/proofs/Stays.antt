@@ -10,20 +10,20 @@ use Rattle.far_types.specs.declared.limits.Limits.{Limits}
 use Rattle.far_types.specs.Cells.{CellFits, RowFits}
 use Rattle.far_types.specs.Edits.{changed_at, with_cell, removed}
 use Rattle.far_scopes.specs.declared.replacement.Replacement.{Replacement}
-use Rattle.far_scopes.specs.Effects.{created, written, written_all}
+use Rattle.far_scopes.specs.Effects.{after_create, written, written_all}
 use Rattle.far_scopes.specs.Movement.{Movement, version_of}
 use Rattle.far_vector.specs.Vector.{Vector}
 use Rattle.far_vector.specs.Effects.{is_full, next_name, next_group, pushed_in, range_written}
 use Rattle.far_texts.specs.Texts.{Texts, lists_of}
-use Rattle.far_texts.specs.Changes.{set_in as text_set_in}
+use Rattle.far_texts.specs.Effects.{set_in as text_set_in}
 use Rattle.far_columns.specs.Numbers.{Numbers}
 use Rattle.far_columns.specs.NumbersTogether.{NumberColumns, all_pushed, all_pushed_in}
 use Rattle.far_texts.specs.Together.{all_begin, all_created, next_forms, all_pushed as all_texts_pushed}
 use Rattle.far_rows.specs.declared.new_cell.NewCell.{NewCell}
 use Rattle.far_rows.specs.declared.new_cell.NewCell.TheVariants as new
-use Rattle.far_rows.specs.declared.slot.Slot.{Slot}
-use Rattle.far_rows.specs.declared.slot.Slot.TheVariants as slot
-use Rattle.far_rows.specs.Slots.{Values, kind_of, row_of}
+use Rattle.far_rows.specs.declared.column_index.ColumnIndex.{ColumnIndex}
+use Rattle.far_rows.specs.declared.column_index.ColumnIndex.TheVariants as column_index
+use Rattle.far_rows.specs.ColumnIndexes.{Values, kind_of, row_of}
 use Rattle.far_rows.specs.Rows.{Rows, TextsMoved}
 use Rattle.far_rows.specs.Effects.{IsPushed, KeepsObjects}
 use Rattle.far_rows.specs.Places.{places_in}
@@ -34,27 +34,27 @@ use Rattle.far_table.proofs.Fits.{fit-appended, fit-set, fit-removed}
 
 -- how often objects may be written stays
 module _ {K : Type 0} where
-  one-changes : (m : Movement (Option ℤ) K) (c : Vector (Option ℤ)) (x : Option ℤ) → (pushed_in m c x).changes ≡ m.changes
-  one-changes m c x = elim (is_full c) as (λ b. (if b then created m (next_name c) (next_group c x) else range_written m c c.len (x ∷ [])).changes ≡ m.changes) [ true ↦ refl | false ↦ refl ]
+  one-changes : (m : Movement (Option ℤ) K) (c : Vector (Option ℤ)) (x : Option ℤ) → (pushed_in m c x).max_writes ≡ m.max_writes
+  one-changes m c x = elim (is_full c) as (λ b. (if b then after_create m (next_name c) (next_group c x) else range_written m c c.len (x ∷ [])).max_writes ≡ m.max_writes) [ true ↦ refl | false ↦ refl ]
 
-  numbers-changes : (m : Movement (Option ℤ) K) (columns : NumberColumns) (numbers : Numbers) → (all_pushed_in m columns numbers).changes ≡ m.changes
+  numbers-changes : (m : Movement (Option ℤ) K) (columns : NumberColumns) (numbers : Numbers) → (all_pushed_in m columns numbers).max_writes ≡ m.max_writes
   numbers-changes m [] numbers = refl
   numbers-changes m (c ∷ columns) [] = refl
   numbers-changes m (c ∷ columns) (x ∷ numbers) = numbers-changes (pushed_in m c x) columns numbers ∙ one-changes m c x
 
-  made-changes : (m : Movement ℕ K) (columns : List Texts) (forms : List (ℕ × List ℕ)) → (all_created m columns forms).changes ≡ m.changes
+  made-changes : (m : Movement ℕ K) (columns : List Texts) (forms : List (ℕ × List ℕ)) → (all_created m columns forms).max_writes ≡ m.max_writes
   made-changes m [] forms = refl
   made-changes m (c ∷ columns) [] = refl
-  made-changes m (c ∷ columns) (form ∷ forms) = made-changes (created m record { column = c.column; group = length c.objects } form.1) columns forms
+  made-changes m (c ∷ columns) (form ∷ forms) = made-changes (after_create m record { column = c.column; group = length c.objects } form.1) columns forms
 
-  written-changes : (m : Movement ℕ K) (lists : List (Replacement ℕ)) → (written_all m lists).changes ≡ m.changes
+  written-changes : (m : Movement ℕ K) (lists : List (Replacement ℕ)) → (written_all m lists).max_writes ≡ m.max_writes
   written-changes m [] = refl
   written-changes m (r ∷ rs) = written-changes (written m r.object) rs
 
-  texts-changes : (content : K → List ℕ) (r : Rows K) (texts : List (Option (List ℕ))) (now : Movement ℕ K) → TextsMoved content r texts now → now.changes ≡ r.text_objects.changes
+  texts-changes : (content : K → List ℕ) (r : Rows K) (texts : List (Option (List ℕ))) (now : Movement ℕ K) → TextsMoved content r texts now → now.max_writes ≡ r.text_objects.max_writes
   texts-changes content r texts now moved = elim (cases_Bool (all_begin r.texts)) [
-    | inl begin ↦ ap (λ (m : Movement ℕ K). m.changes) (moved.begun begin) ∙ made-changes r.text_objects r.texts (next_forms (lists_of content r.text_objects) (length r.text_objects.entries) r.texts texts)
-    | inr begun ↦ (let given = moved.replaced begun in ap (λ (m : Movement ℕ K). m.changes) given.2 ∙ written-changes _ given.0)
+    | inl begin ↦ ap (λ (m : Movement ℕ K). m.max_writes) (moved.begun begin) ∙ made-changes r.text_objects r.texts (next_forms (lists_of content r.text_objects) (length r.text_objects.entries) r.texts texts)
+    | inr begun ↦ (let given = moved.replaced begun in ap (λ (m : Movement ℕ K). m.max_writes) given.2 ∙ written-changes _ given.0)
   ]
 
 -- each column stays as it is but for a value more
@@ -71,57 +71,57 @@ texts-limit limit n [] of = All-nil (λ c. c.limit ≡ limit)
 texts-limit limit n (c ∷ columns) of = All-cons (λ c. c.limit ≡ limit) _ _ (All-head (λ c. c.limit ≡ limit) c columns of) (texts-limit limit (n + 1) columns (All-tail (λ c. c.limit ≡ limit) c columns of))
 
 module _ {K : Type 0} (content : K → List ℕ) (is_of : K → List ℕ → Type 0) (schema : List Kind) (limits : Limits) (old : Rows K) (new_row : Values) (edits : ℕ) (kept : AreKept content schema limits old new_row edits) where
-  more-written : {X : Type 0} (m now : Movement X K) → AreWritten limits edits m → now.changes ≡ m.changes → ((o : ℕ) → version_of now o ≤ version_of m o + 1) → AreWritten limits (edits + 1) now
-  more-written m now are same once = record { changes = same ∙ are.changes; versions = λ o. (let before = are.versions o in let after = once o in omega (arith, before, after)) }
+  more-written : {X : Type 0} (m now : Movement X K) → AreWritten limits edits m → now.max_writes ≡ m.max_writes → ((o : ℕ) → version_of now o ≤ version_of m o + 1) → AreWritten limits (edits + 1) now
+  more-written m now are same once = record { max_writes = same ∙ are.max_writes; versions = λ o. (let before = are.versions o in let after = once o in omega (arith, before, after)) }
 
-  pub pushed-kept : edits ≢ limits.edits → (now : Rows K) → IsPushed content old new_row now → KeepsObjects is_of old now → length old.alive ≢ limits.places → places_in content now ≡ places_in content old ++ record { cells = row_of old.slots new_row; alive = true } ∷ [] → AreKept content schema limits now new_row (edits + 1)
+  pub pushed-kept : edits ≢ limits.edits → (now : Rows K) → IsPushed content old new_row now → KeepsObjects is_of old now → length old.alive ≢ limits.places → places_in content now ≡ places_in content old ++ record { cells = row_of old.column_indexes new_row; alive = true } ∷ [] → AreKept content schema limits now new_row (edits + 1)
   pushed-kept left now pushed keeps few places = record {
     bounds = kept.bounds;
-    kinds = ap (map kind_of) pushed.slots ∙ kept.kinds;
+    kinds = ap (map kind_of) pushed.column_indexes ∙ kept.kinds;
     laid = record {
       group = pushed.size ∙ kept.laid.group;
       limit = subst (λ (cs : List Texts). All (λ c. c.limit ≡ limits.text_size) cs) (sym pushed.texts) (texts-limit limits.text_size (length old.text_objects.entries) old.texts kept.laid.limit);
     };
     few = omega (arith, ap length pushed.alive, length-append old.alive (true ∷ []), kept.few, few);
     edits_few = omega (arith, kept.edits_few, left);
-    numbers_written = more-written old.number_objects now.number_objects kept.numbers_written (ap (λ (m : Movement (Option ℤ) K). m.changes) pushed.number_objects ∙ numbers-changes old.number_objects old.numbers new_row.numbers) keeps.number_versions;
+    numbers_written = more-written old.number_objects now.number_objects kept.numbers_written (ap (λ (m : Movement (Option ℤ) K). m.max_writes) pushed.number_objects ∙ numbers-changes old.number_objects old.numbers new_row.numbers) keeps.number_versions;
     texts_written = more-written old.text_objects now.text_objects kept.texts_written (texts-changes content old new_row.texts now.text_objects pushed.text_objects) keeps.text_versions;
     numbers = kept.numbers ∙ sym (ap length pushed.numbers ∙ length-numbers (length old.number_objects.entries) old.numbers);
     texts = kept.texts ∙ sym (ap length pushed.texts ∙ length-texts (length old.text_objects.entries) old.texts);
-    fit = subst PlacesFit (sym places) (fit-appended (row_of old.slots new_row) (places_in content old) kept.fit kept.new_row_fit);
-    new_row_fit = subst (λ (slots : List Slot). RowFits (row_of slots new_row)) (sym pushed.slots) kept.new_row_fit;
+    fit = subst PlacesFit (sym places) (fit-appended (row_of old.column_indexes new_row) (places_in content old) kept.fit kept.new_row_fit);
+    new_row_fit = subst (λ (column_indexes : List ColumnIndex). RowFits (row_of column_indexes new_row)) (sym pushed.column_indexes) kept.new_row_fit;
   }
 
   -- all but objects stays, and they may be written as often as before
   record IsAlike (now : Rows K) : Type 0 where
-    pub slots : now.slots ≡ old.slots
+    pub column_indexes : now.column_indexes ≡ old.column_indexes
     pub size : now.size ≡ old.size
     pub numbers : now.numbers ≡ old.numbers
     pub texts : now.texts ≡ old.texts
     pub alive : now.alive ≡ old.alive
-    pub number_changes : now.number_objects.changes ≡ old.number_objects.changes
-    pub text_changes : now.text_objects.changes ≡ old.text_objects.changes
+    pub number_changes : now.number_objects.max_writes ≡ old.number_objects.max_writes
+    pub text_changes : now.text_objects.max_writes ≡ old.text_objects.max_writes
 
-  number-set : (found : Option (Vector (Option ℤ))) (place : ℕ) (number : Option ℤ) → (option_map_or (λ (c : Vector (Option ℤ)). range_written old.number_objects c place (number ∷ [])) found old.number_objects).changes ≡ old.number_objects.changes
+  number-set : (found : Option (Vector (Option ℤ))) (place : ℕ) (number : Option ℤ) → (option_map_or (λ (c : Vector (Option ℤ)). range_written old.number_objects c place (number ∷ [])) found old.number_objects).max_writes ≡ old.number_objects.max_writes
   number-set None place number = refl
   number-set (Some c) place number = refl
 
-  text-set : (found : Option Texts) (place : ℕ) (text : Option (List ℕ)) → (option_map_or (λ c. text_set_in content old.text_objects c place text) found old.text_objects).changes ≡ old.text_objects.changes
+  text-set : (found : Option Texts) (place : ℕ) (text : Option (List ℕ)) → (option_map_or (λ c. text_set_in content old.text_objects c place text) found old.text_objects).max_writes ≡ old.text_objects.max_writes
   text-set None place text = refl
   text-set (Some c) place text = refl
 
-  alike : (s : Slot) (place : ℕ) (value : NewCell) → IsAlike (set_in content old s place value)
-  alike (slot.Number i) place (new.Number number) = record { slots = refl; size = refl; numbers = refl; texts = refl; alive = refl; number_changes = number-set (slice_get old.numbers i) place number; text_changes = refl }
-  alike (slot.Text i) place (new.Text text) = record { slots = refl; size = refl; numbers = refl; texts = refl; alive = refl; number_changes = refl; text_changes = text-set (slice_get old.texts i) place text }
-  alike (slot.Number i) place (new.Text text) = record { slots = refl; size = refl; numbers = refl; texts = refl; alive = refl; number_changes = refl; text_changes = refl }
-  alike (slot.Text i) place (new.Number number) = record { slots = refl; size = refl; numbers = refl; texts = refl; alive = refl; number_changes = refl; text_changes = refl }
+  alike : (s : ColumnIndex) (place : ℕ) (value : NewCell) → IsAlike (set_in content old s place value)
+  alike (column_index.Number i) place (new.Number number) = record { column_indexes = refl; size = refl; numbers = refl; texts = refl; alive = refl; number_changes = number-set (slice_get old.numbers i) place number; text_changes = refl }
+  alike (column_index.Text i) place (new.Text text) = record { column_indexes = refl; size = refl; numbers = refl; texts = refl; alive = refl; number_changes = refl; text_changes = text-set (slice_get old.texts i) place text }
+  alike (column_index.Number i) place (new.Text text) = record { column_indexes = refl; size = refl; numbers = refl; texts = refl; alive = refl; number_changes = refl; text_changes = refl }
+  alike (column_index.Text i) place (new.Number number) = record { column_indexes = refl; size = refl; numbers = refl; texts = refl; alive = refl; number_changes = refl; text_changes = refl }
 
-  pub set-kept : edits ≢ limits.edits → (now : Rows K) (s : Slot) (column place : ℕ) (value : NewCell) → now ≡ set_in content old s place value → KeepsObjects is_of old now → CellFits (cell_of value) → places_in content now ≡ changed_at (with_cell column (cell_of value)) place (places_in content old) → AreKept content schema limits now new_row (edits + 1)
+  pub set-kept : edits ≢ limits.edits → (now : Rows K) (s : ColumnIndex) (column place : ℕ) (value : NewCell) → now ≡ set_in content old s place value → KeepsObjects is_of old now → CellFits (cell_of value) → places_in content now ≡ changed_at (with_cell column (cell_of value)) place (places_in content old) → AreKept content schema limits now new_row (edits + 1)
   set-kept left now s column place value moved keeps fits places =
       let same = subst IsAlike (sym moved) (alike s place value) in
       record {
         bounds = kept.bounds;
-        kinds = ap (map kind_of) same.slots ∙ kept.kinds;
+        kinds = ap (map kind_of) same.column_indexes ∙ kept.kinds;
         laid = record { group = same.size ∙ kept.laid.group; limit = subst (λ (cs : List Texts). All (λ c. c.limit ≡ limits.text_size) cs) (sym same.texts) kept.laid.limit };
         few = omega (arith, ap length same.alive, kept.few);
         edits_few = omega (arith, kept.edits_few, left);
@@ -130,7 +130,7 @@ module _ {K : Type 0} (content : K → List ℕ) (is_of : K → List ℕ → Typ
         numbers = kept.numbers ∙ sym (ap length same.numbers);
         texts = kept.texts ∙ sym (ap length same.texts);
         fit = subst PlacesFit (sym places) (fit-set column (cell_of value) place (places_in content old) kept.fit fits);
-        new_row_fit = subst (λ (slots : List Slot). RowFits (row_of slots new_row)) (sym same.slots) kept.new_row_fit;
+        new_row_fit = subst (λ (column_indexes : List ColumnIndex). RowFits (row_of column_indexes new_row)) (sym same.column_indexes) kept.new_row_fit;
       }
 
   pub cleared-kept : edits ≢ limits.edits → (place : ℕ) → places_in content (record old { alive = set old.alive place false }) ≡ changed_at removed place (places_in content old) → AreKept content schema limits (record old { alive = set old.alive place false }) new_row (edits + 1)
@@ -149,7 +149,7 @@ module _ {K : Type 0} (content : K → List ℕ) (is_of : K → List ℕ → Typ
   }
 
   -- another row of such a width is taken
-  pub taken-kept : (next : Values) → length next.numbers ≡ length new_row.numbers → length next.texts ≡ length new_row.texts → RowFits (row_of old.slots next) → AreKept content schema limits old next edits
+  pub taken-kept : (next : Values) → length next.numbers ≡ length new_row.numbers → length next.texts ≡ length new_row.texts → RowFits (row_of old.column_indexes next) → AreKept content schema limits old next edits
   taken-kept next numbers texts fits = record {
     bounds = kept.bounds;
     kinds = kept.kinds;

@@ -21,7 +21,7 @@ use Rattle.far_scopes.proofs.MarkedAll.{next-is}
 use Rattle.far_rows.specs.Places.{places_in}
 use Rattle.far_aggregates.specs.Lending.{IsOfPlaces}
 use Rattle.far_evacuator.proofs.CopyLaws.{mapped}
-use Rattle.far_rows.specs.declared.slot.Slot.{Slot}
+use Rattle.far_rows.specs.declared.column_index.ColumnIndex.{ColumnIndex}
 use Rattle.far_rows.specs.declared.object.Object.{Object}
 use Rattle.far_rows.specs.Rows.{Rows, object_of}
 use Rattle.far_rows.specs.Moving.{object_at, object_in, object_refusal}
@@ -68,10 +68,10 @@ pub none-refused : {K : Type 0} (r : Rows K) (column group : ℕ) (e : Refusal) 
 none-refused r column group e due = by (object_at r column group) refl where
   by : (found : Option Object) → object_at r column group ≡ found → object_at r column group ≡ None
   by None is = is
-  by (Some found) is = with-slot (slice_get r.slots column) refl where
-    with-slot : (slot : Option Slot) → slice_get r.slots column ≡ slot → object_at r column group ≡ None
-    with-slot None lies = ap (option_and_then (λ (s : Slot). option_map (object_in s) (object_of r s group))) lies
-    with-slot (Some s) lies =
+  by (Some found) is = with-column_index (slice_get r.column_indexes column) refl where
+    with-column_index : (column_index : Option ColumnIndex) → slice_get r.column_indexes column ≡ column_index → object_at r column group ≡ None
+    with-column_index None lies = ap (option_and_then (λ (s : ColumnIndex). option_map (object_in s) (object_of r s group))) lies
+    with-column_index (Some s) lies =
         let free : object_refusal r column group ≡ None = λ i. first_of ((is_none (lies i), refusal.NoColumn) ∷ (is_none (is i), refusal.OutOfRange) ∷ []) in
         absurd (none-some e (sym free ∙ sym due))
 
@@ -161,10 +161,10 @@ module _ {K : Type 0} where
     only (suc k) d within = absurd (omega (arith, within))
 
   -- past the columns the far store has nothing
-  pub no-copy : (r : Rows K) (column group : ℕ) → length r.slots ≤ column → copy_of r column group ≡ None
-  no-copy r column group past = ap (λ (found : Option Slot). option_and_then (copy_in r) (option_and_then (λ (s : Slot). option_map (object_in s) (object_of r s group)) found)) (slice_get_past r.slots column past)
+  pub no-copy : (r : Rows K) (column group : ℕ) → length r.column_indexes ≤ column → copy_of r column group ≡ None
+  no-copy r column group past = ap (λ (found : Option ColumnIndex). option_and_then (copy_in r) (option_and_then (λ (s : ColumnIndex). option_map (object_in s) (object_of r s group)) found)) (slice_get_past r.column_indexes column past)
 
-  pub no-needed : (r : Rows K) (spec : Spec) (group column : ℕ) → length r.slots ≤ column → cond (needs spec column) (copy_of r column group) None ≡ None
+  pub no-needed : (r : Rows K) (spec : Spec) (group column : ℕ) → length r.column_indexes ≤ column → cond (needs spec column) (copy_of r column group) None ≡ None
   no-needed r spec group column past = ap (λ (copy : Option K). cond (needs spec column) copy None) (no-copy r column group past) ∙ elim (needs spec column) as (λ b. ◌≡◌ {A = Option K} (cond b None None) None) [ true ↦ refl | false ↦ refl ]
 
   -- a content is found where its ticket is
@@ -205,22 +205,22 @@ module _ {K : Type 0} where
   module _ (r : Rows K) (spec : Spec) (g : ℕ) where
     -- the columns from one on
     abbrev pub left : ℕ → Option Refusal
-    left k = first_of (dirty_from r spec g k (drop k r.slots))
+    left k = first_of (dirty_from r spec g k (drop k r.column_indexes))
 
-    stands : (k : ℕ) → k < length r.slots → (s : Slot) × (drop k r.slots ≡ s ∷ drop (k + 1) r.slots)
-    stands k below = let found = found-at r.slots k below in (found.0, next-is r.slots k found.0 below (sym (get_or_from_slice_get r.slots k found.0 found.0 found.1)))
+    stands : (k : ℕ) → k < length r.column_indexes → (s : ColumnIndex) × (drop k r.column_indexes ≡ s ∷ drop (k + 1) r.column_indexes)
+    stands k below = let found = found-at r.column_indexes k below in (found.0, next-is r.column_indexes k found.0 below (sym (get_or_from_slice_get r.column_indexes k found.0 found.0 found.1)))
 
     abbrev pub lacks : ℕ → Bool
     lacks k = needs spec k && is_none (copy_of r k g)
 
-    next : (k : ℕ) → k < length r.slots → left k ≡ cond (lacks k) (Some refusal.StaleJob) (left (k + 1))
-    next k below = ap (λ (slots : List Slot). first_of (dirty_from r spec g k slots)) (stands k below).1
+    next : (k : ℕ) → k < length r.column_indexes → left k ≡ cond (lacks k) (Some refusal.StaleJob) (left (k + 1))
+    next k below = ap (λ (column_indexes : List ColumnIndex). first_of (dirty_from r spec g k column_indexes)) (stands k below).1
 
-    pub step-copied : (k : ℕ) → k < length r.slots → lacks k ≡ false → left k ≡ left (k + 1)
+    pub step-copied : (k : ℕ) → k < length r.column_indexes → lacks k ≡ false → left k ≡ left (k + 1)
     step-copied k below has = next k below ∙ ap (λ b. cond b (Some refusal.StaleJob) (left (k + 1))) has
 
-    pub step-dirty : (k : ℕ) → k < length r.slots → lacks k ≡ true → left k ≡ Some refusal.StaleJob
+    pub step-dirty : (k : ℕ) → k < length r.column_indexes → lacks k ≡ true → left k ≡ Some refusal.StaleJob
     step-dirty k below has = next k below ∙ ap (λ b. cond b (Some refusal.StaleJob) (left (k + 1))) has
 
-    pub none-left : (k : ℕ) → length r.slots ≤ k → left k ≡ None
-    none-left k past = ap (λ (slots : List Slot). first_of (dirty_from r spec g k slots)) (drop_all k r.slots past)
+    pub none-left : (k : ℕ) → length r.column_indexes ≤ k → left k ≡ None
+    none-left k past = ap (λ (column_indexes : List ColumnIndex). first_of (dirty_from r spec g k column_indexes)) (drop_all k r.column_indexes past)

@@ -10,7 +10,7 @@ use Rattle.far_types.specs.declared.spec.Spec.{Spec}
 use Rattle.far_types.specs.Bounds.{spec_refusal}
 use Rattle.far_types.specs.FirstOf.{first_of}
 use Rattle.far_types.specs.MayRefuse.{MayRefuse}
-use Rattle.far_types.specs.Table.{Table, Registered, is_unbuilt}
+use Rattle.far_types.specs.Table.{Table, Registered, is_pending}
 use Rattle.far_table.specs.State.{State, IsChecked, AreChecked}
 use Rattle.far_table.specs.Watching.{lowest_free, group_count, needed_from, watch_refusal, scan_refusal}
 
@@ -48,18 +48,18 @@ module _ (table : Table) (spec : Spec) where
 
 module _ {K : Type 0} (s : State K) (r : Registered) (g : ℕ) where
   abbrev away : List (Bool × Refusal)
-  away = needed_from s.rows r.spec g 0 s.rows.slots
+  away = needed_from s.rows r.spec g 0 s.rows.column_indexes
 
   pub scan-out : group_count s.table ≤ g → scan_refusal s (Some r) g ≡ Some refusal.OutOfRange
-  scan-out past = let e : nat_lt g (group_count s.table) ≡ false = grind (arith, nat_tests) in ap (λ b. cond (not b) (Some refusal.OutOfRange) (cond (not (is_unbuilt r.unbuilt g)) (Some refusal.StaleJob) (first_of away))) e
+  scan-out past = let e : nat_lt g (group_count s.table) ≡ false = grind (arith, nat_tests) in ap (λ b. cond (not b) (Some refusal.OutOfRange) (cond (not (is_pending r.unbuilt g)) (Some refusal.StaleJob) (first_of away))) e
 
-  scan-in : g < group_count s.table → scan_refusal s (Some r) g ≡ cond (not (is_unbuilt r.unbuilt g)) (Some refusal.StaleJob) (first_of away)
-  scan-in within = let e : nat_lt g (group_count s.table) ≡ true = grind (arith, nat_tests) in ap (λ b. cond (not b) (Some refusal.OutOfRange) (cond (not (is_unbuilt r.unbuilt g)) (Some refusal.StaleJob) (first_of away))) e
+  scan-in : g < group_count s.table → scan_refusal s (Some r) g ≡ cond (not (is_pending r.unbuilt g)) (Some refusal.StaleJob) (first_of away)
+  scan-in within = let e : nat_lt g (group_count s.table) ≡ true = grind (arith, nat_tests) in ap (λ b. cond (not b) (Some refusal.OutOfRange) (cond (not (is_pending r.unbuilt g)) (Some refusal.StaleJob) (first_of away))) e
 
-  pub scan-stale : g < group_count s.table → is_unbuilt r.unbuilt g ≡ false → scan_refusal s (Some r) g ≡ Some refusal.StaleJob
+  pub scan-stale : g < group_count s.table → is_pending r.unbuilt g ≡ false → scan_refusal s (Some r) g ≡ Some refusal.StaleJob
   scan-stale within built = scan-in within ∙ ap (λ b. cond (not b) (Some refusal.StaleJob) (first_of away)) built
 
-  pub scan-left : g < group_count s.table → is_unbuilt r.unbuilt g ≡ true → scan_refusal s (Some r) g ≡ first_of away
+  pub scan-left : g < group_count s.table → is_pending r.unbuilt g ≡ true → scan_refusal s (Some r) g ≡ first_of away
   scan-left within left = scan-in within ∙ ap (λ b. cond (not b) (Some refusal.StaleJob) (first_of away)) left
 
 -- an aggregate that may be had, or none, is put under a number

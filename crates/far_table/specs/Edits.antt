@@ -7,10 +7,10 @@ use Rattle.far_types.specs.declared.refusal.Refusal.TheVariants as refusal
 use Rattle.far_types.specs.Bounds.{is_text}
 use Rattle.far_types.specs.Edits.{edit_faults, overfills, text_object_length, places_after}
 use Rattle.far_types.specs.FirstOf.{first_of}
-use Rattle.far_log.specs.Room.{fits_in}
+use Rattle.far_log.specs.RegionState.{fits_in}
 use Rattle.far_rows.specs.declared.new_cell.NewCell.{NewCell}
-use Rattle.far_rows.specs.Slots.{kind_of, row_of}
-use Rattle.far_rows.specs.Refusing.{absents, no_room_for_texts, no_room_for_numbers, push_refusal}
+use Rattle.far_rows.specs.ColumnIndexes.{kind_of, row_of}
+use Rattle.far_rows.specs.Refusing.{absents, no_space_for_texts, no_space_for_numbers, push_refusal}
 use Rattle.far_rows.specs.Effects.{IsPushed, IsSet}
 use Rattle.far_rows.specs.Setting.{cell_of, kind_in, set_refusal}
 use Rattle.far_table.specs.State.{State}
@@ -29,17 +29,17 @@ module _ {K : Type 0} (s : State K) where
 
   -- what the edit writes finds no room beside all that is there: an insert places the texts of all columns and then, where a
   -- row group begins, numbers; a set places its text
-  abbrev pub no_room : Edit → List (Bool × Refusal)
-  no_room (edit.Insert row) = no_room_for_texts s.rows (map (λ c. length_after (edit.Insert row) c.column) s.rows.texts) ∷ no_room_for_numbers s.rows ∷ []
-  no_room (edit.Set p c cell) = (is_text (slice_get s.table.schema c) && not (fits_in s.rows.text_objects.memory.room (length_after (edit.Set p c cell) c)), refusal.RegionFull) ∷ []
-  no_room (edit.Remove p) = []
+  abbrev pub no_space : Edit → List (Bool × Refusal)
+  no_space (edit.Insert row) = no_space_for_texts s.rows (map (λ c. length_after (edit.Insert row) c.column) s.rows.texts) ∷ no_space_for_numbers s.rows ∷ []
+  no_space (edit.Set p c cell) = (is_text (slice_get s.table.schema c) && not (fits_in s.rows.text_objects.memory.state (length_after (edit.Set p c cell) c)), refusal.RegionFull) ∷ []
+  no_space (edit.Remove p) = []
 
   -- what may stand in the way of an edit that has no fault of its own: the object of some column is away; a text object would be
   -- too long; there is no room; the edits are used up
   abbrev pub obstacles : Edit → List (Bool × Refusal)
-  obstacles e = absents s.rows (group_of e) ++ ((overfills s.table.schema s.table.limits e s.table.places, refusal.ChunkFull) ∷ (no_room e ++ (s.table.edits == s.table.limits.edits, refusal.EditsUsedUp) ∷ []))
+  obstacles e = absents s.rows (group_of e) ++ ((overfills s.table.schema s.table.limits e s.table.places, refusal.ChunkFull) ∷ (no_space e ++ (s.table.edits == s.table.limits.edits, refusal.EditsUsedUp) ∷ []))
 
-  -- why an edit is refused, want of memory aside: the first that applies
+  -- why an edit is refused, running out of memory aside: the first that applies
   abbrev pub edit_due : Edit → Option Refusal
   edit_due e = first_of (edit_faults s.table.schema s.table.limits s.table.places e ++ obstacles e)
 
@@ -55,19 +55,19 @@ module _ {K : Type 0} (old new : TableRows K) where
 module _ {K : Type 0} (content : K → List ℕ) where
   -- the row that was taken may be appended: nothing refuses it, and its objects say the same
   pub record MayPush (t : TableRows K) : Type 0 where
-    pub due : edit_due (asked t) (edit.Insert (row_of t.held.slots t.new_row)) ≡ None
+    pub due : edit_due (asked t) (edit.Insert (row_of t.held.column_indexes t.new_row)) ≡ None
     pub objects : push_refusal content t.held t.new_row ≡ None
 
   -- a value may be put in a column of a place
   pub record MayPut (t : TableRows K) (column place : ℕ) (value : NewCell) : Type 0 where
-    pub of_kind : option_map kind_of (slice_get t.held.slots column) ≡ Some (kind_in value)
+    pub of_kind : option_map kind_of (slice_get t.held.column_indexes column) ≡ Some (kind_in value)
     pub due : edit_due (asked t) (edit.Set place column (cell_of value)) ≡ None
     pub objects : set_refusal content t.held column place value ≡ None
 
   module _ (old new : TableRows K) where
     -- the row that was taken is appended
     pub record IsAppended : Type 0 where
-      pub made : IsMade old new (edit.Insert (row_of old.held.slots old.new_row))
+      pub made : IsMade old new (edit.Insert (row_of old.held.column_indexes old.new_row))
       pub held : IsPushed content old.held old.new_row new.held
 
     -- a value is put in a column of a place; the same objects are away

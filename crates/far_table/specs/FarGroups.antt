@@ -1,4 +1,5 @@
--- internal: a row group whose columns were read from the far store for an offloaded build, as it is lent to aggregates.
+-- A row group whose columns were read from the far store for an offloaded build, as it is lent to aggregates.
+-- Internal: no public contract cites it.
 use Rattle.std.specs.Prelude.{◌≡◌, ◌<◌, ℕ, Bool, true, List, map, IsSomeAnd}
 use Rattle.far_types.specs.declared.spec.Spec.{Spec}
 use Rattle.far_types.specs.Bounds.{needs}

@@ -7,7 +7,7 @@ use Rattle.far_types.specs.Edits.{edited}
 use Rattle.far_types.specs.MayRefuse.{MayRefuse}
 use Rattle.far_aggregates.specs.Accumulators.{Slot, Keeps, registered_of}
 use Rattle.far_rows.specs.declared.new_cell.NewCell.{NewCell}
-use Rattle.far_rows.specs.Slots.{Values, kind_of, row_of}
+use Rattle.far_rows.specs.ColumnIndexes.{Values, kind_of, row_of}
 use Rattle.far_rows.specs.Rows.{Rows}
 use Rattle.far_rows.specs.Effects.{IsPushed, IsSet}
 use Rattle.far_rows.specs.Setting.{cell_of, kind_in}
@@ -36,8 +36,8 @@ module _ {K : Type 0} where
   -- how the rows change by an edit. What is set is a value of its column's kind, also where it is missing: so the column's object is
   -- written, whatever the cell was
   abbrev pub Moves : (K → List ℕ) → Rows K → Edit → Rows K → Type 0
-  Moves content old (edit.Insert row) new = (values : Values) × (row_of old.slots values ≡ row) × IsPushed content old values new
-  Moves content old (edit.Set p c cell) new = (value : NewCell) × (cell_of value ≡ cell) × (option_map kind_of (slice_get old.slots c) ≡ Some (kind_in value)) × IsSet content old c p value new
+  Moves content old (edit.Insert row) new = (values : Values) × (row_of old.column_indexes values ≡ row) × IsPushed content old values new
+  Moves content old (edit.Set p c cell) new = (value : NewCell) × (cell_of value ≡ cell) × (option_map kind_of (slice_get old.column_indexes c) ≡ Some (kind_in value)) × IsSet content old c p value new
   Moves content old (edit.Remove p) new = new ≡ record old { alive = slice_set old.alive p false }
 
   -- an edit is made

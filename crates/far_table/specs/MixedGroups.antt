@@ -1,4 +1,5 @@
--- internal: a row group as it is lent for a recount: a column that is local in place, another from its content, which was read.
+-- A row group as it is lent for a recount: a column that is local in place, another from its content, which was read.
+-- Internal: no public contract cites it.
 use Rattle.std.specs.Prelude.{◌≡◌, ℕ, ◌<◌, ◌≤◌, ◌==◌, Bool, true, false, List, length, All, IsSome}
 use Rattle.std.specs.List.{find}
 use Rattle.far_types.specs.declared.spec.Spec.{Spec}
@@ -18,7 +19,7 @@ pub record MixedRows (K : Type 0) : Type 0 where
 -- an aggregate of at most 4 tests, all of whose columns are columns of the rows
 pub record MayFold {K : Type 0} (r : Rows K) (spec : Spec) : Type 0 where
   pub tests : length spec.filter ≤ 4
-  pub columns : (column : ℕ) → needs spec column ≡ true → column < length r.slots
+  pub columns : (column : ℕ) → needs spec column ≡ true → column < length r.column_indexes
 
 module _ {K : Type 0} where
   -- its places

@@ -2,28 +2,28 @@
 use Rattle.std.specs.Prelude.{◌≡◌, ℕ, List, length, IsSomeAnd}
 use Rattle.far_types.specs.declared.cell.Kind.{Kind}
 use Rattle.far_types.specs.declared.cell.Kind.TheVariants as kind
-use Rattle.far_log.specs.Changes.{HasNoEmptyOther}
+use Rattle.far_log.specs.Effects.{HasNoEmptyOther}
 use Rattle.far_scopes.specs.Compaction.{IsCompacted}
 use Rattle.far_evacuator.specs.Jobs.{CarriedEvacuation, CarriedFetch}
 use Rattle.far_rows.specs.declared.job.ByKind.{ByKind}
 use Rattle.far_rows.specs.Rows.{Rows}
-use Rattle.far_rows.specs.Moving.{object_at, pinned, unpinned, touched}
-use Rattle.far_rows.specs.Jobs.{IsEvacAccepted, IsFetchAccepted, IsAfterInstall, HasNoRoom, after_commit, pins_by}
+use Rattle.far_rows.specs.Moving.{object_at, after_pin, after_unpin, after_touch}
+use Rattle.far_rows.specs.Jobs.{IsEvacAccepted, IsFetchAccepted, IsAfterInstall, HasNoSpace, after_commit, pins_by}
 use Rattle.far_table.specs.State.{State}
 use Rattle.far_table.specs.TableRows.{TableRows}
 
 module _ {K : Type 0} where
   -- the object of a row group of a column is pinned once more
   abbrev pub IsPinned : ℕ → ℕ → Rows K → Rows K → Type 0
-  IsPinned column group old new = IsSomeAnd (object_at old column group) (λ object. new ≡ pinned old object)
+  IsPinned column group old new = IsSomeAnd (object_at old column group) (λ object. new ≡ after_pin old object)
 
   -- it is pinned once less
   abbrev pub IsUnpinned : ℕ → ℕ → Rows K → Rows K → Type 0
-  IsUnpinned column group old new = IsSomeAnd (object_at old column group) (λ object. new ≡ unpinned old object)
+  IsUnpinned column group old new = IsSomeAnd (object_at old column group) (λ object. new ≡ after_unpin old object)
 
   -- it is marked as recently used, if it is local
   abbrev pub IsTouched : ℕ → ℕ → Rows K → Rows K → Type 0
-  IsTouched column group old new = IsSomeAnd (object_at old column group) (λ object. new ≡ touched old object)
+  IsTouched column group old new = IsSomeAnd (object_at old column group) (λ object. new ≡ after_touch old object)
 
   -- a carried evacuation is accepted, its object has no pin, and is away
   pub record IsCommitted (number_of : K → ℕ) (carried : ByKind (CarriedEvacuation K) (CarriedEvacuation K)) (old new : Rows K) : Type 0 where
@@ -34,7 +34,7 @@ module _ {K : Type 0} where
   -- a carried fetch is accepted, its object finds room, and is back
   pub record IsInstalled (content : K → List ℕ) (number_of : K → ℕ) (fetched : ByKind (CarriedFetch K) (CarriedFetch K)) (old new : Rows K) : Type 0 where
     pub accepted : IsFetchAccepted number_of old fetched
-    pub room : ¬ (HasNoRoom content old fetched)
+    pub room : ¬ (HasNoSpace content old fetched)
     pub back : IsAfterInstall content old fetched new
 
   -- a segment of the objects of a kind is compacted
@@ -44,13 +44,13 @@ module _ {K : Type 0} where
 
   -- how many segments the objects of a kind have
   abbrev pub segments_of : Kind → Rows K → ℕ
-  segments_of kind.Int r = length r.number_objects.memory.room
-  segments_of kind.Text r = length r.text_objects.memory.room
+  segments_of kind.Int r = length r.number_objects.memory.state
+  segments_of kind.Text r = length r.text_objects.memory.state
 
   -- none of them but this one is without parts
   abbrev pub HasNoOther : Kind → ℕ → Rows K → Type 0
-  HasNoOther kind.Int segment r = HasNoEmptyOther r.number_objects.memory.room segment
-  HasNoOther kind.Text segment r = HasNoEmptyOther r.text_objects.memory.room segment
+  HasNoOther kind.Int segment r = HasNoEmptyOther r.number_objects.memory.state segment
+  HasNoOther kind.Text segment r = HasNoEmptyOther r.text_objects.memory.state segment
 
   module _ (moves : Rows K → Rows K → Type 0) where
     -- the objects in which the places lie move so, and nothing else changes

@@ -6,9 +6,9 @@ use Rattle.far_types.specs.declared.refusal.Refusal.{Refusal}
 use Rattle.far_types.specs.declared.refusal.Refusal.TheVariants as refusal
 use Rattle.far_types.specs.Bounds.{needs}
 use Rattle.far_types.specs.FirstOf.{first_of}
-use Rattle.far_types.specs.Table.{Registered, in_group, is_unbuilt}
+use Rattle.far_types.specs.Table.{Registered, in_group, is_pending}
 use Rattle.far_offload.specs.Jobs.{Job}
-use Rattle.far_rows.specs.declared.slot.Slot.{Slot}
+use Rattle.far_rows.specs.declared.column_index.ColumnIndex.{ColumnIndex}
 use Rattle.far_rows.specs.Rows.{Rows}
 use Rattle.far_rows.specs.Copies.{copy_of}
 use Rattle.far_table.specs.State.{State}
@@ -28,7 +28,7 @@ module _ {K : Type 0} where
   abbrev pub ticket_for : List (ℕ × K) → ℕ → Option K
   ticket_for tickets column = option_map (λ ticket. ticket.1) (find (λ ticket. ticket.0 == column) tickets)
 
-  -- each ticket is of the store of this name
+  -- each ticket is of the store with this id
   abbrev pub AreTicketsOf : (K → List ℕ → Type 0) → List ℕ → List (ℕ × K) → Type 0
   AreTicketsOf is_of name tickets = All (λ ticket. is_of ticket.1 name) tickets
 
@@ -38,19 +38,19 @@ module _ {K : Type 0} where
   HaveOneNumber number_of (Some own) None = ⊥
   HaveOneNumber number_of None ticket = ⊥
 
-  -- the columns that an aggregate needs, among those of these slots, of which the first is the n-th of the table: the far store
+  -- the columns that an aggregate needs, among those of these indexes, of which the first is the n-th of the table: the far store
   -- does not have the row group as it is now
-  abbrev pub dirty_from : Rows K → Spec → ℕ → ℕ → List Slot → List (Bool × Refusal)
+  abbrev pub dirty_from : Rows K → Spec → ℕ → ℕ → List ColumnIndex → List (Bool × Refusal)
   dirty_from r spec g n [] = []
-  dirty_from r spec g n (s ∷ slots) = (needs spec n && is_none (copy_of r n g), refusal.StaleJob) ∷ dirty_from r spec g (n + 1) slots
+  dirty_from r spec g n (s ∷ column_indexes) = (needs spec n && is_none (copy_of r n g), refusal.StaleJob) ∷ dirty_from r spec g (n + 1) column_indexes
 
-  -- a build is begun where the row group has a place, is still to be built in, and the columns that the aggregate needs are clean
+  -- a build is begun where the row group has a place, is still pending, and the columns that the aggregate needs are clean
   abbrev pub offload_refusal : State K → Option Registered → ℕ → Option Refusal
   offload_refusal s None g = Some refusal.NoAggregate
   offload_refusal s (Some aggregate) g = first_of (
       (not (nat_lt g (group_count s.table)), refusal.OutOfRange)
-      ∷ (not (is_unbuilt aggregate.unbuilt g), refusal.StaleJob)
-      ∷ dirty_from s.rows aggregate.spec g 0 s.rows.slots)
+      ∷ (not (is_pending aggregate.unbuilt g), refusal.StaleJob)
+      ∷ dirty_from s.rows aggregate.spec g 0 s.rows.column_indexes)
 
   -- the registration and the specification are those of an aggregate
   pub record IsBuildOf (build : Build K) (aggregate : Registered) : Type 0 where
@@ -71,7 +71,7 @@ module _ {K : Type 0} where
     pub record HoldsStill (aggregate : Registered) : Type 0 where
       pub number : build.number ≡ s.rows.number_objects.number
       pub registered : IsBuildOf build aggregate
-      pub unbuilt : is_unbuilt aggregate.unbuilt build.group ≡ true
+      pub unbuilt : is_pending aggregate.unbuilt build.group ≡ true
       pub tickets : (column : ℕ) → needs build.job.spec column ≡ true → HaveOneNumber number_of (copy_of s.rows column build.group) (ticket_for build.job.tickets column)
       pub alive : build.job.alive ≡ in_group s.rows.size build.group s.rows.alive
 

@@ -1,4 +1,5 @@
--- internal: pieces of a table that are folded apart and put together.
+-- Pieces of a table that are folded apart and put together.
+-- Internal: no public contract cites it.
 use Rattle.std.specs.Prelude.{◌≡◌, ℕ, ◌-◌, ◌*◌, ◌≤◌, min, List, [], ◌∷◌, ◌++◌, take, drop, IfOk, IsOk}
 use Rattle.std.specs.List.{AllByRecursion}
 use Rattle.std.specs.Option.{option_map_or}
@@ -23,7 +24,7 @@ pub record IsPiece (spec : Spec) (size : ℕ) (places : List Place) (from to : �
   pub partials : IfOk piece.partials (λ partials. partials.items ≡ partials_from spec size places from (to - from))
   pub faults : piece.meter ≡ faults_in piece.partials
 
--- what the row groups of a piece come to; nothing where it was refused
+-- what the row groups of a piece come to; nothing if it was refused
 abbrev pub partials_in : Piece → List PartialDone
 partials_in piece = option_map_or (λ partials. partials.items) (result_ok piece.partials) []
 

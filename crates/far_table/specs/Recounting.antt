@@ -1,4 +1,4 @@
--- An aggregate that is computed from scratch, whatever is left to be built in.
+-- An aggregate that is computed from scratch, whatever is still pending.
 use Rattle.std.specs.Prelude.{◌≡◌, ℕ, ◌+◌, ◌-◌, ◌*◌, ◌<◌, ◌&&◌, ◌⊎◌, min, not, nat_lt, List, [], ◌∷◌, Option, None, Some, is_none, Result, IfOk, IsSomeAnd}
 use Rattle.far_types.specs.declared.answer.Answer.{Answer}
 use Rattle.far_types.specs.declared.refusal.Refusal.{Refusal}

@@ -8,7 +8,7 @@ use Rattle.far_types.specs.Table.{Place}
 use Rattle.far_table.specs.State.{State}
 use Rattle.far_scopes.specs.Movement.{Movement, version_of}
 use Rattle.far_aggregates.specs.Accumulators.{PlacesFit}
-use Rattle.far_rows.specs.Slots.{Values, kind_of, row_of}
+use Rattle.far_rows.specs.ColumnIndexes.{Values, kind_of, row_of}
 use Rattle.far_rows.specs.Rows.{Rows}
 use Rattle.far_rows.specs.Places.{AreOf, places_in}
 use Rattle.far_rows.specs.Opening.{empty_rows}
@@ -34,13 +34,13 @@ module _ {K : Type 0} where
 
   -- objects may be written as often as the table may be edited, and none was written more often than the table was edited
   pub record AreWritten {X : Type 0} (limits : Limits) (edits : ℕ) (m : Movement X K) : Type 0 where
-    pub changes : m.changes ≡ limits.edits
+    pub max_writes : m.max_writes ≡ limits.edits
     pub versions : (o : ℕ) → version_of m o ≤ edits
 
   -- what always holds of the parts of such rows
   pub record AreKept (content : K → List ℕ) (schema : List Kind) (limits : Limits) (held : Rows K) (new_row : Values) (edits : ℕ) : Type 0 where
     pub bounds : AreLimits limits
-    pub kinds : map kind_of held.slots ≡ schema
+    pub kinds : map kind_of held.column_indexes ≡ schema
     pub laid : AreOf limits held
     pub few : length held.alive ≤ limits.places
     pub edits_few : edits ≤ limits.edits
@@ -49,7 +49,7 @@ module _ {K : Type 0} where
     pub numbers : length new_row.numbers ≡ length held.numbers
     pub texts : length new_row.texts ≡ length held.texts
     pub fit : PlacesFit (places_in content held)
-    pub new_row_fit : RowFits (row_of held.slots new_row)
+    pub new_row_fit : RowFits (row_of held.column_indexes new_row)
 
   -- rows of a table as it is opened
   pub record AreOpened (kinds : List Kind) (bounds : Limits) (number : ℕ) (t : TableRows K) : Type 0 where

@@ -6,10 +6,10 @@ use Rattle.far_types.specs.declared.refusal.Refusal.{Refusal}
 use Rattle.far_types.specs.declared.refusal.Refusal.TheVariants as refusal
 use Rattle.far_types.specs.Bounds.{needs, spec_refusal}
 use Rattle.far_types.specs.FirstOf.{first_of}
-use Rattle.far_types.specs.Table.{Table, Registered, groups, all_unbuilt, is_unbuilt}
+use Rattle.far_types.specs.Table.{Table, Registered, groups, all_pending, is_pending}
 use Rattle.far_aggregates.specs.Aggregates.{joined, free_from}
-use Rattle.far_aggregates.specs.Scans.{built_slot}
-use Rattle.far_rows.specs.declared.slot.Slot.{Slot}
+use Rattle.far_aggregates.specs.Scans.{scanned_slot}
+use Rattle.far_rows.specs.declared.column_index.ColumnIndex.{ColumnIndex}
 use Rattle.far_rows.specs.Rows.{Rows}
 use Rattle.far_rows.specs.Refusing.{told_at}
 use Rattle.far_table.specs.State.{State}
@@ -37,19 +37,19 @@ unwatch_refusal None = Some refusal.NoAggregate
 unwatch_refusal (Some aggregate) = None
 
 module _ {K : Type 0} where
-  -- the columns that an aggregate needs, among those of these slots, of which the first is the n-th of the table: the object of
+  -- the columns that an aggregate needs, among those of these indexes, of which the first is the n-th of the table: the object of
   -- the row group is away
-  abbrev pub needed_from : Rows K → Spec → ℕ → ℕ → List Slot → List (Bool × Refusal)
+  abbrev pub needed_from : Rows K → Spec → ℕ → ℕ → List ColumnIndex → List (Bool × Refusal)
   needed_from r spec g n [] = []
-  needed_from r spec g n (s ∷ slots) = (needs spec n && (told_at r g s).0, refusal.Absent n g) ∷ needed_from r spec g (n + 1) slots
+  needed_from r spec g n (s ∷ column_indexes) = (needs spec n && (told_at r g s).0, refusal.Absent n g) ∷ needed_from r spec g (n + 1) column_indexes
 
-  -- a row group is built in where it has a place, is still to be built in, and the columns that the aggregate needs are local
+  -- a row group is built in where it has a place, is still pending, and the columns that the aggregate needs are local
   abbrev pub scan_refusal : State K → Option Registered → ℕ → Option Refusal
   scan_refusal s None g = Some refusal.NoAggregate
   scan_refusal s (Some aggregate) g = first_of (
       (not (nat_lt g (group_count s.table)), refusal.OutOfRange)
-      ∷ (not (is_unbuilt aggregate.unbuilt g), refusal.StaleJob)
-      ∷ needed_from s.rows aggregate.spec g 0 s.rows.slots)
+      ∷ (not (is_pending aggregate.unbuilt g), refusal.StaleJob)
+      ∷ needed_from s.rows aggregate.spec g 0 s.rows.column_indexes)
 
 -- something stands under a number, or nothing
 abbrev pub with_aggregate : ℕ → Option Registered → Table → Table
@@ -57,14 +57,14 @@ with_aggregate a aggregate table = record table { aggregates = slice_set table.a
 
 -- an aggregate that is registered now
 abbrev pub registered_now : Spec → Table → Registered
-registered_now spec table = record { spec = spec; registration = table.registrations; unbuilt = all_unbuilt table.limits.group table.places }
+registered_now spec table = record { spec = spec; registration = table.registrations; unbuilt = all_pending table.limits.group table.places }
 
 abbrev pub registered_at : ℕ → Spec → Table → Table
 registered_at a spec table = record (with_aggregate a (Some (registered_now spec table)) table) { registrations = table.registrations + 1 }
 
--- a row group less is left to be built into the aggregate of a number
+-- a row group less is still pending in the aggregate of a number
 abbrev pub scanned_at : ℕ → ℕ → Table → Table
-scanned_at a g table = with_aggregate a (built_slot g (aggregate_at table a)) table
+scanned_at a g table = with_aggregate a (scanned_slot g (aggregate_at table a)) table
 
 module _ {K : Type 0} (old new : State K) where
   -- an aggregate is registered under the lowest free number

@@ -48,7 +48,7 @@ fn content_of<S: FarRead>(
     ticket: &S::Ticket,
 ) -> Result<Content, Refusal>
     requires few { meter.old < 2 ^ 63 }
-    requires here { S.is_of ticket.now (S.name store.now) }
+    requires here { S.is_of ticket.now (S.store_id store.now) }
     ensures content { IfOk result (λ content. content ≡ (column, S.content ticket.now)) }
     ensures faults { meter.new ≡ meter.old + faults_in result }
     ensures refused { RefusedBy (21 ∷ 1 ∷ []) result }
@@ -68,7 +68,7 @@ pub(crate) fn contents_of<S: FarRead>(
     tickets: &[(u32, S::Ticket)],
 ) -> Result<Vec<Content>, Refusal>
     requires few { meter.old < 2 ^ 63 }
-    requires here { AreTicketsOf S.is_of (S.name store.now) tickets.now }
+    requires here { AreTicketsOf S.is_of (S.store_id store.now) tickets.now }
     ensures contents { IfOk result (λ contents. contents.items ≡ contents_under S.content tickets.now) }
     ensures faults { meter.new ≡ meter.old + faults_in result }
     ensures refused { RefusedBy (21 ∷ 1 ∷ []) result }
@@ -92,7 +92,7 @@ pub(crate) fn contents_away<S: FarRead>(
     group: u32,
 ) -> Result<Vec<Content>, Refusal>
     requires few { meter.old < 2 ^ 63 }
-    requires here { AreAt S.is_of (S.name store.now) rows.now }
+    requires here { AreAt S.is_of (S.store_id store.now) rows.now }
     requires begun { group * rows.now.size < length rows.now.alive }
     requires may_fold { MayFold rows.now spec.now }
     ensures contents { IfOk result (λ contents. AreRead S.content record { rows = rows.now; group = group } spec.now contents.items) }
@@ -102,7 +102,7 @@ pub(crate) fn contents_away<S: FarRead>(
     // For the proof: gives `AreRows`.
     let _len = rows.len();
     let mut contents = Vec::new(alloc);
-    for column in 0..rows.slots().len() {
+    for column in 0..rows.column_indexes().len() {
         if let Some(ticket) = away_copy(rows, spec, column as u32, group) {
             contents.push(content_of(alloc, store, meter, column as u32, ticket)?)?;
         }

@@ -39,7 +39,7 @@ pub(crate) fn away_copy<'a, S: FarTickets>(
     column: u32,
     group: u32,
 ) -> Option<&'a S::Ticket>
-    requires inside { column < length rows.now.slots }
+    requires inside { column < length rows.now.column_indexes }
     requires begun { group * rows.now.size < length rows.now.alive }
     ensures copy { IfSome result (λ ticket. IsCopy S.content rows.now group column ticket.now) }
     ensures here { (name : List ℕ) → AreAt S.is_of name rows.now → IfSome result (λ ticket. S.is_of ticket.now name) }
@@ -61,11 +61,11 @@ pub(crate) fn are_copied<S: FarTickets>(
     spec: &Spec,
     group: u32,
 ) -> Result<(), Refusal>
-    ensures { refusal_in result ≡ first_of (dirty_from rows.now spec.now group 0 rows.now.slots) }
+    ensures { refusal_in result ≡ first_of (dirty_from rows.now spec.now group 0 rows.now.column_indexes) }
 {
     // For the proof: gives `AreRows`.
     let _len = rows.len();
-    for column in 0..rows.slots().len() {
+    for column in 0..rows.column_indexes().len() {
         if lacks(rows, spec, column as u32, group) {
             return Err(Refusal::StaleJob);
         }
@@ -90,16 +90,16 @@ pub(crate) fn copies_of<S: FarTickets>(
     spec: &Spec,
     group: u32,
 ) -> Result<Vec<(u32, S::Ticket)>, Refusal>
-    requires here { AreAt S.is_of (S.name store.now) rows.now }
+    requires here { AreAt S.is_of (S.store_id store.now) rows.now }
     ensures tickets { IfOk result (λ tickets. (column : ℕ) → ticket_for tickets.items column ≡ cond (needs spec.now column) (copy_of rows.now column group) None) }
     ensures forms { IfOk result (λ tickets. AreForms S.content tickets.items) }
-    ensures here { IfOk result (λ tickets. AreTicketsOf S.is_of (S.name store.now) tickets.items) }
+    ensures here { IfOk result (λ tickets. AreTicketsOf S.is_of (S.store_id store.now) tickets.items) }
     ensures memory { IfErr result (λ e. e ≡ Refusal.NoMemory) }
 {
     // For the proof: gives `AreRows`.
     let _len = rows.len();
     let mut tickets = Vec::new(alloc);
-    for column in 0..rows.slots().len() {
+    for column in 0..rows.column_indexes().len() {
         let copy = needed_copy(rows, spec, column as u32, group);
         add(&mut tickets, store, column as u32, copy)?;
     }
@@ -130,7 +130,7 @@ fn add<S: FarTickets>(
     column: u32,
     copy: Option<&S::Ticket>,
 ) -> Result<(), Refusal>
-    requires here { IfSome copy (λ ticket. S.is_of ticket.now (S.name store.now)) }
+    requires here { IfSome copy (λ ticket. S.is_of ticket.now (S.store_id store.now)) }
     ensures added { OnOk result (tickets.new.items ≡ tickets.old.items ++ cons_option (option_map (λ ticket. (column, ticket.now)) copy.entry) []) }
     ensures memory { IfErr result (λ e. e ≡ Refusal.NoMemory) }
 {
@@ -156,8 +156,8 @@ fn is_still<S: FarTickets>(
     column: u32,
     group: u32,
 ) -> bool
-    requires here { AreAt S.is_of (S.name store.now) rows.now }
-    requires tickets_here { AreTicketsOf S.is_of (S.name store.now) tickets.now }
+    requires here { AreAt S.is_of (S.store_id store.now) rows.now }
+    requires tickets_here { AreTicketsOf S.is_of (S.store_id store.now) tickets.now }
     ensures exact { IsTrue result ↔ HaveOneNumber S.number_of (copy_of rows.now column group) (ticket_for tickets.now column) }
     ensures copy { IsTrue result → IsSomeAnd (ticket_for tickets.now column) (IsCopy S.content rows.now group column) }
 {
@@ -178,14 +178,14 @@ pub(crate) fn are_still<S: FarTickets>(
     spec: &Spec,
     group: u32,
 ) -> bool
-    requires here { AreAt S.is_of (S.name store.now) rows.now }
-    requires tickets_here { AreTicketsOf S.is_of (S.name store.now) tickets.now }
-    ensures exact { IsTrue result ↔ AllNeeded (length rows.now.slots) spec.now (λ column. HaveOneNumber S.number_of (copy_of rows.now column group) (ticket_for tickets.now column)) }
-    ensures copies { IsTrue result → AllNeeded (length rows.now.slots) spec.now (λ column. IsSomeAnd (ticket_for tickets.now column) (IsCopy S.content rows.now group column)) }
+    requires here { AreAt S.is_of (S.store_id store.now) rows.now }
+    requires tickets_here { AreTicketsOf S.is_of (S.store_id store.now) tickets.now }
+    ensures exact { IsTrue result ↔ AllNeeded (length rows.now.column_indexes) spec.now (λ column. HaveOneNumber S.number_of (copy_of rows.now column group) (ticket_for tickets.now column)) }
+    ensures copies { IsTrue result → AllNeeded (length rows.now.column_indexes) spec.now (λ column. IsSomeAnd (ticket_for tickets.now column) (IsCopy S.content rows.now group column)) }
 {
     // For the proof: gives `AreRows`.
     let _len = rows.len();
-    for column in 0..rows.slots().len() {
+    for column in 0..rows.column_indexes().len() {
         if spec.needs(column as u32) && !is_still(rows, store, tickets, column as u32, group) {
             return false;
         }

@@ -1,5 +1,5 @@
 // What is wrong with an edit itself, whichever objects are local: the first of refusals 4 to 10, in their order. Nothing here
-// takes memory.
+// allocates.
 ghost use Rattle.std.specs.Prelude.{◌≡◌, ◌∷◌, [], ℕ, List, Option, is_none, length, option_map, slice_get};
 ghost use Rattle.std.specs.List.{list_any};
 ghost use Rattle.far_types.specs.declared.edit.Edit.TheVariants as edit;

@@ -49,7 +49,7 @@ impl<S: FarTickets> Model for LiveTable<S> {
 impl<S: FarTickets> LiveTable<S> {
     /// An empty table. The number tells the jobs of its objects from those of other tables.
     ///
-    /// Refused with `BadSchema` (2) exactly where the limits are not what a table may have, else with `NoMemory` (1) alone.
+    /// Refused with `BadSchema` (2) exactly if the limits are not what a table may have, else with `NoMemory` (1) alone.
     pub fn open(
         alloc: Global,
         schema: Schema,
@@ -71,7 +71,7 @@ impl<S: FarTickets> LiveTable<S> {
         })
     }
 
-    /// The rows, and the limits that they are under. Takes no memory.
+    /// The rows, and the limits that they are under. Allocates nothing.
     pub fn rows(&self) -> &TableRows<S>
         ensures schema { result.now.schema ≡ self.now.table.schema }
         ensures limits { result.now.limits ≡ self.now.table.limits }
@@ -79,6 +79,13 @@ impl<S: FarTickets> LiveTable<S> {
         ensures held { result.now.held ≡ self.now.rows }
     {
         &self.rows
+    }
+
+    /// Cells that are needed no more: a row to come may be made in their memory. Allocates nothing.
+    pub fn spare_cells(&mut self) -> Vec<Cell>
+        ensures { self.new ≡ self.old }
+    {
+        self.rows.spare_cells()
     }
 
     /// Appends a row and gives its place. Refused as `TableRows::may_insert` says, else with `NoMemory` (1) alone; then nothing
@@ -173,11 +180,11 @@ fn retract_row<S: FarTickets>(
     requires inside { place < length rows.now.places }
     requires here { first_of (absents rows.now.held (place / rows.now.limits.group)) ≡ None }
     requires checked { AreChecked rows.now.schema (registered_of aggregates.old) }
-    requires goes { RetractsAll rows.now.limits.group (place / rows.now.limits.group) rows.now.places aggregates.old pending }
+    requires retracts { RetractsAll rows.now.limits.group (place / rows.now.limits.group) rows.now.places aggregates.old pending }
     ensures kept { Keeps rows.now.limits.group rows.now.places aggregates.new }
     ensures registered { registered_of aggregates.new ≡ registered_of aggregates.old }
 {
-    // A row group is lent only where rows may have to be looked at.
+    // A row group is lent only if rows may have to be looked at.
     if !aggregates.needs_rows(&pending) {
         aggregates.retract_totals(pending);
         return;

@@ -81,7 +81,7 @@ impl<S: FarRead> OffloadBuild<S> {
         meter: &mut Meter,
     ) -> Result<OffloadCarried<S>, (Refusal, OffloadBuild<S>)>
         requires few { meter.old < 2 ^ 63 }
-        requires here { AreTicketsOf S.is_of (S.name store.now) self.job.tickets }
+        requires here { AreTicketsOf S.is_of (S.store_id store.now) self.job.tickets }
         ensures build { IfOk result (λ carried. carried ≡ self) }
         ensures back { IfErr result (λ refused. refused.1 ≡ self) }
         ensures faults { meter.new ≡ meter.old + faults_in (outcome result) }

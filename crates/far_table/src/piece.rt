@@ -33,7 +33,7 @@ fn fold_at<S: FarRead>(
     group: u32,
 ) -> Result<PartialDone, Refusal>
     requires few { meter.old < 2 ^ 63 }
-    requires here { AreAt S.is_of (S.name store.now) rows.now }
+    requires here { AreAt S.is_of (S.store_id store.now) rows.now }
     requires begun { group * rows.now.size < length rows.now.alive }
     requires may_fold { MayFold rows.now spec.now }
     ensures partial { IfOk result (λ done. done ≡ partial_at spec.now rows.now.size (places_in S.content rows.now) group) }
@@ -57,7 +57,7 @@ fn fold_run<S: FarRead>(
     to: u32,
 ) -> Result<Vec<PartialDone>, Refusal>
     requires few { meter.old < 2 ^ 63 }
-    requires here { AreAt S.is_of (S.name store.now) rows.now }
+    requires here { AreAt S.is_of (S.store_id store.now) rows.now }
     requires order { from ≤ to }
     requires begun { (group : ℕ) → group < to → group * rows.now.size < length rows.now.alive }
     requires may_fold { MayFold rows.now spec.now }
@@ -81,7 +81,7 @@ pub(crate) fn fold_piece<S: FarRead>(
     from: u32,
     to: u32,
 ) -> Piece
-    requires here { AreAt S.is_of (S.name store.now) rows.now }
+    requires here { AreAt S.is_of (S.store_id store.now) rows.now }
     requires order { from ≤ to }
     requires begun { (group : ℕ) → group < to → group * rows.now.size < length rows.now.alive }
     requires may_fold { MayFold rows.now spec.now }

@@ -56,7 +56,7 @@ pub(crate) fn fold_pieces<R: Threads + Sync, S: FarRead>(
     count: u32,
     cut: Cut,
 ) -> Result<Vec<Piece>, AllocError>
-    requires here { AreAt S.is_of (S.name store.now) rows.now }
+    requires here { AreAt S.is_of (S.store_id store.now) rows.now }
     requires begun { (group : ℕ) → group < count → group * rows.now.size < length rows.now.alive }
     requires may_fold { MayFold rows.now spec.now }
     requires few { cut.pieces ≤ 64 }
@@ -65,7 +65,7 @@ pub(crate) fn fold_pieces<R: Threads + Sync, S: FarRead>(
 {
     let long = cut.long;
     let fold = |i: usize| -> Piece
-        requires { AreAt S.is_of (S.name store.now) rows.now × ((group : ℕ) → group < count → group * rows.now.size < length rows.now.alive) × MayFold rows.now spec.now × (i < 64) }
+        requires { AreAt S.is_of (S.store_id store.now) rows.now × ((group : ℕ) → group < count → group * rows.now.size < length rows.now.alive) × MayFold rows.now spec.now × (i < 64) }
         ensures { IsPiece spec.entry.now rows.entry.now.size (places_in S.content rows.entry.now) (begin_of count long i) (begin_of count long (i + 1)) result }
     { fold_from(alloc, rows, store, spec, count, long, i) };
     thread::map_indices(rt, alloc, cut.pieces, &fold)
@@ -81,7 +81,7 @@ fn fold_from<S: FarRead>(
     long: u32,
     piece: usize,
 ) -> Piece
-    requires here { AreAt S.is_of (S.name store.now) rows.now }
+    requires here { AreAt S.is_of (S.store_id store.now) rows.now }
     requires begun { (group : ℕ) → group < count → group * rows.now.size < length rows.now.alive }
     requires may_fold { MayFold rows.now spec.now }
     requires few { piece < 64 }

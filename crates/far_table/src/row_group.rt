@@ -30,7 +30,7 @@ impl<'a, S: FarTickets> Model for RowGroup<'a, S> {
 }
 
 impl<'a, S: FarTickets> RowGroup<'a, S> {
-    /// The row group of a number. All its columns are looked at once, here. Takes no memory.
+    /// The row group of a number. All its columns are looked at once, here. Allocates nothing.
     pub(crate) fn new(rows: &'a Rows<S>, group: u32) -> RowGroup<'a, S>
         ensures { result ≡ record { rows = rows.now; group = group } }
     {
@@ -71,7 +71,7 @@ fn columns_of<'a, S: FarTickets>(rows: &'a Rows<S>, group: u32) -> [Option<LentC
     // It tells that there are at most 16 columns.
     let _len = rows.len();
     let mut columns = [None; 16];
-    for column in 0..rows.slots().len() {
+    for column in 0..rows.column_indexes().len() {
         columns[column] = rows.group_column(column, group).ok();
     }
     columns

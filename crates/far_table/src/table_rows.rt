@@ -4,7 +4,7 @@ ghost use Rattle.far_types.specs.Bounds.{AreLimits};
 ghost use Rattle.far_types.specs.FirstOf.{first_of};
 ghost use Rattle.far_types.specs.Table.{groups};
 ghost use Rattle.far_scopes.specs.Refusing.{refusal_in};
-ghost use Rattle.far_rows.specs.Slots.{kind_of, row_of};
+ghost use Rattle.far_rows.specs.ColumnIndexes.{kind_of, row_of};
 ghost use Rattle.far_rows.specs.Refusing.{absents};
 ghost use Rattle.far_rows.specs.Rows.{AreRows};
 ghost use Rattle.far_rows.specs.Opening.{numbers_from, texts_from};
@@ -73,14 +73,14 @@ impl<S: FarTickets> TableRows<S> {
         })
     }
 
-    /// The kinds of the columns. Takes no memory.
+    /// The kinds of the columns. Allocates nothing.
     pub fn schema(&self) -> &Schema
         ensures { result.now ≡ self.now.schema }
     {
         &self.schema
     }
 
-    /// The limits of the table. Takes no memory.
+    /// The limits of the table. Allocates nothing.
     pub fn limits(&self) -> &Limits
         ensures same { result.now ≡ self.now.limits }
         ensures bounds { AreLimits self.now.limits }
@@ -88,14 +88,14 @@ impl<S: FarTickets> TableRows<S> {
         &self.limits
     }
 
-    /// How many edits were accepted. Takes no memory.
+    /// How many edits were accepted. Allocates nothing.
     pub fn edits(&self) -> u64
         ensures { result ≡ self.now.edits }
     {
         self.edits
     }
 
-    /// How many places there are, dead ones too. Takes no memory.
+    /// How many places there are, dead ones too. Allocates nothing.
     pub fn len(&self) -> usize
         ensures len { result ≡ length self.now.places }
         ensures few { length self.now.places ≤ self.now.limits.places }
@@ -104,7 +104,7 @@ impl<S: FarTickets> TableRows<S> {
         self.rows.len()
     }
 
-    /// How many row groups have a place. Takes no memory.
+    /// How many row groups have a place. Allocates nothing.
     pub fn groups(&self) -> usize
         ensures { result ≡ groups self.now.limits.group (length self.now.places) }
     {
@@ -112,16 +112,16 @@ impl<S: FarTickets> TableRows<S> {
         (self.rows.len() + size - 1) / size
     }
 
-    /// Whether a place is alive; `None` where there is no such place. Takes no memory.
+    /// Whether a place is alive; `None` if there is no such place. Allocates nothing.
     pub fn is_alive(&self, place: usize) -> Option<bool>
         ensures { result ≡ option_map (λ p. p.alive) (slice_get self.now.places place) }
     {
         self.rows.is_alive(place)
     }
 
-    /// The row of a place, each cell lent in place. Takes no memory.
+    /// The row of a place, each cell lent in place. Allocates nothing.
     ///
-    /// Refused with `Absent` (16) exactly where an object of the place's row group is away, naming the first in the order of
+    /// Refused with `Absent` (16) exactly if an object of the place's row group is away, naming the first in the order of
     /// the columns.
     #[inline(always)]
     pub fn row(&self, place: usize) -> Result<LentRow<'_>, Refusal>
@@ -132,7 +132,7 @@ impl<S: FarTickets> TableRows<S> {
         self.rows.row(place)
     }
 
-    /// The row of a place, each cell lent in place once it is asked for. Takes no memory.
+    /// The row of a place, each cell lent in place once it is asked for. Allocates nothing.
     ///
     /// Refused as `row` is, with `Absent` (16) alone.
     pub fn row_ref(&self, place: usize) -> Result<RowRef<'_, S>, Refusal>
@@ -143,18 +143,18 @@ impl<S: FarTickets> TableRows<S> {
         self.rows.row_ref(place)
     }
 
-    /// A row group, as it is lent to aggregates. Takes no memory.
+    /// A row group, as it is lent to aggregates. Allocates nothing.
     pub fn group(&self, number: u32) -> RowGroup<'_, S>
         ensures { result ≡ record { rows = self.now.held; group = number } }
     {
         RowGroup::new(&self.rows, number)
     }
 
-    /// The rows over objects that hold the places. Takes no memory.
+    /// The rows over objects that hold the places. Allocates nothing.
     pub fn held(&self) -> &Rows<S>
         ensures held { result.now ≡ self.now.held }
         ensures rows { AreRows S.content self.now.held }
-        ensures kinds { map kind_of self.now.held.slots ≡ self.now.schema }
+        ensures kinds { map kind_of self.now.held.column_indexes ≡ self.now.schema }
         ensures places { self.now.places ≡ places_in S.content self.now.held }
         ensures size { self.now.held.size ≡ self.now.limits.group }
     {
@@ -163,14 +163,14 @@ impl<S: FarTickets> TableRows<S> {
         &self.rows
     }
 
-    /// The new row, each cell lent in place once it is asked for. Takes no memory.
+    /// The new row, each cell lent in place once it is asked for. Allocates nothing.
     #[inline(always)]
     pub(crate) fn new_row_ref(&self) -> NewRowRef<'_>
-        ensures { result ≡ row_of self.now.held.slots self.now.new_row }
+        ensures { result ≡ row_of self.now.held.column_indexes self.now.new_row }
     {
-        // It tells that each slot is that of a column.
+        // It tells that each index is that of a column.
         let _len = self.rows.len();
-        self.new_row.row_ref(self.rows.slots())
+        self.new_row.row_ref(self.rows.column_indexes())
     }
 }
 

@@ -2,7 +2,7 @@
 ghost use Rattle.std.specs.Prelude.{◌≡◌, ◌≢◌, ◌+◌, ◌-◌, ◌*◌, ◌<◌, ◌≤◌, ◌^◌, ℕ, [], ◌∷◌, length, IfOk, IfErr, OnOk, slice_index_or};
 ghost use Rattle.far_types.specs.declared.spec.Fold.TheVariants as folds;
 ghost use Rattle.far_types.specs.Answers.{totals, answer_over};
-ghost use Rattle.far_types.specs.Changes.{joined_totals};
+ghost use Rattle.far_types.specs.Effects.{joined_totals};
 ghost use Rattle.far_types.specs.Table.{groups, rows_of};
 ghost use Rattle.far_store.specs.Faults.{faults_in, RefusedBy};
 ghost use Rattle.far_groups.specs.Live.{CanJoin};
@@ -67,7 +67,7 @@ fn total_at<S: FarRead>(
     group: u32,
 ) -> Result<(), Refusal>
     requires few { meter.old < 2 ^ 63 }
-    requires here { AreAt S.is_of (S.name store.now) rows.now }
+    requires here { AreAt S.is_of (S.store_id store.now) rows.now }
     requires begun { group * rows.now.size < length rows.now.alive }
     requires may_fold { MayFold rows.now spec.now }
     requires fold { spec.now.fold ≡ folds.Totals }
@@ -99,7 +99,7 @@ fn total_run<S: FarRead>(
     to: u32,
 ) -> Result<Vec<PartialDone>, Refusal>
     requires few { meter.old < 2 ^ 63 }
-    requires here { AreAt S.is_of (S.name store.now) rows.now }
+    requires here { AreAt S.is_of (S.store_id store.now) rows.now }
     requires order { from ≤ to }
     requires begun { (group : ℕ) → group < to → group * rows.now.size < length rows.now.alive }
     requires may_fold { MayFold rows.now spec.now }
@@ -129,7 +129,7 @@ fn total_from<S: FarRead>(
     long: u32,
     piece: usize,
 ) -> Piece
-    requires here { AreAt S.is_of (S.name store.now) rows.now }
+    requires here { AreAt S.is_of (S.store_id store.now) rows.now }
     requires begun { (group : ℕ) → group < count → group * rows.now.size < length rows.now.alive }
     requires all { length rows.now.alive ≤ count * rows.now.size }
     requires may_fold { MayFold rows.now spec.now }
@@ -155,7 +155,7 @@ fn total_pieces<R: Threads + Sync, S: FarRead>(
     long: u32,
     pieces: usize,
 ) -> Result<Vec<Piece>, AllocError>
-    requires here { AreAt S.is_of (S.name store.now) rows.now }
+    requires here { AreAt S.is_of (S.store_id store.now) rows.now }
     requires begun { (group : ℕ) → group < count → group * rows.now.size < length rows.now.alive }
     requires all { length rows.now.alive ≤ count * rows.now.size }
     requires may_fold { MayFold rows.now spec.now }
@@ -165,7 +165,7 @@ fn total_pieces<R: Threads + Sync, S: FarRead>(
     ensures each { IfOk result (λ found. (i : ℕ) (d : Piece) → i < pieces → IsPiece spec.now (long * rows.now.size) (places_in S.content rows.now) i (i + 1) (slice_index_or found.items i d)) }
 {
     let fold = |i: usize| -> Piece
-        requires { AreAt S.is_of (S.name store.now) rows.now × ((group : ℕ) → group < count → group * rows.now.size < length rows.now.alive) × (length rows.now.alive ≤ count * rows.now.size) × MayFold rows.now spec.now × (spec.now.fold ≡ folds.Totals) × (i < 64) }
+        requires { AreAt S.is_of (S.store_id store.now) rows.now × ((group : ℕ) → group < count → group * rows.now.size < length rows.now.alive) × (length rows.now.alive ≤ count * rows.now.size) × MayFold rows.now spec.now × (spec.now.fold ≡ folds.Totals) × (i < 64) }
         ensures { IsPiece spec.entry.now (long * rows.entry.now.size) (places_in S.content rows.entry.now) i (i + 1) result }
     { total_from(alloc, rows, store, spec, count, long, i) };
     thread::map_indices(rt, alloc, pieces, &fold)
@@ -186,7 +186,7 @@ pub(crate) fn total_answer<R: Threads + Sync, S: FarRead>(
     workers: u32,
 ) -> Result<Answer, Refusal>
     requires few { meter.old < 2 ^ 63 }
-    requires here { AreAt S.is_of (S.name store.now) rows.now }
+    requires here { AreAt S.is_of (S.store_id store.now) rows.now }
     requires may_fold { MayFold rows.now spec.now }
     requires fold { spec.now.fold ≡ folds.Totals }
     requires size { size ≡ rows.now.size }

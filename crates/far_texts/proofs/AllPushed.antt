@@ -4,8 +4,8 @@ use Rattle.std.specs.Prelude.{All, slice_get}
 use Rattle.std.proofs.lemmas.Bool.{cases_eq, cases_lt, cases_Bool}
 use Rattle.std.proofs.lemmas.Option.{same_Some, slice_get-get_or, slice_get_within, get_or_from_slice_get, none-some}
 use Rattle.far_codec.specs.TextForm.{texts_form}
-use Rattle.far_texts.specs.Texts.{Texts, Lists, HasGroups, IsTextColumn, AreApart, texts_in}
-use Rattle.far_texts.specs.Changes.{begins_group, group_with_next, pushed}
+use Rattle.far_texts.specs.Texts.{Texts, Lists, HasGroups, IsTextColumn, AreDisjoint, texts_in}
+use Rattle.far_texts.specs.Effects.{begins_group, group_with_next, pushed}
 use Rattle.far_texts.specs.Together.{AreColumns, object_for, next_forms, all_pushed, all_texts_with, ChangesTo, KeepsColumns, AreNextForms}
 use Rattle.far_texts.proofs.Changed.{column-kept, texts-in-kept}
 use Rattle.far_texts.proofs.Groups.{group-list}
@@ -26,9 +26,9 @@ length-pushed n (c ∷ columns) = ap suc (length-pushed (n + 1) columns)
 pub texts-all : (old new : Lists) (n : ℕ) (columns : List Texts) (texts : List (Option (List ℕ))) → length texts ≡ length columns
     → ((k : ℕ) (c : Texts) (text : Option (List ℕ)) → slice_get columns k ≡ Some c → slice_get texts k ≡ Some text → texts_in new (pushed c (n + k)) ≡ texts_in old c ++ text ∷ [])
     → map (texts_in new) (all_pushed n columns) ≡ all_texts_with old columns texts
-texts-all old new n [] texts even each = refl
-texts-all old new n (c ∷ columns) [] even each = absurd (omega arith)
-texts-all old new n (c ∷ columns) (text ∷ texts) even each =
+texts-all old new n [] texts same_length each = refl
+texts-all old new n (c ∷ columns) [] same_length each = absurd (omega arith)
+texts-all old new n (c ∷ columns) (text ∷ texts) same_length each =
     let place : n ≡ n + 0 = omega arith in
     let first = ap (λ i. texts_in new (pushed c i)) place ∙ each 0 c text refl refl in
     let rest = texts-all old new (n + 1) columns texts (omega arith) (λ k d t here there. let place : n + 1 + k ≡ n + suc k = omega arith in ap (λ i. texts_in new (pushed d i)) place ∙ each (suc k) d t here there) in
@@ -48,44 +48,44 @@ module _ (old : Lists) (n : ℕ) (columns : List Texts) (are : AreColumns old co
     is-at = get_or_from_slice_get columns k c c here
 
     pub column-is : IsTextColumn old c
-    column-is = subst (IsTextColumn old) is-at (are.beside.each k c within)
+    column-is = subst (IsTextColumn old) is-at (are.all_disjoint.each k c within)
 
     pub column-groups : HasGroups c
     column-groups = subst HasGroups is-at (groups k c within)
 
     -- an object that has a list, and is none of the column's, is not that of its next text
-    pub apart-from : (p : ℕ) (list : List ℕ) → old p ≡ Some list → ((g : ℕ) → slice_get c.objects g ≢ Some p) → p ≢ object_for c (n + k)
-    apart-from p list has apart same = elim (cases_Bool (begins_group c)) [
+    pub disjoint-from : (p : ℕ) (list : List ℕ) → old p ≡ Some list → ((g : ℕ) → slice_get c.objects g ≢ Some p) → p ≢ object_for c (n + k)
+    disjoint-from p list has disjoint same = elim (cases_Bool (begins_group c)) [
       | inl begins ↦ none-some list (sym (fresh p (omega (arith, same ∙ object-begun c (n + k) begins))) ∙ has)
       | inr begins ↦
           let last = length c.objects - 1 in
           let some = some-group c column-groups begins in
-          apart last (slice_get-get_or c.objects last 0 (omega (arith, some)) ∙ ap Some (sym (same ∙ object-longer c (n + k) begins)))
+          disjoint last (slice_get-get_or c.objects last 0 (omega (arith, some)) ∙ ap Some (sym (same ∙ object-longer c (n + k) begins)))
     ]
 
   -- two columns have no object in common
-  pub two-apart : (k j : ℕ) (c d : Texts) → slice_get columns k ≡ Some c → slice_get columns j ≡ Some d → k ≢ j → (g h o : ℕ) → slice_get c.objects g ≡ Some o → slice_get d.objects h ≢ Some o
-  two-apart k j c d here there ne g h o at same = elim (cases_lt k j) [
+  pub two-disjoint : (k j : ℕ) (c d : Texts) → slice_get columns k ≡ Some c → slice_get columns j ≡ Some d → k ≢ j → (g h o : ℕ) → slice_get c.objects g ≡ Some o → slice_get d.objects h ≢ Some o
+  two-disjoint k j c d here there ne g h o at same = elim (cases_lt k j) [
     | inl below ↦
-        let apart : AreApart (get_or columns k c) (get_or columns j c) = are.beside.apart k j c below (within j d there) in
-        let apart_of : AreApart c d = subst (λ x. AreApart x d) (is-at k c here) (subst (AreApart (get_or columns k c)) (get_or_from_slice_get columns j d c there) apart) in
+        let disjoint : AreDisjoint (get_or columns k c) (get_or columns j c) = are.all_disjoint.disjoint k j c below (within j d there) in
+        let apart_of : AreDisjoint c d = subst (λ x. AreDisjoint x d) (is-at k c here) (subst (AreDisjoint (get_or columns k c)) (get_or_from_slice_get columns j d c there) disjoint) in
         apart_of g h o at same
     | inr above ↦
-        let apart : AreApart (get_or columns j d) (get_or columns k d) = are.beside.apart j k d (omega (arith, above, ne)) (within k c here) in
-        let apart_of : AreApart d c = subst (λ x. AreApart x c) (is-at j d there) (subst (AreApart (get_or columns j d)) (get_or_from_slice_get columns k c d here) apart) in
+        let disjoint : AreDisjoint (get_or columns j d) (get_or columns k d) = are.all_disjoint.disjoint j k d (omega (arith, above, ne)) (within k c here) in
+        let apart_of : AreDisjoint d c = subst (λ x. AreDisjoint x c) (is-at j d there) (subst (AreDisjoint (get_or columns j d)) (get_or_from_slice_get columns k c d here) disjoint) in
         apart_of h g o same at
   ]
 
-  module _ (new : Lists) (texts : List (Option (List ℕ))) (even : length texts ≡ length columns) (valid : AreNextForms old columns texts) (changes : ChangesTo old new (next_forms old n columns texts)) where
+  module _ (new : Lists) (texts : List (Option (List ℕ))) (same_length : length texts ≡ length columns) (valid : AreNextForms old columns texts) (changes : ChangesTo old new (next_forms old n columns texts)) where
     -- the objects of a column's other row groups keep their lists
     kept : (k : ℕ) (c : Texts) → slice_get columns k ≡ Some c → (i : ℕ) → i < length c.objects → get_or c.objects i 0 ≢ object_for c (n + k) → new (get_or c.objects i 0) ≡ old (get_or c.objects i 0)
-    kept k c here i below apart =
+    kept k c here i below disjoint =
         let p = get_or c.objects i 0 in
         changes.others p (unlisted old n columns texts p (λ j d there. elim (cases_eq k j) [
           | inl same ↦
               let one : c ≡ d = same_Some c d (sym here ∙ ap (slice_get columns) same ∙ there) in
-              λ e. apart (e ∙ ap (λ i. object_for d (n + i)) (sym same) ∙ ap (λ x. object_for x (n + k)) (sym one))
-          | inr ne ↦ apart-from j d there p _ (group-list old c (column-is k c here) i below) (λ h. two-apart k j c d here there ne i h p (slice_get-get_or c.objects i 0 below))
+              λ e. disjoint (e ∙ ap (λ i. object_for d (n + i)) (sym same) ∙ ap (λ x. object_for x (n + k)) (sym one))
+          | inr ne ↦ disjoint-from j d there p _ (group-list old c (column-is k c here) i below) (λ h. two-disjoint k j c d here there ne i h p (slice_get-get_or c.objects i 0 below))
         ]))
 
     -- the object of the next text gets its form
@@ -104,25 +104,25 @@ module _ (old : Lists) (n : ℕ) (columns : List Texts) (are : AreColumns old co
       each-texts = one-texts old new c (column-is k c here) (column-groups k c here) (n + k) (fresh (n + k) (omega arith)) text (valid k c text here there) (gets k c text here there) (kept k c here)
 
     pub all-texts : map (texts_in new) (all_pushed n columns) ≡ all_texts_with old columns texts
-    all-texts = texts-all old new n columns texts even each-texts
+    all-texts = texts-all old new n columns texts same_length each-texts
 
     pub all-is : All (IsTextColumn new) (all_pushed n columns)
     all-is k d below =
         let inside : k < length columns = subst (λ m. k < m) (length-pushed n columns) below in
         let c = get_or columns k d in
         let at = slice_get-get_or columns k d inside in
-        subst (IsTextColumn new) (sym (pushed-at n columns k d inside)) (each-is k c (get_or texts k None) at (slice_get-get_or texts k None (omega (arith, even, inside))))
+        subst (IsTextColumn new) (sym (pushed-at n columns k d inside)) (each-is k c (get_or texts k None) at (slice_get-get_or texts k None (omega (arith, same_length, inside))))
 
     -- every column apart from these is as it was
-    others-kept : (d : Texts) → IsTextColumn old d → All (λ c. AreApart c d) columns → (i : ℕ) → i < length d.objects → new (get_or d.objects i 0) ≡ old (get_or d.objects i 0)
-    others-kept d is apart i below =
+    others-kept : (d : Texts) → IsTextColumn old d → All (λ c. AreDisjoint c d) columns → (i : ℕ) → i < length d.objects → new (get_or d.objects i 0) ≡ old (get_or d.objects i 0)
+    others-kept d is disjoint i below =
         let p = get_or d.objects i 0 in
         changes.others p (unlisted old n columns texts p (λ j c there.
-        let apart_of : AreApart c d = subst (λ x. AreApart x d) (is-at j c there) (apart j c (within j c there)) in
-        apart-from j c there p _ (group-list old d is i below) (λ g same. apart_of g i p same (slice_get-get_or d.objects i 0 below))))
+        let apart_of : AreDisjoint c d = subst (λ x. AreDisjoint x d) (is-at j c there) (disjoint j c (within j c there)) in
+        disjoint-from j c there p _ (group-list old d is i below) (λ g same. apart_of g i p same (slice_get-get_or d.objects i 0 below))))
 
     pub keeps-columns : KeepsColumns old new columns
     keeps-columns = record {
-      stay = λ d is apart. column-kept old new d (others-kept d is apart) is;
-      texts = λ d is apart. texts-in-kept old new d (others-kept d is apart);
+      stay = λ d is disjoint. column-kept old new d (others-kept d is disjoint) is;
+      texts = λ d is disjoint. texts-in-kept old new d (others-kept d is disjoint);
     }

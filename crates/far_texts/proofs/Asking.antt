@@ -17,7 +17,7 @@ use Rattle.far_scopes.specs.Refusing.{refusal_in, absent, written_out}
 use Rattle.far_scopes.proofs.FirstCases.{first-append, first-none}
 use Rattle.far_scopes.proofs.MarkedAll.{next-is}
 use Rattle.far_texts.specs.Texts.{Texts, Lists, lists_of}
-use Rattle.far_texts.specs.Changes.{begins_group, last_object, group_with_next}
+use Rattle.far_texts.specs.Effects.{begins_group, last_object, group_with_next}
 use Rattle.far_texts.specs.Refusing.{next_length_refusal}
 use Rattle.far_texts.specs.Together.{all_begin, next_forms}
 use Rattle.far_texts.specs.RefusingTogether.{any_too_long, any_full, absents, some_written_out, first_tests, last_tests, push_texts_refusal}
@@ -31,7 +31,7 @@ module _ (lists : Lists) where
 
   -- there is one for each column
   pub length-lens : (n : ℕ) (columns : List Texts) (texts : List (Option (List ℕ))) → length texts ≡ length columns → length (lens-from n columns texts) ≡ length columns
-  length-lens n columns texts even = length-map (next_forms lists n columns texts) (λ (form : ℕ × List ℕ). length form.1) ∙ length-next lists n columns texts even
+  length-lens n columns texts same_length = length-map (next_forms lists n columns texts) (λ (form : ℕ × List ℕ). length form.1) ∙ length-next lists n columns texts same_length
 
   -- none of them is empty
   pub lens-some : (n : ℕ) (columns : List Texts) (texts : List (Option (List ℕ))) → All (λ len. 0 < len) (lens-from n columns texts)
@@ -68,9 +68,9 @@ module _ {K : Type 0} (m : Movement ℕ K) where
   -- where row groups are begun, the objects that get another form are the last ones
   pub any-out : (lists : Lists) (n : ℕ) (columns : List Texts) (texts : List (Option (List ℕ))) → length texts ≡ length columns → All (λ (c : Texts). begins_group c ≡ false) columns
       → list_any (λ (c : Texts). (written_out m (last_object c)).0) columns ≡ (some_written_out m (next_forms lists n columns texts)).0
-  any-out lists n [] texts even begun = refl
-  any-out lists n (c ∷ columns) [] even begun = absurd (omega arith)
-  any-out lists n (c ∷ columns) (text ∷ texts) even begun =
+  any-out lists n [] texts same_length begun = refl
+  any-out lists n (c ∷ columns) [] same_length begun = absurd (omega arith)
+  any-out lists n (c ∷ columns) (text ∷ texts) same_length begun =
       let first = object-longer c n (All-head (λ (d : Texts). begins_group d ≡ false) c columns begun) in
       let rest = any-out lists (n + 1) columns texts (omega arith) (All-tail (λ (d : Texts). begins_group d ≡ false) c columns begun) in
       ap (λ (b : Bool). (written_out m (last_object c)).0 || b) rest

@@ -2,7 +2,7 @@
 use Rattle.std.proofs.Common.{◌≡◌, ◌≢◌, inl, inr, ◌*◌, ◌<◌, ◌≤◌, false, length, sym, ap, subst, ◌∙◌, arith}
 use Rattle.std.proofs.lemmas.Bool.{eqb-false, cases_lt}
 use Rattle.far_texts.specs.Texts.{Texts, HasGroups}
-use Rattle.far_texts.specs.Changes.{begins_group}
+use Rattle.far_texts.specs.Effects.{begins_group}
 
 module _ (c : Texts) (has : HasGroups c) (begins : begins_group c ≡ false) where
   pub not-full : c.len ≢ length c.objects * c.size

@@ -32,22 +32,22 @@ module _ (old new : Lists) where
   -- a column that does not have the object that changes keeps its lists
   module _ (o : ℕ) (now : Option (List ℕ)) (changes : ChangesList old new o now) where
     others-kept : (d : Texts) → ((k : ℕ) → slice_get d.objects k ≢ Some o) → (k : ℕ) → k < length d.objects → new (get_or d.objects k 0) ≡ old (get_or d.objects k 0)
-    others-kept d apart k below = changes.others (get_or d.objects k 0) (λ e. apart k (slice_get-get_or d.objects k 0 below ∙ ap Some e))
+    others-kept d disjoint k below = changes.others (get_or d.objects k 0) (λ e. disjoint k (slice_get-get_or d.objects k 0 below ∙ ap Some e))
 
     -- where the object is one of the column's
     pub keeps-others : (c : Texts) (g : ℕ) → slice_get c.objects g ≡ Some o → KeepsOthers old new c
     keeps-others c g here = record {
-      columns = λ d is apart. column-kept d (others-kept d (λ k. apart g k o here)) is;
-      texts = λ d is apart. texts-in-kept d (others-kept d (λ k. apart g k o here));
+      columns = λ d is disjoint. column-kept d (others-kept d (λ k. disjoint g k o here)) is;
+      texts = λ d is disjoint. texts-in-kept d (others-kept d (λ k. disjoint g k o here));
     }
 
     -- where it is a new one
     pub keeps-others-new : (c : Texts) → old o ≡ None → KeepsOthers old new c
     keeps-others-new c none =
-        let apart : (d : Texts) → IsTextColumn old d → (k : ℕ) → slice_get d.objects k ≢ Some o = λ d is k here. subst (λ list. IsSomeAnd list (IsGroupForm d k)) none (is.each k o here) in
+        let disjoint : (d : Texts) → IsTextColumn old d → (k : ℕ) → slice_get d.objects k ≢ Some o = λ d is k here. subst (λ list. IsSomeAnd list (IsGroupForm d k)) none (is.each k o here) in
         record {
-          columns = λ d is _. column-kept d (others-kept d (apart d is)) is;
-          texts = λ d is _. texts-in-kept d (others-kept d (apart d is));
+          columns = λ d is _. column-kept d (others-kept d (disjoint d is)) is;
+          texts = λ d is _. texts-in-kept d (others-kept d (disjoint d is));
         }
 
 pub keeps-same : (lists : Lists) (c : Texts) → KeepsOthers lists lists c
@@ -56,21 +56,21 @@ keeps-same lists c = record { columns = λ d is _. is; texts = λ d is _. refl }
 module _ (old new : Lists) (c : Texts) (is : IsTextColumn old c) where
   -- two row groups have two objects
   pub two-objects : (g k : ℕ) → g < length c.objects → k < length c.objects → k ≢ g → get_or c.objects k 0 ≢ get_or c.objects g 0
-  two-objects g k begun within apart same = elim (cases_lt k g) [
+  two-objects g k begun within disjoint same = elim (cases_lt k g) [
     | inl below ↦ is.once k g 0 below begun same
-    | inr above ↦ is.once g k 0 (omega (arith, apart)) within (sym same)
+    | inr above ↦ is.once g k 0 (omega (arith, disjoint)) within (sym same)
   ]
 
   module _ (g : ℕ) (begun : g < length c.objects) (bytes : List ℕ) (changes : ChangesList old new (get_or c.objects g 0) (Some bytes)) where
     -- the other row groups keep their lists
     pub groups-kept : (k : ℕ) → k < length c.objects → k ≢ g → new (get_or c.objects k 0) ≡ old (get_or c.objects k 0)
-    groups-kept k within apart = changes.others (get_or c.objects k 0) (two-objects g k begun within apart)
+    groups-kept k within disjoint = changes.others (get_or c.objects k 0) (two-objects g k begun within disjoint)
 
     pub group-texts : texts_at new (get_or c.objects g 0) ≡ texts_meaning bytes
     group-texts = ap (λ list. texts_meaning (unwrap_or list [])) changes.here
 
     pub group-others : (k : ℕ) → k < length c.objects → k ≢ g → texts_at new (get_or c.objects k 0) ≡ texts_at old (get_or c.objects k 0)
-    group-others k within apart = texts-kept old new (get_or c.objects k 0) (groups-kept k within apart)
+    group-others k within disjoint = texts-kept old new (get_or c.objects k 0) (groups-kept k within disjoint)
 
     -- a column of the same objects lies in the new lists
     pub column-changed : (d : Texts) → d.objects ≡ c.objects → ((k : ℕ) (form : List ℕ) → k < length c.objects → k ≢ g → IsGroupForm c k form → IsGroupForm d k form) → IsGroupForm d g bytes → IsTextColumn new d

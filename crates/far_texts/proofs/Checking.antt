@@ -11,7 +11,7 @@ use Rattle.far_scopes.specs.Refusing.{refusal_in, absent, lend_refusal}
 use Rattle.far_texts.specs.Texts.{Texts, Lists, HasGroups}
 use Rattle.far_scopes.proofs.Alike.{all-with, none-pass}
 use Rattle.far_scopes.proofs.FirstCases.{first-append, first-none}
-use Rattle.far_texts.specs.Changes.{begins_group, last_object}
+use Rattle.far_texts.specs.Effects.{begins_group, last_object}
 use Rattle.far_texts.specs.Refusing.{next_length_refusal}
 use Rattle.far_texts.specs.Together.{AreColumns, all_begin}
 
@@ -34,14 +34,14 @@ both-begin c d has other size len begins =
 
 module _ (lists : Lists) (columns : List Texts) (are : AreColumns lists columns) (groups : All HasGroups columns) where
   alike : (c d : Texts) → HasGroups c → HasGroups d → (c.size ≡ d.size) × (c.len ≡ d.len) → begins_group c ≡ true → begins_group d ≡ true
-  alike c d has other even = both-begin c d has other even.0 even.1
+  alike c d has other same_length = both-begin c d has other same_length.0 same_length.1
 
   -- where one begins a row group all do
   pub all-begin : (k : ℕ) (d : Texts) → k < length columns → begins_group (get_or columns k d) ≡ true → All (λ (c : Texts). begins_group c ≡ true) columns
-  all-begin = all-with begins_group HasGroups (λ c d. (c.size ≡ d.size) × (c.len ≡ d.len)) (λ c d even. (sym even.0, sym even.1)) alike columns groups are.even
+  all-begin = all-with begins_group HasGroups (λ c d. (c.size ≡ d.size) × (c.len ≡ d.len)) (λ c d same_length. (sym same_length.0, sym same_length.1)) alike columns groups are.same_length
 
   pub none-begin : all_begin columns ≡ false → All (λ (c : Texts). begins_group c ≡ false) columns
-  none-begin = none-pass begins_group HasGroups (λ c d. (c.size ≡ d.size) × (c.len ≡ d.len)) (λ c d even. (sym even.0, sym even.1)) alike columns groups are.even
+  none-begin = none-pass begins_group HasGroups (λ c d. (c.size ≡ d.size) × (c.len ≡ d.len)) (λ c d same_length. (sym same_length.0, sym same_length.1)) alike columns groups are.same_length
 
 -- the tests before anything is made: a text too long, an object away, and a form too long
 module _ (short full : Bool × Refusal) (away : List (Bool × Refusal)) (fits : None ≡ first_of (short ∷ [])) where

@@ -9,14 +9,14 @@ use Rattle.std.proofs.lemmas.List.Elements.{All-head, All-tail}
 use Rattle.far_types.specs.declared.refusal.Refusal.{Refusal}
 use Rattle.far_types.specs.declared.refusal.Refusal.TheVariants.{NoMemory, RegionFull, EditsUsedUp}
 use Rattle.far_types.specs.FirstOf.{first_of}
-use Rattle.far_log.specs.Room.{spaces_of, fit_in_order}
+use Rattle.far_log.specs.RegionState.{spaces_of, fit_in_order}
 use Rattle.far_scopes.specs.declared.replacement.Replacement.{Replacement}
 use Rattle.far_scopes.specs.Movement.{Movement, is_local}
 use Rattle.far_scopes.specs.Refusing.{absent, lend_refusal, written_out, first_absent, any_written_out, replace_all_refusal}
-use Rattle.far_scopes.specs.Replacing.{no_room_for_all}
+use Rattle.far_scopes.specs.Replacing.{no_space_for_all}
 use Rattle.far_texts.specs.Texts.{Texts, lists_of}
 use Rattle.far_texts.specs.Together.{all_begin, next_forms, given_forms}
-use Rattle.far_texts.specs.RefusingTogether.{no_room_for, some_written_out, first_tests, last_tests, push_texts_refusal}
+use Rattle.far_texts.specs.RefusingTogether.{no_space_for, some_written_out, first_tests, last_tests, push_texts_refusal}
 use Rattle.far_scopes.proofs.FirstCases.{first-append}
 
 any-mapped : {A B : Type 0} (p : B → Bool) (f : A → B) (xs : List A) → list_any p (map f xs) ≡ list_any (λ x. p (f x)) xs
@@ -37,25 +37,25 @@ module _ {K : Type 0} (content : K → List ℕ) (m : Movement ℕ K) (columns :
 
     -- whether the forms fit, where row groups begin
     module _ (begins : all_begin columns ≡ true) where
-      due-begun : push_texts_refusal content m columns texts ≡ first_of ((not (fit_in_order (spaces_of m.memory.room) (map (λ (r : Replacement ℕ). length r.list.items) forms)), RegionFull) ∷ [])
+      due-begun : push_texts_refusal content m columns texts ≡ first_of ((not (fit_in_order (spaces_of m.memory.state) (map (λ (r : Replacement ℕ). length r.list.items) forms)), RegionFull) ∷ [])
       due-begun = due-last
-          ∙ ap (λ (b : Bool). first_of (no_room_for m (next_forms (lists_of content m) (length m.entries) columns texts) ∷ cond b [] (some_written_out m (next_forms (lists_of content m) (length m.entries) columns texts) ∷ []))) begins
-          ∙ ap (λ lens. first_of ((not (fit_in_order (spaces_of m.memory.room) lens), RegionFull) ∷ [])) lengths
+          ∙ ap (λ (b : Bool). first_of (no_space_for m (next_forms (lists_of content m) (length m.entries) columns texts) ∷ cond b [] (some_written_out m (next_forms (lists_of content m) (length m.entries) columns texts) ∷ []))) begins
+          ∙ ap (λ lens. first_of ((not (fit_in_order (spaces_of m.memory.state) lens), RegionFull) ∷ [])) lengths
 
-      pub begun-free : fit_in_order (spaces_of m.memory.room) (map (λ (r : Replacement ℕ). length r.list.items) forms) ≡ true → push_texts_refusal content m columns texts ≡ None
+      pub begun-free : fit_in_order (spaces_of m.memory.state) (map (λ (r : Replacement ℕ). length r.list.items) forms) ≡ true → push_texts_refusal content m columns texts ≡ None
       begun-free fits = due-begun ∙ ap (λ b. first_of ((not b, RegionFull) ∷ [])) fits
 
-      pub begun-full : fit_in_order (spaces_of m.memory.room) (map (λ (r : Replacement ℕ). length r.list.items) forms) ≡ false → push_texts_refusal content m columns texts ≡ Some RegionFull
+      pub begun-full : fit_in_order (spaces_of m.memory.state) (map (λ (r : Replacement ℕ). length r.list.items) forms) ≡ false → push_texts_refusal content m columns texts ≡ Some RegionFull
       begun-full full = due-begun ∙ ap (λ b. first_of ((not b, RegionFull) ∷ [])) full
 
     -- the refusal of the objects is the one that is due, where row groups are begun
     module _ (begins : all_begin columns ≡ false) (here : first_absent m (map (λ (r : Replacement ℕ). r.object) forms) ≡ None) where
       pub due-replaced : replace_all_refusal m forms ≡ push_texts_refusal content m columns texts
       due-replaced =
-          ap (λ r. option_or r (first_of (no_room_for_all m.memory.room forms ∷ any_written_out m forms ∷ []))) here
-          ∙ ap (λ lens. first_of ((not (fit_in_order (spaces_of m.memory.room) lens), RegionFull) ∷ any_written_out m forms ∷ [])) (sym lengths)
-          ∙ ap (λ b. first_of (no_room_for m (next_forms (lists_of content m) (length m.entries) columns texts) ∷ (b, EditsUsedUp) ∷ [])) written
-          ∙ sym (due-last ∙ ap (λ (b : Bool). first_of (no_room_for m (next_forms (lists_of content m) (length m.entries) columns texts) ∷ cond b [] (some_written_out m (next_forms (lists_of content m) (length m.entries) columns texts) ∷ []))) begins)
+          ap (λ r. option_or r (first_of (no_space_for_all m.memory.state forms ∷ any_written_out m forms ∷ []))) here
+          ∙ ap (λ lens. first_of ((not (fit_in_order (spaces_of m.memory.state) lens), RegionFull) ∷ any_written_out m forms ∷ [])) (sym lengths)
+          ∙ ap (λ b. first_of (no_space_for m (next_forms (lists_of content m) (length m.entries) columns texts) ∷ (b, EditsUsedUp) ∷ [])) written
+          ∙ sym (due-last ∙ ap (λ (b : Bool). first_of (no_space_for m (next_forms (lists_of content m) (length m.entries) columns texts) ∷ cond b [] (some_written_out m (next_forms (lists_of content m) (length m.entries) columns texts) ∷ []))) begins)
         where
           written : list_any (λ (r : Replacement ℕ). (written_out m r.object).0) forms ≡ list_any (λ (form : ℕ × List ℕ). (written_out m form.0).0) (next_forms (lists_of content m) (length m.entries) columns texts)
           written = sym (any-mapped (λ (form : ℕ × List ℕ). (written_out m form.0).0) (λ (r : Replacement ℕ). (r.object, r.list.items)) forms) ∙ ap (list_any (λ (form : ℕ × List ℕ). (written_out m form.0).0)) is
@@ -72,7 +72,7 @@ all-local {X = X} m (r ∷ rs) free =
     local-first false e rest free = absurd cc
 
 module _ {A : Type 0} (r : Result A Refusal) (due first : Option Refusal) (free : None ≡ first) where
-  -- what is refused where an object is made for each column
+  -- what is refused if an object is made for each column
   pub refused-begun : (fits : Bool) → (fits ≡ false → due ≡ Some RegionFull) → IfErr r (λ e. ((e ≡ RegionFull) × (fits ≡ false)) ⊎ (e ≡ NoMemory)) → IfErr r (λ e. (due ≡ Some e) ⊎ ((first ≡ None) × (e ≡ NoMemory)))
   refused-begun fits full given = each r given
     where

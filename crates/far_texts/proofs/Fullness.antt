@@ -9,7 +9,7 @@ use Rattle.far_types.specs.FirstOf.{first_of}
 use Rattle.far_types.specs.FormLengths.{texts_length}
 use Rattle.far_scopes.proofs.MarkedAll.{next-is}
 use Rattle.far_texts.specs.Texts.{Texts, Lists}
-use Rattle.far_texts.specs.Changes.{group_with_next}
+use Rattle.far_texts.specs.Effects.{group_with_next}
 use Rattle.far_texts.specs.RefusingTogether.{any_full}
 
 module _ (lists : Lists) (columns : List Texts) (texts : List (Option (List ℕ))) (k : ℕ) (c : Texts) (text : Option (List ℕ)) (within : k < length columns) (within_too : k < length texts) (read : c ≡ get_or columns k c) (read_too : text ≡ get_or texts k text) where

@@ -12,14 +12,14 @@ use Rattle.far_scopes.specs.Movement.{Movement}
 use Rattle.far_scopes.specs.Refusing.{absent, lend_refusal}
 use Rattle.far_scopes.specs.Replacing.{AreListedOnce, ChangesLists}
 use Rattle.far_texts.specs.Texts.{Texts, Lists, HasGroups}
-use Rattle.far_texts.specs.Changes.{begins_group, last_object, group_with_next}
+use Rattle.far_texts.specs.Effects.{begins_group, last_object, group_with_next}
 use Rattle.far_texts.specs.Refusing.{next_length_refusal}
 use Rattle.far_texts.specs.Together.{AreColumns, object_for, next_forms, given_forms, ChangesTo, AreNextForms}
 use Rattle.far_texts.proofs.Groups.{group-list}
 use Rattle.far_texts.proofs.Begun.{some-group}
 use Rattle.far_texts.proofs.OnePushed.{object-begun, object-longer}
 use Rattle.far_texts.proofs.NextForms.{next-at, length-next, all-at}
-use Rattle.far_texts.proofs.AllPushed.{column-is, column-groups, two-apart}
+use Rattle.far_texts.proofs.AllPushed.{column-is, column-groups, two-disjoint}
 use Rattle.far_texts.proofs.Growing.{AreNumbered}
 
 -- an object that is none of those in pairs
@@ -37,9 +37,9 @@ record IsGivenAt (lists : Lists) (n : ℕ) (columns : List Texts) (texts : List 
   pub object : r.object ≡ object_for c (n + k)
   pub list : r.list.items ≡ texts_form (group_with_next lists c text)
 
-module _ (lists : Lists) (n : ℕ) (columns : List Texts) (texts : List (Option (List ℕ))) (even : length texts ≡ length columns) (forms : List (Replacement ℕ)) (is : given_forms forms ≡ next_forms lists n columns texts) where
+module _ (lists : Lists) (n : ℕ) (columns : List Texts) (texts : List (Option (List ℕ))) (same_length : length texts ≡ length columns) (forms : List (Replacement ℕ)) (is : given_forms forms ≡ next_forms lists n columns texts) where
   pub length-given : length forms ≡ length columns
-  length-given = sym (length-map forms (λ (r : Replacement ℕ). (r.object, r.list.items))) ∙ ap (λ l. length l) is ∙ length-next lists n columns texts even
+  length-given = sym (length-map forms (λ (r : Replacement ℕ). (r.object, r.list.items))) ∙ ap (λ l. length l) is ∙ length-next lists n columns texts same_length
 
   given-at : (k : ℕ) (d : Replacement ℕ) → k < length forms → IsGivenAt lists n columns texts k (get_or forms k d)
   given-at k d below =
@@ -48,7 +48,7 @@ module _ (lists : Lists) (n : ℕ) (columns : List Texts) (texts : List (Option 
       let c = get_or columns k empty in
       let text = get_or texts k None in
       let here : slice_get columns k ≡ Some c = slice_get-get_or columns k empty (omega (arith, below, length-given)) in
-      let there : slice_get texts k ≡ Some text = slice_get-get_or texts k None (omega (arith, below, length-given, even)) in
+      let there : slice_get texts k ≡ Some text = slice_get-get_or texts k None (omega (arith, below, length-given, same_length)) in
       let given : slice_get (given_forms forms) k ≡ Some (r.object, r.list.items) = slice_get-map (λ (s : Replacement ℕ). (s.object, s.list.items)) forms k ∙ ap (option_map (λ (s : Replacement ℕ). (s.object, s.list.items))) (slice_get-get_or forms k d below) in
       let form : ℕ × List ℕ = (object_for c (n + k), texts_form (group_with_next lists c text)) in
       let same : (r.object, r.list.items) ≡ form = same_Some (r.object, r.list.items) form (sym given ∙ ap (λ l. slice_get l k) is ∙ next-at lists n columns texts k c text here there) in
@@ -106,6 +106,6 @@ module _ (lists : Lists) (n : ℕ) (columns : List Texts) (texts : List (Option 
         let second = given-at j d below in
         let one : (get_or forms i d).object ≡ last_object first.c = first.object ∙ object-longer first.c (n + i) (begun i first.c first.here) in
         let two : (get_or forms j d).object ≡ last_object second.c = second.object ∙ object-longer second.c (n + j) (begun j second.c second.here) in
-        two-apart lists n columns are groups fresh i j first.c second.c first.here second.here (λ e. omega (arith, e, before))
+        two-disjoint lists n columns are groups fresh i j first.c second.c first.here second.here (λ e. omega (arith, e, before))
         (length first.c.objects - 1) (length second.c.objects - 1) (last_object first.c) (last-of i first.c first.here)
         (last-of j second.c second.here ∙ ap Some (sym two ∙ sym same ∙ one))

@@ -8,12 +8,12 @@ use Rattle.far_types.specs.declared.name.Name.{Name}
 use Rattle.far_scopes.specs.declared.replacement.Replacement.{Replacement}
 use Rattle.far_scopes.specs.Memory.{ChangesList}
 use Rattle.far_scopes.specs.Movement.{Movement}
-use Rattle.far_scopes.specs.Effects.{created, new_entry, written, written_all, with_lens, replaced_all}
+use Rattle.far_scopes.specs.Effects.{after_create, new_entry, written, written_all, with_lens, after_replace_all}
 use Rattle.far_scopes.specs.Replacing.{replaced_all as replaced_all_in}
 use Rattle.far_scopes.proofs.Pins.{length-with}
 use Rattle.far_scopes.proofs.Relisted.{length-lens}
 use Rattle.far_texts.specs.Texts.{Texts, Lists}
-use Rattle.far_texts.specs.Changes.{begins_group, pushed}
+use Rattle.far_texts.specs.Effects.{begins_group, pushed}
 use Rattle.far_texts.specs.Together.{ChangesTo, given_forms, all_pushed}
 use Rattle.far_texts.proofs.Pushing.{pushed-begun}
 
@@ -21,7 +21,7 @@ use Rattle.far_texts.proofs.Pushing.{pushed-begun}
 abbrev pub AreNumbered : ℕ → List (Replacement ℕ) → Type 0
 AreNumbered n lists = (k : ℕ) (d : Replacement ℕ) → k < length lists → (slice_index_or lists k d).object ≡ n + k
 
-pub count-created : {K : Type 0} (m new : Movement ℕ K) (name : Name) (list : List ℕ) → new ≡ created m name list → length new.entries ≡ length m.entries + 1
+pub count-created : {K : Type 0} (m new : Movement ℕ K) (name : Name) (list : List ℕ) → new ≡ after_create m name list → length new.entries ≡ length m.entries + 1
 count-created m new name list is = ap (λ w. length w.entries) is ∙ length_push m.entries (new_entry name (length list))
 
 -- objects that get other lists stay as many
@@ -29,7 +29,7 @@ length-written_all : {K : Type 0} (m : Movement ℕ K) (lists : List (Replacemen
 length-written_all m [] = refl
 length-written_all m (r ∷ lists) = length-written_all (written m r.object) lists ∙ length-with m.entries r.object (λ entry. record entry { version = entry.version + 1 })
 
-pub count-replaced : {K : Type 0} (m new : Movement ℕ K) (lists : List (Replacement ℕ)) → new ≡ replaced_all m lists → length new.entries ≡ length m.entries
+pub count-replaced : {K : Type 0} (m new : Movement ℕ K) (lists : List (Replacement ℕ)) → new ≡ after_replace_all m lists → length new.entries ≡ length m.entries
 count-replaced m new lists is =
     ap (λ w. length w.entries) is
     ∙ length-written_all (record m { memory = replaced_all_in m.memory lists; entries = with_lens m.entries lists }) lists
@@ -46,8 +46,8 @@ numbered-first n r rest lists is numbered =
     omega arith
 
 -- a number is none of those behind it
-pub numbered-apart : (n : ℕ) (rest : List (Replacement ℕ)) → AreNumbered (n + 1) rest → All (λ form. n ≢ form.0) (given_forms rest)
-numbered-apart n rest numbered = All-map (λ (form : ℕ × List ℕ). n ≢ form.0) (λ (r : Replacement ℕ). (r.object, r.list.items)) rest (λ k d below same. let at = numbered k d below in omega (arith, same, at))
+pub numbered-disjoint : (n : ℕ) (rest : List (Replacement ℕ)) → AreNumbered (n + 1) rest → All (λ form. n ≢ form.0) (given_forms rest)
+numbered-disjoint n rest numbered = All-map (λ (form : ℕ × List ℕ). n ≢ form.0) (λ (r : Replacement ℕ). (r.object, r.list.items)) rest (λ k d below same. let at = numbered k d below in omega (arith, same, at))
 
 -- a column of several gets a new object
 pub pushed-more : (n next : ℕ) (c : Texts) (objects : List ℕ) (rest new columns : List Texts) → columns ≡ c ∷ rest → begins_group c ≡ true → objects ≡ c.objects ++ n ∷ [] → next ≡ n + 1 → new ≡ all_pushed next rest
@@ -58,7 +58,7 @@ pushed-more n next c objects rest new columns is begins more step later =
 
 -- one list changes, and then others do
 pub changes-more : (old mid new : Lists) (n : ℕ) (bytes : List ℕ) (o : ℕ) (list : List ℕ) (forms : List (ℕ × List ℕ)) → o ≡ n → bytes ≡ list → All (λ form. n ≢ form.0) forms → ChangesList old mid n (Some bytes) → ChangesTo mid new forms → ChangesTo old new ((o, list) ∷ forms)
-changes-more old mid new n bytes o list forms same is apart first rest = record {
-  here = All-cons (λ (form : ℕ × List ℕ). new form.0 ≡ Some form.1) (o, list) forms (ap new same ∙ rest.others n apart ∙ first.here ∙ ap Some is) rest.here;
+changes-more old mid new n bytes o list forms same is disjoint first rest = record {
+  here = All-cons (λ (form : ℕ × List ℕ). new form.0 ≡ Some form.1) (o, list) forms (ap new same ∙ rest.others n disjoint ∙ first.here ∙ ap Some is) rest.here;
   others = λ p un. rest.others p (All-tail (λ (form : ℕ × List ℕ). p ≢ form.0) (o, list) forms un) ∙ first.others p (λ e. All-head (λ (form : ℕ × List ℕ). p ≢ form.0) (o, list) forms un (e ∙ sym same));
 }

@@ -33,7 +33,7 @@ module _ {X : Type 0} where
   joined-changed f h (o ∷ os) zero within others = ap (λ l. h o ++ l) (joined-same f h os (λ k below. others (suc k) (omega arith) (λ e. omega arith)))
   joined-changed f h (o ∷ os) (suc g) within others =
       let first : h o ≡ f o = others 0 (omega arith) (λ e. omega arith) in
-      let rest = joined-changed f h os g (omega arith) (λ k below apart. others (suc k) (omega arith) (λ e. apart (omega arith))) in
+      let rest = joined-changed f h os g (omega arith) (λ k below disjoint. others (suc k) (omega arith) (λ e. disjoint (omega arith))) in
       ap (λ l. l ++ flat_map h os) first ∙ ap (λ l. f o ++ l) rest
       ∙ sym (append_assoc (f o) (flat_map f (take g os)) (h (get_or os g 0) ++ flat_map f (drop (suc g) os)))
 
@@ -44,7 +44,7 @@ module _ {X : Type 0} where
       let list = f (get_or os g 0) in
       let back = flat_map f (drop (suc g) os) in
       let before : length front ≡ g * size = length-before f os size g (omega arith) full in
-      let old : flat_map f os ≡ front ++ (list ++ back) = joined-changed f f os g within (λ k below apart. refl) in
+      let old : flat_map f os ≡ front ++ (list ++ back) = joined-changed f f os g within (λ k below disjoint. refl) in
       let place : g * size + i - g * size ≡ i = omega arith in
       joined-changed f h os g within others
       ∙ ap (λ l. front ++ (l ++ back)) here
@@ -59,7 +59,7 @@ module _ {X : Type 0} where
       let front = flat_map f (take g os) in
       let list = f (get_or os g 0) in
       let none : drop (suc g) os ≡ [] = drop_all (suc g) os (omega arith) in
-      let old : flat_map f os ≡ front ++ (list ++ []) = joined-changed f f os g (omega arith) (λ k below apart. refl) ∙ ap (λ l. front ++ (list ++ flat_map f l)) none in
+      let old : flat_map f os ≡ front ++ (list ++ []) = joined-changed f f os g (omega arith) (λ k below disjoint. refl) ∙ ap (λ l. front ++ (list ++ flat_map f l)) none in
       joined-changed f h os g (omega arith) others
       ∙ ap (λ l. front ++ (h (get_or os g 0) ++ flat_map f l)) none
       ∙ ap (λ l. front ++ (l ++ [])) here

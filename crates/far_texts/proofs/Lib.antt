@@ -20,3 +20,4 @@ pub mod DueTogether
 pub mod Asking
 pub mod StayColumns
 pub mod Free
+pub mod OneAsked

@@ -9,7 +9,7 @@ use Rattle.far_codec.specs.TextForm.{texts_form, texts_meaning, IsTextsForm}
 use Rattle.far_scopes.specs.declared.replacement.Replacement.{Replacement}
 use Rattle.far_scopes.proofs.MarkedAll.{next-is}
 use Rattle.far_texts.specs.Texts.{Texts, Lists}
-use Rattle.far_texts.specs.Changes.{group_with_next}
+use Rattle.far_texts.specs.Effects.{group_with_next}
 use Rattle.far_texts.specs.Together.{object_for, next_forms, given_forms, IsNextForm}
 use Rattle.far_texts.proofs.Pushing.{form-is}
 

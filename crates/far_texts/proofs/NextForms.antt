@@ -5,7 +5,7 @@ use Rattle.std.proofs.lemmas.Option.{same_Some, slice_get_within, get_or_from_sl
 use Rattle.std.proofs.lemmas.List.Elements.{All-cons, All-nil}
 use Rattle.far_codec.specs.TextForm.{texts_form}
 use Rattle.far_texts.specs.Texts.{Texts, Lists}
-use Rattle.far_texts.specs.Changes.{group_with_next}
+use Rattle.far_texts.specs.Effects.{group_with_next}
 use Rattle.far_texts.specs.Together.{object_for, next_forms}
 
 module _ (lists : Lists) where
@@ -24,20 +24,20 @@ module _ (lists : Lists) where
 
   -- there are as many
   pub length-next : (n : ℕ) (columns : List Texts) (texts : List (Option (List ℕ))) → length texts ≡ length columns → length (next_forms lists n columns texts) ≡ length columns
-  length-next n [] texts even = refl
-  length-next n (c ∷ columns) [] even = absurd (omega arith)
-  length-next n (c ∷ columns) (text ∷ texts) even =
+  length-next n [] texts same_length = refl
+  length-next n (c ∷ columns) [] same_length = absurd (omega arith)
+  length-next n (c ∷ columns) (text ∷ texts) same_length =
       let rest = length-next (n + 1) columns texts (omega arith) in
       omega arith
 
   -- an object that is none of them
   pub unlisted : (n : ℕ) (columns : List Texts) (texts : List (Option (List ℕ))) (p : ℕ) → ((k : ℕ) (c : Texts) → slice_get columns k ≡ Some c → p ≢ object_for c (n + k)) → All (λ form. p ≢ form.0) (next_forms lists n columns texts)
-  unlisted n [] texts p apart = All-nil (λ (form : ℕ × List ℕ). p ≢ form.0)
-  unlisted n (c ∷ columns) [] p apart = All-nil (λ (form : ℕ × List ℕ). p ≢ form.0)
-  unlisted n (c ∷ columns) (text ∷ texts) p apart =
+  unlisted n [] texts p disjoint = All-nil (λ (form : ℕ × List ℕ). p ≢ form.0)
+  unlisted n (c ∷ columns) [] p disjoint = All-nil (λ (form : ℕ × List ℕ). p ≢ form.0)
+  unlisted n (c ∷ columns) (text ∷ texts) p disjoint =
       All-cons (λ (form : ℕ × List ℕ). p ≢ form.0) (object_for c n, texts_form (group_with_next lists c text)) (next_forms lists (n + 1) columns texts)
-      (λ same. let place : n ≡ n + 0 = omega arith in apart 0 c refl (same ∙ ap (object_for c) place))
-      (unlisted (n + 1) columns texts p (λ k d here same. let place : n + 1 + k ≡ n + suc k = omega arith in apart (suc k) d here (same ∙ ap (object_for d) place)))
+      (λ same. let place : n ≡ n + 0 = omega arith in disjoint 0 c refl (same ∙ ap (object_for c) place))
+      (unlisted (n + 1) columns texts p (λ k d here same. let place : n + 1 + k ≡ n + suc k = omega arith in disjoint (suc k) d here (same ∙ ap (object_for d) place)))
 
 -- what holds of each element holds of the one at a place
 pub all-at : {X : Type 0} (P : X → Type 0) (xs : List X) (k : ℕ) (x : X) → All P xs → slice_get xs k ≡ Some x → P x

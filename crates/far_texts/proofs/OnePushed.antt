@@ -5,7 +5,7 @@ use Rattle.std.proofs.lemmas.List.{length_push, get_or_push, get_or_append_left}
 use Rattle.far_codec.specs.TextForm.{texts_form}
 use Rattle.far_scopes.specs.Memory.{ChangesList}
 use Rattle.far_texts.specs.Texts.{Texts, Lists, HasGroups, IsTextColumn, texts_in}
-use Rattle.far_texts.specs.Changes.{begins_group, last_object, group_with_next, pushed}
+use Rattle.far_texts.specs.Effects.{begins_group, last_object, group_with_next, pushed}
 use Rattle.far_texts.specs.Together.{object_for, IsNextForm}
 use Rattle.far_texts.proofs.Changed.{column-kept, texts-in-kept}
 use Rattle.far_texts.proofs.Pushing.{column-begun, column-longer, pushed-begun, pushed-longer, next-alone, next-behind, begun-is, begun-texts, longer-is, longer-texts}
@@ -25,7 +25,7 @@ module _ (old new : Lists) (o : ℕ) (bytes : List ℕ) (here : new o ≡ Some b
   mid-here p same = ap (λ (b : Bool). cond b (Some bytes) (old p)) (eq-eqb p o same)
 
   mid-other : (p : ℕ) → p ≢ o → mid p ≡ old p
-  mid-other p apart = ap (λ (b : Bool). cond b (Some bytes) (old p)) (ne_eqb p o apart)
+  mid-other p disjoint = ap (λ (b : Bool). cond b (Some bytes) (old p)) (ne_eqb p o disjoint)
 
   mid-changes : ChangesList old mid o (Some bytes)
   mid-changes = record { here = mid-here o refl; others = mid-other }
@@ -34,7 +34,7 @@ module _ (old new : Lists) (o : ℕ) (bytes : List ℕ) (here : new o ≡ Some b
   mid-same : (d : Texts) → ((k : ℕ) → k < length d.objects → get_or d.objects k 0 ≢ o → new (get_or d.objects k 0) ≡ old (get_or d.objects k 0)) → (k : ℕ) → k < length d.objects → new (get_or d.objects k 0) ≡ mid (get_or d.objects k 0)
   mid-same d kept k below = elim (cases_eq (get_or d.objects k 0) o) [
     | inl same ↦ ap new same ∙ here ∙ sym (mid-here (get_or d.objects k 0) same)
-    | inr apart ↦ kept k below apart ∙ sym (mid-other (get_or d.objects k 0) apart)
+    | inr disjoint ↦ kept k below disjoint ∙ sym (mid-other (get_or d.objects k 0) disjoint)
   ]
 
 module _ (old new : Lists) (c : Texts) (is : IsTextColumn old c) (has : HasGroups c) (n : ℕ) (fresh : old n ≡ None) (text : Option (List ℕ)) (valid : IsNextForm old c text) (here : new (object_for c n) ≡ Some (texts_form (group_with_next old c text))) (kept : (k : ℕ) → k < length c.objects → get_or c.objects k 0 ≢ object_for c n → new (get_or c.objects k 0) ≡ old (get_or c.objects k 0)) where
@@ -46,13 +46,13 @@ module _ (old new : Lists) (c : Texts) (is : IsTextColumn old c) (has : HasGroup
     here-begun = ap new (sym (object-begun c n begins)) ∙ here
 
     kept-begun : (k : ℕ) → k < length (column-begun c n).objects → get_or (column-begun c n).objects k 0 ≢ n → new (get_or (column-begun c n).objects k 0) ≡ old (get_or (column-begun c n).objects k 0)
-    kept-begun k below apart = elim (cases_lt k (length c.objects)) [
+    kept-begun k below disjoint = elim (cases_lt k (length c.objects)) [
       | inl before ↦
           let at : get_or (c.objects ++ n ∷ []) k 0 ≡ get_or c.objects k 0 = get_or_append_left c.objects (n ∷ []) 0 k before in
-          ap new at ∙ kept k before (λ same. apart (at ∙ same ∙ object-begun c n begins)) ∙ ap old (sym at)
+          ap new at ∙ kept k before (λ same. disjoint (at ∙ same ∙ object-begun c n begins)) ∙ ap old (sym at)
       | inr behind ↦
           let last : length c.objects ≡ k = omega (arith, below, behind, length_push c.objects n) in
-          absurd (apart (get_or_push c.objects n 0 k last))
+          absurd (disjoint (get_or_push c.objects n 0 k last))
     ]
 
     same-begun : (k : ℕ) → k < length (column-begun c n).objects → new (get_or (column-begun c n).objects k 0) ≡ mid old new n form here-begun (get_or (column-begun c n).objects k 0)
@@ -73,7 +73,7 @@ module _ (old new : Lists) (c : Texts) (is : IsTextColumn old c) (has : HasGroup
     here-longer = ap new (sym (object-longer c n begins)) ∙ here
 
     same-longer : (k : ℕ) → k < length c.objects → new (get_or c.objects k 0) ≡ mid old new (last_object c) form here-longer (get_or c.objects k 0)
-    same-longer = mid-same old new (last_object c) form here-longer (column-longer c) (λ k below apart. kept k below (λ same. apart (same ∙ object-longer c n begins)))
+    same-longer = mid-same old new (last_object c) form here-longer (column-longer c) (λ k below disjoint. kept k below (λ same. disjoint (same ∙ object-longer c n begins)))
 
     is-longer : IsTextColumn new (pushed c n)
     is-longer = subst (IsTextColumn new) (sym (pushed-longer c n begins))

@@ -16,10 +16,10 @@ use Rattle.far_types.specs.FormLengths.{texts_length}
 use Rattle.far_codec.specs.TextForm.{texts_form, texts_meaning, IsTextsForm}
 use Rattle.far_scopes.specs.Memory.{ChangesList}
 use Rattle.far_scopes.specs.Movement.{Movement}
-use Rattle.far_scopes.specs.Effects.{created, replaced}
-use Rattle.far_scopes.specs.Refusing.{absent, no_room, written_out}
+use Rattle.far_scopes.specs.Effects.{after_create, after_replace}
+use Rattle.far_scopes.specs.Refusing.{absent, no_space, written_out}
 use Rattle.far_texts.specs.Texts.{Texts, Lists, HasGroups, IsTextColumn, IsGroupForm, KeepsOthers, lists_of, texts_at, texts_in}
-use Rattle.far_texts.specs.Changes.{begins_group, last_object, group_with_next, pushed, pushed_in}
+use Rattle.far_texts.specs.Effects.{begins_group, last_object, group_with_next, pushed, pushed_in}
 use Rattle.far_texts.specs.Refusing.{text_too_long, chunk_full, push_refusal}
 use Rattle.far_texts.proofs.Joined.{joined-push}
 use Rattle.far_texts.proofs.Groups.{group-form, group-list, group-last}
@@ -144,7 +144,7 @@ module _ (old new : Lists) (c : Texts) (is : IsTextColumn old c) (has : HasGroup
         record { form = form; count = omega (arith, one, before, count, below, unlike); short = short }
 
     stays-longer : (k : ℕ) (form : List ℕ) → k < length c.objects → k ≢ last → IsGroupForm c k form → IsGroupForm (column-longer c) k form
-    stays-longer k form below apart was =
+    stays-longer k form below disjoint was =
         let long = mul-le-mul_right {m = k + 2} {n = length c.objects} c.size (omega (arith, is-last)) in
         record { form = was.form; count = omega (arith, was.count, long, has.begun); short = was.short }
 
@@ -165,7 +165,7 @@ module _ {K : Type 0} (content : K → List ℕ) (m : Movement ℕ K) (c : Texts
   push-cases begins =
       let o : ℕ = last_object c in
       let full : Bool × Refusal = chunk_full c next-texts in
-      let room : Bool × Refusal = no_room m o (texts_length next-texts)
+      let room : Bool × Refusal = no_space m o (texts_length next-texts)
       in cond begins (text_too_long text ∷ full ∷ room ∷ []) (text_too_long text ∷ absent m o ∷ full ∷ room ∷ written_out m o ∷ [])
 
   short-by : (begins : Bool) → None ≡ first_of (push-cases begins) → texts_length next-texts ≤ c.limit
@@ -176,10 +176,10 @@ module _ {K : Type 0} (content : K → List ℕ) (m : Movement ℕ K) (c : Texts
   push-short free = short-by (begins_group c) free
 
   abbrev moved-by : Bool → Movement ℕ K
-  moved-by begins = cond begins (created m record { column = c.column; group = length c.objects } (texts_form next-texts)) (replaced m (last_object c) (texts_form next-texts))
+  moved-by begins = cond begins (after_create m record { column = c.column; group = length c.objects } (texts_form next-texts)) (after_replace m (last_object c) (texts_form next-texts))
 
-  pub moved-begun : (bytes : List ℕ) → begins_group c ≡ true → bytes ≡ texts_form next-texts → created m record { column = c.column; group = length c.objects } bytes ≡ pushed_in content m c text
-  moved-begun bytes begins is = ap (created m record { column = c.column; group = length c.objects }) is ∙ sym (ap moved-by begins)
+  pub moved-begun : (bytes : List ℕ) → begins_group c ≡ true → bytes ≡ texts_form next-texts → after_create m record { column = c.column; group = length c.objects } bytes ≡ pushed_in content m c text
+  moved-begun bytes begins is = ap (after_create m record { column = c.column; group = length c.objects }) is ∙ sym (ap moved-by begins)
 
-  pub moved-longer : (bytes : List ℕ) → begins_group c ≡ false → bytes ≡ texts_form next-texts → replaced m (last_object c) bytes ≡ pushed_in content m c text
-  moved-longer bytes begins is = ap (replaced m (last_object c)) is ∙ sym (ap moved-by begins)
+  pub moved-longer : (bytes : List ℕ) → begins_group c ≡ false → bytes ≡ texts_form next-texts → after_replace m (last_object c) bytes ≡ pushed_in content m c text
+  moved-longer bytes begins is = ap (after_replace m (last_object c)) is ∙ sym (ap moved-by begins)

@@ -8,7 +8,7 @@ use Rattle.std.proofs.lemmas.Option.{slice_get-get_or, slice_get_within}
 use Rattle.std.proofs.Math.Seq.{drop-append_seam, take-set-lt}
 use Rattle.std.proofs.lemmas.List.{drop-set-add}
 use Rattle.std.proofs.lemmas.Nat.{div-add-mod', mod_below}
-use Rattle.far_texts.specs.Changes.{group_with, group_with_next, begins_group}
+use Rattle.far_texts.specs.Effects.{group_with, group_with_next, begins_group}
 use Rattle.std.proofs.Common.{set, ◌/◌, ◌%◌, ◌-◌, Bool, true, false}
 use Rattle.std.specs.Prelude.{slice_set, if◌then◌else◌}
 use Rattle.std.proofs.lemmas.Bool.{cases_lt, eqb-true}
@@ -27,7 +27,7 @@ cut-out f os size g within full =
     let front = flat_map f (take g os) in
     let before : length front ≡ g * size = length-before f os size g (omega arith) full in
     ap (λ n. drop n (flat_map f os)) (sym before)
-    ∙ ap (drop (length front)) (joined-changed f f os g within (λ k below apart. refl))
+    ∙ ap (drop (length front)) (joined-changed f f os g within (λ k below disjoint. refl))
     ∙ drop-append_seam front (f (get_or os g 0) ++ flat_map f (drop (suc g) os))
 
 -- the first so many are a list that is no longer, with nothing behind it, or one that is as long

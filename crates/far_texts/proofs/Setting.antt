@@ -13,8 +13,8 @@ use Rattle.far_codec.specs.TextForm.{texts_meaning, IsTextsForm}
 use Rattle.far_scopes.specs.Memory.{ChangesList}
 use Rattle.far_scopes.specs.Movement.{Movement}
 use Rattle.far_texts.specs.Texts.{Texts, Lists, HasGroups, IsTextColumn, KeepsOthers, lists_of, texts_at, texts_in, object_at}
-use Rattle.far_texts.specs.Changes.{group_with}
-use Rattle.far_scopes.specs.Refusing.{absent, no_room, written_out}
+use Rattle.far_texts.specs.Effects.{group_with}
+use Rattle.far_scopes.specs.Refusing.{absent, no_space, written_out}
 use Rattle.far_texts.specs.Refusing.{text_too_long, past_end, chunk_full, set_refusal}
 use Rattle.far_texts.proofs.Joined.{joined-set}
 use Rattle.far_texts.proofs.Groups.{group-form, place-begun, place-inside, before-full}
@@ -59,7 +59,7 @@ module _ {K : Type 0} (content : K → List ℕ) (m : Movement ℕ K) (c : Texts
   abbrev cases : List (Bool × Refusal)
   cases =
       let o : ℕ = object_at c place
-      in text_too_long text ∷ past_end c place OutOfRange ∷ absent m o ∷ chunk_full c texts ∷ no_room m o (texts_length texts) ∷ written_out m o ∷ []
+      in text_too_long text ∷ past_end c place OutOfRange ∷ absent m o ∷ chunk_full c texts ∷ no_space m o (texts_length texts) ∷ written_out m o ∷ []
 
   pub set-below : place < c.len
   set-below = ltb-true place c.len (not-not (ltb place c.len) (none-due cases 1 (past_end c place OutOfRange) free refl))

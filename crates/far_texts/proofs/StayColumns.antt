@@ -4,8 +4,8 @@ use Rattle.std.specs.Prelude.{All, slice_get, ◌⊎◌}
 use Rattle.std.proofs.lemmas.Bool.{cases_lt, cases_eq, cases_Bool}
 use Rattle.std.proofs.lemmas.Option.{same_Some, slice_get-get_or, slice_get_within, get_or_from_slice_get, none-some}
 use Rattle.far_scopes.proofs.WordPlaces.{slice_get-push_last, slice_get-push_other}
-use Rattle.far_texts.specs.Texts.{Texts, Lists, HasGroups, IsTextColumn, AreApart}
-use Rattle.far_texts.specs.Changes.{begins_group, pushed}
+use Rattle.far_texts.specs.Texts.{Texts, Lists, HasGroups, IsTextColumn, AreDisjoint}
+use Rattle.far_texts.specs.Effects.{begins_group, pushed}
 use Rattle.far_texts.specs.Together.{AreColumns, next_forms, all_pushed, ChangesTo, AreNextForms}
 use Rattle.far_texts.proofs.Groups.{group-list}
 use Rattle.far_texts.proofs.AllPushed.{pushed-at, length-pushed, all-is, column-is}
@@ -23,10 +23,10 @@ object-of c o g q here = elim (cases_Bool (begins_group c)) [
 ]
 
 -- two columns that get new objects stay apart
-pub apart-pushed : (c d : Texts) (n o p : ℕ) → AreApart c d → ((g q : ℕ) → slice_get c.objects g ≡ Some q → q < n) → ((g q : ℕ) → slice_get d.objects g ≡ Some q → q < n) → n ≤ o → n ≤ p → o ≢ p → AreApart (pushed c o) (pushed d p)
-apart-pushed c d n o p apart below_c below_d new_o new_p two g h q here there = elim (object-of c o g q here) [
+pub disjoint-pushed : (c d : Texts) (n o p : ℕ) → AreDisjoint c d → ((g q : ℕ) → slice_get c.objects g ≡ Some q → q < n) → ((g q : ℕ) → slice_get d.objects g ≡ Some q → q < n) → n ≤ o → n ≤ p → o ≢ p → AreDisjoint (pushed c o) (pushed d p)
+disjoint-pushed c d n o p disjoint below_c below_d new_o new_p two g h q here there = elim (object-of c o g q here) [
   | inl mine ↦ elim (object-of d p h q there) [
-    | inl other ↦ apart g h q mine other
+    | inl other ↦ disjoint g h q mine other
     | inr fresh ↦ omega (arith, below_c g q mine, fresh, new_p)
   ]
   | inr mine ↦ elim (object-of d p h q there) [
@@ -46,33 +46,33 @@ module _ (old : Lists) (n : ℕ) (columns : List Texts) (are : AreColumns old co
   ]
 
   -- a column that has no object in common with one of these has none in common with what they become
-  pub stays-apart : (d : Texts) → IsTextColumn old d → All (λ c. AreApart c d) columns → All (λ c. AreApart c d) (all_pushed n columns)
-  stays-apart d is apart k e below =
+  pub stays-disjoint : (d : Texts) → IsTextColumn old d → All (λ c. AreDisjoint c d) columns → All (λ c. AreDisjoint c d) (all_pushed n columns)
+  stays-disjoint d is disjoint k e below =
       let inside : k < length columns = subst (λ m. k < m) (length-pushed n columns) below in
       let c = get_or columns k e in
-      subst (λ x. AreApart x d) (sym (pushed-at n columns k e inside)) (λ g h q here there. elim (object-of c (n + k) g q here) [
-        | inl mine ↦ apart k e inside g h q mine there
+      subst (λ x. AreDisjoint x d) (sym (pushed-at n columns k e inside)) (λ g h q here there. elim (object-of c (n + k) g q here) [
+        | inl mine ↦ disjoint k e inside g h q mine there
         | inr new ↦
             let list = group-list old d is h (slice_get_within d.objects h q there) in
             absurd (none-some _ (sym (fresh q (omega (arith, new))) ∙ ap old (sym (get_or_from_slice_get d.objects h q 0 there)) ∙ list))
       ])
 
-  module _ (new : Lists) (texts : List (Option (List ℕ))) (even : length texts ≡ length columns) (valid : AreNextForms old columns texts) (changes : ChangesTo old new (next_forms old n columns texts)) where
+  module _ (new : Lists) (texts : List (Option (List ℕ))) (same_length : length texts ≡ length columns) (valid : AreNextForms old columns texts) (changes : ChangesTo old new (next_forms old n columns texts)) where
     pub stay-columns : AreColumns new (all_pushed n columns)
     stay-columns = record {
-      beside = record {
-        each = all-is old n columns are groups fresh new texts even valid changes;
-        apart = λ i j d before below.
+      all_disjoint = record {
+        each = all-is old n columns are groups fresh new texts same_length valid changes;
+        disjoint = λ i j d before below.
             let inside : j < length columns = subst (λ m. j < m) (length-pushed n columns) below in
             let within : i < length columns = omega (arith, before, inside) in
             let c = get_or columns i d in
             let e = get_or columns j d in
-            let both = apart-pushed c e n (n + i) (n + j) (are.beside.apart i j d before inside) (used i c (slice_get-get_or columns i d within)) (used j e (slice_get-get_or columns j d inside)) (omega arith) (omega arith) (λ same. omega (arith, same, before)) in
-            subst (λ x. AreApart (get_or (all_pushed n columns) i d) x) (sym (pushed-at n columns j d inside)) (subst (λ x. AreApart x (pushed e (n + j))) (sym (pushed-at n columns i d within)) both);
+            let both = disjoint-pushed c e n (n + i) (n + j) (are.all_disjoint.disjoint i j d before inside) (used i c (slice_get-get_or columns i d within)) (used j e (slice_get-get_or columns j d inside)) (omega arith) (omega arith) (λ same. omega (arith, same, before)) in
+            subst (λ x. AreDisjoint (get_or (all_pushed n columns) i d) x) (sym (pushed-at n columns j d inside)) (subst (λ x. AreDisjoint x (pushed e (n + j))) (sym (pushed-at n columns i d within)) both);
       };
-      even = λ i j d before below.
+      same_length = λ i j d before below.
           let inside : j < length columns = subst (λ m. j < m) (length-pushed n columns) below in
-          let pair = are.even i j d before inside in
+          let pair = are.same_length i j d before inside in
           let first = pushed-at n columns i d (omega (arith, before, inside)) in
           let second = pushed-at n columns j d inside in (
             ap (λ (c : Texts). c.size) first ∙ pair.0 ∙ sym (ap (λ (c : Texts). c.size) second),

@@ -1,14 +1,14 @@
 -- Several columns of texts that lie in the same objects, as those of a table do.
 use Rattle.std.specs.Prelude.{List, All, AllPairs}
-use Rattle.far_texts.specs.Texts.{Texts, Lists, IsTextColumn, AreApart, KeepsOthers}
+use Rattle.far_texts.specs.Texts.{Texts, Lists, IsTextColumn, AreDisjoint, KeepsOthers}
 
 -- each is a column there, and no two have an object in common
 pub record AreTextColumns (lists : Lists) (columns : List Texts) : Type 0 where
   pub each : All (IsTextColumn lists) columns
-  pub apart : AllPairs AreApart columns
+  pub disjoint : AllPairs AreDisjoint columns
 
 -- a call on c leaves c' of it, and every column that had no object in common with it as it was, and apart from it
 pub record ChangesColumn (old new : Lists) (c c' : Texts) : Type 0 where
   pub is : IsTextColumn new c'
   pub others : KeepsOthers old new c
-  pub apart : (d : Texts) → IsTextColumn old d → AreApart c d → AreApart c' d
+  pub disjoint : (d : Texts) → IsTextColumn old d → AreDisjoint c d → AreDisjoint c' d

@@ -1,5 +1,5 @@
 pub mod Texts
-pub mod Changes
+pub mod Effects
 pub mod Columns
 pub mod Refusing
 pub mod Lending

@@ -6,9 +6,9 @@ use Rattle.far_types.specs.FirstOf.{first_of}
 use Rattle.far_types.specs.FormLengths.{texts_length}
 use Rattle.far_codec.specs.TextForm.{bytes_of}
 use Rattle.far_scopes.specs.Movement.{Movement}
-use Rattle.far_scopes.specs.Refusing.{absent, no_room, written_out}
+use Rattle.far_scopes.specs.Refusing.{absent, no_space, written_out}
 use Rattle.far_texts.specs.Texts.{Texts, lists_of, object_at}
-use Rattle.far_texts.specs.Changes.{begins_group, last_object, group_with, group_with_next}
+use Rattle.far_texts.specs.Effects.{begins_group, last_object, group_with, group_with_next}
 
 -- a text has more than 4,096 bytes
 abbrev pub text_too_long : Option (List ℕ) → Bool × Refusal
@@ -36,12 +36,12 @@ module _ {K : Type 0} (content : K → List ℕ) (m : Movement ℕ K) (c : Texts
   set_refusal place text =
       let o : ℕ = object_at c place in
       let texts : List (Option (List ℕ)) = group_with (lists_of content m) c place text
-      in first_of (text_too_long text ∷ past_end c place refusal.OutOfRange ∷ absent m o ∷ chunk_full c texts ∷ no_room m o (texts_length texts) ∷ written_out m o ∷ [])
+      in first_of (text_too_long text ∷ past_end c place refusal.OutOfRange ∷ absent m o ∷ chunk_full c texts ∷ no_space m o (texts_length texts) ∷ written_out m o ∷ [])
 
   abbrev pub push_refusal : Option (List ℕ) → Option Refusal
   push_refusal text =
       let o : ℕ = last_object c in
       let texts : List (Option (List ℕ)) = group_with_next (lists_of content m) c text in
       let full : Bool × Refusal = chunk_full c texts in
-      let room : Bool × Refusal = no_room m o (texts_length texts)
+      let room : Bool × Refusal = no_space m o (texts_length texts)
       in first_of (if begins_group c then text_too_long text ∷ full ∷ room ∷ [] else text_too_long text ∷ absent m o ∷ full ∷ room ∷ written_out m o ∷ [])

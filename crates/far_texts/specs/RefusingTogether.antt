@@ -4,11 +4,11 @@ use Rattle.std.specs.List.{list_any, zip}
 use Rattle.far_types.specs.declared.refusal.Refusal.{Refusal}
 use Rattle.far_types.specs.declared.refusal.Refusal.TheVariants as refusal
 use Rattle.far_types.specs.FirstOf.{first_of}
-use Rattle.far_log.specs.Room.{spaces_of, fit_in_order}
+use Rattle.far_log.specs.RegionState.{spaces_of, fit_in_order}
 use Rattle.far_scopes.specs.Movement.{Movement}
 use Rattle.far_scopes.specs.Refusing.{absent, written_out}
 use Rattle.far_texts.specs.Texts.{Texts, Lists, lists_of}
-use Rattle.far_texts.specs.Changes.{last_object, group_with_next}
+use Rattle.far_texts.specs.Effects.{last_object, group_with_next}
 use Rattle.far_texts.specs.Refusing.{text_too_long, chunk_full}
 use Rattle.far_texts.specs.Together.{all_begin, next_forms}
 
@@ -26,8 +26,8 @@ module _ {K : Type 0} where
   absents m columns = map (λ c. absent m (last_object c)) columns
 
   -- new forms, placed in order, do not find room
-  abbrev pub no_room_for : Movement ℕ K → List (ℕ × List ℕ) → Bool × Refusal
-  no_room_for m forms = (not (fit_in_order (spaces_of m.memory.room) (map (λ form. length form.1) forms)), refusal.RegionFull)
+  abbrev pub no_space_for : Movement ℕ K → List (ℕ × List ℕ) → Bool × Refusal
+  no_space_for m forms = (not (fit_in_order (spaces_of m.memory.state) (map (λ form. length form.1) forms)), refusal.RegionFull)
 
   -- the writes of some object are used up
   abbrev pub some_written_out : Movement ℕ K → List (ℕ × List ℕ) → Bool × Refusal
@@ -42,7 +42,7 @@ module _ {K : Type 0} (content : K → List ℕ) (m : Movement ℕ K) (columns :
   abbrev pub last_tests : List (Bool × Refusal)
   last_tests =
       let forms : List (ℕ × List ℕ) = next_forms (lists_of content m) (length m.entries) columns texts
-      in no_room_for m forms ∷ (if all_begin columns then [] else some_written_out m forms ∷ [])
+      in no_space_for m forms ∷ (if all_begin columns then [] else some_written_out m forms ∷ [])
 
   abbrev pub push_texts_refusal : Option Refusal
   push_texts_refusal = first_of (first_tests ++ last_tests)

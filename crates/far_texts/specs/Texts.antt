@@ -58,10 +58,10 @@ pub record IsTextColumn (lists : Lists) (c : Texts) : Type 0 where
   pub each : (group o : ℕ) → slice_get c.objects group ≡ Some o → IsSomeAnd (lists o) (IsGroupForm c group)
 
 -- two columns have no object in common
-abbrev pub AreApart : Texts → Texts → Type 0
-AreApart c d = (group other o : ℕ) → slice_get c.objects group ≡ Some o → slice_get d.objects other ≢ Some o
+abbrev pub AreDisjoint : Texts → Texts → Type 0
+AreDisjoint c d = (group other o : ℕ) → slice_get c.objects group ≡ Some o → slice_get d.objects other ≢ Some o
 
 -- every column that has no object in common with c stays a column and keeps its texts
 pub record KeepsOthers (old new : Lists) (c : Texts) : Type 0 where
-  pub columns : (d : Texts) → IsTextColumn old d → AreApart c d → IsTextColumn new d
-  pub texts : (d : Texts) → IsTextColumn old d → AreApart c d → texts_in new d ≡ texts_in old d
+  pub columns : (d : Texts) → IsTextColumn old d → AreDisjoint c d → IsTextColumn new d
+  pub texts : (d : Texts) → IsTextColumn old d → AreDisjoint c d → texts_in new d ≡ texts_in old d

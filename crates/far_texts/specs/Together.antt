@@ -4,15 +4,15 @@ use Rattle.std.specs.List.{list_all}
 use Rattle.far_codec.specs.TextForm.{texts_form, texts_meaning, IsTextsForm}
 use Rattle.far_scopes.specs.declared.replacement.Replacement.{Replacement}
 use Rattle.far_scopes.specs.Movement.{Movement}
-use Rattle.far_scopes.specs.Effects.{created, replaced_all}
-use Rattle.far_texts.specs.Texts.{Texts, Lists, IsTextColumn, AreApart, texts_in}
+use Rattle.far_scopes.specs.Effects.{after_create, after_replace_all}
+use Rattle.far_texts.specs.Texts.{Texts, Lists, IsTextColumn, AreDisjoint, texts_in}
 use Rattle.far_texts.specs.Columns.{AreTextColumns}
-use Rattle.far_texts.specs.Changes.{begins_group, last_object, group_with_next, pushed}
+use Rattle.far_texts.specs.Effects.{begins_group, last_object, group_with_next, pushed}
 
 -- columns of one table: columns of texts that lie in these lists, of one length and one size of row groups
 pub record AreColumns (lists : Lists) (columns : List Texts) : Type 0 where
-  pub beside : AreTextColumns lists columns
-  pub even : AllPairs (λ c d. (c.size ≡ d.size) × (c.len ≡ d.len)) columns
+  pub all_disjoint : AreTextColumns lists columns
+  pub same_length : AllPairs (λ c d. (c.size ≡ d.size) × (c.len ≡ d.len)) columns
 
 -- whether the next places begin row groups; of such columns, all do or none
 abbrev pub all_begin : List Texts → Bool
@@ -57,8 +57,8 @@ pub record ChangesTo (old new : Lists) (forms : List (ℕ × List ℕ)) : Type 0
 
 -- every column that has no object in common with one of these stays a column and keeps its texts
 pub record KeepsColumns (old new : Lists) (columns : List Texts) : Type 0 where
-  pub stay : (d : Texts) → IsTextColumn old d → All (λ c. AreApart c d) columns → IsTextColumn new d
-  pub texts : (d : Texts) → IsTextColumn old d → All (λ c. AreApart c d) columns → texts_in new d ≡ texts_in old d
+  pub stay : (d : Texts) → IsTextColumn old d → All (λ c. AreDisjoint c d) columns → IsTextColumn new d
+  pub texts : (d : Texts) → IsTextColumn old d → All (λ c. AreDisjoint c d) columns → texts_in new d ≡ texts_in old d
 
 -- replacements as pairs: the object, and its new list
 abbrev pub given_forms : List (Replacement ℕ) → List (ℕ × List ℕ)
@@ -69,8 +69,8 @@ module _ {K : Type 0} where
   abbrev pub all_created : Movement ℕ K → List Texts → List (ℕ × List ℕ) → Movement ℕ K
   all_created m [] forms = m
   all_created m (c ∷ columns) [] = m
-  all_created m (c ∷ columns) (form ∷ forms) = all_created (created m record { column = c.column; group = length c.objects } form.1) columns forms
+  all_created m (c ∷ columns) (form ∷ forms) = all_created (after_create m record { column = c.column; group = length c.objects } form.1) columns forms
 
   -- the objects once these have those forms, all of which were placed before an old one was dropped
   abbrev pub AreReplaced : Movement ℕ K → List (ℕ × List ℕ) → Movement ℕ K → Type 0
-  AreReplaced old forms new = (lists : List (Replacement ℕ)) × (given_forms lists ≡ forms) × (new ≡ replaced_all old lists)
+  AreReplaced old forms new = (lists : List (Replacement ℕ)) × (given_forms lists ≡ forms) × (new ≡ after_replace_all old lists)

@@ -2,11 +2,11 @@
 ghost use Rattle.std.specs.Prelude.{◌≡◌, ◌≢◌, ◌<◌, ◌++◌, ℕ, List, [], ◌∷◌, ◌/◌, length, Option, Some, slice_get, slice_set, slice_index_or};
 ghost use Rattle.far_types.specs.Table.{in_group};
 ghost use Rattle.far_texts.specs.Texts.{Texts, Lists, HasGroups, IsTextColumn, texts_at, texts_in};
-ghost use Rattle.far_texts.specs.Changes.{group_with, group_with_next};
+ghost use Rattle.far_texts.specs.Effects.{group_with, group_with_next};
 ghost use Rattle.far_texts.specs.Columns.{AreTextColumns, ChangesColumn};
 
 /// Several columns of texts in the same objects, no two of which have an object in common, stay so when a call changes
-/// one of them, as its clauses `is`, `others` and `apart` say, and the others keep their texts. They stay so too, with
+/// one of them, as its clauses `is`, `others` and `disjoint` say, and the others keep their texts. They stay so too, with
 /// all texts, where every object keeps its list, wherever it lies. They come to be so one after the other, each without an
 /// object. `far_vector::laws::vectors_stay_together` says the same of columns of numbers.
 pub fn columns_stay_together()

@@ -48,7 +48,7 @@ impl Model for TextColumn {
 
 impl TextColumn {
     /// A column without a text: its number, how many places a row group has (1 to 65,536), and how many bytes the far form
-    /// of one may have (at most 16,777,216), which is what a segment of local memory holds. Takes no memory.
+    /// of one may have (at most 16,777,216), which is what a segment of local memory holds. Allocates nothing.
     pub fn new(alloc: Global, column: u32, size: usize, limit: usize) -> TextColumn
         requires some { 0 < size }
         requires small { size ≤ 2 ^ 16 }
@@ -67,7 +67,7 @@ impl TextColumn {
         }
     }
 
-    /// How many texts there are. Takes no memory.
+    /// How many texts there are. Allocates nothing.
     pub fn len(&self) -> usize
         ensures len { result ≡ self.now.len }
         ensures groups { HasGroups self.now }
@@ -75,7 +75,7 @@ impl TextColumn {
         self.len
     }
 
-    /// The object of a row group; `None` exactly where no place of it is used. Takes no memory.
+    /// The object of a row group; `None` exactly if no place of it is used. Allocates nothing.
     pub fn object(&self, group: usize) -> Option<u32>
         ensures { result ≡ slice_get self.now.objects group }
     {

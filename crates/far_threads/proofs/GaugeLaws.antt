@@ -3,7 +3,7 @@ use Rattle.std.proofs.Common.{◌≡◌, ℕ, zero, suc, ℤ, pos, ◌+ℤ◌, L
 use lib.ListN.{length-replicate}
 use Rattle.far_types.specs.declared.edit.Edit.TheVariants as edit
 use Rattle.far_types.specs.declared.spec.Spec.{Spec}
-use Rattle.far_types.specs.Answers.{int_sum, tally}
+use Rattle.far_types.specs.Answers.{int_sum, count_sum}
 use Rattle.far_types.specs.Pairs.{Pair, pairs_of}
 use Rattle.far_types.specs.Table.{Place, Table, empty_table, rows_of}
 use Rattle.far_history.specs.Histories.{Planned, folded, gauge_of, replay, replay_on}
@@ -40,8 +40,8 @@ sum-of-ones : (n : ℕ) → int_sum (replicate n (pos 1)) ≡ pos n
 sum-of-ones zero = refl
 sum-of-ones (suc n) = ap (λ (sum : ℤ). pos 1 +ℤ sum) (sum-of-ones n) ∙ ap pos (one-add n)
 
-pub tally-of-ones : (n : ℕ) → tally (replicate n (pos 1)) ≡ (n, pos n)
-tally-of-ones n = λ k. (length-replicate n (pos 1) k, sum-of-ones n k)
+pub count_sum-of-ones : (n : ℕ) → count_sum (replicate n (pos 1)) ≡ (n, pos n)
+count_sum-of-ones n = λ k. (length-replicate n (pos 1) k, sum-of-ones n k)
 
 -- so many inserts are read as so many edits and rows, with so high a sum
 pub gauge-of-inserts : (p : Planned) (s n : ℕ) → p.gauge ≡ sum_of_rows → gauge_of p (inserts s n) ≡ all_of n
@@ -49,8 +49,8 @@ gauge-of-inserts p s n is =
     let told : folded p.gauge (replay p (inserts s n)).places ≡ (n, pos n) =
     ap (λ (gauge : Spec). folded gauge (replay p (inserts s n)).places) is
     ∙ ap (folded sum_of_rows) (insert-places (empty_table p.schema p.limits) s n refl)
-    ∙ ap tally (ones n)
-    ∙ tally-of-ones n in
+    ∙ ap count_sum (ones n)
+    ∙ count_sum-of-ones n in
     λ k. record { edits = inserts-length s n k; count = (told k).0; sum = (told k).1 }
 
 -- a list whose elements are one

@@ -8,7 +8,7 @@ use Rattle.std.proofs.lemmas.List.{replicate-append-replicate}
 use Rattle.far_types.specs.declared.answer.Answer.TheVariants as answer
 use Rattle.far_types.specs.declared.cell.Cell.{Cell}
 use Rattle.far_types.specs.declared.key.Key.{Key}
-use Rattle.far_types.specs.Answers.{answer_over, or_zero, tally, total_lines, totals, values_of}
+use Rattle.far_types.specs.Answers.{answer_over, or_zero, count_sum, total_lines, totals, values_of}
 use Rattle.far_types.specs.KeyOrder.{line_total}
 use Rattle.far_types.specs.Keys.{line_cmp}
 use Rattle.far_types.specs.Pairs.{Pair, pairs_of}
@@ -17,7 +17,7 @@ use Rattle.far_history.specs.Histories.{Planned, replay}
 use Rattle.far_history.specs.declared.view.Entry.{Entry}
 use Rattle.far_shared.specs.Fours.{all_rows}
 use Rattle.far_threads.specs.Runs.{IsHistory, inserts, row_of_one, sum_of_rows, total_of}
-use Rattle.far_threads.proofs.GaugeLaws.{insert-places, one_place, tally-of-ones}
+use Rattle.far_threads.proofs.GaugeLaws.{insert-places, one_place, count_sum-of-ones}
 use Rattle.far_threads.proofs.HistoryLaws.{AreBy, by-none, by-one, by-others}
 
 -- ---- the rows of a stripe
@@ -117,9 +117,9 @@ lines-of-ones : (m : ℕ) → or_zero None (total_lines (totals (replicate m one
 lines-of-ones zero = ap (λ entries. or_zero None (map line_of entries)) (no-entry (ℕ × ℤ))
 lines-of-ones (suc m) =
     let pairs : List Pair = replicate (suc m) one_pair in
-    ap (λ entries. or_zero None (map line_of (fin.entries (fin.from_entries {R = line_cmp} entries)))) (mapped (λ (pair : Pair). (pair.0, tally (values_of pair.0 pairs))) (suc m) one_pair)
-    ∙ ap (λ entries. or_zero None (map line_of entries)) (one-entry m (tally (values_of None pairs)))
-    ∙ ap (λ (told : ℕ × ℤ). (None, told.0, told.1) ∷ []) (ap tally (values-of-ones (suc m)) ∙ tally-of-ones (suc m))
+    ap (λ entries. or_zero None (map line_of (fin.entries (fin.from_entries {R = line_cmp} entries)))) (mapped (λ (pair : Pair). (pair.0, count_sum (values_of pair.0 pairs))) (suc m) one_pair)
+    ∙ ap (λ entries. or_zero None (map line_of entries)) (one-entry m (count_sum (values_of None pairs)))
+    ∙ ap (λ (told : ℕ × ℤ). (None, told.0, told.1) ∷ []) (ap count_sum (values-of-ones (suc m)) ∙ count_sum-of-ones (suc m))
 
 answer-of-ones : (m : ℕ) → answer_over sum_of_rows (replicate m row_of_one) ≡ total_of m
 answer-of-ones m = ap (λ (pairs : List Pair). answer.Totals (or_zero None (total_lines (totals pairs)))) (pairs-of-ones m) ∙ ap answer.Totals (lines-of-ones m)

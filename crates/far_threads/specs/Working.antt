@@ -1,4 +1,5 @@
--- internal: what sessions do on the way to what they leave, and what is known of them when the table is closed.
+-- What sessions do on the way to what they leave, and what is known of them when the table is closed.
+-- Internal: no public contract cites it.
 use Rattle.std.specs.Prelude.{◌≡◌, ◌≢◌, ℕ, ℤ, ◌%◌, ◌<◌, ◌≤◌, List, [], ◌∷◌, ◌++◌, None, Some, OnOk, IsOk, Result, length, slice_get}
 use Rattle.far_types.specs.declared.answer.Answer.{Answer}
 use Rattle.far_types.specs.declared.answer.Answer.TheVariants as answer

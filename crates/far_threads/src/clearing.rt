@@ -19,7 +19,7 @@ pub(crate) fn clear_way<N: Naming, B: Site, S: FarStore, R: Wait>(
     stripe: u32,
     refusal: Refusal,
 ) -> Result<(), Stop>
-    requires store { S.name store.now ≡ B.store }
+    requires store { S.store_id store.now ≡ B.store }
 {
     let mut meter = Meter::new();
     let cleared = match refusal {

@@ -17,7 +17,7 @@ pub(crate) fn evacuate_all<N: Naming, B: Site, S: FarStore, R: Wait>(
     store: &S,
     tries: u32,
 ) -> Result<(), Stop>
-    requires store { S.name store.now ≡ B.store }
+    requires store { S.store_id store.now ≡ B.store }
 {
     for k in 0..tries {
         let mut meter = Meter::new();

@@ -34,7 +34,7 @@ fn insert_one<N: Naming, B: Site, S: FarStore, R: Wait>(
     me: &mut Session<B>,
     stripe: u32,
 ) -> Result<(), Stop>
-    requires store { S.name store.now ≡ B.store }
+    requires store { S.store_id store.now ≡ B.store }
     requires stripe { stripe < 4 }
     ensures ok { OnOk result (Makes stripe 1 me.old me.new) }
 {
@@ -58,7 +58,7 @@ pub(crate) fn insert_all<N: Naming, B: Site, S: FarStore, R: Wait>(
     stripe: u32,
     edits: u32,
 ) -> Result<(), Stop>
-    requires store { S.name store.now ≡ B.store }
+    requires store { S.store_id store.now ≡ B.store }
     requires stripe { stripe < 4 }
     ensures ok { OnOk result (Makes stripe edits me.old me.new) }
 {

@@ -27,7 +27,7 @@ fn opened<N: Naming + Send + Sync, B: Site + Send + Sync, S: FarStore, R: Thread
     edits: u32,
 ) -> Result<Outcome, Stop>
     requires names { AreNamed made B.cells }
-    requires store { S.name store.now ≡ B.store }
+    requires store { S.store_id store.now ≡ B.store }
     requires homes { HasHomes N.plan }
     ensures { IfOk result (IsRun N.plan edits) }
 {

@@ -27,7 +27,7 @@ fn work<N: Naming, B: Site, S: FarStore, R: Wait>(
     mut me: Session<B>,
     edits: u32,
 ) -> Worked<B>
-    requires store { S.name store.now ≡ B.store }
+    requires store { S.store_id store.now ≡ B.store }
     ensures { IsWorked edits me result }
 {
     let home = home_of(&me);
@@ -47,11 +47,11 @@ fn work_all<N: Naming + Send + Sync, B: Site + Send + Sync, S: FarStore, R: Thre
     sessions: Vec<Session<B>>,
     edits: u32,
 ) -> Result<Vec<Worked<B>>, Stop>
-    requires store { S.name store.now ≡ B.store }
+    requires store { S.store_id store.now ≡ B.store }
     ensures worked { IfOk result (λ worked. AreWorked edits sessions.items worked.items) }
 {
     let work_one = |me: Session<B>| -> Worked<B>
-        requires { S.name store.now ≡ B.store }
+        requires { S.store_id store.now ≡ B.store }
         ensures { IsWorked edits me result }
     { work(rt, alloc, shared, store, me, edits) };
     let worked = thread::map_vec(rt, sessions, &work_one)?;
@@ -80,17 +80,17 @@ fn work_beside<
     sessions: Vec<Session<B>>,
     edits: u32,
 ) -> Result<Vec<Worked<B>>, Stop>
-    requires store { S.name store.now ≡ B.store }
+    requires store { S.store_id store.now ≡ B.store }
     ensures worked { IfOk result (λ worked. AreWorked edits sessions.items worked.items) }
 {
     // Only the first goes to another thread, and it holds nothing but references.
     let (evacuated, worked) = thread::join(
         rt,
         || -> Result<(), Stop>
-            requires { S.name store.now ≡ B.store }
+            requires { S.store_id store.now ≡ B.store }
         { evacuate_all(rt, shared, store, edits) },
         || -> Result<Vec<Worked<B>>, Stop>
-            requires { S.name store.now ≡ B.store }
+            requires { S.store_id store.now ≡ B.store }
             ensures { IfOk result (λ worked. AreWorked edits sessions.items worked.items) }
         { work_all(rt, alloc, shared, store, sessions, edits) },
     );
@@ -107,7 +107,7 @@ fn leave<N: Naming + Send + Sync, B: Site + Send + Sync, S: FarStore, R: Threads
     sessions: Vec<Session<B>>,
     edits: u32,
 ) -> Result<(Vec<Session<B>>, Outcome), Stop>
-    requires store { S.name store.now ≡ B.store }
+    requires store { S.store_id store.now ≡ B.store }
     requires sessions { sessions.items ≡ newcomers N.plan.sessions }
     ensures { IfOk result (λ left. AreLeft N.plan edits left.0.items left.1) }
 {
@@ -129,7 +129,7 @@ pub(crate) fn run_shared<
     sessions: Vec<Session<B>>,
     edits: u32,
 ) -> Result<Outcome, Stop>
-    requires store { S.name store.now ≡ B.store }
+    requires store { S.store_id store.now ≡ B.store }
     requires homes { HasHomes N.plan }
     requires sessions { sessions.items ≡ newcomers N.plan.sessions }
     ensures { IfOk result (IsRun N.plan edits) }

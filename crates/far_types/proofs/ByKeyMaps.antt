@@ -15,7 +15,7 @@ use Rattle.far_types.specs.declared.key.Key.{Key}
 use Rattle.far_types.specs.Keys.{line_cmp}
 use Rattle.far_types.specs.KeyOrder.{line_total}
 use Rattle.far_types.specs.Answers.{ByKey, grouped, values_of}
-use Rattle.far_types.specs.Changes.{together, joined}
+use Rattle.far_types.specs.Effects.{merge_two, joined}
 use Rattle.far_types.proofs.Grouping.{same, same_key, own_key, get-joined, if_any, get-grouped, values_of-cons}
 
 abbrev pub Entries : Type 0 → Type 0
@@ -75,18 +75,18 @@ pub set_again : {V : Type 0} (one two three : Entries V) (k : Option Key) (x y :
 set_again one two three k x y h g q = g q ∙ ap (cond (is_at (line_cmp k) q) y) (h q) ∙ elim (is_at (line_cmp k) q) as (λ b. cond b y (cond b x (at one q)) ≡ cond b y (at one q)) [ true ↦ refl | false ↦ refl ]
 
 -- no key of the entries stands twice
-abbrev pub AreApart : {V : Type 0} → Entries V → Type 0
-AreApart [] = Unit {0}
-AreApart (e ∷ es) = (at es e.0 ≡ None) × AreApart es
+abbrev pub HaveDistinctKeys : {V : Type 0} → Entries V → Type 0
+HaveDistinctKeys [] = Unit {0}
+HaveDistinctKeys (e ∷ es) = (at es e.0 ≡ None) × HaveDistinctKeys es
 
 at_below : {V : Type 0} (x : Option Key) (es : Entries V) → AllByRecursion (λ y. line_cmp x y ≡ Less) (map (λ (e : Option Key × V). e.0) es) → at es x ≡ None
 at_below x [] h = refl
 at_below x (e ∷ es) h = ap (λ r. cond (is_eq r) (Some e.1) (at es x)) h.0 ∙ at_below x es h.1
 
-pub sorted_apart : {V : Type 0} (es : Entries V) → IsStrictlySortedBy line_cmp (map (λ (e : Option Key × V). e.0) es) → AreApart es
+pub sorted_distinct : {V : Type 0} (es : Entries V) → IsStrictlySortedBy line_cmp (map (λ (e : Option Key × V). e.0) es) → HaveDistinctKeys es
 unfolding IsStrictlySortedBy
-sorted_apart [] h = tt
-sorted_apart (e ∷ es) h = (at_below e.0 es h.0, sorted_apart es h.1)
+sorted_distinct [] h = tt
+sorted_distinct (e ∷ es) h = (at_below e.0 es h.0, sorted_distinct es h.1)
 
 still_none : {V : Type 0} (b : Bool) (x : V) (o p : Option V) → (o ≡ None → p ≡ None) → cond b (Some x) o ≡ None → cond b (Some x) p ≡ None
 still_none true x o p f h = cc
@@ -97,10 +97,10 @@ at-take zero es q h = refl
 at-take (suc n) [] q h = refl
 at-take (suc n) (e ∷ es) q h = still_none (is_at (line_cmp q) e.0) e.1 (at es q) (at (take n es) q) (at-take n es q) h
 
-pub take_apart : {V : Type 0} (n : ℕ) (es : Entries V) → AreApart es → AreApart (take n es)
-take_apart zero es h = tt
-take_apart (suc n) [] h = tt
-take_apart (suc n) (e ∷ es) h = (at-take n es e.0 h.0, take_apart n es h.1)
+pub take_distinct : {V : Type 0} (n : ℕ) (es : Entries V) → HaveDistinctKeys es → HaveDistinctKeys (take n es)
+take_distinct zero es h = tt
+take_distinct (suc n) [] h = tt
+take_distinct (suc n) (e ∷ es) h = (at-take n es e.0 h.0, take_distinct n es h.1)
 
 -- what was inserted is found
 pub get_inserted : {V : Type 0} (m : ByKey V) (k : Option Key) (x : V) → fin.get (fin.insert m k x) k ≡ Some x
@@ -145,43 +145,43 @@ inserted_new join old mid new k q more same_entries same_key absent set =
     ∙ (λ i. fin.insert (by_key (same_entries i)) (same_key i) more)
     ∙ ap (λ o. fin.insert (by_key old) q (with_more join more o)) (sym (nothing _ absent))
 
-together_more : {V : Type 0} (join : V → V → V) (o : Option V) (x : V) → together join o (Some x) ≡ Some (with_more join x o)
+together_more : {V : Type 0} (join : V → V → V) (o : Option V) (x : V) → merge_two join o (Some x) ≡ Some (with_more join x o)
 together_more join None x = refl
 together_more join (Some y) x = refl
 
-pub together_none : {V : Type 0} (join : V → V → V) (o : Option V) → together join o None ≡ o
-together_none join None = refl
-together_none join (Some x) = refl
+pub merge_two_none : {V : Type 0} (join : V → V → V) (o : Option V) → merge_two join o None ≡ o
+merge_two_none join None = refl
+merge_two_none join (Some x) = refl
 
 pub joined-empty : {V : Type 0} (join : V → V → V) (m : ByKey V) → joined join m fin.empty ≡ m
-joined-empty join m = same _ _ (λ q. get-joined join m fin.empty q ∙ ap (together join (fin.get m q)) (fin.get-empty line_cmp q) ∙ together_none join (fin.get m q))
+joined-empty join m = same _ _ (λ q. get-joined join m fin.empty q ∙ ap (merge_two join (fin.get m q)) (fin.get-empty line_cmp q) ∙ merge_two_none join (fin.get m q))
 
 -- what is under a key that is new to the second may be added to the first instead
 moved : {V : Type 0} (join : V → V → V) (m n : ByKey V) (k : Option Key) (x : V) → fin.get n k ≡ None → joined join (with_value join m k x) n ≡ joined join m (fin.insert n k x)
 moved join m n k x none = same _ _ (λ q.
     get-joined join (with_value join m k x) n q
-    ∙ ap (λ o. together join o (fin.get n q)) (fin.get-insert line_total m k (with_more join x (fin.get m k)) q)
-    ∙ elim (eq_by_cmp line_cmp q k) as (λ b. eq_by_cmp line_cmp q k ≡ b → together join (cond b (Some (with_more join x (fin.get m k))) (fin.get m q)) (fin.get n q) ≡ together join (fin.get m q) (cond b (Some x) (fin.get n q))) [
+    ∙ ap (λ o. merge_two join o (fin.get n q)) (fin.get-insert line_total m k (with_more join x (fin.get m k)) q)
+    ∙ elim (eq_by_cmp line_cmp q k) as (λ b. eq_by_cmp line_cmp q k ≡ b → merge_two join (cond b (Some (with_more join x (fin.get m k))) (fin.get m q)) (fin.get n q) ≡ merge_two join (fin.get m q) (cond b (Some x) (fin.get n q))) [
       | true ↦ λ h.
           let key = same_key q k h in
-          ap (together join (Some (with_more join x (fin.get m k)))) (ap (fin.get n) key ∙ none)
+          ap (merge_two join (Some (with_more join x (fin.get m k)))) (ap (fin.get n) key ∙ none)
           ∙ sym (together_more join (fin.get m k) x)
-          ∙ ap (λ y. together join (fin.get m y) (Some x)) (sym key)
+          ∙ ap (λ y. merge_two join (fin.get m y) (Some x)) (sym key)
       | false ↦ λ h. refl
     ] refl
-    ∙ ap (together join (fin.get m q)) (sym (fin.get-insert line_total n k x q))
+    ∙ ap (merge_two join (fin.get m q)) (sym (fin.get-insert line_total n k x q))
     ∙ sym (get-joined join m (fin.insert n k x) q))
 
 -- or to both joined
 pub moved_out : {V : Type 0} (join : V → V → V) (m n : ByKey V) (k : Option Key) (x : V) → fin.get n k ≡ None → joined join m (fin.insert n k x) ≡ with_value join (joined join m n) k x
 moved_out join m n k x none = same _ _ (λ q.
     get-joined join m (fin.insert n k x) q
-    ∙ ap (together join (fin.get m q)) (fin.get-insert line_total n k x q)
-    ∙ elim (eq_by_cmp line_cmp q k) as (λ b. eq_by_cmp line_cmp q k ≡ b → together join (fin.get m q) (cond b (Some x) (fin.get n q)) ≡ cond b (Some (with_more join x (fin.get (joined join m n) k))) (fin.get (joined join m n) q)) [
+    ∙ ap (merge_two join (fin.get m q)) (fin.get-insert line_total n k x q)
+    ∙ elim (eq_by_cmp line_cmp q k) as (λ b. eq_by_cmp line_cmp q k ≡ b → merge_two join (fin.get m q) (cond b (Some x) (fin.get n q)) ≡ cond b (Some (with_more join x (fin.get (joined join m n) k))) (fin.get (joined join m n) q)) [
       | true ↦ λ h.
-          ap (λ y. together join (fin.get m y) (Some x)) (same_key q k h)
+          ap (λ y. merge_two join (fin.get m y) (Some x)) (same_key q k h)
           ∙ together_more join (fin.get m k) x
-          ∙ ap (λ o. Some (with_more join x o)) (sym (get-joined join m n k ∙ ap (together join (fin.get m k)) none ∙ together_none join (fin.get m k)))
+          ∙ ap (λ o. Some (with_more join x o)) (sym (get-joined join m n k ∙ ap (merge_two join (fin.get m k)) none ∙ merge_two_none join (fin.get m k)))
       | false ↦ λ h. sym (get-joined join m n q)
     ] refl
     ∙ sym (fin.get-insert line_total (joined join m n) k _ q))
@@ -199,7 +199,7 @@ pub absent : {V : Type 0} (es : Entries V) (k : Option Key) → at es k ≡ None
 absent es k none = get_at es k ∙ none
 
 -- all added one after another are all joined
-pub with_all-joined : {V : Type 0} (join : V → V → V) (m : ByKey V) (es : Entries V) → AreApart es → with_all join m es ≡ joined join m (by_key es)
+pub with_all-joined : {V : Type 0} (join : V → V → V) (m : ByKey V) (es : Entries V) → HaveDistinctKeys es → with_all join m es ≡ joined join m (by_key es)
 with_all-joined join m [] h = sym (joined-empty join m)
 with_all-joined join m (e ∷ es) h = with_all-joined join (with_value join m e.0 e.1) es h.1 ∙ moved join m (by_key es) e.0 e.1 (absent es e.0 h.0)
 

@@ -14,7 +14,7 @@ use Rattle.far_types.specs.Keys.{line_cmp}
 use Rattle.far_types.specs.KeyOrder.{line_total, exact_line}
 use Rattle.far_types.specs.Pairs.{Pair}
 use Rattle.far_types.specs.Answers.{ByKey, is_under, values_of, grouped}
-use Rattle.far_types.specs.Changes.{together, joined}
+use Rattle.far_types.specs.Effects.{merge_two, joined}
 
 is_equal : (r : Ordering) → is_eq r ≡ true → r ≡ Equal
 is_equal Less h = cc
@@ -118,28 +118,28 @@ absent : {V : Type 0} (m : ByKey V) (q : Option Key) → list_any (eq_by_cmp lin
 absent m q h = nothing_there (fin.get m q) (fin.contains_key-keys m q ∙ h)
 
 -- what two maps joined have at a key
-pub get-joined : {V : Type 0} (join : V → V → V) (m n : ByKey V) (q : Option Key) → fin.get (joined join m n) q ≡ together join (fin.get m q) (fin.get n q)
+pub get-joined : {V : Type 0} (join : V → V → V) (m n : ByKey V) (q : Option Key) → fin.get (joined join m n) q ≡ merge_two join (fin.get m q) (fin.get n q)
 get-joined join m n q =
     fin.get-from_entries line_total _ q
-    ∙ find_kept (λ k. together join (fin.get m k) (fin.get n k)) (fin.keys m ++ fin.keys n) q
-    ∙ elim (list_any (eq_by_cmp line_cmp q) (fin.keys m ++ fin.keys n)) as (λ b. list_any (eq_by_cmp line_cmp q) (fin.keys m ++ fin.keys n) ≡ b → cond b (together join (fin.get m q) (fin.get n q)) None ≡ together join (fin.get m q) (fin.get n q)) [
+    ∙ find_kept (λ k. merge_two join (fin.get m k) (fin.get n k)) (fin.keys m ++ fin.keys n) q
+    ∙ elim (list_any (eq_by_cmp line_cmp q) (fin.keys m ++ fin.keys n)) as (λ b. list_any (eq_by_cmp line_cmp q) (fin.keys m ++ fin.keys n) ≡ b → cond b (merge_two join (fin.get m q) (fin.get n q)) None ≡ merge_two join (fin.get m q) (fin.get n q)) [
       | true ↦ λ h. refl
       | false ↦ λ h.
           let none = either_false _ _ (sym (list_any-append (eq_by_cmp line_cmp q) (fin.keys m) (fin.keys n)) ∙ h) in
-          sym (ap (λ o. together join o (fin.get n q)) (absent m q none.0) ∙ absent n q none.1)
+          sym (ap (λ o. merge_two join o (fin.get n q)) (absent m q none.0) ∙ absent n q none.1)
     ] refl
 
-together-any : {V : Type 0} (fold : List ℤ → V) (join : V → V → V) → ((v : ℤ) (vs : List ℤ) (w : ℤ) (ws : List ℤ) → fold ((v ∷ vs) ++ (w ∷ ws)) ≡ join (fold (v ∷ vs)) (fold (w ∷ ws))) → (vs ws : List ℤ) → if_any (vs ++ ws) (fold (vs ++ ws)) ≡ together join (if_any vs (fold vs)) (if_any ws (fold ws))
-together-any fold join parts [] ws = refl
-together-any fold join parts (v ∷ vs) [] = ap (λ xs. Some (fold (v ∷ xs))) (append-nil vs)
-together-any fold join parts (v ∷ vs) (w ∷ ws) = ap Some (parts v vs w ws)
+merge_two-any : {V : Type 0} (fold : List ℤ → V) (join : V → V → V) → ((v : ℤ) (vs : List ℤ) (w : ℤ) (ws : List ℤ) → fold ((v ∷ vs) ++ (w ∷ ws)) ≡ join (fold (v ∷ vs)) (fold (w ∷ ws))) → (vs ws : List ℤ) → if_any (vs ++ ws) (fold (vs ++ ws)) ≡ merge_two join (if_any vs (fold vs)) (if_any ws (fold ws))
+merge_two-any fold join parts [] ws = refl
+merge_two-any fold join parts (v ∷ vs) [] = ap (λ xs. Some (fold (v ∷ xs))) (append-nil vs)
+merge_two-any fold join parts (v ∷ vs) (w ∷ ws) = ap Some (parts v vs w ws)
 
 -- what stands by key over two lists is what stands over each, joined
 pub grouped-append : {V : Type 0} (fold : List ℤ → V) (join : V → V → V) → ((v : ℤ) (vs : List ℤ) (w : ℤ) (ws : List ℤ) → fold ((v ∷ vs) ++ (w ∷ ws)) ≡ join (fold (v ∷ vs)) (fold (w ∷ ws))) → (ps qs : List Pair) → grouped fold (ps ++ qs) ≡ joined join (grouped fold ps) (grouped fold qs)
 grouped-append fold join parts ps qs = same _ _ (λ q.
     get-grouped fold (ps ++ qs) q
     ∙ ap (λ vs. if_any vs (fold vs)) (values_of-append q ps qs)
-    ∙ together-any fold join parts (values_of q ps) (values_of q qs)
-    ∙ ap (λ o. together join o (if_any (values_of q qs) (fold (values_of q qs)))) (sym (get-grouped fold ps q))
-    ∙ ap (together join (fin.get (grouped fold ps) q)) (sym (get-grouped fold qs q))
+    ∙ merge_two-any fold join parts (values_of q ps) (values_of q qs)
+    ∙ ap (λ o. merge_two join o (if_any (values_of q qs) (fold (values_of q qs)))) (sym (get-grouped fold ps q))
+    ∙ ap (merge_two join (fin.get (grouped fold ps) q)) (sym (get-grouped fold qs q))
     ∙ sym (get-joined join (grouped fold ps) (grouped fold qs) q))

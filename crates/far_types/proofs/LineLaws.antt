@@ -15,7 +15,7 @@ use Rattle.far_types.specs.declared.key.Key.{Key}
 use Rattle.far_types.specs.Keys.{line_cmp}
 use Rattle.far_types.specs.KeyOrder.{line_total}
 use Rattle.far_types.specs.Pairs.{Pair, PairsFit}
-use Rattle.far_types.specs.Answers.{ByKey, is_under, values_of, grouped, tally, int_sum, span, least, greatest, totals, total_lines, extrema, extrema_lines}
+use Rattle.far_types.specs.Answers.{ByKey, is_under, values_of, grouped, count_sum, int_sum, span, least, greatest, totals, total_lines, extrema, extrema_lines}
 use Rattle.far_types.proofs.Grouping.{own_key, if_any, get-grouped, values_of-cons}
 
 both : (a b : Bool) → T (a && b) → T a × T b
@@ -96,10 +96,10 @@ pub total_lines-ascend : (ps : List Pair) → IsStrictlySortedBy line_cmp (map (
 total_lines-ascend ps = subst (IsStrictlySortedBy line_cmp) (sym (keys-lines (fin.entries (totals ps)))) (keys-ascend (totals ps))
 
 pub total_lines-occur : (ps : List Pair) (q : Option Key) → list_any (eq_by_cmp line_cmp q) (map (λ (line : Option Key × ℕ × ℤ). line.0) (total_lines (totals ps))) ≡ list_any (is_under q) ps
-total_lines-occur ps q = ap (list_any (eq_by_cmp line_cmp q)) (keys-lines (fin.entries (totals ps))) ∙ keys-occur tally ps q
+total_lines-occur ps q = ap (list_any (eq_by_cmp line_cmp q)) (keys-lines (fin.entries (totals ps))) ∙ keys-occur count_sum ps q
 
-total_lines-all : (ps : List Pair) (Q : Option Key × ℕ × ℤ → Type 0) → ((e : Option Key × (ℕ × ℤ)) → (e.1 ≡ tally (values_of e.0 ps)) × (1 ≤ length (values_of e.0 ps)) → Q (e.0, e.1.0, e.1.1)) → All Q (total_lines (totals ps))
-total_lines-all ps Q f = lines-all _ Q f (fin.entries (totals ps)) (entries-folded tally ps)
+total_lines-all : (ps : List Pair) (Q : Option Key × ℕ × ℤ → Type 0) → ((e : Option Key × (ℕ × ℤ)) → (e.1 ≡ count_sum (values_of e.0 ps)) × (1 ≤ length (values_of e.0 ps)) → Q (e.0, e.1.0, e.1.1)) → All Q (total_lines (totals ps))
+total_lines-all ps Q f = lines-all _ Q f (fin.entries (totals ps)) (entries-folded count_sum ps)
 
 pub total_lines-count : (ps : List Pair) → All (λ (line : Option Key × ℕ × ℤ). line.1 ≡ length (values_of line.0 ps)) (total_lines (totals ps))
 total_lines-count ps = total_lines-all ps (λ (line : Option Key × ℕ × ℤ). line.1 ≡ length (values_of line.0 ps)) (λ e is. ap (λ t. t.0) is.0)

@@ -3,13 +3,13 @@ use Rattle.std.proofs.Common.{◌≡◌, ◌+◌, List, [], ◌∷◌, ◌++◌,
 use Rattle.std.specs.Prelude.{ℤ, pos, ◌+ℤ◌}
 use Rattle.std.specs.Int.{int_min, int_max}
 use Rattle.std.proofs.lemmas.Int.{ints, int_min_is, int_max_is}
-use Rattle.far_types.specs.Answers.{int_sum, picked, tally, span}
-use Rattle.far_types.specs.Changes.{raised, widened, add_tallies, join_spans}
+use Rattle.far_types.specs.Answers.{int_sum, picked, count_sum, span}
+use Rattle.far_types.specs.Effects.{raised, widened, add_count_sums, join_spans}
 use Rattle.far_types.proofs.Grouping.{if_any}
 
-pub tally-cons : (v : ℤ) (vs : List ℤ) → tally (v ∷ vs) ≡ raised v (if_any vs (tally vs))
-tally-cons v [] = let sum : v +ℤ pos 0 ≡ v = omega (arith, ints) in λ i. (1, sum i)
-tally-cons v (w ∷ ws) =
+pub count_sum-cons : (v : ℤ) (vs : List ℤ) → count_sum (v ∷ vs) ≡ raised v (if_any vs (count_sum vs))
+count_sum-cons v [] = let sum : v +ℤ pos 0 ≡ v = omega (arith, ints) in λ i. (1, sum i)
+count_sum-cons v (w ∷ ws) =
     let count : length (v ∷ w ∷ ws) ≡ length (w ∷ ws) + 1 = omega arith in
     let sum : v +ℤ int_sum (w ∷ ws) ≡ int_sum (w ∷ ws) +ℤ v = omega (arith, ints) in
     λ i. (count i, sum i)
@@ -27,15 +27,15 @@ int_sum-among (x ∷ vs) v ws = ap (λ s. x +ℤ s) (int_sum-among vs v ws) ∙ 
 length-among : (vs : List ℤ) (v : ℤ) (ws : List ℤ) → length (vs ++ v ∷ ws) ≡ length (v ∷ (vs ++ ws))
 length-among vs v ws = omega (arith, length-append vs (v ∷ ws), length-append vs ws)
 
-pub tally-among : (vs : List ℤ) (v : ℤ) (ws : List ℤ) → tally (vs ++ v ∷ ws) ≡ tally (v ∷ (vs ++ ws))
-tally-among vs v ws i = (length-among vs v ws i, int_sum-among vs v ws i)
+pub count_sum-among : (vs : List ℤ) (v : ℤ) (ws : List ℤ) → count_sum (vs ++ v ∷ ws) ≡ count_sum (v ∷ (vs ++ ws))
+count_sum-among vs v ws i = (length-among vs v ws i, int_sum-among vs v ws i)
 
 int_sum-append : (vs ws : List ℤ) → int_sum (vs ++ ws) ≡ int_sum vs +ℤ int_sum ws
 int_sum-append [] ws = omega (arith, ints)
 int_sum-append (v ∷ vs) ws = let rest = int_sum-append vs ws in omega (arith, ints)
 
-pub tally-append : (v : ℤ) (vs : List ℤ) (w : ℤ) (ws : List ℤ) → tally ((v ∷ vs) ++ (w ∷ ws)) ≡ add_tallies (tally (v ∷ vs)) (tally (w ∷ ws))
-tally-append v vs w ws i = (length-append (v ∷ vs) (w ∷ ws) i, int_sum-append (v ∷ vs) (w ∷ ws) i)
+pub count_sum-append : (v : ℤ) (vs : List ℤ) (w : ℤ) (ws : List ℤ) → count_sum ((v ∷ vs) ++ (w ∷ ws)) ≡ add_count_sums (count_sum (v ∷ vs)) (count_sum (w ∷ ws))
+count_sum-append v vs w ws i = (length-append (v ∷ vs) (w ∷ ws) i, int_sum-append (v ∷ vs) (w ∷ ws) i)
 
 -- what is picked does not mind the order where picking does not
 module _ (pick : ℤ → ℤ → ℤ) (commutes : (a b : ℤ) → pick a b ≡ pick b a) (associates : (a b c : ℤ) → pick (pick a b) c ≡ pick a (pick b c)) where

@@ -49,8 +49,8 @@ abbrev pub grouped : {V : Type 0} → (List ℤ → V) → List Pair → ByKey V
 grouped fold pairs = fin.from_entries (map (λ (pair : Pair). (pair.0, fold (values_of pair.0 pairs))) pairs)
 
 -- how many values there are, and their sum
-abbrev pub tally : List ℤ → ℕ × ℤ
-tally values = (length values, int_sum values)
+abbrev pub count_sum : List ℤ → ℕ × ℤ
+count_sum values = (length values, int_sum values)
 
 -- the least value and the greatest
 abbrev pub span : List ℤ → ℤ × ℤ
@@ -62,7 +62,7 @@ Totals = ByKey (ℕ × ℤ)
 
 -- the totals of some pairs
 abbrev pub totals : List Pair → Totals
-totals pairs = grouped tally pairs
+totals pairs = grouped count_sum pairs
 
 -- by key, the least value and the greatest
 abbrev pub Extrema : Type 0

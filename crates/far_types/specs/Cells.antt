@@ -43,7 +43,7 @@ key_in (Some (cell.Text text)) = Some (key.Text text)
 key_in (Some cell.Missing) = None
 key_in None = None
 
--- what a row has in its columns, by the number of the column: nothing where there is no such column.
+-- what a row has in its columns, by the number of the column: nothing if there is no such column.
 -- Whoever holds only some columns of a row speaks of it in the same words
 abbrev pub Cells : Type 0
 Cells = ℕ → Option Cell

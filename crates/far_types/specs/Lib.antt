@@ -1,7 +1,7 @@
 pub mod Answers
 pub mod Bounds
 pub mod Cells
-pub mod Changes
+pub mod Effects
 pub mod Codes
 pub mod EditExamples
 pub mod Edits
@@ -17,4 +17,5 @@ pub mod MayRefuse
 pub mod Pairs
 pub mod RefusalExamples
 pub mod Refusals
+pub mod Sentences
 pub mod Table

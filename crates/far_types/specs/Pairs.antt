@@ -20,7 +20,7 @@ text_under (Some (Some (key.Int number), value)) = None
 text_under (Some (None, value)) = None
 text_under None = None
 
--- the key under which a row stands: nothing where the key column has no value
+-- the key under which a row stands: nothing if the key column has no value
 abbrev pub key_under : Option ℕ → Cells → Option (Option Key)
 key_under None cells = Some None
 key_under (Some column) cells = option_map Some (key_in (cells column))

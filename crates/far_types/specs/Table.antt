@@ -14,7 +14,7 @@ pub record Place : Type 0 where
   pub cells : List Cell
   pub alive : Bool
 
--- an aggregate: how many registrations were made before it, and which row groups are still to be built into it,
+-- an aggregate: how many registrations were made before it, and which row groups are still pending in it,
 -- a flag for each row group that held a place when it was registered
 pub record Registered : Type 0 where
   pub spec : Spec
@@ -58,16 +58,16 @@ in_group size g places = take size (drop (g * size) places)
 abbrev pub groups : ℕ → ℕ → ℕ
 groups size places = (places + size - 1) / size
 
--- all row groups that hold a place are still to be built into an aggregate that is registered now. A row group that
+-- all row groups that hold a place are still pending in an aggregate that is registered now. A row group that
 -- gets its first place later never is, and one that gets a place more stays as it is
-abbrev pub all_unbuilt : ℕ → List Place → List Bool
-all_unbuilt size places = replicate (groups size (length places)) true
+abbrev pub all_pending : ℕ → List Place → List Bool
+all_pending size places = replicate (groups size (length places)) true
 
--- whether a row group is still to be built in
-abbrev pub is_unbuilt : List Bool → ℕ → Bool
-is_unbuilt unbuilt g = slice_index_or unbuilt g false
+-- whether a row group is still pending
+abbrev pub is_pending : List Bool → ℕ → Bool
+is_pending unbuilt g = slice_index_or unbuilt g false
 
--- how many row groups are still to be built in
+-- how many row groups are still pending
 abbrev pub left : List Bool → ℕ
 left unbuilt = count_by (λ flag. flag) unbuilt
 

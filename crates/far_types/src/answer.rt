@@ -1,9 +1,11 @@
 // What an aggregate answers.
 ghost use Rattle.std.specs.Prelude.{◌≡◌, IfOk, IfErr, OnErr, [], None};
+ghost use Rattle.std.specs.Slice.Iter.{iter_rest};
 
 use super::key::Key;
 use super::refusal::Refusal;
 use std::marker::Model;
+use std::slice;
 
 /// Keys, ascending, each with a count and a sum. Contracts see their list.
 #[derive(Drop, Debug)]
@@ -23,7 +25,7 @@ impl Model for TotalLines {
 impl TotalLines {
     ghost use Rattle.far_types.specs.Answers.{or_zero};
 
-    /// These lines. Takes no memory.
+    /// These lines. Allocates nothing.
     pub fn new(lines: Vec<(Option<Key>, u64, i128)>) -> TotalLines
         ensures { result ≡ lines.items }
     {
@@ -37,15 +39,22 @@ impl TotalLines {
         self.lines.as_slice()
     }
 
-    /// The lines that these were made of. Takes no memory.
+    /// The lines in the order of their keys, lent in place. Allocates nothing.
+    pub fn iter(&self) -> slice::Iter<'_, (Option<Key>, u64, i128)>
+        ensures { iter_rest result ≡ self.now }
+    {
+        self.lines.iter()
+    }
+
+    /// The lines that these were made of. Allocates nothing.
     pub fn into_lines(self) -> Vec<(Option<Key>, u64, i128)>
         ensures { result.items ≡ self }
     {
         self.lines
     }
 
-    /// The same lines, or the line of count 0 and sum 0 where there is none and the aggregate has no key column.
-    /// Refused with `NoMemory` (1) alone, and only where that line is added.
+    /// The same lines, or the line of count 0 and sum 0 if there is none and the aggregate has no key column.
+    /// Refused with `NoMemory` (1) alone, and only if that line is added.
     pub fn or_zero(self, key: Option<u32>) -> Result<TotalLines, Refusal>
         ensures lines { IfOk result (λ lines. lines ≡ or_zero key self) }
         ensures memory { IfErr result (λ e. e ≡ Refusal.NoMemory) }
@@ -56,6 +65,21 @@ impl TotalLines {
             lines.push((None, 0, 0))?;
         }
         Ok(TotalLines { lines })
+    }
+}
+
+impl<'a> IntoIterator for &'a TotalLines {
+    ghost use Rattle.std.specs.Prelude.{◌≡◌};
+    ghost use Rattle.std.specs.Slice.Iter.{iter_rest};
+
+    type Item = &'a (Option<Key>, u64, i128);
+
+    type IntoIter = slice::Iter<'a, (Option<Key>, u64, i128)>;
+
+    ghost into_iter_gives = { λ lines it. iter_rest it ≡ lines.now };
+
+    fn into_iter(self) -> Self::IntoIter {
+        TotalLines::iter(self)
     }
 }
 
@@ -75,7 +99,7 @@ impl Model for ExtremaLines {
 }
 
 impl ExtremaLines {
-    /// These lines. Takes no memory.
+    /// These lines. Allocates nothing.
     pub fn new(lines: Vec<(Option<Key>, i64, i64)>) -> ExtremaLines
         ensures { result ≡ lines.items }
     {
@@ -89,7 +113,14 @@ impl ExtremaLines {
         self.lines.as_slice()
     }
 
-    /// The lines that these were made of. Takes no memory.
+    /// The lines in the order of their keys, lent in place. Allocates nothing.
+    pub fn iter(&self) -> slice::Iter<'_, (Option<Key>, i64, i64)>
+        ensures { iter_rest result ≡ self.now }
+    {
+        self.lines.iter()
+    }
+
+    /// The lines that these were made of. Allocates nothing.
     pub fn into_lines(self) -> Vec<(Option<Key>, i64, i64)>
         ensures { result.items ≡ self }
     {
@@ -97,8 +128,32 @@ impl ExtremaLines {
     }
 }
 
+impl<'a> IntoIterator for &'a ExtremaLines {
+    ghost use Rattle.std.specs.Prelude.{◌≡◌};
+    ghost use Rattle.std.specs.Slice.Iter.{iter_rest};
+
+    type Item = &'a (Option<Key>, i64, i64);
+
+    type IntoIter = slice::Iter<'a, (Option<Key>, i64, i64)>;
+
+    ghost into_iter_gives = { λ lines it. iter_rest it ≡ lines.now };
+
+    fn into_iter(self) -> Self::IntoIter {
+        ExtremaLines::iter(self)
+    }
+}
+
 /// What an aggregate answers: its keys, ascending (numbers by value, texts by bytes), each with what its values come
-/// to. Totals without key column have one line always, extrema have none where no row is folded.
+/// to. Totals without key column have one line always, extrema have none if no row is folded.
+///
+/// How many keys have a sum, or a least value, above 0:
+///
+/// ```
+/// match answer {
+///     Answer::Totals(lines) => lines.iter().filter(|line| line.2 > 0).count(),
+///     Answer::Extrema(lines) => lines.iter().filter(|line| line.1 > 0).count(),
+/// }
+/// ```
 #[derive(Drop, Debug)]
 pub enum Answer {
     Totals(TotalLines),

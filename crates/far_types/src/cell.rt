@@ -3,6 +3,7 @@ ghost use Rattle.std.specs.Prelude.{◌≡◌, IfOk, IfErr};
 
 use super::refusal::Refusal;
 use super::text::Text;
+use std::alloc::Global;
 
 /// What the cells of a column are, where they have a value.
 #[derive(Clone, Copy, Debug, PartialEq, Eq)]
@@ -14,6 +15,13 @@ pub enum Kind {
 }
 
 /// One cell of a row: a number, a text, or no value. A cell without a value is of either kind.
+///
+/// ```
+/// let bread = Cell::of_text(alloc, "bread")?;
+/// let sold = Cell::from(5i64);
+/// let unknown = Cell::from(None::<i64>);
+/// Ok(Vec::from_array(alloc, [bread, sold, unknown])?)
+/// ```
 #[derive(Drop, Debug)]
 pub enum Cell {
     Int(i64),
@@ -22,6 +30,14 @@ pub enum Cell {
 }
 
 impl Cell {
+    /// A text of its own with these characters. Refused with `NoMemory` (1) alone.
+    pub fn of_text(alloc: Global, text: &str) -> Result<Cell, Refusal>
+        ensures text { IfOk result (λ cell. cell ≡ Cell.Text text.now) }
+        ensures memory { IfErr result (λ e. e ≡ Refusal.NoMemory) }
+    {
+        Ok(Cell::Text(Text::from_str(alloc, text)?))
+    }
+
     /// An equal cell. Refused with `NoMemory` (1) alone.
     pub fn clone(&self) -> Result<Cell, Refusal>
         ensures equal { IfOk result (λ cell. cell ≡ self.now) }
@@ -43,6 +59,21 @@ impl From<i64> for Cell {
 
     fn from(number: i64) -> Cell {
         Cell::Int(number)
+    }
+}
+
+/// The number, or a cell without a value.
+impl From<Option<i64>> for Cell {
+    ghost use Rattle.std.specs.Prelude.{◌≡◌};
+    ghost use Rattle.far_types.specs.Lent.{int_cell};
+
+    ghost from_gives = { λ number cell. cell ≡ int_cell number };
+
+    fn from(number: Option<i64>) -> Cell {
+        match number {
+            Some(number) => Cell::Int(number),
+            None => Cell::Missing,
+        }
     }
 }
 

@@ -24,7 +24,7 @@ pub enum CellRef<'a> {
 }
 
 impl Cell {
-    /// The cell, lent in place. Takes no memory.
+    /// The cell, lent in place. Allocates nothing.
     #[inline(always)]
     pub fn lend(&self) -> CellRef<'_>
         ensures { lent_cell result ≡ self.now }
@@ -38,7 +38,7 @@ impl Cell {
 }
 
 impl<'a> CellRef<'a> {
-    /// The cell of a number that may be missing. Takes no memory.
+    /// The cell of a number that may be missing. Allocates nothing.
     #[inline(always)]
     pub fn of_int(number: Option<i64>) -> CellRef<'a>
         ensures { lent_cell result ≡ int_cell number }
@@ -49,7 +49,7 @@ impl<'a> CellRef<'a> {
         }
     }
 
-    /// The cell of a text that may be missing, lent in place. Takes no memory.
+    /// The cell of a text that may be missing, lent in place. Allocates nothing.
     #[inline(always)]
     pub fn of_text(text: Option<&'a str>) -> CellRef<'a>
         ensures { lent_cell result ≡ text_cell (option_copied text.entry) }
@@ -60,7 +60,7 @@ impl<'a> CellRef<'a> {
         }
     }
 
-    /// The cell's number, or `None` where it has none. Takes no memory.
+    /// The cell's number, or `None` if it has none. Allocates nothing.
     #[inline(always)]
     pub fn number(self) -> Option<i64>
         ensures number { result ≡ number_in (Some (lent_cell self.entry)) }
@@ -72,7 +72,7 @@ impl<'a> CellRef<'a> {
         }
     }
 
-    /// Whether the key that the cell gives is this one. Takes no memory.
+    /// Whether the key that the cell gives is this one. Allocates nothing.
     #[inline(always)]
     pub fn is_key(self, key: &Key) -> bool
         ensures { IsTrue result ↔ (key_in (Some (lent_cell self.entry)) ≡ Some key.now) }
@@ -84,8 +84,8 @@ impl<'a> CellRef<'a> {
         }
     }
 
-    /// The key that the cell gives, or `None` if it has no value. The memory of an earlier key is used again. Refused with
-    /// `NoMemory` (1) alone, and only if the cell is a text: no other cell takes memory. A number is told apart where the
+    /// The key that the cell gives, or `None` if it has no value. A text is copied into the memory of an earlier text key, or
+    /// into new memory. Refused with `NoMemory` (1) alone, and only if the cell is a text. A number is told apart where the
     /// caller's loop is: only a text costs a call.
     #[inline(always)]
     pub fn key(self, alloc: Global, earlier: Option<Key>) -> Result<Option<Key>, Refusal>

@@ -1,12 +1,15 @@
 // Tests of rows.
 ghost use Rattle.std.specs.Prelude.{◌≡◌, ◌↔◌, IsTrue, IfOk, IfErr, length, take};
+ghost use Rattle.std.specs.Slice.Iter.{iter_rest};
 
 use super::cell_ref::CellRef;
 use super::lend_cells::LendCells;
 use super::refusal::Refusal;
 use super::row::Row;
 use super::text::Text;
+use std::alloc::Global;
 use std::marker::Model;
+use std::slice;
 
 /// How a number is compared with a constant.
 #[derive(Clone, Copy, Debug, PartialEq, Eq)]
@@ -39,6 +42,15 @@ impl Op {
 
 /// A test of one column. It is false where the row has no such column, where the cell is of the other kind, and
 /// where it has no value, `Ne` too.
+///
+/// ```
+/// let is_rye = Test::text_is(alloc, 0, "rye")?;
+/// let are_many = Test::Int {
+///     column: 1,
+///     op: Op::Gt,
+///     value: 2,
+/// };
+/// ```
 #[derive(Drop, Debug)]
 pub enum Test {
     /// The number stands so to the constant.
@@ -52,6 +64,24 @@ pub enum Test {
 impl Test {
     ghost use Rattle.far_types.specs.Filters.{passes};
     ghost use Rattle.far_types.specs.Bounds.{column_of, has_long_constant};
+
+    /// The test that a column's text is this one. Refused with `NoMemory` (1) alone.
+    pub fn text_is(alloc: Global, column: u32, text: &str) -> Result<Test, Refusal>
+        ensures test { IfOk result (λ test. test ≡ Test.TextIs column text.now) }
+        ensures memory { IfErr result (λ e. e ≡ Refusal.NoMemory) }
+    {
+        let text = Text::from_str(alloc, text)?;
+        Ok(Test::TextIs { column, text })
+    }
+
+    /// The test that a column's text begins with this one. Refused with `NoMemory` (1) alone.
+    pub fn text_begins(alloc: Global, column: u32, text: &str) -> Result<Test, Refusal>
+        ensures test { IfOk result (λ test. test ≡ Test.TextBegins column text.now) }
+        ensures memory { IfErr result (λ e. e ≡ Refusal.NoMemory) }
+    {
+        let text = Text::from_str(alloc, text)?;
+        Ok(Test::TextBegins { column, text })
+    }
 
     /// The column that the test looks at.
     pub fn column(&self) -> u32
@@ -75,7 +105,7 @@ impl Test {
         }
     }
 
-    /// Whether the test holds of a row. Texts are compared where they lie. Takes no memory.
+    /// Whether the test holds of a row. Texts are compared where they lie. Allocates nothing.
     #[inline(always)]
     pub fn holds<R: LendCells>(&self, row: &R) -> bool
         ensures { result ≡ passes self.now (R.cells row.now) }
@@ -96,7 +126,7 @@ impl Test {
         }
     }
 
-    /// Whether it is the same test. Takes no memory.
+    /// Whether it is the same test. Allocates nothing.
     pub fn is_same(&self, other: &Test) -> bool
         ensures { IsTrue result ↔ (self.now ≡ other.now) }
     {
@@ -151,6 +181,18 @@ impl Test {
 }
 
 /// Tests that must all hold. Contracts see their list.
+///
+/// More than two, and each of them rye:
+///
+/// ```
+/// let is_rye = Test::text_is(alloc, 0, "rye")?;
+/// let are_many = Test::Int {
+///     column: 1,
+///     op: Op::Gt,
+///     value: 2,
+/// };
+/// Ok(Filter::from(Vec::from_array(alloc, [is_rye, are_many])?))
+/// ```
 #[derive(Drop, Debug)]
 pub struct Filter {
     tests: Vec<Test>,
@@ -169,14 +211,14 @@ impl Filter {
     ghost use Rattle.far_types.specs.Filters.{keeps};
     ghost use Rattle.far_types.specs.Cells.{cells_of};
 
-    /// The filter of these tests; none keeps every row. Takes no memory.
+    /// The filter of these tests; none keeps every row. Allocates nothing.
     pub fn new(tests: Vec<Test>) -> Filter
         ensures { result ≡ tests.items }
     {
         Filter { tests }
     }
 
-    /// The tests that the filter was made of. Takes no memory.
+    /// The tests that the filter was made of. Allocates nothing.
     pub fn into_tests(self) -> Vec<Test>
         ensures { result.items ≡ self }
     {
@@ -190,14 +232,21 @@ impl Filter {
         self.tests.as_slice()
     }
 
-    /// Whether every test holds of the row. Takes no memory.
+    /// The tests in order, lent in place. Allocates nothing.
+    pub fn iter(&self) -> slice::Iter<'_, Test>
+        ensures { iter_rest result ≡ self.now }
+    {
+        self.tests.iter()
+    }
+
+    /// Whether every test holds of the row. Allocates nothing.
     pub fn keeps(&self, row: &Row) -> bool
         ensures { result ≡ keeps self.now (cells_of row.now) }
     {
         self.keeps_cells(row)
     }
 
-    /// Whether every test holds of a row whose cells are lent by column. Takes no memory.
+    /// Whether every test holds of a row whose cells are lent by column. Allocates nothing.
     #[inline(always)]
     pub fn keeps_cells<R: LendCells>(&self, row: &R) -> bool
         ensures { result ≡ keeps self.now (R.cells row.now) }
@@ -209,7 +258,7 @@ impl Filter {
         self.tests.iter().all(|test| test.holds(row))
     }
 
-    /// Whether it has the same tests in the same order. Takes no memory.
+    /// Whether it has the same tests in the same order. Allocates nothing.
     pub fn is_same(&self, other: &Filter) -> bool
         ensures { IsTrue result ↔ (self.now ≡ other.now) }
     {
@@ -234,5 +283,30 @@ impl Filter {
             tests.push(test.clone()?)?;
         }
         Ok(Filter { tests })
+    }
+}
+
+impl From<Vec<Test>> for Filter {
+    ghost use Rattle.std.specs.Prelude.{◌≡◌};
+
+    ghost from_gives = { λ tests filter. filter ≡ tests.items };
+
+    fn from(tests: Vec<Test>) -> Filter {
+        Filter::new(tests)
+    }
+}
+
+impl<'a> IntoIterator for &'a Filter {
+    ghost use Rattle.std.specs.Prelude.{◌≡◌};
+    ghost use Rattle.std.specs.Slice.Iter.{iter_rest};
+
+    type Item = &'a Test;
+
+    type IntoIter = slice::Iter<'a, Test>;
+
+    ghost into_iter_gives = { λ filter it. iter_rest it ≡ filter.now };
+
+    fn into_iter(self) -> Self::IntoIter {
+        self.iter()
     }
 }

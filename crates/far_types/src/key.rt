@@ -3,11 +3,18 @@ ghost use Rattle.std.specs.Prelude.{◌≡◌, IfOk, IfErr};
 
 use super::refusal::Refusal;
 use super::text::Text;
+use std::alloc::Global;
 use std::cmp::Ordering;
 
 /// A key of an aggregate: the value of a row's cell in the key column. Numbers are in the order of their
 /// values, texts in that of their bytes; one column has one kind, so the order between the two kinds (numbers
 /// first) is never seen.
+///
+/// ```
+/// let bread = Key::of_text(alloc, "bread")?;
+/// let rye = Key::of_text(alloc, "rye")?;
+/// Ok(bread < rye && Key::from(2i64) < Key::from(10i64))
+/// ```
 #[derive(Drop, Debug)]
 pub enum Key {
     Int(i64),
@@ -15,6 +22,14 @@ pub enum Key {
 }
 
 impl Key {
+    /// A text of its own with these characters. Refused with `NoMemory` (1) alone.
+    pub fn of_text(alloc: Global, text: &str) -> Result<Key, Refusal>
+        ensures text { IfOk result (λ key. key ≡ Key.Text text.now) }
+        ensures memory { IfErr result (λ e. e ≡ Refusal.NoMemory) }
+    {
+        Ok(Key::Text(Text::from_str(alloc, text)?))
+    }
+
     /// An equal key. Refused with `NoMemory` (1) alone.
     pub fn clone(&self) -> Result<Key, Refusal>
         ensures equal { IfOk result (λ key. key ≡ self.now) }

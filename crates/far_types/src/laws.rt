@@ -9,7 +9,7 @@ ghost use Rattle.far_types.specs.declared.spec.Spec.{Spec};
 ghost use Rattle.far_types.specs.Pairs.{Pair, PairsFit, pairs_of};
 ghost use Rattle.far_types.specs.Table.{Place, rows_of, place_pair};
 ghost use Rattle.far_types.specs.Answers.{totals, extrema, total_lines, extrema_lines, values_of, is_under, int_sum, least, greatest};
-ghost use Rattle.far_types.specs.Changes.{with_pair, without_pair, with_seen, joined_totals, joined_extrema};
+ghost use Rattle.far_types.specs.Effects.{with_pair, without_pair, with_observed, joined_totals, joined_extrema};
 ghost use Rattle.far_types.specs.Examples.{OverNoRows, TotalsByKey, ExactSum, LeastAndGreatest, Filtered, WithMissing};
 ghost use Rattle.far_types.specs.RefusalExamples.{UsedUp, FirstRefusal, OverLength};
 ghost use Rattle.far_types.specs.FilterExamples.{Comparisons, TestsOfTexts, AllowedAggregates};
@@ -32,12 +32,12 @@ pub fn totals_follow_the_pairs()
 /// How extrema change with the folded rows: by one pair more, not by the order, and when two lists are joined. One
 /// pair less has no such law, since only the extremes are kept: the row group is looked at again.
 pub fn extrema_follow_the_pairs()
-    ensures more { (pair : Pair) → (pairs : List Pair) → extrema (pair ∷ pairs) ≡ with_seen (extrema pairs) pair }
+    ensures more { (pair : Pair) → (pairs : List Pair) → extrema (pair ∷ pairs) ≡ with_observed (extrema pairs) pair }
     ensures anywhere { (before : List Pair) → (pair : Pair) → (after : List Pair) → extrema (before ++ pair ∷ after) ≡ extrema (pair ∷ (before ++ after)) }
     ensures joined { (some : List Pair) → (others : List Pair) → extrema (some ++ others) ≡ joined_extrema (extrema some) (extrema others) }
 {}
 
-/// What the lines of totals are: their keys ascend, and none stands twice; a key is there exactly where a folded row
+/// What the lines of totals are: their keys ascend, and none stands twice; a key is there exactly if a folded row
 /// has it, with how many have it and the sum of their values, at least one; and the sum of at most 2^26 values is at
 /// most 2^89 in absolute value.
 pub fn total_lines_are_by_key()
@@ -49,7 +49,7 @@ pub fn total_lines_are_by_key()
     ensures bounded { (pairs : List Pair) → PairsFit pairs → length pairs ≤ 2 ^ 26 → All (λ line. (neg_ℤ (pos (2 ^ 89)) ≤ℤ line.2) × (line.2 ≤ℤ pos (2 ^ 89))) (total_lines (totals pairs)) }
 {}
 
-/// What the lines of extrema are: their keys ascend, and none stands twice; a key is there exactly where a folded row
+/// What the lines of extrema are: their keys ascend, and none stands twice; a key is there exactly if a folded row
 /// has it, with the least and the greatest of their values.
 pub fn extrema_lines_are_by_key()
     ensures ascending { (pairs : List Pair) → IsStrictlySortedBy line_cmp (map (λ line. line.0) (extrema_lines (extrema pairs))) }

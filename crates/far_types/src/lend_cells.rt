@@ -9,10 +9,10 @@ use super::row::Row;
 /// What lends the cells of a row by the number of the column: a row, or whoever has at hand the columns that a reader
 /// needs. Filters and aggregates read any of them.
 pub trait LendCells {
-    /// The cells, by the number of the column: nothing where there is no such column.
+    /// The cells, by the number of the column: nothing if there is no such column.
     ghost cells: { Self → Cells };
 
-    /// The cell of a column, lent in place, or `None` where there is no such column. Takes no memory.
+    /// The cell of a column, lent in place, or `None` if there is no such column. Allocates nothing.
     fn cell(&self, column: u32) -> Option<CellRef<'_>>
         ensures { option_map lent_cell result ≡ cells self.now column };
 }

@@ -9,7 +9,7 @@ use super::row::Row;
 use std::marker::Model;
 
 /// The cells of a row, each lent where it lies, so that all who look at the row find its columns once. A table has at
-/// most 16 columns. Nothing here takes memory. Contracts see the list of the cells.
+/// most 16 columns. Nothing here allocates. Contracts see the list of the cells.
 #[derive(Drop)]
 pub struct LentRow<'a> {
     cells: [CellRef<'a>; 16],
@@ -61,7 +61,7 @@ impl<'a> LentRow<'a> {
         self.width
     }
 
-    /// The cell of a column, or `None` where the row has no such column.
+    /// The cell of a column, or `None` if the row has no such column.
     #[inline(always)]
     pub fn get(&self, column: usize) -> Option<CellRef<'a>>
         ensures { option_map lent_cell result ≡ slice_get self.now column }

@@ -4,6 +4,16 @@ ghost use Rattle.std.specs.Prelude.{◌≡◌, OnOk, IfErr};
 use super::refusal::Refusal;
 
 /// What a table is opened for.
+///
+/// The usual limits, for at most 1,000 rows:
+///
+/// ```
+/// let limits = Limits {
+///     places: 1_000,
+///     ..Limits::default()
+/// };
+/// limits.check() == Ok(())
+/// ```
 #[derive(Clone, Copy, Debug, PartialEq, Eq)]
 pub struct Limits {
     /// How many places a row group has: 1 to 65,536.
@@ -41,8 +51,8 @@ impl Limits {
         }
     }
 
-    /// Whether a table may have these limits. Refused with `BadSchema` (2) exactly where one is out of its bounds.
-    /// Takes no memory.
+    /// Whether a table may have these limits. Refused with `BadSchema` (2) exactly if one is out of its bounds.
+    /// Allocates nothing.
     pub fn check(&self) -> Result<(), Refusal>
         ensures ok { OnOk result (AreLimits self.now) }
         ensures bad { IfErr result (λ e. (e ≡ Refusal.BadSchema) × ¬ (AreLimits self.now)) }

@@ -8,7 +8,7 @@ use super::key::Key;
 use super::refusal::Refusal;
 use std::alloc::Global;
 
-/// What a row gives to an aggregate: its pair, of which a text is lent where it lies, or nothing where the row is not kept or
+/// What a row gives to an aggregate: its pair, of which a text is lent where it lies, or nothing if the row is not kept or
 /// not folded. `specs/Lent.antt` has the pair that it stands for (`lent_pair`).
 #[derive(Clone, Copy, Debug)]
 pub enum PairRef<'a> {
@@ -20,7 +20,7 @@ pub enum PairRef<'a> {
     UnderText { text: &'a str, value: i64 },
 }
 
-/// The key that a number is, and no key where there is no number. Takes no memory.
+/// The key that a number is, and no key where there is no number. Allocates nothing.
 #[inline(always)]
 pub fn number_key(number: Option<i64>) -> Option<Key>
     ensures { result ≡ key_by number }
@@ -32,8 +32,8 @@ pub fn number_key(number: Option<i64>) -> Option<Key>
 }
 
 impl<'a> PairRef<'a> {
-    /// The pair with a key of its own, or `None` if there is none. The memory of an earlier key is used again. Refused with
-    /// `NoMemory` (1) alone, and only if the key is a text: no other pair takes memory.
+    /// The pair with a key of its own, or `None` if there is none. A text is copied into the memory of an earlier text key, or
+    /// into new memory. Refused with `NoMemory` (1) alone, and only if the key is a text.
     pub fn pair(
         self,
         alloc: Global,

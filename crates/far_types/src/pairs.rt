@@ -14,7 +14,7 @@ use super::spec::Spec;
 use std::alloc::Global;
 
 impl Spec {
-    /// The number of a row in the column of the values, or `None` where there is none. Takes no memory.
+    /// The number of a row in the column of the values, or `None` if there is none. Allocates nothing.
     #[inline(always)]
     fn value_in<R: LendCells>(&self, row: &R) -> Option<i64>
         ensures number { result ≡ number_in (R.cells row.now self.now.value) }
@@ -26,7 +26,7 @@ impl Spec {
         }
     }
 
-    /// What a row gives: its pair, where it is kept and folded. A text is lent where it lies. Takes no memory, and calls
+    /// What a row gives: its pair, where it is kept and folded. A text is lent where it lies. Allocates nothing, and calls
     /// nothing but the row, so that an edit tells it for each aggregate in registers.
     #[inline(always)]
     pub fn lend_pair<'a, R: LendCells>(&self, row: &'a R) -> PairRef<'a>

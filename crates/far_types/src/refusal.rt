@@ -12,9 +12,18 @@ use thiserror::Error;
 /// directly before 16, 11 directly after 16, and 1 last. An edit, and the calls under it that place several text
 /// objects, may answer 1 before they look at 17 or 24; and an edit of a stripe answers 14 for the stripe before it
 /// looks at the edit. There is no number 23.
+///
+/// It prints a sentence. Here that is `2: a table may not have this schema or these limits`:
+///
+/// ```
+/// match Schema::new(Vec::new(alloc)) {
+///     Ok(_) => Ok(String::new(alloc)),
+///     Err(refusal) => Ok(format!(in alloc; "{}: {refusal}", refusal.number())?),
+/// }
+/// ```
 #[derive(Debug, Drop, Clone, Copy, PartialEq, Eq, Error)]
 pub enum Refusal {
-    /// 1: a growth was refused for want of memory.
+    /// 1: an allocation failed for lack of memory.
     NoMemory,
     /// 2: the schema or the limits are outside what a table may have.
     BadSchema,
@@ -42,7 +51,7 @@ pub enum Refusal {
     TooManyAggregates,
     /// 14: a range, a group, a segment, a stripe, a count of workers or a set of sessions is not as asked.
     OutOfRange,
-    /// 15: so many row groups are still to be built into the aggregate.
+    /// 15: so many row groups are still pending in the aggregate.
     Building(u32),
     /// 16: the object of this column and row group is not local.
     Absent { column: u32, group: u32 },
@@ -63,7 +72,7 @@ pub enum Refusal {
 }
 
 impl Refusal {
-    /// The number by which a script and its documentation name the refusal. Takes no memory.
+    /// The number by which a script and its documentation name the refusal. Allocates nothing.
     pub fn number(&self) -> u32
         ensures { result ≡ number_of self.now }
     {
@@ -94,7 +103,7 @@ impl Refusal {
         }
     }
 
-    /// The refusal's name, without what it carries. Takes no memory.
+    /// The refusal's name, without what it carries. Allocates nothing.
     pub fn name(&self) -> &'static str
         ensures { result.now ≡ name_of self.now }
     {
@@ -126,13 +135,40 @@ impl Refusal {
     }
 }
 
-/// The refusal's name, and behind it the numbers that it carries.
+/// Prints the refusal as a sentence, without a full stop. A script prints its number and its name instead.
 impl fmt::Display for Refusal {
+    ghost use Rattle.std.specs.Prelude.{Some};
+    ghost use Rattle.far_types.specs.Sentences.{sentence_of};
+
+    ghost output = { λ e. Some (sentence_of e) };
+
     fn fmt<W: fmt::Write>(&self, f: &mut fmt::Formatter<W>) -> fmt::Result {
         match self {
-            Refusal::Building(left) => write!(f, "{} {left}", self.name()),
-            Refusal::Absent { column, group } => write!(f, "{} {column} {group}", self.name()),
-            _ => f.write_str(self.name()),
+            Refusal::NoMemory => f.write_str("memory ran out"),
+            Refusal::BadSchema => f.write_str("a table may not have this schema or these limits"),
+            Refusal::BadSpec => f.write_str("the aggregate or the gauge is not an allowed one"),
+            Refusal::NoColumn => f.write_str("there is no such column"),
+            Refusal::WrongKind => f.write_str("a value is of another kind than its column"),
+            Refusal::RowWidth => f.write_str("the row needs one cell for each column"),
+            Refusal::TextTooLong => f.write_str("a text has more than 4,096 bytes"),
+            Refusal::NoRow => f.write_str("there is no such place"),
+            Refusal::RemovedRow => f.write_str("the row was removed"),
+            Refusal::TableFull => f.write_str("the table has as many places as it may"),
+            Refusal::ChunkFull => f.write_str("the row group's texts would not fit a segment"),
+            Refusal::NoAggregate => f.write_str("no aggregate has this number"),
+            Refusal::TooManyAggregates => f.write_str("no further aggregate may be registered"),
+            Refusal::OutOfRange => f.write_str("a number is out of its range"),
+            Refusal::Building(left) => write!(f, "row groups still to be scanned: {left}"),
+            Refusal::Absent { column, group } => {
+                write!(f, "column {column} of row group {group} is away")
+            }
+            Refusal::RegionFull => f.write_str("local memory has no room for the object"),
+            Refusal::NotPinned => f.write_str("the object has no pin"),
+            Refusal::Pinned => f.write_str("the object is pinned"),
+            Refusal::StaleJob => f.write_str("what the job or the scan rests on does not hold"),
+            Refusal::FarFault => f.write_str("the far store failed"),
+            Refusal::FarFull => f.write_str("the far store is full"),
+            Refusal::EditsUsedUp => f.write_str("no further edit, job, write or pin is allowed"),
         }
     }
 }

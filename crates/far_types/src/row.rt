@@ -1,13 +1,31 @@
 // Rows of cells.
 ghost use Rattle.std.specs.Prelude.{◌≡◌, ◌↔◌, IsTrue, [], IfOk, IfErr, length, slice_get, take};
 ghost use Rattle.std.specs.Option.{option_copied};
+ghost use Rattle.std.specs.Slice.Iter.{iter_rest};
 ghost use Rattle.far_types.specs.Cells.{RowFits, CellFits};
 
 use super::cell::Cell;
 use super::refusal::Refusal;
 use std::marker::Model;
+use std::slice;
 
 /// The cells of a row, in the order of the columns. Contracts see their list.
+///
+/// ```
+/// let cells = [Cell::of_text(alloc, bread)?, Cell::from(sold)];
+/// Ok(Row::from(Vec::from_array(alloc, cells)?))
+/// ```
+///
+/// A row is gone through cell by cell:
+///
+/// ```
+/// for cell in row {
+///     if let Cell::Missing = cell {
+///         return false;
+///     }
+/// }
+/// true
+/// ```
 #[derive(Drop, Debug)]
 pub struct Row {
     cells: Vec<Cell>,
@@ -43,7 +61,7 @@ fn read_numbers(cells: &[Cell])
 }
 
 impl Row {
-    /// The row of these cells. Takes no memory.
+    /// The row of these cells. Allocates nothing.
     pub fn new(cells: Vec<Cell>) -> Row
         ensures { result ≡ cells.items }
     {
@@ -51,7 +69,7 @@ impl Row {
         Row { cells }
     }
 
-    /// The cells that the row was made of. Takes no memory.
+    /// The cells that the row was made of. Allocates nothing.
     pub fn into_cells(self) -> Vec<Cell>
         ensures cells { result.items ≡ self }
         ensures fit { RowFits self }
@@ -73,7 +91,7 @@ impl Row {
         self.cells.is_empty()
     }
 
-    /// The cell of a column, or `None` where the row has no such column.
+    /// The cell of a column, or `None` if the row has no such column.
     pub fn get(&self, column: usize) -> Option<&Cell>
         ensures { option_copied result ≡ slice_get self.now column }
     {
@@ -88,6 +106,13 @@ impl Row {
         self.cells.as_slice()
     }
 
+    /// The cells in the order of the columns, lent in place. Allocates nothing.
+    pub fn iter(&self) -> slice::Iter<'_, Cell>
+        ensures { iter_rest result ≡ self.now }
+    {
+        self.cells.iter()
+    }
+
     /// An equal row. Refused with `NoMemory` (1) alone.
     pub fn clone(&self) -> Result<Row, Refusal>
         ensures equal { IfOk result (λ row. row ≡ self.now) }
@@ -98,5 +123,30 @@ impl Row {
             cells.push(cell.clone()?)?;
         }
         Ok(Row { cells })
+    }
+}
+
+impl From<Vec<Cell>> for Row {
+    ghost use Rattle.std.specs.Prelude.{◌≡◌};
+
+    ghost from_gives = { λ cells row. row ≡ cells.items };
+
+    fn from(cells: Vec<Cell>) -> Row {
+        Row::new(cells)
+    }
+}
+
+impl<'a> IntoIterator for &'a Row {
+    ghost use Rattle.std.specs.Prelude.{◌≡◌};
+    ghost use Rattle.std.specs.Slice.Iter.{iter_rest};
+
+    type Item = &'a Cell;
+
+    type IntoIter = slice::Iter<'a, Cell>;
+
+    ghost into_iter_gives = { λ row it. iter_rest it ≡ row.now };
+
+    fn into_iter(self) -> Self::IntoIter {
+        self.iter()
     }
 }

@@ -1,12 +1,19 @@
 // The kinds of a table's columns.
 ghost use Rattle.std.specs.Prelude.{◌≡◌, IfOk, IfErr, length, slice_get};
+ghost use Rattle.std.specs.Slice.Iter.{iter_rest};
 ghost use Rattle.far_types.specs.Bounds.{IsSchema};
 
 use super::cell::Kind;
 use super::refusal::Refusal;
 use std::marker::Model;
+use std::slice;
 
 /// The kinds of a table's columns, 1 to 16 of them. Contracts see their list.
+///
+/// ```
+/// let kinds = Vec::from_array(alloc, [Kind::Text, Kind::Int])?;
+/// Schema::new(kinds)
+/// ```
 #[derive(Drop, Debug)]
 pub struct Schema {
     kinds: Vec<Kind>,
@@ -25,7 +32,7 @@ impl Model for Schema {
 }
 
 impl Schema {
-    /// The schema with these columns. Refused with `BadSchema` (2) exactly where there are not 1 to 16. Takes no
+    /// The schema with these columns. Refused with `BadSchema` (2) exactly if there are not 1 to 16. Takes no
     /// memory.
     pub fn new(kinds: Vec<Kind>) -> Result<Schema, Refusal>
         ensures ok { IfOk result (λ schema. (schema ≡ kinds.items) × IsSchema kinds.items) }
@@ -45,7 +52,7 @@ impl Schema {
         self.kinds.len()
     }
 
-    /// The kind of a column, or `None` where there is no such column.
+    /// The kind of a column, or `None` if there is no such column.
     pub fn get(&self, column: usize) -> Option<Kind>
         ensures { result ≡ slice_get self.now column }
     {
@@ -59,6 +66,13 @@ impl Schema {
         self.kinds.as_slice()
     }
 
+    /// The kinds in the order of the columns, lent in place. Allocates nothing.
+    pub fn iter(&self) -> slice::Iter<'_, Kind>
+        ensures { iter_rest result ≡ self.now }
+    {
+        self.kinds.iter()
+    }
+
     /// An equal schema. Refused with `NoMemory` (1) alone.
     pub fn clone(&self) -> Result<Schema, Refusal>
         ensures equal { IfOk result (λ schema. schema ≡ self.now) }
@@ -67,5 +81,20 @@ impl Schema {
         Ok(Schema {
             kinds: self.kinds.clone()?,
         })
+    }
+}
+
+impl<'a> IntoIterator for &'a Schema {
+    ghost use Rattle.std.specs.Prelude.{◌≡◌};
+    ghost use Rattle.std.specs.Slice.Iter.{iter_rest};
+
+    type Item = &'a Kind;
+
+    type IntoIter = slice::Iter<'a, Kind>;
+
+    ghost into_iter_gives = { λ schema it. iter_rest it ≡ schema.now };
+
+    fn into_iter(self) -> Self::IntoIter {
+        self.iter()
     }
 }

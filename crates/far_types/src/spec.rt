@@ -19,6 +19,13 @@ pub enum Fold {
 }
 
 /// An aggregate: what it makes of the values of which rows, by which key.
+///
+/// The totals of column 1 by column 0, over the rows whose text in column 0 begins with an r:
+///
+/// ```
+/// let begins_with_r = Test::text_begins(alloc, 0, "r")?;
+/// Spec::totals(alloc, 1).by(0).only(begins_with_r)
+/// ```
 #[derive(Drop, Debug)]
 pub struct Spec {
     pub fold: Fold,
@@ -79,7 +86,7 @@ fn are_within(tests: &[Test], columns: usize) -> bool
 impl Spec {
     ghost use Rattle.far_types.specs.Bounds.{needs, is_within, spec_refusal};
 
-    /// How many values a column of numbers has, and their sum, over all rows. Takes no memory.
+    /// How many values a column of numbers has, and their sum, over all rows. Allocates nothing.
     ///
     /// `Spec::totals(alloc, 1).by(0)` is the same under each key of column 0.
     pub fn totals(alloc: Global, value: u32) -> Spec
@@ -88,7 +95,7 @@ impl Spec {
         Spec::of_all(alloc, Fold::Totals, value)
     }
 
-    /// The least and the greatest value of a column of numbers, over all rows. Takes no memory.
+    /// The least and the greatest value of a column of numbers, over all rows. Allocates nothing.
     pub fn extrema(alloc: Global, value: u32) -> Spec
         ensures { result ≡ record { fold = Fold.Extrema; value = value; key = None; filter = [] } }
     {
@@ -106,7 +113,7 @@ impl Spec {
         }
     }
 
-    /// The same under each key of a column. Takes no memory.
+    /// The same under each key of a column. Allocates nothing.
     pub fn by(self, key: u32) -> Spec
         ensures { result ≡ record self { key = Some key } }
     {
@@ -145,7 +152,7 @@ impl Spec {
         })
     }
 
-    /// Whether the aggregate needs a column: that of a test, of its key or of its value. Takes no memory.
+    /// Whether the aggregate needs a column: that of a test, of its key or of its value. Allocates nothing.
     pub fn needs(&self, column: u32) -> bool
         ensures { result ≡ needs self.now column }
     {
@@ -171,10 +178,10 @@ impl Spec {
         }
     }
 
-    /// Whether a table with this schema may register the aggregate. Refused with `BadSpec` (3) exactly where it has
-    /// more than 4 tests or a text constant of more than 4,096 bytes; else with `NoColumn` (4) exactly where a
-    /// column that it needs does not exist; else with `WrongKind` (5) exactly where the value's column is not of
-    /// numbers or a test is of another kind than its column. Takes no memory.
+    /// Whether a table with this schema may register the aggregate. Refused with `BadSpec` (3) exactly if it has
+    /// more than 4 tests or a text constant of more than 4,096 bytes; else with `NoColumn` (4) exactly if a
+    /// column that it needs does not exist; else with `WrongKind` (5) exactly if the value's column is not of
+    /// numbers or a test is of another kind than its column. Allocates nothing.
     pub fn check(&self, schema: &Schema) -> Result<(), Refusal>
         ensures ok { OnOk result (spec_refusal schema.now self.now ≡ None) }
         ensures refused { IfErr result (λ e. spec_refusal schema.now self.now ≡ Some e) }

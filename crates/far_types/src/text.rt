@@ -8,6 +8,7 @@ ghost use Rattle.std.specs.Ordering.{nat_cmp, as_partial_cmp};
 ghost use Rattle.std.specs.Cmp.Lexicographic.{slice_cmp, pointwise};
 
 use super::refusal::Refusal;
+use std::alloc::Global;
 use std::cmp::Ordering;
 use std::marker::Model;
 
@@ -27,11 +28,21 @@ impl Model for Text {
 }
 
 impl Text {
-    /// The text of a string. Takes no memory.
+    /// The text of a string. Allocates nothing.
     pub fn new(string: String) -> Text
         ensures { result ≡ string_bytes string }
     {
         Text { string }
+    }
+
+    /// A text of its own with these characters. Refused with `NoMemory` (1) alone.
+    pub fn from_str(alloc: Global, text: &str) -> Result<Text, Refusal>
+        ensures equal { IfOk result (λ made. made ≡ text.now) }
+        ensures memory { IfErr result (λ e. e ≡ Refusal.NoMemory) }
+    {
+        Ok(Text {
+            string: String::from_str(alloc, text)?,
+        })
     }
 
     /// The text, lent in place.
@@ -48,7 +59,7 @@ impl Text {
         self.string.as_str().as_bytes()
     }
 
-    /// The string that the text was made of. Takes no memory.
+    /// The string that the text was made of. Allocates nothing.
     pub fn into_string(self) -> String
         ensures { string_bytes result ≡ self }
     {

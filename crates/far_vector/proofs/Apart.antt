@@ -2,7 +2,7 @@
 use Rattle.std.proofs.Common.{◌≡◌, ◌≢◌, ℕ, List, length, take, drop, Option, Some, sym, ap, subst, ◌∙◌}
 use Rattle.std.specs.Prelude.{All, IsSomeAnd, slice_get}
 use Rattle.std.proofs.lemmas.Option.{slice_get_within, get_or_from_slice_get}
-use Rattle.far_vector.specs.Vector.{Vector, IsVector, IsUntouched, AreApart, KeepsOthers, elements}
+use Rattle.far_vector.specs.Vector.{Vector, IsVector, IsUntouched, AreDisjoint, KeepsOthers, elements}
 use Rattle.far_vector.proofs.PlacesLaws.{places-kept}
 
 module _ {X : Type 0} (old new : ℕ → Option (List X)) (w : Vector X) (same : All (λ o. new o ≡ old o) w.objects) where
@@ -15,10 +15,10 @@ module _ {X : Type 0} (old new : ℕ → Option (List X)) (w : Vector X) (same :
   pub elements-kept : elements new w ≡ elements old w
   elements-kept = ap (take w.len) (places-kept old new w.objects same)
 
-module _ {X : Type 0} (old new : ℕ → Option (List X)) (v w : Vector X) (is : IsVector old w) (apart : AreApart v w) (o : ℕ) (others : KeepsOthers old new o) where
+module _ {X : Type 0} (old new : ℕ → Option (List X)) (v w : Vector X) (is : IsVector old w) (disjoint : AreDisjoint v w) (o : ℕ) (others : KeepsOthers old new o) where
   -- one object of v changes
-  pub untouched : (g : ℕ) → slice_get v.objects g ≡ Some o → (v' : Vector X) → AreApart v' w → IsUntouched old new v' w
-  untouched g at v' apart' =
-      let other : All (λ p. o ≢ p) w.objects = subst (λ q. All (λ p. q ≢ p) w.objects) (get_or_from_slice_get v.objects g o o at) (apart g o (slice_get_within v.objects g o at)) in
+  pub untouched : (g : ℕ) → slice_get v.objects g ≡ Some o → (v' : Vector X) → AreDisjoint v' w → IsUntouched old new v' w
+  untouched g at v' disjoint' =
+      let other : All (λ p. o ≢ p) w.objects = subst (λ q. All (λ p. q ≢ p) w.objects) (get_or_from_slice_get v.objects g o o at) (disjoint g o (slice_get_within v.objects g o at)) in
       let same : All (λ p. new p ≡ old p) w.objects = λ k d within. others _ (λ e. other k d within (sym e)) in
-      record { is = vector-kept old new w same is; elements = elements-kept old new w same; apart = apart' }
+      record { is = vector-kept old new w same is; elements = elements-kept old new w same; disjoint = disjoint' }

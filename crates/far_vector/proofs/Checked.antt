@@ -1,13 +1,13 @@
--- What is known where a part is not refused.
+-- What is known where a part, or an element that is set, is not refused.
 use Rattle.std.proofs.Common.{◌≡◌, ℕ, ◌-◌, ◌/◌, ◌<◌, ◌≤◌, Bool, true, false, [], ◌∷◌, nat_lt, None, refl}
 use Rattle.std.specs.Prelude.{◌==◌, ◌&&◌, not}
-use Rattle.std.proofs.lemmas.Bool.{ltb-false, or_parts, lt-ltb, eqb-true, not-false}
+use Rattle.std.proofs.lemmas.Bool.{ltb-true, ltb-false, or_parts, lt-ltb, eqb-true, not-false}
 use Rattle.far_types.specs.declared.refusal.Refusal.{Refusal}
 use Rattle.far_types.specs.FirstOf.{first_of}
 use Rattle.far_scopes.specs.Movement.{Movement}
 use Rattle.far_scopes.specs.Refusing.{absent, written_out, write_refusal, lend_refusal}
 use Rattle.far_vector.specs.Vector.{Vector, object_at}
-use Rattle.far_vector.specs.Refusing.{no_range, crosses, is_empty, unless_empty, write_part_refusal}
+use Rattle.far_vector.specs.Refusing.{past_end, no_range, crosses, is_empty, unless_empty, set_refusal, write_part_refusal}
 
 free-two : (a b : Bool) (r s : Refusal) → None ≡ first_of ((a, r) ∷ (b, s) ∷ []) → (a ≡ false) × (b ≡ false)
 free-two true b r s is = cc
@@ -20,6 +20,12 @@ free-four false true c d r s t u is = cc
 free-four false false true d r s t u is = cc
 free-four false false false true r s t u is = cc
 free-four false false false false r s t u is = (refl, refl, refl, refl)
+
+free-three : (a b c : Bool) (r s t : Refusal) → first_of ((a, r) ∷ (b, s) ∷ (c, t) ∷ []) ≡ None → (a ≡ false) × (b ≡ false) × (c ≡ false)
+free-three true b c r s t is = cc
+free-three false true c r s t is = cc
+free-three false false true r s t is = cc
+free-three false false false r s t is = (refl, refl, refl)
 
 two-free : (a b : Bool) (r s : Refusal) → a ≡ false → b ≡ false → first_of ((a, r) ∷ (b, s) ∷ []) ≡ None
 two-free a b r s e f = rw (e, f) refl
@@ -49,6 +55,17 @@ module _ {X : Type 0} (v : Vector X) (from to : ℕ) where
 
     pub free-written : write_refusal m (object_at v from) ≡ None
     free-written = two-free (absent m (object_at v from)).0 (written_out m (object_at v from)).0 (absent m (object_at v from)).1 (written_out m (object_at v from)).1 (there-if from to _ some parts.2) (there-if from to _ some parts.3)
+
+-- an element that may be set is there, and its object may be written
+module _ {X K : Type 0} (m : Movement X K) (v : Vector X) (i : ℕ) (free : set_refusal m v i ≡ None) where
+  set-parts : ((past_end v i).0 ≡ false) × ((absent m (object_at v i)).0 ≡ false) × ((written_out m (object_at v i)).0 ≡ false)
+  set-parts = free-three (past_end v i).0 (absent m (object_at v i)).0 (written_out m (object_at v i)).0 (past_end v i).1 (absent m (object_at v i)).1 (written_out m (object_at v i)).1 free
+
+  pub place-set : i < v.len
+  place-set = ltb-true i v.len (not-false (nat_lt i v.len) set-parts.0)
+
+  pub free-set : write_refusal m (object_at v i) ≡ None
+  free-set = two-free (absent m (object_at v i)).0 (written_out m (object_at v i)).0 (absent m (object_at v i)).1 (written_out m (object_at v i)).1 set-parts.1 set-parts.2
 
 one-free : (a b : Bool) (r s : Refusal) → first_of ((a, r) ∷ (b, s) ∷ []) ≡ None → first_of ((a, r) ∷ []) ≡ None
 one-free true b r s is = cc

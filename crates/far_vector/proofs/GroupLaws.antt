@@ -5,9 +5,9 @@ use Rattle.std.proofs.lemmas.List.{length-take-le, append-nil, length-replicate,
 use Rattle.std.proofs.lemmas.Nat.{div-mul-add}
 use Rattle.std.proofs.lemmas.List.Elements.{All-push, All-take}
 use Rattle.std.proofs.lemmas.List.Quantifiers.{all_pairs_push}
-use Rattle.far_vector.specs.Vector.{Vector, IsShaped, IsVector, IsUntouched, AreApart, KeepsOthers, places, elements}
-use Rattle.far_vector.specs.Effects.{next_group, unpushed}
-use Rattle.far_vector.proofs.PlacesLaws.{list_at, places-append, places-kept, places-split, before-apart, length-before}
+use Rattle.far_vector.specs.Vector.{Vector, IsShaped, IsVector, IsUntouched, AreDisjoint, KeepsOthers, places, elements}
+use Rattle.far_vector.specs.Effects.{next_group, after_unpush}
+use Rattle.far_vector.proofs.PlacesLaws.{list_at, places-append, places-kept, places-split, before-disjoint, length-before}
 use Rattle.far_vector.proofs.VectorLaws.{length-all}
 use Rattle.far_vector.proofs.WritingLaws.{take-after, drop-after}
 use Rattle.far_vector.proofs.Apart.{vector-kept, elements-kept, untouched}
@@ -36,9 +36,9 @@ module _ {X : Type 0} (v : Vector X) (o : ℕ) where
       ap (λ n. get_or (v.objects ++ o ∷ []) n 0) g ∙ get_or_at v.objects o [] 0 (length v.objects) refl
 
 -- the list in which a row group is laid out, with its first element
-pub laid-first : {X : Type 0} (next : List X) (x blank : X) (size : ℕ) → 0 < size → length next ≡ size → drop 1 next ≡ replicate (size - 1) blank → set next 0 x ≡ x ∷ replicate (size - 1) blank
-laid-first [] x blank size some long rest = absurd (omega (arith, some, long))
-laid-first (y ∷ next) x blank size some long rest = ap (λ l. x ∷ l) rest
+pub laid-first : {X : Type 0} (next : List X) (x default_value : X) (size : ℕ) → 0 < size → length next ≡ size → drop 1 next ≡ replicate (size - 1) default_value → set next 0 x ≡ x ∷ replicate (size - 1) default_value
+laid-first [] x default_value size some long rest = absurd (omega (arith, some, long))
+laid-first (y ∷ next) x default_value size some long rest = ap (λ l. x ∷ l) rest
 
 module _ {X : Type 0} (old new : ℕ → Option (List X)) (v : Vector X) (shaped : IsShaped v) (is : IsVector old v) (full : v.len ≡ length v.objects * v.size) (o : ℕ) (others : KeepsOthers old new o) (x : X) (has : new o ≡ Some (next_group v x)) (below : All (λ p. p < o) v.objects) where
   same-lists : All (λ p. new p ≡ old p) v.objects
@@ -58,20 +58,20 @@ module _ {X : Type 0} (old new : ℕ → Option (List X)) (v : Vector X) (shaped
 
   pub vector-begun : IsVector new (begun v o)
   vector-begun = record {
-    whole = All-push (λ p. IsSomeAnd (new p) (λ list. length list ≡ v.size)) v.objects o (vector-kept old new v same-lists is).whole (rw has (let n = length-replicate (v.size - 1) v.blank in omega (arith, n, shaped.some)));
+    whole = All-push (λ p. IsSomeAnd (new p) (λ list. length list ≡ v.size)) v.objects o (vector-kept old new v same-lists is).whole (rw has (let n = length-replicate (v.size - 1) v.default_value in omega (arith, n, shaped.some)));
     unused =
         ap (drop (v.len + 1)) all-begun
         ∙ drop-after (places old v.objects) (next_group v x) 1 (v.len + 1) (omega (arith, all-long))
-        ∙ ap (λ n. replicate n v.blank) (let long = length-append v.objects (o ∷ []) in let e : v.size - 1 ≡ length (v.objects ++ o ∷ []) * v.size - (v.len + 1) = rw long (omega (arith, full)) in e);
+        ∙ ap (λ n. replicate n v.default_value) (let long = length-append v.objects (o ∷ []) in let e : v.size - 1 ≡ length (v.objects ++ o ∷ []) * v.size - (v.len + 1) = rw long (omega (arith, full)) in e);
   }
 
-  pub untouched-begun : (w : Vector X) → IsVector old w → All (λ p. p < o) w.objects → AreApart v w → IsUntouched old new (begun v o) w
-  untouched-begun w is-w below-w apart =
+  pub untouched-begun : (w : Vector X) → IsVector old w → All (λ p. p < o) w.objects → AreDisjoint v w → IsUntouched old new (begun v o) w
+  untouched-begun w is-w below-w disjoint =
       let same : All (λ p. new p ≡ old p) w.objects = λ k d within. others (get_or w.objects k d) (λ e. omega (arith, below-w k d within, e)) in
       record {
         is = vector-kept old new w same is-w;
         elements = elements-kept old new w same;
-        apart = All-push (λ q. All (λ p. q ≢ p) w.objects) v.objects o apart (λ k d within e. omega (arith, below-w k d within, e));
+        disjoint = All-push (λ q. All (λ p. q ≢ p) w.objects) v.objects o disjoint (λ k d within e. omega (arith, below-w k d within, e));
       }
 
 -- the last row group goes, of which one element was used
@@ -83,12 +83,12 @@ module _ {X : Type 0} (old new : ℕ → Option (List X)) (v : Vector X) (shaped
   kept-long = length-take-le (length v.objects - 1) v.objects (omega arith)
 
   kept-lists : All (λ p. new p ≡ old p) kept
-  kept-lists k d within = others (get_or kept k d) (before-apart v.objects shaped.rising (length v.objects - 1) o last k d within)
+  kept-lists k d within = others (get_or kept k d) (before-disjoint v.objects shaped.rising (length v.objects - 1) o last k d within)
 
   used-long : length (places old kept) ≡ v.len - 1
   used-long = length-before old v.size v.objects is.whole (length v.objects - 1) o last ∙ (let e : (length v.objects - 1) * v.size ≡ v.len - 1 = omega (arith, alone) in e)
 
-  pub elements-unpushed : elements new (unpushed v) ≡ take (v.len - 1) (elements old v)
+  pub elements-unpushed : elements new (after_unpush v) ≡ take (v.len - 1) (elements old v)
   elements-unpushed =
       ap (take (v.len - 1)) (places-kept old new kept kept-lists)
       ∙ take_all (v.len - 1) (places old kept) (omega (arith, used-long))
@@ -97,20 +97,20 @@ module _ {X : Type 0} (old new : ℕ → Option (List X)) (v : Vector X) (shaped
       ∙ take-after (places old kept) (list_at old o ++ places old (drop (suc (length v.objects - 1)) v.objects)) 0 (v.len - 1) (omega (arith, used-long))
       ∙ append-nil (places old kept))
 
-  pub vector-unpushed : IsVector new (unpushed v)
+  pub vector-unpushed : IsVector new (after_unpush v)
   vector-unpushed = record {
     whole = λ k d within. subst (λ list. IsSomeAnd list (λ l. length l ≡ v.size)) (sym (kept-lists k d within)) (All-take (λ p. IsSomeAnd (old p) (λ list. length list ≡ v.size)) (length v.objects - 1) v.objects is.whole k d within);
     unused =
         ap (drop (v.len - 1)) (places-kept old new kept kept-lists)
         ∙ drop_all (v.len - 1) (places old kept) (omega (arith, used-long))
-        ∙ ap (λ n. replicate n v.blank) (let e : 0 ≡ length kept * v.size - (v.len - 1) = rw kept-long (omega (arith, alone)) in e);
+        ∙ ap (λ n. replicate n v.default_value) (let e : 0 ≡ length kept * v.size - (v.len - 1) = rw kept-long (omega (arith, alone)) in e);
   }
 
-  pub untouched-unpushed : (w : Vector X) → IsVector old w → AreApart v w → IsUntouched old new (unpushed v) w
-  untouched-unpushed w is-w apart =
-      untouched old new v w is-w apart o others (length v.objects - 1) last (unpushed v) (All-take (λ q. All (λ p. q ≢ p) w.objects) (length v.objects - 1) v.objects apart)
+  pub untouched-unpushed : (w : Vector X) → IsVector old w → AreDisjoint v w → IsUntouched old new (after_unpush v) w
+  untouched-unpushed w is-w disjoint =
+      untouched old new v w is-w disjoint o others (length v.objects - 1) last (after_unpush v) (All-take (λ q. All (λ p. q ≢ p) w.objects) (length v.objects - 1) v.objects disjoint)
 
-pub shaped-unpushed : {X : Type 0} (v : Vector X) → IsShaped v → 0 < length v.objects → v.len ≡ (length v.objects - 1) * v.size + 1 → IsShaped (unpushed v)
+pub shaped-unpushed : {X : Type 0} (v : Vector X) → IsShaped v → 0 < length v.objects → v.len ≡ (length v.objects - 1) * v.size + 1 → IsShaped (after_unpush v)
 shaped-unpushed v shaped some alone =
     let long : length (take (length v.objects - 1) v.objects) ≡ length v.objects - 1 = length-take-le (length v.objects - 1) v.objects (omega arith) in
     record {

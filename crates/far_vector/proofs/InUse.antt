@@ -8,7 +8,7 @@ use Rattle.far_scopes.specs.Movement.{Movement, list_of, AreTracked}
 module _ {X K : Type 0} (meaning : List ℕ → List X) (content : K → List ℕ) (spelled : List X → List ℕ → Type 0) (m : Movement X K) (tracked : AreTracked meaning content spelled m) where
   none-past : (o : ℕ) → length m.entries ≤ o → list_of meaning content m o ≡ None
   none-past o past =
-      let words = slice_get_past m.memory.words o (omega (arith, tracked.even, past)) in
+      let words = slice_get_past m.memory.words o (omega (arith, tracked.same_length, past)) in
       let entries = slice_get_past m.entries o past in
       rw (words, entries) refl
 

@@ -58,16 +58,16 @@ module _ (objects : List ℕ) (rising : AllPairs (λ o p. o < p) objects) (g o :
   within : g < length objects
   within = slice_get_within objects g o is
 
-  pub before-apart : All (λ p. p ≢ o) (take g objects)
-  before-apart k d below same =
+  pub before-disjoint : All (λ p. p ≢ o) (take g objects)
+  before-disjoint k d below same =
       let short : length (take g objects) ≡ g = length-take-le g objects (omega (arith, within)) in
       let less = rising k g d (omega arith) within in
       let here = get_or_from_slice_get objects g o d is in
       let there = get_or-take g objects k d (omega arith) in
       omega (arith, less, here, there, same)
 
-  pub after-apart : All (λ p. p ≢ o) (drop (suc g) objects)
-  after-apart k d below same =
+  pub after-disjoint : All (λ p. p ≢ o) (drop (suc g) objects)
+  after-disjoint k d below same =
       let left = length-drop (suc g) objects in
       let less = rising g (suc g + k) d (omega arith) (omega arith) in
       let here = get_or_from_slice_get objects g o d is in
@@ -79,8 +79,8 @@ module _ {X : Type 0} (old new : ℕ → Option (List X)) (objects : List ℕ) (
   pub places-changed : places new objects ≡ places old (take g objects) ++ (list_at new o ++ places old (drop (suc g) objects))
   places-changed =
       places-split new objects g o is
-      ∙ ap (λ l. l ++ (list_at new o ++ places new (drop (suc g) objects))) (places-kept old new (take g objects) (λ k d below. others (get_or (take g objects) k d) (before-apart objects rising g o is k d below)))
-      ∙ ap (λ l. places old (take g objects) ++ (list_at new o ++ l)) (places-kept old new (drop (suc g) objects) (λ k d below. others (get_or (drop (suc g) objects) k d) (after-apart objects rising g o is k d below)))
+      ∙ ap (λ l. l ++ (list_at new o ++ places new (drop (suc g) objects))) (places-kept old new (take g objects) (λ k d below. others (get_or (take g objects) k d) (before-disjoint objects rising g o is k d below)))
+      ∙ ap (λ l. places old (take g objects) ++ (list_at new o ++ l)) (places-kept old new (drop (suc g) objects) (λ k d below. others (get_or (drop (suc g) objects) k d) (after-disjoint objects rising g o is k d below)))
 
 module _ {X : Type 0} (lists : ℕ → Option (List X)) (size : ℕ) (objects : List ℕ) (whole : AreWhole lists size objects) (g o : ℕ) (is : slice_get objects g ≡ Some o) where
   own : IsSomeAnd (lists o) (λ list. length list ≡ size)

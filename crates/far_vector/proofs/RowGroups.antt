@@ -32,7 +32,7 @@ list-of-group lists v g o shaped is here =
     let more : suc g * size ≤ length os * size = mul-le-mul_right {m = suc g} {n = length os} size (omega (arith, within)) in
     let from : g * size ≤ v.len = omega (arith, more, shaped.needed) in
     let n = length os * size - v.len in
-    let joined : all ≡ used ++ replicate n v.blank = sym (take-append-drop v.len all) ∙ ap (λ l. used ++ l) is.unused in
+    let joined : all ≡ used ++ replicate n v.default_value = sym (take-append-drop v.len all) ∙ ap (λ l. used ++ l) is.unused in
     let cut : take size (drop (g * size) all) ≡ own =
     ap (λ m. take size (drop m all)) (sym before)
     ∙ ap (λ l. take size (drop (length front) l)) (places-split lists os g o here)
@@ -41,10 +41,10 @@ list-of-group lists v g o shaped is here =
     ∙ take_all size own (omega (arith, long)) in
     let rest = drop (g * size) used in
     let left : length rest ≡ length used - g * size = length-drop (g * size) used in
-    let parts : take size (drop (g * size) all) ≡ take size rest ++ replicate (size - length (take size rest)) v.blank =
+    let parts : take size (drop (g * size) all) ≡ take size rest ++ replicate (size - length (take size rest)) v.default_value =
     ap (λ l. take size (drop (g * size) l)) joined
-    ∙ ap (take size) (drop-append-le (g * size) used (replicate n v.blank) (omega (arith, from, count)))
-    ∙ filled size n rest v.blank (omega (arith, left, count, more, from, shaped.enough)) in
+    ∙ ap (take size) (drop-append-le (g * size) used (replicate n v.default_value) (omega (arith, from, count)))
+    ∙ filled size n rest v.default_value (omega (arith, left, count, more, from, shaped.enough)) in
     let at : get_or os g o ≡ o = get_or_from_slice_get os g o o here in
     let there = subst (λ p. IsSomeAnd (lists p) (λ list. length list ≡ size)) at (is.whole g o within) in
     some-at (lists o) size there ∙ ap Some (sym cut ∙ parts)

@@ -104,8 +104,8 @@ module _ {X : Type 0} (old new : ℕ → Option (List X)) (v : Vector X) (shaped
         ∙ drop-after (take v.len (places old v.objects)) (x ∷ unused-after) 1 (v.len + 1) (omega (arith, used-long))
         ∙ sym (drop-drop 1 v.len (places old v.objects))
         ∙ ap (drop 1) is.unused
-        ∙ drop-replicate 1 (length v.objects * v.size - v.len) v.blank
-        ∙ ap (λ n. replicate n v.blank) (let e : length v.objects * v.size - v.len - 1 ≡ length v.objects * v.size - (v.len + 1) = omega arith in e);
+        ∙ drop-replicate 1 (length v.objects * v.size - v.len) v.default_value
+        ∙ ap (λ n. replicate n v.default_value) (let e : length v.objects * v.size - v.len - 1 ≡ length v.objects * v.size - (v.len + 1) = omega arith in e);
   }
 
   pub shaped-filled : IsShaped filled

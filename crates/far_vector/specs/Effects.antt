@@ -2,7 +2,7 @@
 use Rattle.std.specs.Prelude.{ℕ, ◌+◌, ◌-◌, ◌*◌, ◌%◌, ◌==◌, if◌then◌else◌, Bool, List, [], ◌∷◌, ◌++◌, length, take, replicate}
 use Rattle.far_types.specs.declared.name.Name.{Name}
 use Rattle.far_scopes.specs.Movement.{Movement}
-use Rattle.far_scopes.specs.Effects.{written, overwritten, created}
+use Rattle.far_scopes.specs.Effects.{written, overwritten, after_create}
 use Rattle.far_vector.specs.Vector.{Vector, object_at}
 
 module _ {X : Type 0} where
@@ -15,15 +15,15 @@ module _ {X : Type 0} where
   next_name v = record { column = v.column; group = length v.objects }
 
   abbrev pub next_group : Vector X → X → List X
-  next_group v x = x ∷ replicate (v.size - 1) v.blank
+  next_group v x = x ∷ replicate (v.size - 1) v.default_value
 
   -- one element more; the object of a new row group has this number
-  abbrev pub pushed : Vector X → ℕ → Vector X
-  pushed v o = if is_full v then record v { objects = v.objects ++ o ∷ []; len = v.len + 1 } else record v { len = v.len + 1 }
+  abbrev pub after_push : Vector X → ℕ → Vector X
+  after_push v o = if is_full v then record v { objects = v.objects ++ o ∷ []; len = v.len + 1 } else record v { len = v.len + 1 }
 
   -- without the last element, which is alone in its row group, and without its object
-  abbrev pub unpushed : Vector X → Vector X
-  unpushed v = record v { objects = take (length v.objects - 1) v.objects; len = v.len - 1 }
+  abbrev pub after_unpush : Vector X → Vector X
+  after_unpush v = record v { objects = take (length v.objects - 1) v.objects; len = v.len - 1 }
 
   module _ {K : Type 0} where
     -- the objects once a range is written over the elements from the i-th on, all of one row group
@@ -32,4 +32,4 @@ module _ {X : Type 0} where
 
     -- the objects once an element is pushed
     abbrev pub pushed_in : Movement X K → Vector X → X → Movement X K
-    pushed_in m v x = if is_full v then created m (next_name v) (next_group v x) else range_written m v v.len (x ∷ [])
+    pushed_in m v x = if is_full v then after_create m (next_name v) (next_group v x) else range_written m v v.len (x ∷ [])

@@ -5,7 +5,7 @@ use Rattle.far_types.specs.declared.refusal.Refusal.{Refusal}
 use Rattle.far_types.specs.declared.refusal.Refusal.TheVariants as refusal
 use Rattle.far_types.specs.FirstOf.{first_of}
 use Rattle.far_scopes.specs.Movement.{Movement, list_of}
-use Rattle.far_scopes.specs.Refusing.{absent, written_out, no_room, write_refusal, first_absent}
+use Rattle.far_scopes.specs.Refusing.{absent, written_out, no_space, write_refusal, first_absent}
 use Rattle.far_vector.specs.Vector.{Vector, object_at, IsVector}
 use Rattle.far_vector.specs.Effects.{is_full}
 use Rattle.far_vector.specs.Pieces.{first_touched, touched_count}
@@ -52,7 +52,7 @@ module _ {X K : Type 0} (m : Movement X K) (v : Vector X) where
 
   -- an element that begins a row group needs room, another a row group that may be written
   abbrev pub push_refusal : Option Refusal
-  push_refusal = if is_full v then first_of (no_room m (length m.entries) v.size ∷ []) else write_refusal m (object_at v v.len)
+  push_refusal = if is_full v then first_of (no_space m (length m.entries) v.size ∷ []) else write_refusal m (object_at v v.len)
 
 -- the elements `from` up to `to` are there, and their objects are local
 pub record IsLendable {X K : Type 0} (meaning : List ℕ → List X) (content : K → List ℕ) (m : Movement X K) (v : Vector X) (from to : ℕ) : Type 0 where

@@ -10,7 +10,7 @@ pub record Vector (X : Type 0) : Type 0 where
   pub size : ℕ
   pub objects : List ℕ
   pub len : ℕ
-  pub blank : X
+  pub default_value : X
 
 module _ {X : Type 0} where
   -- as many objects as row groups hold an element, in the order in which they were made
@@ -22,11 +22,11 @@ module _ {X : Type 0} where
     pub enough : v.len ≤ length v.objects * v.size
     pub needed : length v.objects * v.size < v.len + v.size
 
-  -- the list in which the next row group is laid out is as long, and all but its first element are blank
-  pub record IsLaid (v : Vector X) (next : List X) : Type 0 where
+  -- the list in which the next row group is laid out is as long, and all but its first element have the default value
+  pub record IsLayout (v : Vector X) (next : List X) : Type 0 where
     pub shaped : IsShaped v
     pub long : length next ≡ v.size
-    pub blank : drop 1 next ≡ replicate (v.size - 1) v.blank
+    pub default_value : drop 1 next ≡ replicate (v.size - 1) v.default_value
 
   -- the number of the object with the element at a place
   abbrev pub object_at : Vector X → ℕ → ℕ
@@ -36,11 +36,11 @@ module _ {X : Type 0} where
   abbrev pub group_list : Vector X → List X → ℕ → List X
   group_list v elements g =
       let used : List X = in_group v.size g elements
-      in used ++ replicate (v.size - length used) v.blank
+      in used ++ replicate (v.size - length used) v.default_value
 
   -- no object is in both
-  abbrev pub AreApart : Vector X → Vector X → Type 0
-  AreApart v w = All (λ o. All (λ p. o ≢ p) w.objects) v.objects
+  abbrev pub AreDisjoint : Vector X → Vector X → Type 0
+  AreDisjoint v w = All (λ o. All (λ p. o ≢ p) w.objects) v.objects
 
   -- the lists of objects by number change in no object but o
   abbrev pub KeepsOthers : (ℕ → Option (List X)) → (ℕ → Option (List X)) → ℕ → Type 0
@@ -55,10 +55,10 @@ module _ {X : Type 0} where
     abbrev pub elements : Vector X → List X
     elements v = take v.len (places v.objects)
 
-    -- each object of a vector has a list of a row group's length, and the places that are not yet used are blank
+    -- each object of a vector has a list of a row group's length, and the places that are not yet used have the default value
     pub record IsVector (v : Vector X) : Type 0 where
       pub whole : All (λ o. IsSomeAnd (lists o) (λ list. length list ≡ v.size)) v.objects
-      pub unused : drop v.len (places v.objects) ≡ replicate (length v.objects * v.size - v.len) v.blank
+      pub unused : drop v.len (places v.objects) ≡ replicate (length v.objects * v.size - v.len) v.default_value
 
   -- a range is written over the places of a vector from the i-th on, and every object's list is as long as it was
   pub record WritesPlaces (old new : ℕ → Option (List X)) (v : Vector X) (i : ℕ) (range : List X) : Type 0 where
@@ -69,4 +69,4 @@ module _ {X : Type 0} where
   pub record IsUntouched (old new : ℕ → Option (List X)) (v w : Vector X) : Type 0 where
     pub is : IsVector new w
     pub elements : elements new w ≡ elements old w
-    pub apart : AreApart v w
+    pub disjoint : AreDisjoint v w

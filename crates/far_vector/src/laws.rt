@@ -6,7 +6,7 @@ ghost use Rattle.far_vector.specs.Vectors.{AreVectors, ChangesVector};
 use far_codec::Elem;
 
 /// Several vectors in the same objects, no two of which have an object in common, stay so when a call changes one of
-/// them, as its clauses `is` and `apart` say, and the others keep their elements. They stay so too, with all elements,
+/// them, as its clauses `is` and `disjoint` say, and the others keep their elements. They stay so too, with all elements,
 /// where every object keeps its list, wherever it lies. They come to be so one after the other, each without an object.
 pub fn vectors_stay_together<T: Elem>()
     ensures none { (lists : ℕ → Option (List T)) → AreVectors lists [] }

@@ -59,7 +59,7 @@ impl<'a, T: Elem, S: FarTickets> Pieces<'a, T, S> {
         }
     }
 
-    /// The next piece, and `None` where there is none left. Takes no memory.
+    /// The next piece, and `None` if there is none left. Allocates nothing.
     ///
     /// It is no `Iterator`'s: a trait's own method gets no proof where it calls what asks for elements that may be shared by
     /// threads.
@@ -79,7 +79,7 @@ impl<'a, T: Elem, S: FarTickets> Pieces<'a, T, S> {
         Some(piece)
     }
 
-    /// How many pieces are left. Takes no memory.
+    /// How many pieces are left. Allocates nothing.
     pub fn len(&self) -> usize
         ensures { result ≡ length self.now }
     {

@@ -26,7 +26,7 @@ struct Position {
 
 /// A list of elements that lies in objects, one object a row group, which many vectors share: each call names them.
 ///
-/// Each object has as many elements as a row group; those of places that are not yet used are blank. The objects are named
+/// Each object has as many elements as a row group; those of places that are not yet used have the default value. The objects are named
 /// by one column and the row groups.
 #[derive(Drop)]
 pub struct FarVector<T: Elem> {
@@ -35,8 +35,8 @@ pub struct FarVector<T: Elem> {
     reciprocal: Reciprocal,
     objects: Vec<u32>,
     len: usize,
-    blank: T,
-    // The list of the next row group: blank but for its first element.
+    default_value: T,
+    // The list of the next row group: of the default value but for its first element.
     next: Vec<T>,
 }
 
@@ -45,20 +45,25 @@ impl<T: Elem> Model for FarVector<T> {
 
     ghost Value = { Vector T };
 
-    ghost use Rattle.far_vector.specs.Vector.{IsLaid};
+    ghost use Rattle.far_vector.specs.Vector.{IsLayout};
 
-    ghost view = { λ a. record { column = a.column; size = a.size; objects = a.objects.items; len = a.len; blank = a.blank } };
+    ghost view = { λ a. record { column = a.column; size = a.size; objects = a.objects.items; len = a.len; default_value = a.default_value } };
 
-    ghost invariant = { λ a. IsLaid record { column = a.column; size = a.size; objects = a.objects.items; len = a.len; blank = a.blank } a.next.items };
+    ghost invariant = { λ a. IsLayout record { column = a.column; size = a.size; objects = a.objects.items; len = a.len; default_value = a.default_value } a.next.items };
 }
 
 impl<T: Elem> FarVector<T> {
-    /// The empty list of a column, in row groups of `size` elements; `blank` stands in places that are not yet used.
+    /// The empty list of a column, in row groups of `size` elements; `default_value` stands in places that are not yet used.
     ///
     /// All memory for elements beside the objects is taken here. Refused with `NoMemory` (1) alone.
-    pub fn new(alloc: Global, column: u32, size: u32, blank: T) -> Result<FarVector<T>, Refusal>
+    pub fn new(
+        alloc: Global,
+        column: u32,
+        size: u32,
+        default_value: T,
+    ) -> Result<FarVector<T>, Refusal>
         requires { 0 < size }
-        ensures empty { IfOk result (λ v. v ≡ record { column = column; size = size; objects = []; len = 0; blank = blank }) }
+        ensures empty { IfOk result (λ v. v ≡ record { column = column; size = size; objects = []; len = 0; default_value = default_value }) }
         ensures is { IfOk result (λ v. (lists : ℕ → Option (List T)) → IsVector lists v) }
         ensures memory { IfErr result (λ e. e ≡ Refusal.NoMemory) }
     {
@@ -70,12 +75,12 @@ impl<T: Elem> FarVector<T> {
             reciprocal,
             objects: Vec::new(alloc),
             len: 0,
-            blank,
-            next: blanks(alloc, size, blank)?,
+            default_value,
+            next: default_values(alloc, size, default_value)?,
         })
     }
 
-    /// How many elements there are. Takes no memory.
+    /// How many elements there are. Allocates nothing.
     pub fn len(&self) -> usize
         ensures len { result ≡ self.now.len }
         ensures shaped { IsShaped self.now }
@@ -83,18 +88,26 @@ impl<T: Elem> FarVector<T> {
         self.len
     }
 
-    /// How many places a row group has. Takes no memory.
+    /// How many places a row group has. Allocates nothing.
     pub fn size(&self) -> usize
         ensures { result ≡ self.now.size }
     {
         self.size
     }
 
-    /// The number of a row group's object, and `None` exactly where there is no such row group. Takes no memory.
+    /// The number of a row group's object, and `None` exactly if there is no such row group. Allocates nothing.
     pub fn object(&self, group: u32) -> Option<u32>
         ensures { result ≡ slice_get self.now.objects group }
     {
         self.objects.get(group as usize).copied()
+    }
+
+    // The row group of a place.
+    #[inline(always)]
+    fn group_of(&self, i: usize) -> usize
+        ensures { result ≡ i / self.now.size }
+    {
+        self.reciprocal.quotient(i, self.size)
     }
 
     // A place that some row group has.
@@ -157,14 +170,14 @@ impl<T: Elem> FarVector<T> {
     }
 }
 
-// So many blank elements.
-fn blanks<T: Elem>(alloc: Global, count: usize, blank: T) -> Result<Vec<T>, Refusal>
-    ensures blank { IfOk result (λ list. list.items ≡ replicate count blank) }
+// So many elements of the default value.
+fn default_values<T: Elem>(alloc: Global, count: usize, default_value: T) -> Result<Vec<T>, Refusal>
+    ensures default_value { IfOk result (λ list. list.items ≡ replicate count default_value) }
     ensures memory { IfErr result (λ e. e ≡ Refusal.NoMemory) }
 {
     let mut list = Vec::with_capacity(alloc, count)?;
     for _ in 0..count {
-        list.push_reserved(blank);
+        list.push_reserved(default_value);
     }
     Ok(list)
 }

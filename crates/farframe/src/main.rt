@@ -2,16 +2,16 @@
 //! Runs a script: reads it from standard input, and writes its replies to standard output.
 //!
 //! The exit status is 0 at the end of the script, refusals included; 2 where its first command opens no table and asks for no sessions;
-//! 3 where a read or a write fails, or the script is too long or no UTF-8; 4 where memory is refused; 5 where sessions give up on an
-//! edit.
+//! 3 where a read or a write fails, a line or a load is no UTF-8, or the script ends inside a load, is too long or needs too many reads;
+//! 4 where memory is refused; 5 where sessions give up on an edit.
 
-use far_shell::run_script;
+use far_shell::{Fallible, run_script};
 use std::io;
 use std::process::ExitCode;
 
 fn main(rt: HostRuntime) -> ExitCode {
     let mut writer = io::writer(&rt);
-    match run_script(&rt, rt.reader(), &mut writer) {
+    match run_script(&rt, Fallible(rt.reader()), &mut writer) {
         Ok(()) => ExitCode::SUCCESS,
         Err(fault) => ExitCode::from(fault.status()),
     }

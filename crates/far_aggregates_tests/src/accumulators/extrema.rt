@@ -5,19 +5,19 @@ use far_extrema::GroupExtrema;
 use far_types::{Key, Refusal};
 use std::alloc::Global;
 
-/// Sees a row, at the second call where the first is refused.
-fn see(alloc: Global, group: &mut GroupExtrema, name: Name, value: i64) -> Result<(), Refusal> {
+/// Observes a row, at the second call where the first is refused.
+fn observe(alloc: Global, group: &mut GroupExtrema, name: Name, value: i64) -> Result<(), Refusal> {
     let key = key_of(alloc, name)?;
-    match group.see_under(&key, value) {
-        Err(Refusal::NoMemory) => group.see_under(&key, value),
+    match group.observe_under(&key, value) {
+        Err(Refusal::NoMemory) => group.observe_under(&key, value),
         reply => reply,
     }
 }
 
-/// Sees these rows.
-pub fn see_all(alloc: Global, group: &mut GroupExtrema, rows: &[Row]) -> Result<(), Refusal> {
+/// Observes these rows.
+pub fn observe_all(alloc: Global, group: &mut GroupExtrema, rows: &[Row]) -> Result<(), Refusal> {
     for (name, value) in rows {
-        see(alloc, group, *name, *value)?;
+        observe(alloc, group, *name, *value)?;
     }
     Ok(())
 }
@@ -33,25 +33,25 @@ static LINES: Lines<'static> = Lines::Extrema(&[(Name::Nobody, 5, 5), (Name::Wor
 
 static ONE_LINE: Lines<'static> = Lines::Extrema(&[(Name::Nobody, -6, 5)]);
 
-/// Whether rows of which one is refused for want of memory are all seen once it is accepted.
-fn sees_all(alloc: Global, group: &mut GroupExtrema) -> Result<bool, Refusal> {
-    see_all(alloc, group, &ROWS)?;
+/// Whether rows of which one is refused for lack of memory are all seen once it is accepted.
+fn observes_all(alloc: Global, group: &mut GroupExtrema) -> Result<bool, Refusal> {
+    observe_all(alloc, group, &ROWS)?;
     LINES.are_of(group.answer(alloc))
 }
 
 /// Whether a row and rows from -6 to 3 have the extrema of all.
-fn sees_rows_at_once(alloc: Global, group: &mut GroupExtrema) -> Result<bool, Refusal> {
-    group.see(None, 5)?;
-    group.see_rows(None, -6, 3)?;
+fn observes_rows_at_once(alloc: Global, group: &mut GroupExtrema) -> Result<bool, Refusal> {
+    group.observe(None, 5)?;
+    group.observe_rows(None, -6, 3)?;
     ONE_LINE.are_of(group.answer(alloc))
 }
 
 #[test]
 fn rows_are_seen_one_by_one_or_folded(rt: HostRuntime) {
     let alloc = rt.alloc();
-    let one_by_one = sees_all(alloc, &mut GroupExtrema::new(alloc));
+    let one_by_one = observes_all(alloc, &mut GroupExtrema::new(alloc));
     must_be(&rt, one_by_one, Ok(true));
-    let folded = sees_rows_at_once(alloc, &mut GroupExtrema::new(alloc));
+    let folded = observes_rows_at_once(alloc, &mut GroupExtrema::new(alloc));
     must_be(&rt, folded, Ok(true));
 }
 
@@ -80,7 +80,7 @@ fn loses_its_rows(
     group: &mut GroupExtrema,
     key: &Option<Key>,
 ) -> Result<bool, Refusal> {
-    see_all(alloc, group, &ROWS)?;
+    observe_all(alloc, group, &ROWS)?;
     if !has_lines_with(alloc, group, key, Some((1, 1)), ONE_LEFT)? {
         return Ok(false);
     }

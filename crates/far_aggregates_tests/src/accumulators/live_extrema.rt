@@ -1,8 +1,8 @@
 // Extrema by key of several row groups.
 ghost use Rattle.std.specs.Prelude.{◌≡◌, ◌≢◌, ◌-◌, [], OnOk};
-ghost use Rattle.far_extrema.specs.Live.{with_room, HasRoomFor};
+ghost use Rattle.far_extrema.specs.Live.{with_reserved, IsReservedFor};
 
-use crate::accumulators::extrema::see_all;
+use crate::accumulators::extrema::observe_all;
 use crate::cases::{NamedCase, all_are_right, must_be};
 use crate::lines::{Lines, Name, Row, key_of};
 use far_extrema::{GroupExtrema, LiveExtrema, MinMax, RowsLeft};
@@ -27,19 +27,19 @@ fn extrema_are_told_once_their_row_groups_are_in(rt: HostRuntime) {
     must_be(&rt, told_early(rt.alloc()), Err(Refusal::Building(1)));
 }
 
-/// Makes room for a row group and its keys, at the second call where the first is refused.
-fn make_room_for(live: &mut LiveExtrema, group: u32, extrema: &GroupExtrema) -> Result<(), Refusal>
+/// Reserves a row group and its keys, at the second call where the first is refused.
+fn reserve_for(live: &mut LiveExtrema, group: u32, extrema: &GroupExtrema) -> Result<(), Refusal>
     ensures left { live.new.left ≡ live.old.left }
-    ensures groups { OnOk result (live.new.groups ≡ with_room group live.old.groups) }
-    ensures keys { OnOk result (HasRoomFor extrema.now live.new) }
+    ensures groups { OnOk result (live.new.groups ≡ with_reserved group live.old.groups) }
+    ensures keys { OnOk result (IsReservedFor extrema.now live.new) }
 {
-    match live.make_room_for(group, extrema) {
-        Err(Refusal::NoMemory) => live.make_room_for(group, extrema),
+    match live.reserve_for(group, extrema) {
+        Err(Refusal::NoMemory) => live.reserve_for(group, extrema),
         reply => reply,
     }
 }
 
-/// Sees these rows, and makes room for them.
+/// Observes these rows, and reserves for them.
 fn make_ready(
     alloc: Global,
     live: &mut LiveExtrema,
@@ -48,11 +48,11 @@ fn make_ready(
     rows: &[Row],
 ) -> Result<(), Refusal>
     ensures left { live.new.left ≡ live.old.left }
-    ensures groups { OnOk result (live.new.groups ≡ with_room number live.old.groups) }
-    ensures keys { OnOk result (HasRoomFor group.new live.new) }
+    ensures groups { OnOk result (live.new.groups ≡ with_reserved number live.old.groups) }
+    ensures keys { OnOk result (IsReservedFor group.new live.new) }
 {
-    see_all(alloc, group, rows)?;
-    make_room_for(live, number, group)
+    observe_all(alloc, group, rows)?;
+    reserve_for(live, number, group)
 }
 
 /// Merges the first row group, which has these rows.
@@ -186,13 +186,13 @@ impl RowsLeft for Left {
 /// Whether what stands under a key of row group 1 follows two rows, of which the second goes, is put to another and follows
 /// one more.
 fn follows_rows(live: &mut LiveExtrema, key: &Option<Key>) -> Result<bool, Refusal> {
-    live.make_room(1);
+    live.reserve(1);
     let before = live.span(1, key);
-    live.see_under(1, key, 4)?;
+    live.observe_under(1, key, 4)?;
     let Some(span) = live.span(1, key) else {
         return Ok(false);
     };
-    live.see_over(1, key, 9, span);
+    live.observe_over(1, key, 9, span);
     if live.span(1, key) != Some((4, 9)) {
         return Ok(false);
     }
@@ -201,7 +201,7 @@ fn follows_rows(live: &mut LiveExtrema, key: &Option<Key>) -> Result<bool, Refus
         return Ok(false);
     }
     live.put_span(1, key, Some((3, 5)));
-    live.see_under(1, key, -1)?;
+    live.observe_under(1, key, -1)?;
     Ok(before.is_none() && live.span(1, key) == Some((-1, 5)))
 }
 
@@ -222,12 +222,12 @@ fn a_span_follows_a_row_and_is_put_back(rt: HostRuntime) {
 }
 
 /// Whether rows under a key that a row group has are seen without memory, and each call returns what stood there. The first row
-/// alone may be refused for want of memory.
+/// alone may be refused for lack of memory.
 fn knows_a_key(live: &mut LiveExtrema, key: &Option<Key>) -> Result<bool, Refusal> {
-    live.make_room(1);
-    let first = live.see_under(1, key, 4)?;
-    let beyond = live.see_under(1, key, 9);
-    let within = live.see_under(1, key, 5);
+    live.reserve(1);
+    let first = live.observe_under(1, key, 4)?;
+    let beyond = live.observe_under(1, key, 9);
+    let within = live.observe_under(1, key, 5);
     Ok(first.is_none() && beyond == Ok(Some((4, 4))) && within == Ok(Some((4, 9))))
 }
 

@@ -2,7 +2,7 @@
 ghost use Rattle.std.specs.Prelude.{◌≡◌, ◌≢◌, ◌<◌, ◌≤◌, ◌^◌, Option, OnOk};
 ghost use Rattle.std.specs.FinMap as fin;
 ghost use Rattle.far_types.specs.declared.key.Key.{Key};
-ghost use Rattle.far_types.specs.Changes.{count_in};
+ghost use Rattle.far_types.specs.Effects.{count_in};
 ghost use Rattle.far_groups.specs.Live.{CanJoin};
 
 use crate::cases::{NamedCase, all_are_right, must_be};

@@ -91,7 +91,7 @@ fn carry_again<S: FarStore>(
     job: OffloadJob<S>,
     refused: &mut u64,
 ) -> Result<PartialDone, Refusal>
-    requires here { All (λ ticket. S.is_of ticket.1 (S.name store.now)) job.tickets }
+    requires here { All (λ ticket. S.is_of ticket.1 (S.store_id store.now)) job.tickets }
     requires none { refused.old ≡ 0 }
 {
     match job.carry(alloc, store, &mut Meter::new()) {
@@ -111,7 +111,7 @@ fn comes_to<S: FarStore>(
     refused: u64,
     lines: Lines<'_>,
 ) -> Result<bool, Refusal>
-    requires { All (λ ticket. S.is_of ticket.1 (S.name store.now)) job.tickets }
+    requires { All (λ ticket. S.is_of ticket.1 (S.store_id store.now)) job.tickets }
 {
     let mut met = 0;
     let done = carry_again(alloc, store, job, &mut met);
@@ -159,9 +159,9 @@ impl Case {
         texts: S::Ticket,
         refused: u64,
     ) -> Result<bool, Refusal>
-        requires ints { S.is_of ints (S.name store.now) }
+        requires ints { S.is_of ints (S.store_id store.now) }
         requires ints_form { IsForm (S.content ints) }
-        requires texts { S.is_of texts (S.name store.now) }
+        requires texts { S.is_of texts (S.store_id store.now) }
         requires texts_form { IsForm (S.content texts) }
         requires alive { length self.now.rows.alive.now < 2 ^ 26 }
     {

@@ -18,7 +18,7 @@ static LINES: Lines<'static> = Lines::Totals(&[(Name::Nobody, 3, 8)]);
 
 /// Whether a job that is kept comes to the count and the sum of its rows, and has what it was made with.
 fn is_kept<S: FarStore>(alloc: Global, store: &S, job: &OffloadJob<S>) -> Result<bool, Refusal>
-    requires { All (λ ticket. S.is_of ticket.1 (S.name store.now)) job.now.tickets }
+    requires { All (λ ticket. S.is_of ticket.1 (S.store_id store.now)) job.now.tickets }
 {
     let done = job.partial(alloc, store, &mut Meter::new());
     let folded = is_told(alloc, LINES, done);

@@ -15,7 +15,7 @@ pub fn put_ints<S: FarStore>(
     numbers: &[Option<i64>],
 ) -> Result<S::Ticket, Refusal>
     requires { length numbers.now < 2 ^ 32 }
-    ensures here { IfOk result (λ ticket. S.is_of ticket (S.name store.now)) }
+    ensures here { IfOk result (λ ticket. S.is_of ticket (S.store_id store.now)) }
     ensures form { IfOk result (λ ticket. IsForm (S.content ticket)) }
 {
     let mut meter = Meter::new();
@@ -33,7 +33,7 @@ fn with_next(alloc: Global, form: &[u8], word: Option<&str>) -> Result<Vec<u8>, 
         None => None,
     };
     if length_with_next(form, &text) < 1_000 {
-        return form_with_next(alloc, form, &text);
+        return form_with_next(Vec::new(alloc), form, &text);
     }
     Err(Refusal::TextTooLong)
 }
@@ -57,7 +57,7 @@ pub fn put_texts<S: FarStore>(
     store: &S,
     words: &[Option<&str>],
 ) -> Result<S::Ticket, Refusal>
-    ensures here { IfOk result (λ ticket. S.is_of ticket (S.name store.now)) }
+    ensures here { IfOk result (λ ticket. S.is_of ticket (S.store_id store.now)) }
     ensures form { IfOk result (λ ticket. IsForm (S.content ticket)) }
 {
     let mut meter = Meter::new();

@@ -4,7 +4,7 @@ use far_types::Refusal;
 use std::alloc::Global;
 use std::process::Abort;
 
-/// Whether a case is right. One that is refused for want of memory is tried again, since a run may ask that one allocation
+/// Whether a case is right. One that is refused for lack of memory is tried again, since a run may ask that one allocation
 /// fails.
 fn holds<C: Case>(alloc: Global, case: &C) -> bool {
     match case.is_right(alloc) {

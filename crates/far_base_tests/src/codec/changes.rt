@@ -32,7 +32,7 @@ fn changed_texts(
             return form_with(alloc, form, i, text);
         }
     } else if length_with_next(form, text) < 1000 {
-        return form_with_next(alloc, form, text);
+        return form_with_next(Vec::new(alloc), form, text);
     }
     Ok(Vec::new(alloc))
 }
@@ -182,7 +182,7 @@ fn one_text(alloc: Global, word: Option<&str>) -> Result<Vec<u8>, Refusal> {
     {
         return Ok(Vec::new(alloc));
     }
-    form_of(alloc, &text)
+    form_of(Vec::new(alloc), &text)
 }
 
 /// Texts that are put one behind the other, and their form.

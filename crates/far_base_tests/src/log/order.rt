@@ -1,7 +1,7 @@
 // Whether offsets are those of a segment's parts.
 ghost use Rattle.std.specs.Prelude.{◌≢◌, ◌<◌, ℕ, AllPairs, All, IsSome, IsTrue, Contains};
-ghost use Rattle.far_log.specs.Room.{segment_of, list_at};
-ghost use Rattle.far_log.specs.Changes.{IsOrder};
+ghost use Rattle.far_log.specs.RegionState.{segment_of, list_at};
+ghost use Rattle.far_log.specs.Effects.{IsOrder};
 
 use far_codec::Elem;
 use far_log::Region;

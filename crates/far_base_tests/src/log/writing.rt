@@ -1,7 +1,7 @@
 // Callers that write through what the region lends.
 ghost use Rattle.std.specs.Prelude.{◌<◌, IsSomeAnd, length, Some, slice_set};
-ghost use Rattle.far_log.specs.Room.{part_of};
-ghost use Rattle.far_log.specs.Changes.{ChangesOnly};
+ghost use Rattle.far_log.specs.RegionState.{part_of};
+ghost use Rattle.far_log.specs.Effects.{ChangesOnly};
 
 use far_codec::Elem;
 use far_log::Region;

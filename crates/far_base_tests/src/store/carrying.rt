@@ -12,7 +12,7 @@ fn is_read_alike<S: FarRead>(
     ticket: &S::Ticket,
     bytes: &[u8],
 ) -> Result<bool, Refusal>
-    requires { S.is_of ticket.now (S.name store.now) }
+    requires { S.is_of ticket.now (S.store_id store.now) }
 {
     let again = store.again(ticket);
     match reads_alike(store, alloc, &mut Meter::new(), ticket, &again)? {

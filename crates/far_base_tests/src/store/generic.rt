@@ -16,7 +16,7 @@ pub enum Why {
 
 // A caller that names these three has named all.
 pub fn put<S: FarStore>(store: &S, alloc: Global, bytes: &[u8]) -> Result<S::Ticket, Why>
-    ensures { IfOk result (λ t. S.is_of t (S.name store.now)) }
+    ensures { IfOk result (λ t. S.is_of t (S.store_id store.now)) }
 {
     match store.put(alloc, &mut Meter::new(), bytes) {
         Ok(ticket) => Ok(ticket),
@@ -34,7 +34,7 @@ pub fn get<S: FarRead>(
     ticket: &S::Ticket,
     buffer: &mut Vec<u8>,
 ) -> Result<(), Why>
-    requires { S.is_of ticket.now (S.name store.now) }
+    requires { S.is_of ticket.now (S.store_id store.now) }
 {
     match store.get(alloc, &mut Meter::new(), ticket, buffer) {
         Ok(()) => Ok(()),
@@ -65,8 +65,8 @@ pub fn carry_over<S: FarRead, N: FarStore>(
     ticket: &S::Ticket,
 ) -> Result<N::Ticket, Refusal>
     requires few { meter.old < 2 ^ 62 }
-    requires here { S.is_of ticket.now (S.name from.now) }
-    ensures there { IfOk result (λ t. N.is_of t (N.name to.now)) }
+    requires here { S.is_of ticket.now (S.store_id from.now) }
+    ensures there { IfOk result (λ t. N.is_of t (N.store_id to.now)) }
     ensures content { IfOk result (λ t. N.content t ≡ S.content ticket.now) }
     ensures faults { meter.new ≡ meter.old + faults_in result }
     ensures refused { RefusedBy (21 ∷ 22 ∷ 1 ∷ []) result }
@@ -85,8 +85,8 @@ pub fn reads_alike<S: FarRead>(
     other: &S::Ticket,
 ) -> Result<Option<Vec<u8>>, Refusal>
     requires few { meter.old < 2 ^ 63 }
-    requires ticket_here { S.is_of ticket.now (S.name store.now) }
-    requires other_here { S.is_of other.now (S.name store.now) }
+    requires ticket_here { S.is_of ticket.now (S.store_id store.now) }
+    requires other_here { S.is_of other.now (S.store_id store.now) }
     ensures { IfOk result (λ read. IfSome read (λ bytes. bytes.items ≡ S.content other.now)) }
 {
     if !store.same(ticket, other) {
@@ -109,7 +109,7 @@ pub fn puts_all<S: FarStore>(
     thread: u64,
     count: u64,
 ) -> Result<Vec<S::Ticket>, Refusal>
-    ensures { IfOk result (λ tickets. All (λ t. S.is_of t (S.name store.now)) tickets.items) }
+    ensures { IfOk result (λ tickets. All (λ t. S.is_of t (S.store_id store.now)) tickets.items) }
 {
     let mut tickets = Vec::new(alloc);
     for n in 0..count {
@@ -126,7 +126,7 @@ pub fn gets_all<S: FarRead>(
     thread: u64,
     tickets: &[S::Ticket],
 ) -> Result<u64, Refusal>
-    requires { All (λ t. S.is_of t (S.name store.now)) tickets.now }
+    requires { All (λ t. S.is_of t (S.store_id store.now)) tickets.now }
 {
     let mut right = 0;
     let mut n = 0;

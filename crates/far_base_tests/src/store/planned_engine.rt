@@ -57,7 +57,7 @@ impl<E: Engine> Engine for PlannedEngine<E> {
 
     ghost written = { E.written };
 
-    ghost name = { λ planned. E.name planned.engine };
+    ghost engine_id = { λ planned. E.engine_id planned.engine };
 
     ghost is_of = { E.is_of };
 

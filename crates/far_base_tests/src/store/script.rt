@@ -58,8 +58,8 @@ impl Line {
         last: &mut Option<S::Ticket>,
         buffer: &mut Vec<u8>,
     ) -> bool
-        requires { IfSome last.old (λ t. S.is_of t (S.name store.now)) }
-        ensures { IfSome last.new (λ t. S.is_of t (S.name store.now)) }
+        requires { IfSome last.old (λ t. S.is_of t (S.store_id store.now)) }
+        ensures { IfSome last.new (λ t. S.is_of t (S.store_id store.now)) }
     {
         match self {
             Line::Put(bytes, wanted) => is_put(store, alloc, last, bytes, wanted),
@@ -84,7 +84,7 @@ fn put_at_last<S: FarStore>(
     bytes: &[u8],
     wanted: Result<u64, Why>,
 ) -> Result<S::Ticket, Why>
-    ensures { IfOk result (λ t. S.is_of t (S.name store.now)) }
+    ensures { IfOk result (λ t. S.is_of t (S.store_id store.now)) }
 {
     match put(store, alloc, bytes) {
         Err(Why::NoMemory) if wanted != Err(Why::NoMemory) => put(store, alloc, bytes),
@@ -100,8 +100,8 @@ fn is_put<S: FarStore>(
     bytes: &[u8],
     wanted: Result<u64, Why>,
 ) -> bool
-    requires { IfSome last.old (λ t. S.is_of t (S.name store.now)) }
-    ensures { IfSome last.new (λ t. S.is_of t (S.name store.now)) }
+    requires { IfSome last.old (λ t. S.is_of t (S.store_id store.now)) }
+    ensures { IfSome last.new (λ t. S.is_of t (S.store_id store.now)) }
 {
     match put_at_last(store, alloc, bytes, wanted) {
         Ok(ticket) => {
@@ -121,7 +121,7 @@ fn get_at_last<S: FarRead>(
     buffer: &mut Vec<u8>,
     wanted: Result<&[u8], Why>,
 ) -> Result<(), Why>
-    requires { S.is_of ticket.now (S.name store.now) }
+    requires { S.is_of ticket.now (S.store_id store.now) }
 {
     match get(store, alloc, ticket, buffer) {
         Err(Why::NoMemory) if wanted != Err(Why::NoMemory) => get(store, alloc, ticket, buffer),
@@ -137,7 +137,7 @@ fn is_got<S: FarRead>(
     buffer: &mut Vec<u8>,
     wanted: Result<&[u8], Why>,
 ) -> bool
-    requires { IfSome last.now (λ t. S.is_of t (S.name store.now)) }
+    requires { IfSome last.now (λ t. S.is_of t (S.store_id store.now)) }
 {
     let Some(ticket) = last else {
         return false;
@@ -179,7 +179,7 @@ fn is_told_apart<S: FarStore>(
     last: &Option<S::Ticket>,
     bytes: &[u8],
 ) -> bool
-    requires { IfSome last.now (λ t. S.is_of t (S.name store.now)) }
+    requires { IfSome last.now (λ t. S.is_of t (S.store_id store.now)) }
 {
     match (last, put(store, alloc, bytes)) {
         (Some(earlier), Ok(ticket)) => !store.same(earlier, &ticket),
@@ -194,7 +194,7 @@ fn are_joined<S: FarStore>(
     last: &Option<S::Ticket>,
     buffer: &mut Vec<u8>,
 ) -> bool
-    requires { IfSome last.now (λ t. S.is_of t (S.name store.now)) }
+    requires { IfSome last.now (λ t. S.is_of t (S.store_id store.now)) }
 {
     let Some(ticket) = last else {
         return false;

@@ -57,7 +57,7 @@ impl FarTickets for ShelfStore {
 
     ghost number_of = { λ t. t.0 };
 
-    ghost name = { λ s. map (λ place. place.id) s.places.items };
+    ghost store_id = { λ s. map (λ place. place.id) s.places.items };
 
     ghost is_of = { λ t name. (t.0 < length name) × (t.1 ≡ slice_index name t.0) };
 

@@ -81,7 +81,7 @@ fn has_one_and(row: &LentRow<'_>, bytes: &str) -> bool {
     row.len() == 2 && is_number(row.get(0), 1) && is_text(row.get(1), bytes) && row.get(2).is_none()
 }
 
-/// Whether a row has its cells in order, and another cell in its column, and none where it has no such column.
+/// Whether a row has its cells in order, and another cell in its column, and none if it has no such column.
 fn has_its_cells() -> bool {
     let mut row = LentRow::new();
     row.push(CellRef::Int(1));

@@ -5,7 +5,7 @@ ghost use Rattle.far_types.specs.declared.cell.Kind.TheVariants.{Int, Text as Te
 ghost use Rattle.far_types.specs.Cells.{is_of_kind, is_too_long};
 ghost use Rattle.far_types.specs.Edits.{kinds_fit};
 
-use far_rows::{NewRow, Slot};
+use far_rows::{ColumnIndex, NewRow};
 use far_types::{Cell, Refusal, Row, Text};
 use std::alloc::Global;
 
@@ -20,7 +20,7 @@ pub(super) fn one_number(alloc: Global) -> Result<NewRow, Refusal>
     let Ok(mut row) = NewRow::new(alloc, 1, 0) else {
         return Err(Refusal::NoMemory);
     };
-    row.fill(&[Slot::Number(0)], Row::new(cells));
+    row.load(&[ColumnIndex::Number(0)], Row::new(cells));
     Ok(row)
 }
 
@@ -29,11 +29,11 @@ pub(super) fn four_numbers(alloc: Global) -> Result<NewRow, Refusal>
     ensures numbers { IfOk result (λ row. length row.numbers ≡ 4) }
     ensures texts { IfOk result (λ row. length row.texts ≡ 0) }
 {
-    let slots = [
-        Slot::Number(0),
-        Slot::Number(1),
-        Slot::Number(2),
-        Slot::Number(3),
+    let column_indexes = [
+        ColumnIndex::Number(0),
+        ColumnIndex::Number(1),
+        ColumnIndex::Number(2),
+        ColumnIndex::Number(3),
     ];
     let cells = [Cell::Int(1), Cell::Int(2), Cell::Int(3), Cell::Int(4)];
     let Ok(cells) = Vec::from_array(alloc, cells) else {
@@ -42,7 +42,7 @@ pub(super) fn four_numbers(alloc: Global) -> Result<NewRow, Refusal>
     let Ok(mut row) = NewRow::new(alloc, 4, 0) else {
         return Err(Refusal::NoMemory);
     };
-    row.fill(&slots, Row::new(cells));
+    row.load(&column_indexes, Row::new(cells));
     Ok(row)
 }
 
@@ -103,7 +103,7 @@ pub(super) fn one_text(alloc: Global) -> Result<NewRow, Refusal>
     let Ok(mut row) = NewRow::new(alloc, 0, 1) else {
         return Err(Refusal::NoMemory);
     };
-    row.fill(&[Slot::Text(0)], Row::new(cells));
+    row.load(&[ColumnIndex::Text(0)], Row::new(cells));
     Ok(row)
 }
 
@@ -112,13 +112,18 @@ pub(super) fn four_texts(alloc: Global) -> Result<NewRow, Refusal>
     ensures numbers { IfOk result (λ row. length row.numbers ≡ 0) }
     ensures texts { IfOk result (λ row. length row.texts ≡ 4) }
 {
-    let slots = [Slot::Text(0), Slot::Text(1), Slot::Text(2), Slot::Text(3)];
+    let column_indexes = [
+        ColumnIndex::Text(0),
+        ColumnIndex::Text(1),
+        ColumnIndex::Text(2),
+        ColumnIndex::Text(3),
+    ];
     let Ok(texts) = texts(alloc) else {
         return Err(Refusal::NoMemory);
     };
     let Ok(mut row) = NewRow::new(alloc, 0, 4) else {
         return Err(Refusal::NoMemory);
     };
-    row.fill(&slots, texts);
+    row.load(&column_indexes, texts);
     Ok(row)
 }

@@ -3,7 +3,7 @@ ghost use Rattle.std.specs.Prelude.{◌≡◌, ◌⊎◌, ◌≤◌, ◌+◌, �
 ghost use Rattle.far_codec.specs.Reading.{ints_meaning};
 ghost use Rattle.far_scopes.specs.Movement.{AreClean, AreHere};
 ghost use Rattle.far_scopes.specs.Refusing.{refusal_in};
-ghost use Rattle.far_vector.specs.Effects.{unpushed};
+ghost use Rattle.far_vector.specs.Effects.{after_unpush};
 ghost use Rattle.far_columns.specs.Numbers.{number_lists, numbers_in};
 ghost use Rattle.far_columns.specs.NumbersTogether.{AreNumberColumns, all_begin, all_pushed, all_numbers_with, KeepsNumbers, all_pushed_in, push_numbers_refusal};
 ghost use Rattle.far_columns.specs.NumbersBack.{AreBegunLast, all_uncreated};
@@ -20,12 +20,12 @@ use far_types::Refusal;
 use filling::fill_places;
 use groups::{begin_groups, unbegin_groups};
 
-/// Whether the next places of at most 16 columns may get a number each. Takes no memory. After `Ok` a `push_numbers` can be
+/// Whether the next places of at most 16 columns may get a number each. Allocates nothing. After `Ok` a `push_numbers` can be
 /// refused for memory alone.
 ///
-/// Refused as `push_numbers` is: where row groups begin with `RegionFull` (17) exactly where the new objects, placed one after
-/// the other, do not find room beside all that is there; elsewhere with `Absent` (16) exactly where some column's last object is
-/// away, naming the first such, else with `EditsUsedUp` (24) exactly where some last object was written as often as objects
+/// Refused as `push_numbers` is: where row groups begin with `RegionFull` (17) exactly if the new objects, placed one after
+/// the other, do not find room beside all that is there; elsewhere with `Absent` (16) exactly if some column's last object is
+/// away, naming the first such, else with `EditsUsedUp` (24) exactly if some last object was written as often as objects
 /// may be.
 pub fn may_push_numbers<S: FarTickets>(
     objects: &Objects<Option<i64>, S>,
@@ -46,10 +46,10 @@ pub fn may_push_numbers<S: FarTickets>(
 /// Appends a number to each of several columns, to all or to none. Where the next places begin row groups an object is made
 /// for each column; else the last object of each is written in place.
 ///
-/// Refused, where row groups begin, with `RegionFull` (17) where the new objects, placed one after the other, do not find
-/// room beside all that is there, and with `NoMemory` (1) where a growth was refused, which may come before it is seen that
-/// 17 applies. Elsewhere refused with `Absent` (16) exactly where some column's last object is away, naming the first such,
-/// else with `EditsUsedUp` (24) exactly where some last object was written as often as objects may be, and takes no memory.
+/// Refused, where row groups begin, with `RegionFull` (17) if the new objects, placed one after the other, do not find
+/// room beside all that is there, and with `NoMemory` (1) if an allocation failed, which may come before it is seen that
+/// 17 applies. Elsewhere refused with `Absent` (16) exactly if some column's last object is away, naming the first such,
+/// else with `EditsUsedUp` (24) exactly if some last object was written as often as objects may be, and allocates nothing.
 /// Then nothing is changed.
 ///
 /// `may_push_numbers` tells before what is refused, but for memory; `unpush_numbers` takes a call back that began row groups
@@ -60,14 +60,14 @@ pub fn push_numbers<S: FarTickets>(
     numbers: &[Option<i64>],
 ) -> Result<(), Refusal>
     requires are { AreNumberColumns (number_lists S.content objects.old) columns.old }
-    requires even { length numbers.now ≡ length columns.old }
+    requires same_length { length numbers.now ≡ length columns.old }
     requires few { all_begin columns.old ≡ true → length objects.old.entries + length columns.old ≤ 2 ^ 28 }
     ensures pushed { OnOk result (columns.new ≡ all_pushed (length objects.old.entries) columns.old) }
     ensures moved { OnOk result (objects.new ≡ all_pushed_in objects.old columns.old numbers.now) }
     ensures numbers { OnOk result (map (numbers_in S.content objects.new) columns.new ≡ all_numbers_with (number_lists S.content objects.old) columns.old numbers.now) }
     ensures are { AreNumberColumns (number_lists S.content objects.new) columns.new }
     ensures last { OnOk result (all_begin columns.old ≡ true → AreBegunLast objects.new columns.new) }
-    ensures undone { OnOk result (all_begin columns.old ≡ true → (map unpushed columns.new ≡ columns.old) × (all_uncreated (length columns.old) objects.new ≡ objects.old)) }
+    ensures undone { OnOk result (all_begin columns.old ≡ true → (map after_unpush columns.new ≡ columns.old) × (all_uncreated (length columns.old) objects.new ≡ objects.old)) }
     ensures count { OnOk result (length objects.new.entries ≡ length objects.old.entries + (if all_begin columns.old then length columns.old else 0)) }
     ensures others { KeepsNumbers (number_lists S.content objects.old) (number_lists S.content objects.new) columns.old columns.new }
     ensures clean { AreClean ints_meaning S.content objects.old → AreClean ints_meaning S.content objects.new }
@@ -87,14 +87,14 @@ pub fn push_numbers<S: FarTickets>(
 }
 
 /// Appends a number to each of several columns whose last row groups are begun, as `push_numbers` does, once `may_push_numbers` told
-/// that none is refused. So no object is asked again. Takes no memory.
+/// that none is refused. So no object is asked again. Allocates nothing.
 pub fn fill_numbers<S: FarTickets>(
     objects: &mut Objects<Option<i64>, S>,
     columns: &mut [IntColumn],
     numbers: &[Option<i64>],
 )
     requires are { AreNumberColumns (number_lists S.content objects.old) columns.old }
-    requires even { length numbers.now ≡ length columns.old }
+    requires same_length { length numbers.now ≡ length columns.old }
     requires begun { all_begin columns.old ≡ false }
     requires free { push_numbers_refusal objects.old columns.old ≡ None }
     ensures pushed { columns.new ≡ all_pushed (length objects.old.entries) columns.old }
@@ -111,14 +111,14 @@ pub fn fill_numbers<S: FarTickets>(
 }
 
 /// Takes back a `push_numbers` that began row groups: the number of each column, the only one of its last row group, and
-/// that row group's object; the object that was made last goes first. Takes no memory.
+/// that row group's object; the object that was made last goes first. Allocates nothing.
 pub fn unpush_numbers<S: FarTickets>(
     objects: &mut Objects<Option<i64>, S>,
     columns: &mut [IntColumn],
 )
     requires are { AreNumberColumns (number_lists S.content objects.old) columns.old }
     requires begun { AreBegunLast objects.old columns.old }
-    ensures unpushed { columns.new ≡ map unpushed columns.old }
+    ensures unpushed { columns.new ≡ map after_unpush columns.old }
     ensures uncreated { objects.new ≡ all_uncreated (length columns.old) objects.old }
     ensures numbers { map (numbers_in S.content objects.new) columns.new ≡ map (λ c. take (c.len - 1) (numbers_in S.content objects.old c)) columns.old }
     ensures are { AreNumberColumns (number_lists S.content objects.new) columns.new }

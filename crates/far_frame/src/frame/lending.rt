@@ -7,7 +7,7 @@ ghost use Rattle.far_rows.specs.Jobs.{AreAt};
 ghost use Rattle.far_rows.specs.Moving.{object_refusal};
 ghost use Rattle.far_frame.specs.declared.step.Reply.{Reply};
 ghost use Rattle.far_frame.specs.declared.step.Step.TheVariants as step;
-ghost use Rattle.far_frame.specs.Changes.{Accepts};
+ghost use Rattle.far_frame.specs.Effects.{Accepts};
 ghost use Rattle.far_frame.specs.Lending.{AreSeen, Gives, lend_refusal, lent_part, next_groups, prefetch_refusal};
 
 use super::Frame;
@@ -32,7 +32,7 @@ impl<S: FarTickets> Frame<S> {
     }
 
     /// Records an access to a row group of a column, whether or not there is such a row group. Allocates nothing.
-    fn see_one(&mut self, column: u32, group: u32)
+    fn record_access(&mut self, column: u32, group: u32)
         ensures seen { AreSeen column (group ∷ []) self.old self.new }
         ensures here { (name : List ℕ) → AreAt S.is_of name self.old.rows → AreAt S.is_of name self.new.rows }
     {
@@ -42,7 +42,7 @@ impl<S: FarTickets> Frame<S> {
     }
 
     /// Records an access to each row group that has places `from` up to `to` of a column, in order. Allocates nothing.
-    pub(crate) fn see(&mut self, column: u32, from: u32, to: u32)
+    pub(crate) fn record_accesses(&mut self, column: u32, from: u32, to: u32)
         ensures seen { AreSeen column (touched self.old.rows.size from to) self.old self.new }
         ensures here { (name : List ℕ) → AreAt S.is_of name self.old.rows → AreAt S.is_of name self.new.rows }
     {
@@ -50,12 +50,12 @@ impl<S: FarTickets> Frame<S> {
         let mut place = from as usize;
         while place < to as usize {
             let group = place / size;
-            self.see_one(column, group as u32);
+            self.record_access(column, group as u32);
             place = (group + 1) * size;
         }
     }
 
-    /// Whether a part of a column can be lent: then there is a reply that gives it. Takes no memory.
+    /// Whether a part of a column can be lent: then there is a reply that gives it. Allocates nothing.
     fn may_lend(&self, column: u32, from: u32, to: u32) -> Result<(), Refusal>
         ensures given { OnOk result ((given : Reply) × Gives (slice_get self.now.table.schema column) (lent_part self.now.table column from to) given) }
         ensures refused { refusal_in result ≡ lend_refusal self.now.rows column from to }
@@ -78,9 +78,9 @@ impl<S: FarTickets> Frame<S> {
 
     /// Records that a part of a column was lent, as the step `Lend` records it: an access to each row group that has some of it, in
     /// order, and their objects are marked as recently used. This is for those who read the part in a view, where no value is copied.
-    /// Takes no memory.
+    /// Allocates nothing.
     ///
-    /// Refused with `NoColumn` (4), `OutOfRange` (14) where `from` is above `to` or `to` is past the places, `Absent` (16) where the
+    /// Refused with `NoColumn` (4), `OutOfRange` (14) if `from` is above `to` or `to` is past the places, `Absent` (16) if the
     /// object of a row group that has some of them is away, naming the first: the first that applies. Then nothing is changed.
     pub fn record_lending(&mut self, column: u32, from: u32, to: u32) -> Result<(), Refusal>
         ensures ok { OnOk result ((given : Reply) × Gives (slice_get self.old.table.schema column) (lent_part self.old.table column from to) given × Accepts S.content self.old (step.Lend column from to) given self.new) }
@@ -89,14 +89,14 @@ impl<S: FarTickets> Frame<S> {
         ensures here { (name : List ℕ) → AreAt S.is_of name self.old.rows → AreAt S.is_of name self.new.rows }
     {
         self.may_lend(column, from, to)?;
-        self.see(column, from, to);
+        self.record_accesses(column, from, to);
         Ok(())
     }
 
     /// The row groups of a column to fetch next: where the last three differences of the row groups in its history are equal
     /// and not 0, the next two of that stride that exist, and else none.
     ///
-    /// Refused with `NoColumn` (4) exactly where there is no such column, else with `NoMemory` (1) alone.
+    /// Refused with `NoColumn` (4) exactly if there is no such column, else with `NoMemory` (1) alone.
     pub fn proposals(&self, column: u32) -> Result<Vec<u32>, Refusal>
         ensures found { IfOk result (λ found. found.items ≡ next_groups self.now.table self.now.seen column) }
         ensures column { OnOk result (prefetch_refusal self.now.table column ≡ None) }

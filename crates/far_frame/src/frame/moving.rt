@@ -14,10 +14,10 @@ use far_store::FarTickets;
 use far_types::{Kind, Name, Refusal};
 
 impl<S: FarTickets> Frame<S> {
-    /// Keeps the object of a row group of a column from going away, once more. Takes no memory.
+    /// Keeps the object of a row group of a column from going away, once more. Allocates nothing.
     ///
-    /// Refused with `NoColumn` (4), `OutOfRange` (14) where no place of the row group is used, `Absent` (16) where the object is
-    /// away, `EditsUsedUp` (24) where it has 65,535 pins: the first that applies. Then nothing is changed.
+    /// Refused with `NoColumn` (4), `OutOfRange` (14) if no place of the row group is used, `Absent` (16) if the object is
+    /// away, `EditsUsedUp` (24) if it has 65,535 pins: the first that applies. Then nothing is changed.
     pub fn pin(&mut self, column: u32, group: u32) -> Result<(), Refusal>
         ensures pinned { OnOk result (Alters (IsMoved (IsPinned column group)) self.old self.new) }
         ensures here { (name : List ℕ) → AreAt S.is_of name self.old.rows → AreAt S.is_of name self.new.rows }
@@ -27,9 +27,9 @@ impl<S: FarTickets> Frame<S> {
         self.table.pin(column, group)
     }
 
-    /// Takes back one pin of the object of a row group of a column. Takes no memory.
+    /// Takes back one pin of the object of a row group of a column. Allocates nothing.
     ///
-    /// Refused with `NoColumn` (4), `OutOfRange` (14) where no place of the row group is used, `NotPinned` (18) where the object has
+    /// Refused with `NoColumn` (4), `OutOfRange` (14) if no place of the row group is used, `NotPinned` (18) if the object has
     /// no pin: the first that applies. Then nothing is changed.
     pub fn unpin(&mut self, column: u32, group: u32) -> Result<(), Refusal>
         ensures unpinned { OnOk result (Alters (IsMoved (IsUnpinned column group)) self.old self.new) }
@@ -40,9 +40,9 @@ impl<S: FarTickets> Frame<S> {
         self.table.unpin(column, group)
     }
 
-    /// Whether the object of a row group of a column can go away. Takes no memory.
+    /// Whether the object of a row group of a column can go away. Allocates nothing.
     ///
-    /// Refused with `NoColumn` (4), `OutOfRange` (14) where no place of the row group is used, `Absent` (16) where the object is
+    /// Refused with `NoColumn` (4), `OutOfRange` (14) if no place of the row group is used, `Absent` (16) if the object is
     /// away: the first that applies.
     pub fn may_evac(&self, column: u32, group: u32) -> Result<(), Refusal>
         ensures refused { refusal_in result ≡ evac_refusal self.now.rows column group }
@@ -57,12 +57,12 @@ impl<S: FarTickets> Frame<S> {
     /// Begins to send the object of a row group of a column away. The job holds the object's far form, or the ticket of a clean
     /// object; nothing is changed.
     ///
-    /// Refused with `NoColumn` (4), `OutOfRange` (14) where no place of the row group is used, `Absent` (16) where the object is
+    /// Refused with `NoColumn` (4), `OutOfRange` (14) if no place of the row group is used, `Absent` (16) if the object is
     /// away: the first that applies; else with `NoMemory` (1) alone.
     pub fn begin_evac(&self, store: &S, column: u32, group: u32) -> Result<Job<S>, Refusal>
-        requires here { AreAt S.is_of (S.name store.now) self.now.rows }
+        requires here { AreAt S.is_of (S.store_id store.now) self.now.rows }
         ensures begun { IfOk result (IsEvacJob self.now.rows column group) }
-        ensures here { IfOk result (IsJobAt S.is_of (S.name store.now)) }
+        ensures here { IfOk result (IsJobAt S.is_of (S.store_id store.now)) }
         ensures refused { IfErr result (MayRefuse (evac_refusal self.now.rows column group) true) }
     {
         let evac = self.table.begin_evac(store, column, group)?;
@@ -72,14 +72,14 @@ impl<S: FarTickets> Frame<S> {
         })
     }
 
-    /// Begins to send the coldest object away that has no pin, of the kind with less space; `None` exactly where neither kind has
+    /// Begins to send the coldest object away that has no pin, of the kind with less space; `None` exactly if neither kind has
     /// one. Nothing is changed.
     ///
     /// Refused with `NoMemory` (1) alone.
     pub fn begin_coldest(&self, store: &S) -> Result<Option<Job<S>>, Refusal>
-        requires here { AreAt S.is_of (S.name store.now) self.now.rows }
+        requires here { AreAt S.is_of (S.store_id store.now) self.now.rows }
         ensures begun { IfOk result (IsColdestJob self.now.rows) }
-        ensures here { IfOk result (λ job. IfSome job (IsJobAt S.is_of (S.name store.now))) }
+        ensures here { IfOk result (λ job. IfSome job (IsJobAt S.is_of (S.store_id store.now))) }
         ensures memory { IfErr result (λ e. e ≡ Refusal.NoMemory) }
     {
         let Some(name) = self.table.coldest() else {
@@ -92,14 +92,14 @@ impl<S: FarTickets> Frame<S> {
         }))
     }
 
-    /// Begins to bring the object of a row group of a column back. Nothing is changed. Takes no memory.
+    /// Begins to bring the object of a row group of a column back. Nothing is changed. Allocates nothing.
     ///
-    /// Refused with `NoColumn` (4), `OutOfRange` (14) where no place of the row group is used, `StaleJob` (20) where the object is
+    /// Refused with `NoColumn` (4), `OutOfRange` (14) if no place of the row group is used, `StaleJob` (20) if the object is
     /// local: the first that applies.
     pub fn begin_fetch(&self, store: &S, column: u32, group: u32) -> Result<Job<S>, Refusal>
-        requires here { AreAt S.is_of (S.name store.now) self.now.rows }
+        requires here { AreAt S.is_of (S.store_id store.now) self.now.rows }
         ensures begun { IfOk result (IsFetchJob self.now.rows column group) }
-        ensures here { IfOk result (IsJobAt S.is_of (S.name store.now)) }
+        ensures here { IfOk result (IsJobAt S.is_of (S.store_id store.now)) }
         ensures refused { refusal_in result ≡ fetch_refusal self.now.rows column group }
     {
         let fetch = self.table.begin_fetch(store, column, group)?;
@@ -109,17 +109,17 @@ impl<S: FarTickets> Frame<S> {
         })
     }
 
-    /// Sends the object of a carried evacuation away; each row, aggregate and answer stays. Takes no memory.
+    /// Sends the object of a carried evacuation away; each row, aggregate and answer stays. Allocates nothing.
     ///
     /// Refused with `StaleJob` (20) for any other job, and where what the job rests on does not hold any more: the object was
-    /// written or away since; else with `Pinned` (19) where the object has a pin. Then nothing is changed.
+    /// written or away since; else with `Pinned` (19) if the object has a pin. Then nothing is changed.
     pub fn commit(&mut self, store: &S, job: &Job<S>) -> Result<(), Refusal>
-        requires here { AreAt S.is_of (S.name store.now) self.old.rows }
-        requires job_here { IsJobAt S.is_of (S.name store.now) job.now }
+        requires here { AreAt S.is_of (S.store_id store.now) self.old.rows }
+        requires job_here { IsJobAt S.is_of (S.store_id store.now) job.now }
         ensures committed { OnOk result (Commits S.number_of self.old job.now.work self.new) }
         ensures refused { IfErr result (CommitRefusal S.number_of self.old job.now.work) }
         ensures err { OnErr result (self.new ≡ self.old) }
-        ensures here { AreAt S.is_of (S.name store.now) self.new.rows }
+        ensures here { AreAt S.is_of (S.store_id store.now) self.new.rows }
     {
         match &job.work {
             Work::Carried(carried) => self.table.commit(store, carried),
@@ -134,15 +134,15 @@ impl<S: FarTickets> Frame<S> {
     /// Brings the object of a carried fetch back; each row, aggregate and answer stays.
     ///
     /// Refused with `StaleJob` (20) for any other job, and where what the job rests on does not hold any more: the object is local,
-    /// or was away again since; else with `RegionFull` (17) where it finds no room; else with `NoMemory` (1) alone. Then nothing is
+    /// or was away again since; else with `RegionFull` (17) if it finds no room; else with `NoMemory` (1) alone. Then nothing is
     /// changed.
     pub fn install(&mut self, store: &S, job: &Job<S>) -> Result<(), Refusal>
-        requires here { AreAt S.is_of (S.name store.now) self.old.rows }
-        requires job_here { IsJobAt S.is_of (S.name store.now) job.now }
+        requires here { AreAt S.is_of (S.store_id store.now) self.old.rows }
+        requires job_here { IsJobAt S.is_of (S.store_id store.now) job.now }
         ensures installed { OnOk result (Installs S.number_of self.old S.content job.now.work self.new) }
         ensures refused { IfErr result (InstallRefusal S.number_of self.old S.content job.now.work) }
         ensures err { OnErr result (self.new ≡ self.old) }
-        ensures here { AreAt S.is_of (S.name store.now) self.new.rows }
+        ensures here { AreAt S.is_of (S.store_id store.now) self.new.rows }
     {
         match &job.work {
             Work::Fetched(fetched) => self.table.install(store, fetched),
@@ -157,7 +157,7 @@ impl<S: FarTickets> Frame<S> {
     /// Compacts a segment of the objects of a kind: its parts lie in the lowest other segment without parts from then on, one
     /// behind the other, those of hot objects first, and none of their objects is hot.
     ///
-    /// Refused with `OutOfRange` (14) exactly where there is no such segment, with `RegionFull` (17) exactly where there is
+    /// Refused with `OutOfRange` (14) exactly if there is no such segment, with `RegionFull` (17) exactly if there is
     /// one and no other is without parts, else with `NoMemory` (1) alone. Then nothing is changed.
     pub fn compact(&mut self, kind: Kind, segment: u32) -> Result<(), Refusal>
         ensures compacted { OnOk result (Alters (IsMoved (IsCompactedOf kind segment)) self.old self.new) }

@@ -14,16 +14,16 @@ use far_store::FarTickets;
 use far_types::Refusal;
 
 impl<S: FarTickets> Frame<S> {
-    /// Whether a scan would build a row group into the aggregate of a number, want of memory aside. Takes no memory.
+    /// Whether a scan would build a row group into the aggregate of a number, running out of memory aside. Allocates nothing.
     pub fn may_scan(&self, a: u32, group: u32) -> bool
         ensures { result ≡ is_none (scan_refusal (live self.now) (aggregate_at self.now.table a) group) }
     {
         self.table.may_scan(a, group)
     }
 
-    /// Whether an offloaded build would begin, want of memory aside. Takes no memory.
+    /// Whether an offloaded build would begin, running out of memory aside. Allocates nothing.
     ///
-    /// Refused with `NoAggregate` (12), `OutOfRange` (14) where no place of the row group is used, `StaleJob` (20) where it is built in
+    /// Refused with `NoAggregate` (12), `OutOfRange` (14) if no place of the row group is used, `StaleJob` (20) if it is built in
     /// already, or the object of a column that the aggregate needs is dirty: the first that applies. A clean object may be local or away.
     pub fn may_offload(&self, a: u32, group: u32) -> Result<(), Refusal>
         ensures refused { refusal_in result ≡ offload_refusal (live self.now) (aggregate_at self.now.table a) group }
@@ -36,9 +36,9 @@ impl<S: FarTickets> Frame<S> {
     ///
     /// Refused as `may_offload` is, else with `NoMemory` (1) alone.
     pub fn begin_offload(&self, store: &S, a: u32, group: u32) -> Result<Job<S>, Refusal>
-        requires here { AreAt S.is_of (S.name store.now) self.now.rows }
+        requires here { AreAt S.is_of (S.store_id store.now) self.now.rows }
         ensures begun { IfOk result (IsOffloadJob self.now a group) }
-        ensures here { IfOk result (IsJobAt S.is_of (S.name store.now)) }
+        ensures here { IfOk result (IsJobAt S.is_of (S.store_id store.now)) }
         ensures refused { IfErr result (MayRefuse (offload_refusal (live self.now) (aggregate_at self.now.table a) group) true) }
     {
         let build = self.table.begin_offload(store, a, group)?;
@@ -50,16 +50,16 @@ impl<S: FarTickets> Frame<S> {
 
     /// Builds the row group of a carried offloaded build into its aggregate, as a scan would. Each row and object stays.
     ///
-    /// Refused with `StaleJob` (20) for any other job; with `NoAggregate` (12) where its aggregate is not registered; else with
-    /// `StaleJob` (20) where what the job rests on does not hold any more: the registration, the objects of the columns that it needs,
-    /// the flags, or that the row group is still to be built in; else with `NoMemory` (1) alone. Then nothing is changed.
+    /// Refused with `StaleJob` (20) for any other job; with `NoAggregate` (12) if its aggregate is not registered; else with
+    /// `StaleJob` (20) if what the job rests on does not hold any more: the registration, the objects of the columns that it needs,
+    /// the flags, or that the row group is still pending; else with `NoMemory` (1) alone. Then nothing is changed.
     pub fn merge(&mut self, store: &S, job: &Job<S>) -> Result<(), Refusal>
-        requires here { AreAt S.is_of (S.name store.now) self.old.rows }
-        requires job_here { IsJobAt S.is_of (S.name store.now) job.now }
+        requires here { AreAt S.is_of (S.store_id store.now) self.old.rows }
+        requires job_here { IsJobAt S.is_of (S.store_id store.now) job.now }
         ensures merged { OnOk result (Merges S.number_of self.old job.now.work self.new) }
         ensures refused { IfErr result (MergeRefusal S.number_of self.old job.now.work) }
         ensures err { OnErr result (self.new ≡ self.old) }
-        ensures here { AreAt S.is_of (S.name store.now) self.new.rows }
+        ensures here { AreAt S.is_of (S.store_id store.now) self.new.rows }
     {
         match &job.work {
             Work::Offloaded(carried) => self.table.merge(store, carried),

@@ -9,11 +9,11 @@ use far_types::{Answer, Refusal};
 use std::thread::Threads;
 
 impl<S: FarRead> Frame<S> {
-    /// What the aggregate of a number answers over the rows as they are, computed from scratch, whatever is left to be built in and
+    /// What the aggregate of a number answers over the rows as they are, computed from scratch, whatever is still pending and
     /// whichever objects are away. At most `workers` threads fold the row groups, in consecutive pieces: a local object is read in
     /// place, another through its ticket. Nothing is changed.
     ///
-    /// Refused with `NoAggregate` (12); `OutOfRange` (14) unless there are 1 to 64 workers; `FarFault` (21) exactly where the meter
+    /// Refused with `NoAggregate` (12); `OutOfRange` (14) unless there are 1 to 64 workers; `FarFault` (21) exactly if the meter
     /// rises, by one for each piece in which the store failed; else with `NoMemory` (1) alone.
     pub fn recount<R: Threads + Sync>(
         &self,
@@ -24,7 +24,7 @@ impl<S: FarRead> Frame<S> {
         workers: u32,
     ) -> Result<Answer, Refusal>
         requires few { meter.old < 2 ^ 63 }
-        requires here { AreAt S.is_of (S.name store.now) self.now.rows }
+        requires here { AreAt S.is_of (S.store_id store.now) self.now.rows }
         ensures answer { IfOk result (IsAnswerNow self.now.table a) }
         ensures free { OnOk result (recount_refusal self.now.table a workers ≡ None) }
         ensures none { OnOk result (meter.new ≡ meter.old) }

@@ -14,7 +14,7 @@ impl<S: FarRead> Frame<S> {
     /// answers do not change. A local object stays local, with its pins, versions and order of use, and is dirty, since the new store
     /// has no copy of it. Do not use jobs of the old table on the new one.
     ///
-    /// Refused with `FarFault` (21) where one of the stores fails, exactly where the meter rises, by one; with `FarFull` (22) where
+    /// Refused with `FarFault` (21) if one of the stores fails, exactly if the meter rises, by one; with `FarFull` (22) where
     /// the new one gives out no more numbers; and with `NoMemory` (1). Then the table is handed back as it was; what was put
     /// stays in the new store.
     pub fn migrate<N: FarStore>(
@@ -24,9 +24,9 @@ impl<S: FarRead> Frame<S> {
         meter: &mut Meter,
     ) -> Result<Frame<N>, (Refusal, Frame<S>)>
         requires few { meter.old < 2 ^ 63 }
-        requires here { AreAt S.is_of (S.name store.now) frame.rows }
+        requires here { AreAt S.is_of (S.store_id store.now) frame.rows }
         ensures migrated { IfOk result (IsMigrated S.content N.content frame) }
-        ensures there { IfOk result (λ new. AreAt N.is_of (N.name new_store.now) new.rows) }
+        ensures there { IfOk result (λ new. AreAt N.is_of (N.store_id new_store.now) new.rows) }
         ensures back { IfErr result (λ e. e.1 ≡ frame) }
         ensures refused { IfErr result (λ e. IsOneOf (21 ∷ 22 ∷ 1 ∷ []) e.0) }
         ensures met { IfErr result (λ e. meter.new ≡ meter.old + faults_of e.0) }

@@ -21,7 +21,7 @@ use far_store::{FarStore, FarTickets};
 use far_types::Refusal;
 
 impl<S: FarStore> World<S> {
-    /// Whether a job may be begun still. Refused with `EditsUsedUp` (24) exactly where the numbers of jobs are used up.
+    /// Whether a job may be begun still. Refused with `EditsUsedUp` (24) exactly if the numbers of jobs are used up.
     fn may_begin(&self) -> Result<(), Refusal>
         ensures refused { refusal_in result ≡ used_up self.now }
         ensures few { OnOk result (self.now.begun < self.now.state.table.limits.edits) }
@@ -162,19 +162,19 @@ impl<S: FarStore> World<S> {
     }
 }
 
-/// Ends the job of a number as an evacuation. Refused as the table refuses it, and with `StaleJob` (20) where there is no such job.
+/// Ends the job of a number as an evacuation. Refused as the table refuses it, and with `StaleJob` (20) if there is no such job.
 fn end_evac<S: FarTickets>(
     frame: &mut Frame<S>,
     store: &S,
     jobs: &Waiting<S>,
     n: u64,
 ) -> Result<(), Refusal>
-    requires rows_here { AreAt S.is_of (S.name store.now) frame.old.rows }
-    requires jobs_here { AreJobsAt S.is_of (S.name store.now) jobs.now }
+    requires rows_here { AreAt S.is_of (S.store_id store.now) frame.old.rows }
+    requires jobs_here { AreJobsAt S.is_of (S.store_id store.now) jobs.now }
     ensures ended { OnOk result (IsSomeAnd (job_at jobs.now n) (λ job. Commits S.number_of frame.old job.work frame.new)) }
     ensures refused { IfErr result (RefusalAt (λ job. CommitRefusal S.number_of frame.old job.work) (job_at jobs.now n)) }
     ensures err { OnErr result (frame.new ≡ frame.old) }
-    ensures here { AreAt S.is_of (S.name store.now) frame.new.rows }
+    ensures here { AreAt S.is_of (S.store_id store.now) frame.new.rows }
 {
     match jobs.get(n) {
         Some(job) => frame.commit(store, job),
@@ -182,19 +182,19 @@ fn end_evac<S: FarTickets>(
     }
 }
 
-/// Ends the job of a number as a fetch. Refused as the table refuses it, and with `StaleJob` (20) where there is no such job.
+/// Ends the job of a number as a fetch. Refused as the table refuses it, and with `StaleJob` (20) if there is no such job.
 fn end_fetch<S: FarTickets>(
     frame: &mut Frame<S>,
     store: &S,
     jobs: &Waiting<S>,
     n: u64,
 ) -> Result<(), Refusal>
-    requires rows_here { AreAt S.is_of (S.name store.now) frame.old.rows }
-    requires jobs_here { AreJobsAt S.is_of (S.name store.now) jobs.now }
+    requires rows_here { AreAt S.is_of (S.store_id store.now) frame.old.rows }
+    requires jobs_here { AreJobsAt S.is_of (S.store_id store.now) jobs.now }
     ensures ended { OnOk result (IsSomeAnd (job_at jobs.now n) (λ job. Installs S.number_of frame.old S.content job.work frame.new)) }
     ensures refused { IfErr result (RefusalAt (λ job. InstallRefusal S.number_of frame.old S.content job.work) (job_at jobs.now n)) }
     ensures err { OnErr result (frame.new ≡ frame.old) }
-    ensures here { AreAt S.is_of (S.name store.now) frame.new.rows }
+    ensures here { AreAt S.is_of (S.store_id store.now) frame.new.rows }
 {
     match jobs.get(n) {
         Some(job) => frame.install(store, job),
@@ -202,19 +202,19 @@ fn end_fetch<S: FarTickets>(
     }
 }
 
-/// Ends the job of a number as an offloaded build. Refused as the table refuses it, and with `StaleJob` (20) where there is no such job.
+/// Ends the job of a number as an offloaded build. Refused as the table refuses it, and with `StaleJob` (20) if there is no such job.
 fn end_build<S: FarTickets>(
     frame: &mut Frame<S>,
     store: &S,
     jobs: &Waiting<S>,
     n: u64,
 ) -> Result<(), Refusal>
-    requires rows_here { AreAt S.is_of (S.name store.now) frame.old.rows }
-    requires jobs_here { AreJobsAt S.is_of (S.name store.now) jobs.now }
+    requires rows_here { AreAt S.is_of (S.store_id store.now) frame.old.rows }
+    requires jobs_here { AreJobsAt S.is_of (S.store_id store.now) jobs.now }
     ensures ended { OnOk result (IsSomeAnd (job_at jobs.now n) (λ job. Merges S.number_of frame.old job.work frame.new)) }
     ensures refused { IfErr result (RefusalAt (λ job. MergeRefusal S.number_of frame.old job.work) (job_at jobs.now n)) }
     ensures err { OnErr result (frame.new ≡ frame.old) }
-    ensures here { AreAt S.is_of (S.name store.now) frame.new.rows }
+    ensures here { AreAt S.is_of (S.store_id store.now) frame.new.rows }
 {
     match jobs.get(n) {
         Some(job) => frame.merge(store, job),

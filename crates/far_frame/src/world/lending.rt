@@ -3,7 +3,7 @@ ghost use Rattle.std.specs.Prelude.{◌≡◌, ℕ, List, true, None, Some, map,
 ghost use Rattle.far_types.specs.MayRefuse.{MayRefuse};
 ghost use Rattle.far_rows.specs.Jobs.{AreAt};
 ghost use Rattle.far_rows.specs.Refusing.{ints_refusal, texts_refusal};
-ghost use Rattle.far_frame.specs.Changes.{Changes};
+ghost use Rattle.far_frame.specs.Effects.{Changes};
 ghost use Rattle.far_frame.specs.Lending.{Gives, int_piece, ints_lent, lent_part, lend_refusal, text_piece, texts_lent};
 
 use crate::frame::Frame;
@@ -28,7 +28,7 @@ pub(super) fn lend<S: FarTickets>(
 {
     match copied(frame, alloc, column, from, to) {
         Ok(reply) => {
-            frame.see(column, from, to);
+            frame.record_accesses(column, from, to);
             reply
         }
         Err(refusal) => Reply::Refused(refusal),

@@ -13,12 +13,12 @@ use far_types::Refusal;
 impl<S: FarStore> World<S> {
     /// The same table with its far copies in another store. All numbers of jobs that were begun are spent, and the count goes on.
     ///
-    /// Refused with `FarFault` (21) where one of the stores fails, which is counted; with `FarFull` (22) where the new one gives
+    /// Refused with `FarFault` (21) if one of the stores fails, which is counted; with `FarFull` (22) if the new one gives
     /// out no more numbers; and with `NoMemory` (1). Then the world is handed back as it was, jobs included, but for its count of
     /// faults.
     pub fn migrate<N: FarStore>(self, new_store: N) -> Result<World<N>, (Refusal, World<S>)>
         requires few { self.faults < 2 ^ 62 }
-        ensures migrated { IfOk result (IsMigratedTo S.content N.content (N.name new_store) self) }
+        ensures migrated { IfOk result (IsMigratedTo S.content N.content (N.store_id new_store) self) }
         ensures back { IfErr result (λ e. e.1 ≡ record self { faults = self.faults + faults_of e.0 }) }
         ensures refused { IfErr result (λ e. IsOneOf (21 ∷ 22 ∷ 1 ∷ []) e.0) }
     {

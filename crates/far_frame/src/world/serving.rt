@@ -1,7 +1,7 @@
 // The steps that the table serves by itself.
 ghost use Rattle.std.specs.Prelude.{◌≡◌, ℕ, List};
 ghost use Rattle.far_rows.specs.Jobs.{AreAt};
-ghost use Rattle.far_frame.specs.Changes.{Changes};
+ghost use Rattle.far_frame.specs.Effects.{Changes};
 
 use crate::frame::Frame;
 use crate::step::{Reply, Step};

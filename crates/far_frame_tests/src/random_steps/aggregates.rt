@@ -149,7 +149,7 @@ fn holds(value: Value, op: Op, constant: i64) -> bool {
 }
 
 /// An aggregate: whether it is registered, what is drawn, the columns that it needs, a bit for each, the number of its registration, and
-/// which row groups are still to be built in, a bit for each.
+/// which row groups are still pending, a bit for each.
 #[derive(Clone, Copy)]
 pub struct Aggregate {
     pub registered: bool,
@@ -212,7 +212,7 @@ impl Plain {
         None
     }
 
-    /// An aggregate is registered under the lowest free number, with all row groups still to be built in.
+    /// An aggregate is registered under the lowest free number, with all row groups still pending.
     pub fn watch(&mut self, watched: Watched) -> Due<'static> {
         match (watched.refusal(), self.free()) {
             (Some(refusal), _) => Due::Refused(refusal),
@@ -250,7 +250,7 @@ impl Plain {
         aggregate.unbuilt &= !bit(group);
     }
 
-    /// Why a row group is not there and still to be built into an aggregate.
+    /// Why a row group is not there and still pending in an aggregate.
     pub fn build_refusal(&self, a: u32, group: u32) -> Option<Refusal> {
         if group >= self.groups() {
             self.unknown(a).or(Some(Refusal::OutOfRange))

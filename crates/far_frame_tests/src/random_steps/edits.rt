@@ -52,7 +52,7 @@ fn is_missing(value: Value) -> bool {
 }
 
 impl Plain {
-    // The value of a column at a place, once one of the places has this value; none where there is no such place.
+    // The value of a column at a place, once one of the places has this value; none if there is no such place.
     fn value_then(&self, column: u32, p: u32, place: u32, value: Value) -> Option<Value> {
         if p == place {
             Some(value)

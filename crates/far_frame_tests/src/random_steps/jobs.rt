@@ -26,7 +26,7 @@ pub struct Job {
     pub registration: u64,
     /// The numbers under which the store has the columns that the aggregate needs.
     pub tickets: [Option<u64>; 4],
-    /// Whether each place of the row group was alive; none where there was no such place.
+    /// Whether each place of the row group was alive; none if there was no such place.
     pub alive: [Option<bool>; 3],
 }
 

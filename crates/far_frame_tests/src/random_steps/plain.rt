@@ -191,7 +191,7 @@ impl Plain {
         }
     }
 
-    // Why a call is refused that says nothing where it is done.
+    // Why a call is refused that says nothing if it is done.
     fn change(&mut self, call: Call) -> Option<Refusal> {
         match call {
             Call::Set(place, column, value) => self.set(place, column, value),
@@ -230,7 +230,7 @@ impl Plain {
     }
 }
 
-// The reply of a step that says nothing where it is done.
+// The reply of a step that says nothing if it is done.
 fn done(refusal: Option<Refusal>) -> Due<'static> {
     match refusal {
         None => Due::Done,

@@ -68,7 +68,7 @@ impl Plain {
         refusal
     }
 
-    // An object has the copy that was put last, or none where it is local.
+    // An object has the copy that was put last, or none if it is local.
     fn put_again(&mut self, o: usize, store: &mut Store) -> Option<Refusal> {
         let is_local = self.objects[o % OBJECTS].part.is_some();
         let refusal = if is_local {

@@ -26,7 +26,7 @@ fn may_push_all_texts<S: FarTickets>(
     texts: &[Option<Text>],
 ) -> Result<(), Refusal>
     requires are { AreColumns (lists_of S.content objects.now) columns.now }
-    requires even { length texts.now ≡ length columns.now }
+    requires same_length { length texts.now ≡ length columns.now }
     requires few { length columns.now ≤ 16 }
     ensures { refusal_in result ≡ push_texts_refusal S.content objects.now columns.now texts.now }
 {
@@ -37,12 +37,12 @@ fn may_push_all_texts<S: FarTickets>(
 }
 
 impl<S: FarTickets> Rows<S> {
-    /// Whether a row may be appended. Takes no memory.
+    /// Whether a row may be appended. Allocates nothing.
     ///
-    /// Refused with `Absent` (16) exactly where the row group of the next place is begun and some object of it is away, naming
-    /// the first in the order of the columns; else with `ChunkFull` (11) exactly where the form of some column's texts would be
-    /// longer than one may be; else with `RegionFull` (17) exactly where new forms, or new objects of numbers, do not find
-    /// room beside all that is there; else with `EditsUsedUp` (24) exactly where the row group is begun and some object of it
+    /// Refused with `Absent` (16) exactly if the row group of the next place is begun and some object of it is away, naming
+    /// the first in the order of the columns; else with `ChunkFull` (11) exactly if the form of some column's texts would be
+    /// longer than one may be; else with `RegionFull` (17) exactly if new forms, or new objects of numbers, do not find
+    /// room beside all that is there; else with `EditsUsedUp` (24) exactly if the row group is begun and some object of it
     /// was written as often as objects may be. Where it is not refused, `push` can be refused with `NoMemory` (1) alone.
     pub fn may_push(&self, row: &NewRow) -> Result<(), Refusal>
         requires numbers { length row.now.numbers ≡ length self.now.numbers }

@@ -20,8 +20,8 @@ impl<S: FarTickets> Rows<S> {
     /// Begins to send the object of a row group of a column away: takes its far form where it is dirty, and another of its
     /// ticket where it is clean. The rows stay as they are.
     ///
-    /// Refused with `NoColumn` (4) exactly where there is no such column; else with `OutOfRange` (14) exactly where no place
-    /// of the row group is used; else with `Absent` (16) exactly where the object is away; else with `NoMemory` (1) alone.
+    /// Refused with `NoColumn` (4) exactly if there is no such column; else with `OutOfRange` (14) exactly if no place
+    /// of the row group is used; else with `Absent` (16) exactly if the object is away; else with `NoMemory` (1) alone.
     pub fn begin_evac(
         &self,
         alloc: Global,
@@ -29,9 +29,9 @@ impl<S: FarTickets> Rows<S> {
         column: usize,
         group: u32,
     ) -> Result<RowsEvac<S>, Refusal>
-        requires here { AreAt S.is_of (S.name store.now) self.now }
+        requires here { AreAt S.is_of (S.store_id store.now) self.now }
         ensures begun { IfOk result (IsEvacBegun self.now column group) }
-        ensures here { IfOk result (λ job. IsFormOf S.is_of (S.name store.now) (of_either job).form) }
+        ensures here { IfOk result (λ job. IsFormOf S.is_of (S.store_id store.now) (of_either job).form) }
         ensures free { OnOk result (evac_refusal self.now column group ≡ None) }
         ensures refused { IfErr result (MayRefuse (evac_refusal self.now column group) true) }
     {
@@ -52,9 +52,9 @@ impl<S: FarTickets> Rows<S> {
         o: u32,
     ) -> Result<EvacJob<Option<i64>, S>, Refusal>
         requires within { o < length self.now.number_objects.entries }
-        requires here { AreHere S.is_of (S.name store.now) self.now.number_objects }
+        requires here { AreHere S.is_of (S.store_id store.now) self.now.number_objects }
         ensures begun { IfOk result (IsBegun ints_form self.now.number_objects o) }
-        ensures here { IfOk result (λ job. IsFormOf S.is_of (S.name store.now) job.form) }
+        ensures here { IfOk result (λ job. IsFormOf S.is_of (S.store_id store.now) job.form) }
         ensures free { OnOk result (lend_refusal self.now.number_objects o ≡ None) }
         ensures refused { IfErr result (MayRefuse (lend_refusal self.now.number_objects o) true) }
     {
@@ -64,23 +64,23 @@ impl<S: FarTickets> Rows<S> {
     // Begins to send an object of texts away.
     fn begin_texts(&self, alloc: Global, store: &S, o: u32) -> Result<EvacJob<u8, S>, Refusal>
         requires within { o < length self.now.text_objects.entries }
-        requires here { AreHere S.is_of (S.name store.now) self.now.text_objects }
+        requires here { AreHere S.is_of (S.store_id store.now) self.now.text_objects }
         ensures begun { IfOk result (IsBegun (λ bytes. bytes) self.now.text_objects o) }
-        ensures here { IfOk result (λ job. IsFormOf S.is_of (S.name store.now) job.form) }
+        ensures here { IfOk result (λ job. IsFormOf S.is_of (S.store_id store.now) job.form) }
         ensures free { OnOk result (lend_refusal self.now.text_objects o ≡ None) }
         ensures refused { IfErr result (MayRefuse (lend_refusal self.now.text_objects o) true) }
     {
         begin_evac(alloc, self.text_objects(), store, Want::Object(o))
     }
 
-    /// Begins to bring the object of a row group of a column back. Takes no memory.
+    /// Begins to bring the object of a row group of a column back. Allocates nothing.
     ///
-    /// Refused with `NoColumn` (4) exactly where there is no such column; else with `OutOfRange` (14) exactly where no place
-    /// of the row group is used; else with `StaleJob` (20) exactly where the object is local.
+    /// Refused with `NoColumn` (4) exactly if there is no such column; else with `OutOfRange` (14) exactly if no place
+    /// of the row group is used; else with `StaleJob` (20) exactly if the object is local.
     pub fn begin_fetch(&self, store: &S, column: usize, group: u32) -> Result<RowsFetch<S>, Refusal>
-        requires here { AreAt S.is_of (S.name store.now) self.now }
+        requires here { AreAt S.is_of (S.store_id store.now) self.now }
         ensures begun { IfOk result (IsFetchBegun self.now column group) }
-        ensures here { IfOk result (λ job. S.is_of (of_either job).ticket (S.name store.now)) }
+        ensures here { IfOk result (λ job. S.is_of (of_either job).ticket (S.store_id store.now)) }
         ensures refused { refusal_in result ≡ fetch_refusal self.now column group }
     {
         let job = match self.object(column, group)? {

@@ -15,7 +15,7 @@ use far_types::Name;
 impl<S: FarTickets> Rows<S> {
     /// The object that goes away first, by its name: the coldest of the kind whose local memory has less space in proportion
     /// to its capacity, of numbers where both have as much; where that kind has none, the coldest of the other kind. `None`
-    /// exactly where neither kind has one. Takes no memory.
+    /// exactly if neither kind has one. Allocates nothing.
     ///
     /// The object is local and has no pin.
     pub fn coldest(&self) -> Option<Name>

@@ -1,6 +1,6 @@
 // Segments of the local memory of the rows' objects that are compacted.
 ghost use Rattle.std.specs.Prelude.{◌≡◌, ◌<◌, ◌≤◌, ◌↔◌, ◌⊎◌, length, OnOk, OnErr, IfErr, IsErrOf};
-ghost use Rattle.far_log.specs.Changes.{HasNoEmptyOther};
+ghost use Rattle.far_log.specs.Effects.{HasNoEmptyOther};
 ghost use Rattle.far_scopes.specs.Compaction.{IsCompacted};
 ghost use Rattle.far_rows.specs.Moving.{KeepsCells};
 
@@ -13,14 +13,14 @@ impl<S: FarTickets> Rows<S> {
     /// Compacts a segment of the objects of numbers: its parts lie in the lowest other segment without parts from then on,
     /// one behind the other, those of hot objects first, and none of their objects is hot.
     ///
-    /// Refused with `OutOfRange` (14) exactly where there is no such segment, with `RegionFull` (17) exactly where there is
+    /// Refused with `OutOfRange` (14) exactly if there is no such segment, with `RegionFull` (17) exactly if there is
     /// one and no other is without parts, else with `NoMemory` (1) alone; then nothing is changed.
     pub fn compact_numbers(&mut self, alloc: Global, segment: u32) -> Result<(), Refusal>
         ensures compacted { OnOk result (IsCompacted self.old.number_objects.memory self.new.number_objects.memory segment) }
         ensures stays { self.new ≡ record self.old { number_objects = record self.old.number_objects { memory = self.new.number_objects.memory } } }
         ensures kept { KeepsCells S.content S.is_of self.old self.new }
-        ensures missing { IsErrOf result Refusal.OutOfRange ↔ (length self.old.number_objects.memory.room ≤ segment) }
-        ensures full { IsErrOf result Refusal.RegionFull ↔ ((segment < length self.old.number_objects.memory.room) × HasNoEmptyOther self.old.number_objects.memory.room segment) }
+        ensures missing { IsErrOf result Refusal.OutOfRange ↔ (length self.old.number_objects.memory.state ≤ segment) }
+        ensures full { IsErrOf result Refusal.RegionFull ↔ ((segment < length self.old.number_objects.memory.state) × HasNoEmptyOther self.old.number_objects.memory.state segment) }
         ensures refused { IfErr result (λ e. (e ≡ Refusal.OutOfRange) ⊎ ((e ≡ Refusal.RegionFull) ⊎ (e ≡ Refusal.NoMemory))) }
         ensures err { OnErr result (self.new ≡ self.old) }
     {
@@ -33,8 +33,8 @@ impl<S: FarTickets> Rows<S> {
         ensures compacted { OnOk result (IsCompacted self.old.text_objects.memory self.new.text_objects.memory segment) }
         ensures stays { self.new ≡ record self.old { text_objects = record self.old.text_objects { memory = self.new.text_objects.memory } } }
         ensures kept { KeepsCells S.content S.is_of self.old self.new }
-        ensures missing { IsErrOf result Refusal.OutOfRange ↔ (length self.old.text_objects.memory.room ≤ segment) }
-        ensures full { IsErrOf result Refusal.RegionFull ↔ ((segment < length self.old.text_objects.memory.room) × HasNoEmptyOther self.old.text_objects.memory.room segment) }
+        ensures missing { IsErrOf result Refusal.OutOfRange ↔ (length self.old.text_objects.memory.state ≤ segment) }
+        ensures full { IsErrOf result Refusal.RegionFull ↔ ((segment < length self.old.text_objects.memory.state) × HasNoEmptyOther self.old.text_objects.memory.state segment) }
         ensures refused { IfErr result (λ e. (e ≡ Refusal.OutOfRange) ⊎ ((e ≡ Refusal.RegionFull) ⊎ (e ≡ Refusal.NoMemory))) }
         ensures err { OnErr result (self.new ≡ self.old) }
     {

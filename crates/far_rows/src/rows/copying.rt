@@ -13,15 +13,15 @@ use far_scopes::Objects;
 use far_store::FarTickets;
 
 impl<S: FarTickets> Rows<S> {
-    /// The number that was given to `new`, which jobs on the rows bear. Takes no memory.
+    /// The number that was given to `new`, which jobs on the rows bear. Allocates nothing.
     pub fn number(&self) -> u32
         ensures { result ≡ self.now.number_objects.number }
     {
         self.number_objects.number()
     }
 
-    /// The ticket of the far copy of a row group of a column; `None` where its object is dirty, or there is no such object.
-    /// Takes no memory.
+    /// The ticket of the far copy of a row group of a column; `None` if its object is dirty, or there is no such object.
+    /// Allocates nothing.
     ///
     /// Its content is the far form of the row group as it is now, local or away.
     pub fn copy(&self, column: usize, group: u32) -> Option<&S::Ticket>

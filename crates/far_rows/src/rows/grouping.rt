@@ -13,7 +13,7 @@ use far_store::FarTickets;
 use far_types::Refusal;
 
 impl<S: FarTickets> Rows<S> {
-    /// The alive flags of the places of a row group, lent in place; none where no place of it is used. Takes no memory.
+    /// The alive flags of the places of a row group, lent in place; none if no place of it is used. Allocates nothing.
     pub fn flags(&self, group: u32) -> &[bool]
         ensures { result.now ≡ in_group self.now.size group self.now.alive }
     {
@@ -29,10 +29,10 @@ impl<S: FarTickets> Rows<S> {
         self.alive.flags(from, from + size)
     }
 
-    /// The values of a row group of a column, lent in place. Takes no memory.
+    /// The values of a row group of a column, lent in place. Allocates nothing.
     ///
-    /// Refused with `NoColumn` (4) exactly where there is no such column; else with `OutOfRange` (14) exactly where no place
-    /// of the row group is used; else with `Absent` (16) exactly where its object is away.
+    /// Refused with `NoColumn` (4) exactly if there is no such column; else with `OutOfRange` (14) exactly if no place
+    /// of the row group is used; else with `Absent` (16) exactly if its object is away.
     pub fn group_column(&self, column: usize, group: u32) -> Result<LentColumn<'_>, Refusal>
         ensures cells { IfOk result (λ lent. option_map (in_group self.now.size group) (slice_get (cells_of S.content self.now) column) ≡ Some (cells_lent lent)) }
         ensures form { IfOk result IsLent }

@@ -1,14 +1,14 @@
 // Jobs on the objects of the rows that end.
 ghost use Rattle.std.specs.Prelude.{◌≡◌, ◌≢◌, ◌↔◌, ◌⊎◌, length, false, OnOk, OnErr, IfErr, IsErrOf, IsSomeAnd};
 ghost use Rattle.far_codec.specs.FarForm.{ints_form};
-ghost use Rattle.far_log.specs.Room.{fits_in};
-ghost use Rattle.far_scopes.specs.Effects.{departed, arrived};
+ghost use Rattle.far_log.specs.RegionState.{fits_in};
+ghost use Rattle.far_scopes.specs.Effects.{after_leave, after_arrive};
 ghost use Rattle.far_scopes.specs.Movement.{AreHere, pins_of};
 ghost use Rattle.far_evacuator.specs.Acceptance.{IsCommittable, IsInstallable};
 ghost use Rattle.far_texts.specs.Texts.{lists_of};
 ghost use Rattle.far_columns.specs.Numbers.{number_lists};
 ghost use Rattle.far_rows.specs.Rows.{cells_of};
-ghost use Rattle.far_rows.specs.Jobs.{SpellsNumbers, SpellsTexts, of_either, AreAt, IsEvacAccepted, IsFetchAccepted, pins_by, after_commit, HasNoRoom, IsAfterInstall};
+ghost use Rattle.far_rows.specs.Jobs.{SpellsNumbers, SpellsTexts, of_either, AreAt, IsEvacAccepted, IsFetchAccepted, pins_by, after_commit, HasNoSpace, IsAfterInstall};
 
 use super::Rows;
 use crate::job::{ByKind, RowsCarried, RowsFetched};
@@ -19,18 +19,18 @@ use std::alloc::Global;
 
 impl<S: FarTickets> Rows<S> {
     /// Sends an object away whose far form was carried. The carried evacuation is kept; no second commit of it is accepted.
-    /// Takes no memory.
+    /// Allocates nothing.
     ///
-    /// Refused with `StaleJob` (20) exactly where what it rests on does not hold any more (`IsEvacAccepted`): it was begun on
+    /// Refused with `StaleJob` (20) exactly if what it rests on does not hold any more (`IsEvacAccepted`): it was begun on
     /// other objects, the object is away, was written or away since, has used up its leavings, or is no longer what was
-    /// carried; else with `Pinned` (19) exactly where the object has a pin. Then nothing is changed.
+    /// carried; else with `Pinned` (19) exactly if the object has a pin. Then nothing is changed.
     pub fn commit(&mut self, store: &S, carried: &RowsCarried<S>) -> Result<(), Refusal>
-        requires here { AreAt S.is_of (S.name store.now) self.old }
-        requires carried_here { S.is_of (of_either carried.now).ticket (S.name store.now) }
+        requires here { AreAt S.is_of (S.store_id store.now) self.old }
+        requires carried_here { S.is_of (of_either carried.now).ticket (S.store_id store.now) }
         ensures committed { OnOk result (self.new ≡ after_commit self.old carried.now) }
         ensures accepted { OnOk result (IsEvacAccepted S.number_of self.old carried.now) }
         ensures cells { cells_of S.content self.new ≡ cells_of S.content self.old }
-        ensures here { AreAt S.is_of (S.name store.now) self.new }
+        ensures here { AreAt S.is_of (S.store_id store.now) self.new }
         ensures stale { IsErrOf result Refusal.StaleJob ↔ (¬ IsEvacAccepted S.number_of self.old carried.now) }
         ensures pinned { IsErrOf result Refusal.Pinned ↔ (IsEvacAccepted S.number_of self.old carried.now × (pins_by self.old carried.now ≢ 0)) }
         ensures refused { IfErr result (λ e. (e ≡ Refusal.StaleJob) ⊎ (e ≡ Refusal.Pinned)) }
@@ -48,13 +48,13 @@ impl<S: FarTickets> Rows<S> {
         store: &S,
         carried: &Carried<Option<i64>, S>,
     ) -> Result<(), Refusal>
-        requires here { AreHere S.is_of (S.name store.now) self.old.number_objects }
-        requires carried_here { S.is_of carried.now.ticket (S.name store.now) }
-        ensures committed { OnOk result (self.new ≡ record self.old { number_objects = departed self.old.number_objects carried.now.job.object carried.now.ticket }) }
+        requires here { AreHere S.is_of (S.store_id store.now) self.old.number_objects }
+        requires carried_here { S.is_of carried.now.ticket (S.store_id store.now) }
+        ensures committed { OnOk result (self.new ≡ record self.old { number_objects = after_leave self.old.number_objects carried.now.job.object carried.now.ticket }) }
         ensures accepted { OnOk result (IsCommittable S.number_of ints_form self.old.number_objects carried.now) }
         ensures kept { self.new ≡ record self.old { number_objects = self.new.number_objects } }
         ensures cells { cells_of S.content self.new ≡ cells_of S.content self.old }
-        ensures here { AreHere S.is_of (S.name store.now) self.new.number_objects }
+        ensures here { AreHere S.is_of (S.store_id store.now) self.new.number_objects }
         ensures stale { IsErrOf result Refusal.StaleJob ↔ (¬ IsCommittable S.number_of ints_form self.old.number_objects carried.now) }
         ensures pinned { IsErrOf result Refusal.Pinned ↔ (IsCommittable S.number_of ints_form self.old.number_objects carried.now × (pins_of self.old.number_objects carried.now.job.object ≢ 0)) }
         ensures refused { IfErr result (λ e. (e ≡ Refusal.StaleJob) ⊎ (e ≡ Refusal.Pinned)) }
@@ -65,13 +65,13 @@ impl<S: FarTickets> Rows<S> {
 
     // Sends an object of texts away.
     fn commit_texts(&mut self, store: &S, carried: &Carried<u8, S>) -> Result<(), Refusal>
-        requires here { AreHere S.is_of (S.name store.now) self.old.text_objects }
-        requires carried_here { S.is_of carried.now.ticket (S.name store.now) }
-        ensures committed { OnOk result (self.new ≡ record self.old { text_objects = departed self.old.text_objects carried.now.job.object carried.now.ticket }) }
+        requires here { AreHere S.is_of (S.store_id store.now) self.old.text_objects }
+        requires carried_here { S.is_of carried.now.ticket (S.store_id store.now) }
+        ensures committed { OnOk result (self.new ≡ record self.old { text_objects = after_leave self.old.text_objects carried.now.job.object carried.now.ticket }) }
         ensures accepted { OnOk result (IsCommittable S.number_of (λ bytes. bytes) self.old.text_objects carried.now) }
         ensures kept { self.new ≡ record self.old { text_objects = self.new.text_objects } }
         ensures cells { cells_of S.content self.new ≡ cells_of S.content self.old }
-        ensures here { AreHere S.is_of (S.name store.now) self.new.text_objects }
+        ensures here { AreHere S.is_of (S.store_id store.now) self.new.text_objects }
         ensures stale { IsErrOf result Refusal.StaleJob ↔ (¬ IsCommittable S.number_of (λ bytes. bytes) self.old.text_objects carried.now) }
         ensures pinned { IsErrOf result Refusal.Pinned ↔ (IsCommittable S.number_of (λ bytes. bytes) self.old.text_objects carried.now × (pins_of self.old.text_objects carried.now.job.object ≢ 0)) }
         ensures refused { IfErr result (λ e. (e ≡ Refusal.StaleJob) ⊎ (e ≡ Refusal.Pinned)) }
@@ -82,7 +82,7 @@ impl<S: FarTickets> Rows<S> {
 
     /// Brings an object back whose far form was read. The fetched bytes are kept; no second install of them is accepted.
     ///
-    /// Refused with `StaleJob` (20) exactly where what the fetch rests on does not hold any more (`IsFetchAccepted`): it was
+    /// Refused with `StaleJob` (20) exactly if what the fetch rests on does not hold any more (`IsFetchAccepted`): it was
     /// begun on other objects, or the object is local, or has been away again since; else with `RegionFull` (17) exactly
     /// where no segment has the space; else with `NoMemory` (1) alone. Then nothing is changed.
     pub fn install(
@@ -91,14 +91,14 @@ impl<S: FarTickets> Rows<S> {
         store: &S,
         fetched: &RowsFetched<S>,
     ) -> Result<(), Refusal>
-        requires here { AreAt S.is_of (S.name store.now) self.old }
-        requires fetched_here { S.is_of (of_either fetched.now).job.ticket (S.name store.now) }
+        requires here { AreAt S.is_of (S.store_id store.now) self.old }
+        requires fetched_here { S.is_of (of_either fetched.now).job.ticket (S.store_id store.now) }
         ensures installed { OnOk result (IsAfterInstall S.content self.old fetched.now self.new) }
         ensures accepted { OnOk result (IsFetchAccepted S.number_of self.old fetched.now) }
         ensures cells { cells_of S.content self.new ≡ cells_of S.content self.old }
-        ensures here { AreAt S.is_of (S.name store.now) self.new }
+        ensures here { AreAt S.is_of (S.store_id store.now) self.new }
         ensures stale { IsErrOf result Refusal.StaleJob ↔ (¬ IsFetchAccepted S.number_of self.old fetched.now) }
-        ensures full { IsErrOf result Refusal.RegionFull ↔ (IsFetchAccepted S.number_of self.old fetched.now × HasNoRoom S.content self.old fetched.now) }
+        ensures full { IsErrOf result Refusal.RegionFull ↔ (IsFetchAccepted S.number_of self.old fetched.now × HasNoSpace S.content self.old fetched.now) }
         ensures refused { IfErr result (λ e. (e ≡ Refusal.StaleJob) ⊎ ((e ≡ Refusal.RegionFull) ⊎ (e ≡ Refusal.NoMemory))) }
         ensures err { OnErr result (self.new ≡ self.old) }
     {
@@ -115,15 +115,15 @@ impl<S: FarTickets> Rows<S> {
         store: &S,
         fetched: &Fetched<S>,
     ) -> Result<(), Refusal>
-        requires here { AreHere S.is_of (S.name store.now) self.old.number_objects }
-        requires fetched_here { S.is_of fetched.now.job.ticket (S.name store.now) }
-        ensures installed { OnOk result (IsSomeAnd (number_lists S.content self.old.number_objects fetched.now.job.object) (λ list. self.new ≡ record self.old { number_objects = arrived self.old.number_objects fetched.now.job.object list })) }
+        requires here { AreHere S.is_of (S.store_id store.now) self.old.number_objects }
+        requires fetched_here { S.is_of fetched.now.job.ticket (S.store_id store.now) }
+        ensures installed { OnOk result (IsSomeAnd (number_lists S.content self.old.number_objects fetched.now.job.object) (λ list. self.new ≡ record self.old { number_objects = after_arrive self.old.number_objects fetched.now.job.object list })) }
         ensures accepted { OnOk result (IsInstallable S.number_of SpellsNumbers self.old.number_objects fetched.now) }
         ensures kept { self.new ≡ record self.old { number_objects = self.new.number_objects } }
         ensures cells { cells_of S.content self.new ≡ cells_of S.content self.old }
-        ensures here { AreHere S.is_of (S.name store.now) self.new.number_objects }
+        ensures here { AreHere S.is_of (S.store_id store.now) self.new.number_objects }
         ensures stale { IsErrOf result Refusal.StaleJob ↔ (¬ IsInstallable S.number_of SpellsNumbers self.old.number_objects fetched.now) }
-        ensures full { IsErrOf result Refusal.RegionFull ↔ (IsInstallable S.number_of SpellsNumbers self.old.number_objects fetched.now × IsSomeAnd (number_lists S.content self.old.number_objects fetched.now.job.object) (λ list. fits_in self.old.number_objects.memory.room (length list) ≡ false)) }
+        ensures full { IsErrOf result Refusal.RegionFull ↔ (IsInstallable S.number_of SpellsNumbers self.old.number_objects fetched.now × IsSomeAnd (number_lists S.content self.old.number_objects fetched.now.job.object) (λ list. fits_in self.old.number_objects.memory.state (length list) ≡ false)) }
         ensures refused { IfErr result (λ e. (e ≡ Refusal.StaleJob) ⊎ ((e ≡ Refusal.RegionFull) ⊎ (e ≡ Refusal.NoMemory))) }
         ensures err { OnErr result (self.new ≡ self.old) }
     {
@@ -137,15 +137,15 @@ impl<S: FarTickets> Rows<S> {
         store: &S,
         fetched: &Fetched<S>,
     ) -> Result<(), Refusal>
-        requires here { AreHere S.is_of (S.name store.now) self.old.text_objects }
-        requires fetched_here { S.is_of fetched.now.job.ticket (S.name store.now) }
-        ensures installed { OnOk result (IsSomeAnd (lists_of S.content self.old.text_objects fetched.now.job.object) (λ list. self.new ≡ record self.old { text_objects = arrived self.old.text_objects fetched.now.job.object list })) }
+        requires here { AreHere S.is_of (S.store_id store.now) self.old.text_objects }
+        requires fetched_here { S.is_of fetched.now.job.ticket (S.store_id store.now) }
+        ensures installed { OnOk result (IsSomeAnd (lists_of S.content self.old.text_objects fetched.now.job.object) (λ list. self.new ≡ record self.old { text_objects = after_arrive self.old.text_objects fetched.now.job.object list })) }
         ensures accepted { OnOk result (IsInstallable S.number_of SpellsTexts self.old.text_objects fetched.now) }
         ensures kept { self.new ≡ record self.old { text_objects = self.new.text_objects } }
         ensures cells { cells_of S.content self.new ≡ cells_of S.content self.old }
-        ensures here { AreHere S.is_of (S.name store.now) self.new.text_objects }
+        ensures here { AreHere S.is_of (S.store_id store.now) self.new.text_objects }
         ensures stale { IsErrOf result Refusal.StaleJob ↔ (¬ IsInstallable S.number_of SpellsTexts self.old.text_objects fetched.now) }
-        ensures full { IsErrOf result Refusal.RegionFull ↔ (IsInstallable S.number_of SpellsTexts self.old.text_objects fetched.now × IsSomeAnd (lists_of S.content self.old.text_objects fetched.now.job.object) (λ list. fits_in self.old.text_objects.memory.room (length list) ≡ false)) }
+        ensures full { IsErrOf result Refusal.RegionFull ↔ (IsInstallable S.number_of SpellsTexts self.old.text_objects fetched.now × IsSomeAnd (lists_of S.content self.old.text_objects fetched.now.job.object) (λ list. fits_in self.old.text_objects.memory.state (length list) ≡ false)) }
         ensures refused { IfErr result (λ e. (e ≡ Refusal.StaleJob) ⊎ ((e ≡ Refusal.RegionFull) ⊎ (e ≡ Refusal.NoMemory))) }
         ensures err { OnErr result (self.new ≡ self.old) }
     {

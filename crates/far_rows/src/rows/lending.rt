@@ -11,7 +11,7 @@ ghost use Rattle.far_rows.specs.Refusing.{no_range, told_at, ints_refusal, texts
 ghost use Rattle.far_rows.specs.Lending.{lent_ints, lent_texts, numbers_of, texts_of};
 
 use super::Rows;
-use crate::slot::Slot;
+use crate::column_index::ColumnIndex;
 use far_columns::Lents;
 use far_store::FarTickets;
 use far_texts::TextCells;
@@ -19,22 +19,22 @@ use far_types::Refusal;
 
 impl<S: FarTickets> Rows<S> {
     /// The numbers of the places `from` up to `to`, lent in place with the flags of their places, piece by piece: one for each
-    /// row group that has some of them. Takes no memory.
+    /// row group that has some of them. Allocates nothing.
     ///
-    /// Refused with `NoColumn` (4) exactly where there is no such column, else with `WrongKind` (5) exactly where it is of
-    /// texts, else with `OutOfRange` (14) exactly where `from` is above `to` or `to` is past the places, else with `Absent`
-    /// (16) exactly where the object of a row group with some of them is away, naming the first such.
+    /// Refused with `NoColumn` (4) exactly if there is no such column, else with `WrongKind` (5) exactly if it is of
+    /// texts, else with `OutOfRange` (14) exactly if `from` is above `to` or `to` is past the places, else with `Absent`
+    /// (16) exactly if the object of a row group with some of them is away, naming the first such.
     pub fn ints(&self, column: usize, from: usize, to: usize) -> Result<Lents<'_, S>, Refusal>
         ensures lent { IfOk result (λ lents. lents ≡ lent_ints S.content self.now column from to) }
         ensures cells { IfOk result (λ lents. option_map (λ cells. slice_range cells from to) (slice_get (cells_of S.content self.now) column) ≡ Some (map int_cell (flat_map (λ lent. lent.0) lents))) }
         ensures alive { IfOk result (λ lents. flat_map (λ lent. lent.1) lents ≡ slice_range self.now.alive from to) }
-        ensures even { IfOk result (λ lents. All (λ lent. length lent.1 ≡ length lent.0) lents) }
+        ensures same_length { IfOk result (λ lents. All (λ lent. length lent.1 ≡ length lent.0) lents) }
         ensures refused { refusal_in result ≡ ints_refusal self.now column from to }
     {
-        let Some(slot) = self.slots.get(column) else {
+        let Some(column_index) = self.column_indexes.get(column) else {
             return Err(Refusal::NoColumn);
         };
-        let Slot::Number(number) = *slot else {
+        let ColumnIndex::Number(number) = *column_index else {
             return Err(Refusal::WrongKind);
         };
         self.ints_at(number, from, to)
@@ -43,11 +43,11 @@ impl<S: FarTickets> Rows<S> {
     // A part of a column of numbers, lent in place.
     fn ints_at(&self, number: usize, from: usize, to: usize) -> Result<Lents<'_, S>, Refusal>
         requires { number < length self.now.numbers }
-        ensures lent { IfOk result (λ lents. lents ≡ with_flags (pieces_of (numbers_of S.content self.now (Slot.Number number)) self.now.size from to) (slice_range self.now.alive from to)) }
-        ensures joined { IfOk result (λ lents. flat_map (λ lent. lent.0) lents ≡ slice_range (numbers_of S.content self.now (Slot.Number number)) from to) }
+        ensures lent { IfOk result (λ lents. lents ≡ with_flags (pieces_of (numbers_of S.content self.now (ColumnIndex.Number number)) self.now.size from to) (slice_range self.now.alive from to)) }
+        ensures joined { IfOk result (λ lents. flat_map (λ lent. lent.0) lents ≡ slice_range (numbers_of S.content self.now (ColumnIndex.Number number)) from to) }
         ensures alive { IfOk result (λ lents. flat_map (λ lent. lent.1) lents ≡ slice_range self.now.alive from to) }
-        ensures even { IfOk result (λ lents. All (λ lent. length lent.1 ≡ length lent.0) lents) }
-        ensures refused { refusal_in result ≡ first_of (no_range self.now from to ∷ map (λ g. told_at self.now g (Slot.Number number)) (touched self.now.size from to)) }
+        ensures same_length { IfOk result (λ lents. All (λ lent. length lent.1 ≡ length lent.0) lents) }
+        ensures refused { refusal_in result ≡ first_of (no_range self.now from to ∷ map (λ g. told_at self.now g (ColumnIndex.Number number)) (touched self.now.size from to)) }
     {
         let column = &self.numbers[number];
         // It tells that there are as many numbers as it says.
@@ -55,21 +55,21 @@ impl<S: FarTickets> Rows<S> {
         column.lent(&self.number_objects, &self.alive, from, to)
     }
 
-    /// The texts of the places `from` up to `to`, in order, lent in place, each with the flag of its place. Takes no memory.
+    /// The texts of the places `from` up to `to`, in order, lent in place, each with the flag of its place. Allocates nothing.
     ///
-    /// Refused with `NoColumn` (4) exactly where there is no such column, else with `WrongKind` (5) exactly where it is of
-    /// numbers, else with `OutOfRange` (14) exactly where `from` is above `to` or `to` is past the places, else with `Absent`
-    /// (16) exactly where the object of a row group with some of them is away, naming the first such.
+    /// Refused with `NoColumn` (4) exactly if there is no such column, else with `WrongKind` (5) exactly if it is of
+    /// numbers, else with `OutOfRange` (14) exactly if `from` is above `to` or `to` is past the places, else with `Absent`
+    /// (16) exactly if the object of a row group with some of them is away, naming the first such.
     pub fn texts(&self, column: usize, from: usize, to: usize) -> Result<TextCells<'_, S>, Refusal>
         ensures lent { IfOk result (λ lent. lent ≡ lent_texts S.content self.now column from to) }
         ensures cells { IfOk result (λ lent. option_map (λ cells. slice_range cells from to) (slice_get (cells_of S.content self.now) column) ≡ Some (map (λ t. text_cell t.0) lent)) }
         ensures alive { IfOk result (λ lent. map (λ t. t.1) lent ≡ slice_range self.now.alive from to) }
         ensures refused { refusal_in result ≡ texts_refusal self.now column from to }
     {
-        let Some(slot) = self.slots.get(column) else {
+        let Some(column_index) = self.column_indexes.get(column) else {
             return Err(Refusal::NoColumn);
         };
-        let Slot::Text(text) = *slot else {
+        let ColumnIndex::Text(text) = *column_index else {
             return Err(Refusal::WrongKind);
         };
         self.texts_at(text, from, to)
@@ -78,10 +78,10 @@ impl<S: FarTickets> Rows<S> {
     // A part of a column of texts, lent in place.
     fn texts_at(&self, text: usize, from: usize, to: usize) -> Result<TextCells<'_, S>, Refusal>
         requires { text < length self.now.texts }
-        ensures lent { IfOk result (λ lent. lent ≡ zip (slice_range (texts_of S.content self.now (Slot.Text text)) from to) (slice_range self.now.alive from to)) }
-        ensures texts { IfOk result (λ lent. map (λ t. t.0) lent ≡ slice_range (texts_of S.content self.now (Slot.Text text)) from to) }
+        ensures lent { IfOk result (λ lent. lent ≡ zip (slice_range (texts_of S.content self.now (ColumnIndex.Text text)) from to) (slice_range self.now.alive from to)) }
+        ensures texts { IfOk result (λ lent. map (λ t. t.0) lent ≡ slice_range (texts_of S.content self.now (ColumnIndex.Text text)) from to) }
         ensures alive { IfOk result (λ lent. map (λ t. t.1) lent ≡ slice_range self.now.alive from to) }
-        ensures refused { refusal_in result ≡ first_of (no_range self.now from to ∷ map (λ g. told_at self.now g (Slot.Text text)) (touched self.now.size from to)) }
+        ensures refused { refusal_in result ≡ first_of (no_range self.now from to ∷ map (λ g. told_at self.now g (ColumnIndex.Text text)) (touched self.now.size from to)) }
     {
         let column = &self.texts[text];
         // It tells that a row group is begun for each place.

@@ -5,22 +5,22 @@ ghost use Rattle.far_codec.specs.FarForm.{FitsCount};
 ghost use Rattle.far_codec.specs.TextForm.{IsTextsForm};
 ghost use Rattle.far_scopes.specs.Memory.{list_in};
 ghost use Rattle.far_scopes.specs.Refusing.{refusal_in};
-ghost use Rattle.far_rows.specs.declared.slot.Slot.TheVariants as slot;
+ghost use Rattle.far_rows.specs.declared.column_index.ColumnIndex.TheVariants as column_index;
 ghost use Rattle.far_rows.specs.declared.object.Object.TheVariants as object;
 ghost use Rattle.far_rows.specs.Naming.{names_of};
 ghost use Rattle.far_rows.specs.Rows.{object_of};
-ghost use Rattle.far_rows.specs.Moving.{object_in, object_at, IsInUse, pinned, unpinned, touched, KeepsCells, object_refusal, pin_refusal, unpin_refusal};
+ghost use Rattle.far_rows.specs.Moving.{object_in, object_at, IsInUse, after_pin, after_unpin, after_touch, KeepsCells, object_refusal, pin_refusal, unpin_refusal};
 
 use super::Rows;
+use crate::column_index::ColumnIndex;
 use crate::object::Object;
-use crate::slot::Slot;
 use far_scopes::Objects;
 use far_store::FarTickets;
 use far_types::Refusal;
 
 impl<S: FarTickets> Rows<S> {
     /// The objects of numbers, lent for jobs to begin with. Each that is local has a far form, and each is that of the column
-    /// and the row group that it is named by. Takes no memory.
+    /// and the row group that it is named by. Allocates nothing.
     pub fn number_objects(&self) -> &Objects<Option<i64>, S>
         ensures objects { result.now ≡ self.now.number_objects }
         ensures spelled { (o : ℕ) → IfSome (list_in result.now.memory o) FitsCount }
@@ -31,7 +31,7 @@ impl<S: FarTickets> Rows<S> {
         &self.number_objects
     }
 
-    /// The objects of texts, lent likewise. Takes no memory.
+    /// The objects of texts, lent likewise. Allocates nothing.
     pub fn text_objects(&self) -> &Objects<u8, S>
         ensures objects { result.now ≡ self.now.text_objects }
         ensures spelled { (o : ℕ) → IfSome (list_in result.now.memory o) IsTextsForm }
@@ -41,21 +41,21 @@ impl<S: FarTickets> Rows<S> {
         &self.text_objects
     }
 
-    /// The object of a row group of a column. Takes no memory.
+    /// The object of a row group of a column. Allocates nothing.
     ///
-    /// Refused with `NoColumn` (4) exactly where there is no such column, else with `OutOfRange` (14) exactly where no place
+    /// Refused with `NoColumn` (4) exactly if there is no such column, else with `OutOfRange` (14) exactly if no place
     /// of the row group is used.
     pub fn object(&self, column: usize, group: u32) -> Result<Object, Refusal>
         ensures object { IfOk result (λ object. object_at self.now column group ≡ Some object) }
         ensures in_use { IfOk result (λ object. IsInUse self.now object) }
         ensures refused { refusal_in result ≡ object_refusal self.now column group }
     {
-        let Some(slot) = self.slots.get(column) else {
+        let Some(column_index) = self.column_indexes.get(column) else {
             return Err(Refusal::NoColumn);
         };
-        let object = match *slot {
-            Slot::Number(number) => self.number_object(number, group),
-            Slot::Text(text) => self.text_object(text, group),
+        let object = match *column_index {
+            ColumnIndex::Number(number) => self.number_object(number, group),
+            ColumnIndex::Text(text) => self.text_object(text, group),
         };
         object.ok_or(Refusal::OutOfRange)
     }
@@ -63,7 +63,7 @@ impl<S: FarTickets> Rows<S> {
     // The object of a row group of a column of numbers, which is known to be one of the objects.
     fn number_object(&self, number: usize, group: u32) -> Option<Object>
         requires { number < length self.now.numbers }
-        ensures object { result ≡ option_map (object_in (slot.Number number)) (object_of self.now (slot.Number number) group) }
+        ensures object { result ≡ option_map (object_in (column_index.Number number)) (object_of self.now (column_index.Number number) group) }
         ensures in_use { IfSome result (IsInUse self.now) }
     {
         let _number = self.number_objects.number();
@@ -73,20 +73,20 @@ impl<S: FarTickets> Rows<S> {
     // Likewise that of a column of texts.
     fn text_object(&self, text: usize, group: u32) -> Option<Object>
         requires { text < length self.now.texts }
-        ensures object { result ≡ option_map (object_in (slot.Text text)) (object_of self.now (slot.Text text) group) }
+        ensures object { result ≡ option_map (object_in (column_index.Text text)) (object_of self.now (column_index.Text text) group) }
         ensures in_use { IfSome result (IsInUse self.now) }
     {
         let _number = self.text_objects.number();
         Some(Object::Text(self.texts[text].object(group as usize)?))
     }
 
-    /// Pins the object of a row group of a column once more. Takes no memory.
+    /// Pins the object of a row group of a column once more. Allocates nothing.
     ///
-    /// Refused with `NoColumn` (4) exactly where there is no such column; else with `OutOfRange` (14) exactly where no place
-    /// of the row group is used; else with `Absent` (16) exactly where the object is away; else with `EditsUsedUp` (24)
-    /// exactly where it has 65,535 pins. Then nothing is changed.
+    /// Refused with `NoColumn` (4) exactly if there is no such column; else with `OutOfRange` (14) exactly if no place
+    /// of the row group is used; else with `Absent` (16) exactly if the object is away; else with `EditsUsedUp` (24)
+    /// exactly if it has 65,535 pins. Then nothing is changed.
     pub fn pin(&mut self, column: usize, group: u32) -> Result<(), Refusal>
-        ensures pinned { OnOk result (IsSomeAnd (object_at self.old column group) (λ object. self.new ≡ pinned self.old object)) }
+        ensures pinned { OnOk result (IsSomeAnd (object_at self.old column group) (λ object. self.new ≡ after_pin self.old object)) }
         ensures kept { KeepsCells S.content S.is_of self.old self.new }
         ensures refused { refusal_in result ≡ pin_refusal self.old column group }
         ensures err { OnErr result (self.new ≡ self.old) }
@@ -97,12 +97,12 @@ impl<S: FarTickets> Rows<S> {
         }
     }
 
-    /// Pins the object of a row group of a column once less. Takes no memory.
+    /// Pins the object of a row group of a column once less. Allocates nothing.
     ///
-    /// Refused with `NoColumn` (4) exactly where there is no such column; else with `OutOfRange` (14) exactly where no place
-    /// of the row group is used; else with `NotPinned` (18) exactly where the object has no pin. Then nothing is changed.
+    /// Refused with `NoColumn` (4) exactly if there is no such column; else with `OutOfRange` (14) exactly if no place
+    /// of the row group is used; else with `NotPinned` (18) exactly if the object has no pin. Then nothing is changed.
     pub fn unpin(&mut self, column: usize, group: u32) -> Result<(), Refusal>
-        ensures unpinned { OnOk result (IsSomeAnd (object_at self.old column group) (λ object. self.new ≡ unpinned self.old object)) }
+        ensures unpinned { OnOk result (IsSomeAnd (object_at self.old column group) (λ object. self.new ≡ after_unpin self.old object)) }
         ensures kept { KeepsCells S.content S.is_of self.old self.new }
         ensures refused { refusal_in result ≡ unpin_refusal self.old column group }
         ensures err { OnErr result (self.new ≡ self.old) }
@@ -113,12 +113,12 @@ impl<S: FarTickets> Rows<S> {
         }
     }
 
-    /// Uses the object of a row group of a column: it is hot and used last, if it is local. Takes no memory.
+    /// Uses the object of a row group of a column: it is hot and used last, if it is local. Allocates nothing.
     ///
-    /// Refused with `NoColumn` (4) exactly where there is no such column, else with `OutOfRange` (14) exactly where no place
+    /// Refused with `NoColumn` (4) exactly if there is no such column, else with `OutOfRange` (14) exactly if no place
     /// of the row group is used; then nothing is changed.
     pub fn touch(&mut self, column: usize, group: u32) -> Result<(), Refusal>
-        ensures touched { OnOk result (IsSomeAnd (object_at self.old column group) (λ object. self.new ≡ touched self.old object)) }
+        ensures touched { OnOk result (IsSomeAnd (object_at self.old column group) (λ object. self.new ≡ after_touch self.old object)) }
         ensures kept { KeepsCells S.content S.is_of self.old self.new }
         ensures refused { refusal_in result ≡ object_refusal self.old column group }
         ensures err { OnErr result (self.new ≡ self.old) }

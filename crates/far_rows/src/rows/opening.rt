@@ -1,10 +1,10 @@
 // The columns of a table when it is opened.
 ghost use Rattle.std.specs.Prelude.{◌≡◌, ◌++◌, ◌∷◌, [], length, IfOk, IfErr, OnOk};
 ghost use Rattle.far_types.specs.Bounds.{AreLimits, IsSchema};
-ghost use Rattle.far_rows.specs.Slots.{slots_from};
+ghost use Rattle.far_rows.specs.ColumnIndexes.{column_indexes_from};
 ghost use Rattle.far_rows.specs.Opening.{numbers_from, texts_from, number_limits, text_limits};
 
-use crate::slot::Slot;
+use crate::column_index::ColumnIndex;
 use far_columns::IntColumn;
 use far_scopes::ObjectLimits;
 use far_texts::TextColumn;
@@ -14,7 +14,7 @@ use std::alloc::Global;
 // The columns of a table, and where each lies.
 #[derive(Drop)]
 pub(super) struct Columns {
-    pub(super) slots: Vec<Slot>,
+    pub(super) column_indexes: Vec<ColumnIndex>,
     pub(super) numbers: Vec<IntColumn>,
     pub(super) texts: Vec<TextColumn>,
 }
@@ -26,7 +26,7 @@ pub(super) fn number_limits(limits: &Limits) -> ObjectLimits
     ObjectLimits {
         segments: limits.int_segments,
         size: limits.int_size,
-        changes: limits.edits,
+        max_writes: limits.edits,
         leavings: limits.edits,
     }
 }
@@ -38,7 +38,7 @@ pub(super) fn text_limits(limits: &Limits) -> ObjectLimits
     ObjectLimits {
         segments: limits.text_segments,
         size: limits.text_size,
-        changes: limits.edits,
+        max_writes: limits.edits,
         leavings: limits.edits,
     }
 }
@@ -50,14 +50,14 @@ pub(super) fn columns_of(
     limits: &Limits,
 ) -> Result<Columns, Refusal>
     requires { AreLimits limits.now }
-    ensures slots { IfOk result (λ columns. columns.slots.items ≡ slots_from 0 0 schema.now) }
+    ensures column_indexes { IfOk result (λ columns. columns.column_indexes.items ≡ column_indexes_from 0 0 schema.now) }
     ensures numbers { IfOk result (λ columns. columns.numbers.items ≡ numbers_from limits.now.group 0 schema.now) }
     ensures texts { IfOk result (λ columns. columns.texts.items ≡ texts_from limits.now.group limits.now.text_size 0 schema.now) }
     ensures schema { IsSchema schema.now }
     ensures memory { IfErr result (λ e. e ≡ Refusal.NoMemory) }
 {
     let mut columns = Columns {
-        slots: Vec::with_capacity(alloc, schema.len())?,
+        column_indexes: Vec::with_capacity(alloc, schema.len())?,
         numbers: Vec::new(alloc),
         texts: Vec::new(alloc),
     };
@@ -79,19 +79,21 @@ impl Columns {
         limits: &Limits,
     ) -> Result<(), Refusal>
         requires { AreLimits limits.now }
-        ensures slots { OnOk result (self.new.slots.items ≡ self.old.slots.items ++ slots_from (length self.old.numbers.items) (length self.old.texts.items) (kind ∷ [])) }
+        ensures column_indexes { OnOk result (self.new.column_indexes.items ≡ self.old.column_indexes.items ++ column_indexes_from (length self.old.numbers.items) (length self.old.texts.items) (kind ∷ [])) }
         ensures numbers { OnOk result (self.new.numbers.items ≡ self.old.numbers.items ++ numbers_from limits.now.group column (kind ∷ [])) }
         ensures texts { OnOk result (self.new.texts.items ≡ self.old.texts.items ++ texts_from limits.now.group limits.now.text_size column (kind ∷ [])) }
         ensures memory { IfErr result (λ e. e ≡ Refusal.NoMemory) }
     {
         match kind {
             Kind::Int => {
-                self.slots.push(Slot::Number(self.numbers.len()))?;
+                self.column_indexes
+                    .push(ColumnIndex::Number(self.numbers.len()))?;
                 let numbers = IntColumn::new(alloc, column, limits.group)?;
                 self.numbers.push(numbers)?;
             }
             Kind::Text => {
-                self.slots.push(Slot::Text(self.texts.len()))?;
+                self.column_indexes
+                    .push(ColumnIndex::Text(self.texts.len()))?;
                 let size = limits.group as usize;
                 let limit = limits.text_size as usize;
                 self.texts

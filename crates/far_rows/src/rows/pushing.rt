@@ -8,7 +8,7 @@ ghost use Rattle.far_columns.specs.Numbers.{number_lists, numbers_in};
 ghost use Rattle.far_columns.specs.NumbersTogether.{AreNumberColumns, all_begin, all_pushed, all_pushed_in, all_numbers_with, push_numbers_refusal};
 ghost use Rattle.far_texts.specs.Together.{AreColumns, AreReplaced, all_begin as all_texts_begin, all_created, all_pushed as all_texts_pushed, all_texts_with, next_forms};
 ghost use Rattle.far_texts.specs.RefusingTogether.{push_texts_refusal};
-ghost use Rattle.far_rows.specs.Slots.{row_of, with_row};
+ghost use Rattle.far_rows.specs.ColumnIndexes.{row_of, with_row};
 ghost use Rattle.far_rows.specs.Rows.{cells_of, TextsMoved};
 ghost use Rattle.far_rows.specs.Places.{places_in};
 ghost use Rattle.far_rows.specs.Refusing.{push_refusal};
@@ -42,16 +42,18 @@ pub(super) fn known_texts(columns: &[TextColumn])
     }
 }
 
-// Gives each column of texts its text, of those that may be appended. A table without such a column asks and makes nothing.
+// Gives each column of texts its text, of those that may be appended. A table without such a column asks and makes nothing. The
+// form of a single column is made in the memory of `spare`.
 #[inline(always)]
 fn push_all_texts<S: FarTickets>(
     alloc: Global,
+    spare: &mut Vec<u8>,
     objects: &mut Objects<u8, S>,
     columns: &mut [TextColumn],
     texts: &[Option<Text>],
 ) -> Result<(), Refusal>
     requires are { AreColumns (lists_of S.content objects.old) columns.old }
-    requires even { length texts.now ≡ length columns.old }
+    requires same_length { length texts.now ≡ length columns.old }
     requires few { all_texts_begin columns.old ≡ true → length objects.old.entries + length columns.old ≤ 2 ^ 28 }
     requires free { push_texts_refusal S.content objects.old columns.old texts.now ≡ None }
     ensures pushed { OnOk result (columns.new ≡ all_texts_pushed (length objects.old.entries) columns.old) }
@@ -68,13 +70,14 @@ fn push_all_texts<S: FarTickets>(
     if columns.is_empty() {
         return Ok(());
     }
-    fill_texts(alloc, objects, columns, texts)
+    fill_texts(alloc, spare, objects, columns, texts)
 }
 
 // Gives each column its value of the row. Where row groups begin, the numbers are taken back if the texts are refused;
 // else the texts come first, and the numbers then cannot be refused.
 fn push_values<S: FarTickets>(
     alloc: Global,
+    spare: &mut Vec<u8>,
     begins: bool,
     number_objects: &mut Objects<Option<i64>, S>,
     numbers: &mut [IntColumn],
@@ -113,13 +116,13 @@ fn push_values<S: FarTickets>(
 {
     if begins {
         push_numbers(number_objects, numbers, row.numbers())?;
-        if let Err(refusal) = push_all_texts(alloc, text_objects, texts, row.texts()) {
+        if let Err(refusal) = push_all_texts(alloc, spare, text_objects, texts, row.texts()) {
             unpush_numbers(number_objects, numbers);
             return Err(refusal);
         }
         return Ok(());
     }
-    push_all_texts(alloc, text_objects, texts, row.texts())?;
+    push_all_texts(alloc, spare, text_objects, texts, row.texts())?;
     if numbers.is_empty() {
         return Ok(());
     }
@@ -139,7 +142,7 @@ impl<S: FarTickets> Rows<S> {
         requires free { push_refusal S.content self.old row.now ≡ None }
         requires few { length self.old.alive < 2 ^ 24 }
         ensures pushed { OnOk result (IsPushed S.content self.old row.now self.new) }
-        ensures places { OnOk result (places_in S.content self.new ≡ places_in S.content self.old ++ record { cells = row_of self.old.slots row.now; alive = true } ∷ []) }
+        ensures places { OnOk result (places_in S.content self.new ≡ places_in S.content self.old ++ record { cells = row_of self.old.column_indexes row.now; alive = true } ∷ []) }
         ensures kept { KeepsObjects S.is_of self.old self.new }
         ensures memory { IfErr result (λ e. e ≡ Refusal.NoMemory) }
         ensures err { OnErr result (self.new ≡ self.old) }
@@ -157,9 +160,9 @@ impl<S: FarTickets> Rows<S> {
         requires texts { length row.now.texts ≡ length self.old.texts }
         requires free { kinds_refusal S.content self.old row.now ≡ None }
         requires few { length self.old.alive < 2 ^ 24 }
-        ensures cells { OnOk result (cells_of S.content self.new ≡ with_row (cells_of S.content self.old) (row_of self.old.slots row.now)) }
+        ensures cells { OnOk result (cells_of S.content self.new ≡ with_row (cells_of S.content self.old) (row_of self.old.column_indexes row.now)) }
         ensures alive { OnOk result (self.new.alive ≡ self.old.alive ++ true ∷ []) }
-        ensures slots { self.new.slots ≡ self.old.slots }
+        ensures column_indexes { self.new.column_indexes ≡ self.old.column_indexes }
         ensures size { self.new.size ≡ self.old.size }
         ensures numbers { OnOk result (self.new.numbers ≡ all_pushed (length self.old.number_objects.entries) self.old.numbers) }
         ensures number_objects { OnOk result (self.new.number_objects ≡ all_pushed_in self.old.number_objects self.old.numbers row.now.numbers) }
@@ -181,6 +184,7 @@ impl<S: FarTickets> Rows<S> {
         self.alive.push()?;
         let pushed = push_values(
             alloc,
+            &mut self.spare,
             begins,
             &mut self.number_objects,
             &mut self.numbers,

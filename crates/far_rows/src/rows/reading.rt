@@ -1,5 +1,5 @@
 // Which objects of a row group are local, and cells read in place.
-ghost use Rattle.std.specs.Prelude.{◌≡◌, ◌∷◌, ◌<◌, ◌/◌, [], length, false, slice_get, option_map, slice_index_or, Some, IfOk};
+ghost use Rattle.std.specs.Prelude.{◌≡◌, ℕ, ◌∷◌, ◌<◌, ◌/◌, [], length, false, slice_get, option_map, slice_index_or, Some, None, IsTrue, IfOk};
 ghost use Rattle.std.specs.Option.{option_copied, option_map_or};
 ghost use Rattle.far_types.specs.declared.cell.Cell.TheVariants.{Missing};
 ghost use Rattle.far_types.specs.FirstOf.{first_of};
@@ -7,16 +7,16 @@ ghost use Rattle.far_scopes.specs.Refusing.{refusal_in, absent};
 ghost use Rattle.far_vector.specs.Vector.{IsVector};
 ghost use Rattle.far_columns.specs.Numbers.{number_lists};
 ghost use Rattle.far_texts.specs.Texts.{lists_of, IsTextColumn};
-ghost use Rattle.far_rows.specs.declared.slot.Slot.TheVariants as slot;
+ghost use Rattle.far_rows.specs.declared.column_index.ColumnIndex.TheVariants as column_index;
 ghost use Rattle.far_types.specs.Lent.{int_cell, text_cell, lent_cell};
-ghost use Rattle.far_rows.specs.Slots.{IsWithin, column_in};
+ghost use Rattle.far_rows.specs.ColumnIndexes.{IsWithin, column_in};
 ghost use Rattle.far_rows.specs.Places.{row_at};
 ghost use Rattle.far_rows.specs.Rows.{all_numbers, all_texts, cells_of};
 ghost use Rattle.far_rows.specs.Refusing.{told_at, absent_at, absents, cell_refusal, text_refusal};
 
 use super::Rows;
+use crate::column_index::ColumnIndex;
 use crate::row_ref::RowRef;
-use crate::slot::Slot;
 use far_columns::IntColumn;
 use far_scopes::Objects;
 use far_store::FarTickets;
@@ -24,75 +24,94 @@ use far_texts::TextColumn;
 use far_types::{CellRef, LentRow, Refusal};
 
 impl<S: FarTickets> Rows<S> {
-    /// Whether all objects of a row group are local. A row group of which no place is used has none. Takes no memory.
+    /// Whether all objects of a row group are local. A row group of which no place is used has none. Allocates nothing.
     ///
-    /// Refused with `Absent` (16) exactly where one is away, naming the first in the order of the columns by the column and the
+    /// Refused with `Absent` (16) exactly if one is away, naming the first in the order of the columns by the column and the
     /// row group.
     pub fn here(&self, group: u32) -> Result<(), Refusal>
         ensures { refusal_in result ≡ first_of (absents self.now group) }
     {
-        // It tells that each slot is that of a column.
+        // It tells that each index is that of a column.
         let _len = self.len();
-        for slot in self.slots() {
-            self.is_here(*slot, group)?;
+        if self.are_all_local() {
+            return Ok(());
+        }
+        for column_index in self.column_indexes() {
+            self.is_here(*column_index, group)?;
         }
         Ok(())
     }
 
-    // Whether the object of a row group of a column is local, where there is one.
-    pub(super) fn is_here(&self, slot: Slot, group: u32) -> Result<(), Refusal>
-        requires { IsWithin (length self.now.numbers) (length self.now.texts) slot }
-        ensures { refusal_in result ≡ first_of (told_at self.now group slot ∷ []) }
+    // Whether every object of every column is local. It looks at no object, so that where none is away a row costs the same,
+    // however many columns it has.
+    fn are_all_local(&self) -> bool
+        ensures { IsTrue result → (g : ℕ) → first_of (absents self.now g) ≡ None }
     {
-        match slot {
-            Slot::Number(number) => {
+        // They tell what rows are, and of all objects that one with a list is in use.
+        let _len = self.len();
+        let _numbers = self.number_objects.number();
+        let _texts = self.text_objects.number();
+        let numbers = self.number_objects.are_all_local();
+        let texts = self.text_objects.are_all_local();
+        numbers && texts
+    }
+
+    // Whether the object of a row group of a column is local, where there is one.
+    pub(super) fn is_here(&self, column_index: ColumnIndex, group: u32) -> Result<(), Refusal>
+        requires { IsWithin (length self.now.numbers) (length self.now.texts) column_index }
+        ensures { refusal_in result ≡ first_of (told_at self.now group column_index ∷ []) }
+    {
+        match column_index {
+            ColumnIndex::Number(number) => {
                 numbers_are_here(&self.number_objects, &self.numbers[number], group)
             }
-            Slot::Text(text) => texts_are_here(&self.text_objects, &self.texts[text], group),
+            ColumnIndex::Text(text) => texts_are_here(&self.text_objects, &self.texts[text], group),
         }
     }
 
-    /// A cell, lent where it lies. Takes no memory.
+    /// A cell, lent where it lies. Allocates nothing.
     ///
-    /// Refused with `NoColumn` (4) exactly where there is no such column, else with `NoRow` (8) exactly past the places, else
-    /// with `Absent` (16) exactly where the object of the cell is away.
+    /// Refused with `NoColumn` (4) exactly if there is no such column, else with `NoRow` (8) exactly past the places, else
+    /// with `Absent` (16) exactly if the object of the cell is away.
     pub fn cell(&self, column: usize, place: usize) -> Result<CellRef<'_>, Refusal>
         ensures cell { IfOk result (λ cell. option_map (λ cells. slice_index_or cells place Missing) (slice_get (cells_of S.content self.now) column) ≡ Some (lent_cell cell)) }
         ensures refused { refusal_in result ≡ cell_refusal self.now column place }
     {
-        let Some(slot) = self.slots.get(column) else {
+        let Some(column_index) = self.column_indexes.get(column) else {
             return Err(Refusal::NoColumn);
         };
         if place >= self.alive.len() {
             return Err(Refusal::NoRow);
         }
-        self.cell_in(column, *slot, place)
+        self.cell_in(column, *column_index, place)
     }
 
-    // The cell of a place that is there, in the column with this slot.
+    // The cell of a place that is there, in the column with this index.
     #[inline(always)]
     pub(crate) fn cell_in(
         &self,
         column: usize,
-        slot: Slot,
+        column_index: ColumnIndex,
         place: usize,
     ) -> Result<CellRef<'_>, Refusal>
-        requires lies { slice_get self.now.slots column ≡ Some slot }
+        requires lies { slice_get self.now.column_indexes column ≡ Some column_index }
         requires place { place < length self.now.alive }
-        ensures cell { IfOk result (λ cell. slice_index_or (column_in (all_numbers S.content self.now) (all_texts S.content self.now) slot) place Missing ≡ lent_cell cell) }
-        ensures refused { refusal_in result ≡ first_of (absent_at self.now column (place / self.now.size) slot ∷ []) }
+        ensures cell { IfOk result (λ cell. slice_index_or (column_in (all_numbers S.content self.now) (all_texts S.content self.now) column_index) place Missing ≡ lent_cell cell) }
+        ensures refused { refusal_in result ≡ first_of (absent_at self.now column (place / self.now.size) column_index ∷ []) }
     {
-        // It tells that each slot is that of a column.
+        // It tells that each index is that of a column.
         let _len = self.len();
-        match slot {
-            Slot::Number(number) => Ok(CellRef::of_int(self.number_at(column, number, place)?)),
-            Slot::Text(text) => Ok(CellRef::of_text(self.text_at(column, text, place)?)),
+        match column_index {
+            ColumnIndex::Number(number) => Ok(CellRef::of_int(self.number_at(
+                column, number, place,
+            )?)),
+            ColumnIndex::Text(text) => Ok(CellRef::of_text(self.text_at(column, text, place)?)),
         }
     }
 
-    /// The row of a place, each cell lent where it lies and each column looked at once. Takes no memory.
+    /// The row of a place, each cell lent where it lies and each column looked at once. Allocates nothing.
     ///
-    /// Refused with `Absent` (16) exactly where an object of the place's row group is away, naming the first in the order of
+    /// Refused with `Absent` (16) exactly if an object of the place's row group is away, naming the first in the order of
     /// the columns.
     pub fn row(&self, place: usize) -> Result<LentRow<'_>, Refusal>
         requires { place < length self.now.alive }
@@ -102,13 +121,13 @@ impl<S: FarTickets> Rows<S> {
         // It tells that a table has at most 16 columns.
         let _len = self.len();
         let mut row = LentRow::new();
-        for (column, slot) in self.slots.iter().enumerate() {
-            row.push(self.cell_in(column, *slot, place)?);
+        for (column, column_index) in self.column_indexes.iter().enumerate() {
+            row.push(self.cell_in(column, *column_index, place)?);
         }
         Ok(row)
     }
 
-    /// The row of a place, each cell lent where it lies once it is asked for. Takes no memory.
+    /// The row of a place, each cell lent where it lies once it is asked for. Allocates nothing.
     ///
     /// Refused as `row` is, with `Absent` (16) alone.
     pub fn row_ref(&self, place: usize) -> Result<RowRef<'_, S>, Refusal>
@@ -122,19 +141,19 @@ impl<S: FarTickets> Rows<S> {
         Ok(RowRef::new(self, place))
     }
 
-    /// The text of a place, lent in place; `None` where it is missing. Takes no memory.
+    /// The text of a place, lent in place; `None` if it is missing. Allocates nothing.
     ///
-    /// Refused with `NoColumn` (4) exactly where there is no such column, else with `WrongKind` (5) exactly where it is of
-    /// numbers, else with `NoRow` (8) exactly past the places, else with `Absent` (16) exactly where the object of the text is
+    /// Refused with `NoColumn` (4) exactly if there is no such column, else with `WrongKind` (5) exactly if it is of
+    /// numbers, else with `NoRow` (8) exactly past the places, else with `Absent` (16) exactly if the object of the text is
     /// away.
     pub fn text(&self, column: usize, place: usize) -> Result<Option<&str>, Refusal>
         ensures text { IfOk result (λ text. option_map (λ cells. slice_index_or cells place Missing) (slice_get (cells_of S.content self.now) column) ≡ Some (text_cell (option_copied text))) }
         ensures refused { refusal_in result ≡ text_refusal self.now column place }
     {
-        let Some(slot) = self.slots.get(column) else {
+        let Some(column_index) = self.column_indexes.get(column) else {
             return Err(Refusal::NoColumn);
         };
-        let Slot::Text(text) = *slot else {
+        let ColumnIndex::Text(text) = *column_index else {
             return Err(Refusal::WrongKind);
         };
         if place >= self.alive.len() {
@@ -145,11 +164,11 @@ impl<S: FarTickets> Rows<S> {
 
     // The number of a place that is there.
     fn number_at(&self, at: usize, number: usize, place: usize) -> Result<Option<i64>, Refusal>
-        requires lies { slice_get self.now.slots at ≡ Some (slot.Number number) }
+        requires lies { slice_get self.now.column_indexes at ≡ Some (column_index.Number number) }
         requires column { number < length self.now.numbers }
         requires place { place < length self.now.alive }
-        ensures number { IfOk result (λ value. slice_index_or (column_in (all_numbers S.content self.now) (all_texts S.content self.now) (slot.Number number)) place Missing ≡ int_cell value) }
-        ensures refused { refusal_in result ≡ first_of (absent_at self.now at (place / self.now.size) (slot.Number number) ∷ []) }
+        ensures number { IfOk result (λ value. slice_index_or (column_in (all_numbers S.content self.now) (all_texts S.content self.now) (column_index.Number number)) place Missing ≡ int_cell value) }
+        ensures refused { refusal_in result ≡ first_of (absent_at self.now at (place / self.now.size) (column_index.Number number) ∷ []) }
     {
         let column = &self.numbers[number];
         // It tells that a row group is begun for each place.
@@ -159,11 +178,11 @@ impl<S: FarTickets> Rows<S> {
 
     // Likewise the text.
     fn text_at(&self, at: usize, text: usize, place: usize) -> Result<Option<&str>, Refusal>
-        requires lies { slice_get self.now.slots at ≡ Some (slot.Text text) }
+        requires lies { slice_get self.now.column_indexes at ≡ Some (column_index.Text text) }
         requires column { text < length self.now.texts }
         requires place { place < length self.now.alive }
-        ensures text { IfOk result (λ value. slice_index_or (column_in (all_numbers S.content self.now) (all_texts S.content self.now) (slot.Text text)) place Missing ≡ text_cell (option_copied value)) }
-        ensures refused { refusal_in result ≡ first_of (absent_at self.now at (place / self.now.size) (slot.Text text) ∷ []) }
+        ensures text { IfOk result (λ value. slice_index_or (column_in (all_numbers S.content self.now) (all_texts S.content self.now) (column_index.Text text)) place Missing ≡ text_cell (option_copied value)) }
+        ensures refused { refusal_in result ≡ first_of (absent_at self.now at (place / self.now.size) (column_index.Text text) ∷ []) }
     {
         let column = &self.texts[text];
         let _len = column.len();

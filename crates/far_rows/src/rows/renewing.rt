@@ -15,7 +15,7 @@ impl<S: FarRead> Rows<S> {
     /// Puts the content of each object that is away into another store, those of numbers before those of texts, each by
     /// rising object number, and makes all room that `renew` needs. The rows stay as they are.
     ///
-    /// Refused with `FarFault` (21) where one of the stores fails, exactly where the meter rises, by one; with `FarFull` (22)
+    /// Refused with `FarFault` (21) if one of the stores fails, exactly if the meter rises, by one; with `FarFull` (22)
     /// where the new one gives out no more numbers; and with `NoMemory` (1). It ends at the first object that is refused;
     /// what was put before stays in the new store.
     pub fn renewal<N: FarStore>(
@@ -26,9 +26,9 @@ impl<S: FarRead> Rows<S> {
         meter: &mut Meter,
     ) -> Result<RowsRenewal<N>, Refusal>
         requires few { meter.old < 2 ^ 63 }
-        requires here { AreAt S.is_of (S.name store.now) self.now }
+        requires here { AreAt S.is_of (S.store_id store.now) self.now }
         ensures renews { IfOk result (RenewsRows S.content N.content self.now) }
-        ensures there { IfOk result (AreTicketsAt N.is_of (N.name new_store.now)) }
+        ensures there { IfOk result (AreTicketsAt N.is_of (N.store_id new_store.now)) }
         ensures faults { meter.new ≡ meter.old + faults_in result }
         ensures refused { RefusedBy (21 ∷ 22 ∷ 1 ∷ []) result }
     {
@@ -40,8 +40,8 @@ impl<S: FarRead> Rows<S> {
 
 impl<S: FarTickets> Rows<S> {
     /// The same rows, whose far copies are those of the renewal from now on. Every cell and flag, what is local, hot or
-    /// pinned, versions, leavings, the orders of use and the room stay; the local objects are dirty, since they have no copy
-    /// in the new store. Takes no memory.
+    /// pinned, versions, leavings, the orders of use and the regions stay; the local objects are dirty, since they have no copy
+    /// in the new store. Allocates nothing.
     pub fn renew<N: FarTickets>(self, renewal: RowsRenewal<N>) -> Rows<N>
         requires { RenewsRows S.content N.content self renewal }
         ensures renewed { result ≡ renewed_rows self renewal }
@@ -50,7 +50,7 @@ impl<S: FarTickets> Rows<S> {
     {
         let RowsRenewal { numbers, texts } = renewal;
         Rows {
-            slots: self.slots,
+            column_indexes: self.column_indexes,
             size: self.size,
             reciprocal: self.reciprocal,
             numbers: self.numbers,
@@ -58,6 +58,7 @@ impl<S: FarTickets> Rows<S> {
             number_objects: self.number_objects.renew(numbers),
             text_objects: self.text_objects.renew(texts),
             alive: self.alive,
+            spare: self.spare,
         }
     }
 }

@@ -5,10 +5,10 @@ ghost use Rattle.far_types.specs.Cells.{is_too_long};
 ghost use Rattle.far_scopes.specs.Movement.{AreHere, version_of};
 ghost use Rattle.far_scopes.specs.Refusing.{refusal_in};
 ghost use Rattle.far_vector.specs.Refusing.{set_refusal as number_set_refusal};
-ghost use Rattle.far_rows.specs.declared.slot.Slot.TheVariants as slot;
+ghost use Rattle.far_rows.specs.declared.column_index.ColumnIndex.TheVariants as column_index;
 ghost use Rattle.far_rows.specs.declared.new_cell.NewCell.TheVariants as new;
 ghost use Rattle.far_types.specs.declared.limits.Limits.{Limits};
-ghost use Rattle.far_rows.specs.Slots.{kind_of};
+ghost use Rattle.far_rows.specs.ColumnIndexes.{kind_of};
 ghost use Rattle.far_rows.specs.Places.{AreOf, places_in};
 ghost use Rattle.far_rows.specs.Plain.{cell_set_refusal};
 ghost use Rattle.far_rows.specs.Rows.{all_numbers, all_texts, cells_of};
@@ -18,23 +18,23 @@ ghost use Rattle.far_rows.specs.Effects.{IsSet, KeepsObjects};
 ghost use Rattle.far_rows.specs.Setting.{cell_of, kind_in, set_in, set_refusal, value_refusal, with_cell_at};
 
 use super::Rows;
+use crate::column_index::ColumnIndex;
 use crate::new_cell::NewCell;
-use crate::slot::Slot;
 use far_store::FarTickets;
 use far_types::{Kind, Refusal, Text};
 use std::alloc::Global;
 
 impl<S: FarTickets> Rows<S> {
-    /// Whether a value may be put in a column of a place. Takes no memory.
+    /// Whether a value may be put in a column of a place. Allocates nothing.
     ///
-    /// Refused with `Absent` (16) exactly where some object of the place's row group is away, naming the first in the order of
-    /// the columns; else with `ChunkFull` (11) exactly where it is a text whose form would be longer than one may be; else
-    /// with `RegionFull` (17) exactly where it is a text whose form finds no room beside the old one; else with
-    /// `EditsUsedUp` (24) exactly where the object was written as often as objects may be. Where it is not refused, `set`
+    /// Refused with `Absent` (16) exactly if some object of the place's row group is away, naming the first in the order of
+    /// the columns; else with `ChunkFull` (11) exactly if it is a text whose form would be longer than one may be; else
+    /// with `RegionFull` (17) exactly if it is a text whose form finds no room beside the old one; else with
+    /// `EditsUsedUp` (24) exactly if the object was written as often as objects may be. Where it is not refused, `set`
     /// can be refused with `NoMemory` (1) alone, and of a number not at all.
     pub fn may_set(&self, column: usize, place: usize, value: &NewCell) -> Result<(), Refusal>
         requires place { place < length self.now.alive }
-        requires of_kind { option_map kind_of (slice_get self.now.slots column) ≡ Some (kind_in value.now) }
+        requires of_kind { option_map kind_of (slice_get self.now.column_indexes column) ≡ Some (kind_in value.now) }
         requires short { is_too_long (cell_of value.now) ≡ false }
         ensures refused { refusal_in result ≡ set_refusal S.content self.now column place value.now }
         ensures plain { (limits : Limits) → AreOf limits self.now → refusal_in result ≡ cell_set_refusal S.content limits self.now column place value.now }
@@ -47,16 +47,18 @@ impl<S: FarTickets> Rows<S> {
     // Whether a value may be put in a column of a place, as the column tells it.
     fn may_set_value(&self, column: usize, place: usize, value: &NewCell) -> Result<(), Refusal>
         requires place { place < length self.now.alive }
-        requires of_kind { option_map kind_of (slice_get self.now.slots column) ≡ Some (kind_in value.now) }
+        requires of_kind { option_map kind_of (slice_get self.now.column_indexes column) ≡ Some (kind_in value.now) }
         ensures { refusal_in result ≡ set_refusal S.content self.now column place value.now }
     {
-        // It tells that each slot is that of a column.
+        // It tells that each index is that of a column.
         let _len = self.len();
         let group = self.group_of(place);
         self.here(group)?;
-        match (self.slots[column], value) {
-            (Slot::Number(i), NewCell::Number(_)) => self.number_is_writable(i, place, group),
-            (Slot::Text(i), NewCell::Text(text)) => {
+        match (self.column_indexes[column], value) {
+            (ColumnIndex::Number(i), NewCell::Number(_)) => self.number_is_writable(
+                i, place, group,
+            ),
+            (ColumnIndex::Text(i), NewCell::Text(text)) => {
                 self.texts[i].may_set(&self.text_objects, place, text)
             }
             _ => unreachable!(),
@@ -73,8 +75,8 @@ impl<S: FarTickets> Rows<S> {
         self.reciprocal.quotient(place, self.size as usize) as u32
     }
 
-    // Whether a number may be put at a place of a column of numbers, which is of this row group: a division that is not made
-    // again.
+    // Whether a number may be put at a place of a column of numbers. The place is of this row group: so its quotient is not
+    // computed again.
     fn number_is_writable(&self, i: usize, place: usize, group: u32) -> Result<(), Refusal>
         requires within { i < length self.now.numbers }
         requires place { place < length self.now.alive }
@@ -93,15 +95,16 @@ impl<S: FarTickets> Rows<S> {
     // Puts a number, which is not refused, at a place of a column of numbers.
     fn set_number(&mut self, i: usize, place: usize, number: Option<i64>)
         requires within { i < length self.old.numbers }
-        requires free { value_refusal S.content self.old (slot.Number i) place (new.Number number) ≡ None }
-        ensures moved { self.new ≡ set_in S.content self.old (slot.Number i) place (new.Number number) }
+        requires free { value_refusal S.content self.old (column_index.Number i) place (new.Number number) ≡ None }
+        ensures moved { self.new ≡ set_in S.content self.old (column_index.Number i) place (new.Number number) }
         ensures numbers { all_numbers S.content self.new ≡ slice_set (all_numbers S.content self.old) i (slice_set (slice_index_or (all_numbers S.content self.old) i []) place number) }
         ensures store { (name : List ℕ) → AreHere S.is_of name self.old.number_objects → AreHere S.is_of name self.new.number_objects }
         ensures versions { (o : ℕ) → version_of self.new.number_objects o ≤ version_of self.old.number_objects o + 1 }
     {
-        let Ok(()) = self.numbers[i].set(&mut self.number_objects, place, number) else {
-            unreachable!()
-        };
+        // It tells what rows are.
+        let _len = self.len();
+        let group = self.group_of(place);
+        self.numbers[i].set_in_group(&mut self.number_objects, group, place, number);
     }
 
     // Puts a text, which is not refused, at a place of a column of texts. Refused with `NoMemory` (1) alone.
@@ -113,8 +116,8 @@ impl<S: FarTickets> Rows<S> {
         text: &Option<Text>,
     ) -> Result<(), Refusal>
         requires within { i < length self.old.texts }
-        requires free { value_refusal S.content self.old (slot.Text i) place (new.Text text.now) ≡ None }
-        ensures moved { OnOk result (self.new ≡ set_in S.content self.old (slot.Text i) place (new.Text text.now)) }
+        requires free { value_refusal S.content self.old (column_index.Text i) place (new.Text text.now) ≡ None }
+        ensures moved { OnOk result (self.new ≡ set_in S.content self.old (column_index.Text i) place (new.Text text.now)) }
         ensures texts { OnOk result (all_texts S.content self.new ≡ slice_set (all_texts S.content self.old) i (slice_set (slice_index_or (all_texts S.content self.old) i []) place text.now)) }
         ensures store { (name : List ℕ) → AreHere S.is_of name self.old.text_objects → AreHere S.is_of name self.new.text_objects }
         ensures versions { (o : ℕ) → version_of self.new.text_objects o ≤ version_of self.old.text_objects o + 1 }
@@ -136,7 +139,7 @@ impl<S: FarTickets> Rows<S> {
         place: usize,
         value: &NewCell,
     ) -> Result<(), Refusal>
-        requires of_kind { option_map kind_of (slice_get self.old.slots column) ≡ Some (kind_in value.now) }
+        requires of_kind { option_map kind_of (slice_get self.old.column_indexes column) ≡ Some (kind_in value.now) }
         requires free { set_refusal S.content self.old column place value.now ≡ None }
         ensures set { OnOk result (IsSet S.content self.old column place value.now self.new) }
         ensures places { OnOk result (places_in S.content self.new ≡ changed_at (with_cell column (cell_of value.now)) place (places_in S.content self.old)) }
@@ -160,10 +163,10 @@ impl<S: FarTickets> Rows<S> {
         place: usize,
         value: &NewCell,
     ) -> Result<(), Refusal>
-        requires of_kind { option_map kind_of (slice_get self.old.slots column) ≡ Some (kind_in value.now) }
+        requires of_kind { option_map kind_of (slice_get self.old.column_indexes column) ≡ Some (kind_in value.now) }
         requires free { set_refusal S.content self.old column place value.now ≡ None }
         ensures cells { OnOk result (cells_of S.content self.new ≡ with_cell_at (cells_of S.content self.old) column place (cell_of value.now)) }
-        ensures moved { OnOk result (IfSome (slice_get self.old.slots column) (λ s. self.new ≡ set_in S.content self.old s place value.now)) }
+        ensures moved { OnOk result (IfSome (slice_get self.old.column_indexes column) (λ s. self.new ≡ set_in S.content self.old s place value.now)) }
         ensures number_store { (name : List ℕ) → AreHere S.is_of name self.old.number_objects → AreHere S.is_of name self.new.number_objects }
         ensures text_store { (name : List ℕ) → AreHere S.is_of name self.old.text_objects → AreHere S.is_of name self.new.text_objects }
         ensures number_versions { (o : ℕ) → version_of self.new.number_objects o ≤ version_of self.old.number_objects o + 1 }
@@ -172,14 +175,14 @@ impl<S: FarTickets> Rows<S> {
         ensures memory { IfErr result (λ e. e ≡ Refusal.NoMemory) }
         ensures err { OnErr result (self.new ≡ self.old) }
     {
-        // It tells that each slot is that of a column.
+        // It tells that each index is that of a column.
         let _len = self.len();
-        match (self.slots[column], value) {
-            (Slot::Number(i), NewCell::Number(number)) => {
+        match (self.column_indexes[column], value) {
+            (ColumnIndex::Number(i), NewCell::Number(number)) => {
                 self.set_number(i, place, *number);
                 Ok(())
             }
-            (Slot::Text(i), NewCell::Text(text)) => self.set_text(alloc, i, place, text),
+            (ColumnIndex::Text(i), NewCell::Text(text)) => self.set_text(alloc, i, place, text),
             _ => unreachable!(),
         }
     }

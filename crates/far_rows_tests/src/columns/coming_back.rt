@@ -60,7 +60,7 @@ fn call_of(step: Move) -> Call {
 }
 
 /// Pushes these cells to two columns in row groups of three places and plays the steps: the first, counted from 1, after which
-/// something is not as it should be; 0 where that is so before them.
+/// something is not as it should be; 0 if that is so before them.
 pub fn first_wrong<M, F: Fn(&mut M, Call) -> Answer>(
     ask: &F,
     columns: &mut M,

@@ -44,7 +44,7 @@ pub fn no_flags(alloc: Global, count: u32) -> Result<Vec<Alive>, Refusal> {
     Ok(alive)
 }
 
-// How many cells a column has; 0 where there is no such column.
+// How many cells a column has; 0 if there is no such column.
 fn count_of<C: Column>(columns: &[C], k: usize) -> usize {
     match columns.get(k) {
         Some(column) => column.count(),

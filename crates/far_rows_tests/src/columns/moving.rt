@@ -24,7 +24,7 @@ pub fn send_numbers_away<S: FarStore>(
     requires { IsVector (number_lists S.content objects.old) column.now }
     ensures is { IsVector (number_lists S.content objects.new) column.now }
     ensures lists { (p : ℕ) → number_lists S.content objects.new p ≡ number_lists S.content objects.old p }
-    ensures here { AreHere S.is_of (S.name store.now) objects.old → AreHere S.is_of (S.name store.now) objects.new }
+    ensures here { AreHere S.is_of (S.store_id store.now) objects.old → AreHere S.is_of (S.store_id store.now) objects.new }
 {
     let Some(o) = column.object(group) else {
         return Err(Refusal::NoRow);
@@ -43,9 +43,9 @@ pub fn bring_numbers_back<S: FarStore>(
     group: u32,
 ) -> Result<(), Refusal>
     requires is { IsVector (number_lists S.content objects.old) column.now }
-    requires here { AreHere S.is_of (S.name store.now) objects.old }
+    requires here { AreHere S.is_of (S.store_id store.now) objects.old }
     ensures lists { (p : ℕ) → number_lists S.content objects.new p ≡ number_lists S.content objects.old p }
-    ensures here { AreHere S.is_of (S.name store.now) objects.new }
+    ensures here { AreHere S.is_of (S.store_id store.now) objects.new }
 {
     let Some(o) = column.object(group) else {
         return Err(Refusal::NoRow);
@@ -65,7 +65,7 @@ pub fn send_texts_away<S: FarStore>(
 ) -> Result<(), Refusal>
     requires { IsTextColumn (lists_of S.content objects.old) column.now }
     ensures lists { (p : ℕ) → lists_of S.content objects.new p ≡ lists_of S.content objects.old p }
-    ensures here { AreHere S.is_of (S.name store.now) objects.old → AreHere S.is_of (S.name store.now) objects.new }
+    ensures here { AreHere S.is_of (S.store_id store.now) objects.old → AreHere S.is_of (S.store_id store.now) objects.new }
 {
     let Some(o) = column.object(group) else {
         return Err(Refusal::NoRow);
@@ -83,9 +83,9 @@ pub fn bring_texts_back<S: FarStore>(
     group: usize,
 ) -> Result<(), Refusal>
     requires is { IsTextColumn (lists_of S.content objects.old) column.now }
-    requires here { AreHere S.is_of (S.name store.now) objects.old }
+    requires here { AreHere S.is_of (S.store_id store.now) objects.old }
     ensures lists { (p : ℕ) → lists_of S.content objects.new p ≡ lists_of S.content objects.old p }
-    ensures here { AreHere S.is_of (S.name store.now) objects.new }
+    ensures here { AreHere S.is_of (S.store_id store.now) objects.new }
 {
     let Some(o) = column.object(group) else {
         return Err(Refusal::NoRow);

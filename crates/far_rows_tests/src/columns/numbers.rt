@@ -41,7 +41,7 @@ impl<S: FarStore> Model for NumberColumns<S> {
 
     ghost view = { λ fixture. fixture.objects };
 
-    ghost invariant = { λ fixture. AreVectors (number_lists S.content fixture.objects) fixture.columns.items × All (λ c. c.size ≡ fixture.size) fixture.columns.items × AreHere S.is_of (S.name fixture.store) fixture.objects };
+    ghost invariant = { λ fixture. AreVectors (number_lists S.content fixture.objects) fixture.columns.items × All (λ c. c.size ≡ fixture.size) fixture.columns.items × AreHere S.is_of (S.store_id fixture.store) fixture.objects };
 }
 
 // Columns without a number.

@@ -29,7 +29,7 @@ pub enum Script {
 }
 
 impl Script {
-    /// Its calls with their replies; none where objects go away and come back.
+    /// Its calls with their replies; none if objects go away and come back.
     pub fn lines(self) -> &'static [Line] {
         match self {
             Script::Lines(lines) => lines,
@@ -61,7 +61,7 @@ pub struct Wrong {
     pub line: usize,
 }
 
-/// Fails where a line of a case was not answered as it should be, and names both.
+/// Fails if a line of a case was not answered as it should be, and names both.
 pub fn answered(first_wrong: Result<Option<Wrong>, Refusal>) -> Result<(), Fail> {
     match first_wrong? {
         Some(Wrong { name, line }) => Err(Fail::new(format_args!("{name}: line {line}"))),
@@ -79,7 +79,7 @@ pub struct Layout {
     pub group: u32,
     pub segments: u32,
     pub size: u32,
-    pub changes: u64,
+    pub max_writes: u64,
     pub leavings: u64,
     pub limit: Option<usize>,
 }
@@ -104,7 +104,7 @@ impl Layout {
         ObjectLimits {
             segments: self.segments,
             size: self.size,
-            changes: self.changes,
+            max_writes: self.max_writes,
             leavings: self.leavings,
         }
     }

@@ -42,7 +42,7 @@ impl<S: FarStore> Model for TextColumns<S> {
 
     ghost view = { λ fixture. fixture.objects };
 
-    ghost invariant = { λ fixture. AreTextColumns (lists_of S.content fixture.objects) fixture.columns.items × All (λ c. c.size ≡ fixture.size) fixture.columns.items × AreHere S.is_of (S.name fixture.store) fixture.objects };
+    ghost invariant = { λ fixture. AreTextColumns (lists_of S.content fixture.objects) fixture.columns.items × All (λ c. c.size ≡ fixture.size) fixture.columns.items × AreHere S.is_of (S.store_id fixture.store) fixture.objects };
 }
 
 // Columns without a text.
@@ -77,7 +77,7 @@ fn column_of<'a, S: FarTickets>(
     Ok(&columns[k])
 }
 
-// The cells of a call whose texts it has; none where it has none.
+// The cells of a call whose texts it has; none if it has none.
 fn cells_of(call: Call) -> [Cell; 2] {
     match call {
         Call::Push(_, cell) => [cell, Cell::Missing],

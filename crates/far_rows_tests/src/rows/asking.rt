@@ -3,12 +3,12 @@ ghost use Rattle.std.specs.Prelude.{◌≡◌, ◌<◌, [], ◌∷◌, false, No
 ghost use Rattle.far_types.specs.Bounds.{AreLimits};
 ghost use Rattle.far_types.specs.declared.cell.Kind.TheVariants.{Int, Text};
 ghost use Rattle.far_types.specs.Cells.{is_too_long};
-ghost use Rattle.far_rows.specs.declared.slot.Slot.TheVariants as slot;
+ghost use Rattle.far_rows.specs.declared.column_index.ColumnIndex.TheVariants as column_index;
 ghost use Rattle.far_rows.specs.Opening.{empty_rows};
 ghost use Rattle.far_rows.specs.Places.{AreOf};
 ghost use Rattle.far_rows.specs.Plain.{cell_set_refusal, insert_refusal};
 ghost use Rattle.far_rows.specs.Setting.{cell_of, kind_in};
-ghost use Rattle.far_rows.specs.Slots.{kind_of};
+ghost use Rattle.far_rows.specs.ColumnIndexes.{kind_of};
 
 use crate::rows::telling::{Told, tells_at_last};
 use far_rows::{NewCell, NewRow, Rows};
@@ -38,7 +38,7 @@ pub fn may_put<S: FarTickets>(
     value: &NewCell,
 ) -> Result<(), Refusal>
     requires place { place < length rows.now.alive }
-    requires of_kind { option_map kind_of (slice_get rows.now.slots column) ≡ Some (kind_in value.now) }
+    requires of_kind { option_map kind_of (slice_get rows.now.column_indexes column) ≡ Some (kind_in value.now) }
     requires short { is_too_long (cell_of value.now) ≡ false }
     requires of { AreOf limits.now rows.now }
     ensures served { OnOk result (cell_set_refusal S.content limits.now rows.now column place value.now ≡ None) }
@@ -66,7 +66,7 @@ pub fn push_one<S: FarTickets>(
 ) -> Result<(), Refusal>
     requires { rows.old ≡ empty_rows (Text ∷ Int ∷ []) limits.now 7 }
     ensures of { OnOk result (AreOf limits.now rows.new) }
-    ensures slots { OnOk result (rows.new.slots ≡ slot.Text 0 ∷ slot.Number 0 ∷ []) }
+    ensures column_indexes { OnOk result (rows.new.column_indexes ≡ column_index.Text 0 ∷ column_index.Number 0 ∷ []) }
     ensures place { OnOk result (length rows.new.alive ≡ 1) }
 {
     let row = NewRow::new(alloc, 1, 1)?;

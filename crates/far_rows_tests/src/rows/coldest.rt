@@ -31,7 +31,7 @@ const LAST_NUMBERS: Option<Name> = Some(Name {
 });
 
 /// No object goes first where there is none. The numbers of a row take half of their memory, and go before the texts, which
-/// take less; these go where all numbers are pinned, and none where all objects are pinned or away.
+/// take less; these go where all numbers are pinned, and none if all objects are pinned or away.
 const PINNED: &[Step] = &[
     Step::Is(Look::Coldest(None)),
     Step::Does(Call::Push(FIRST)),

@@ -7,7 +7,7 @@ use crate::cell::Cell::{Missing, Number, Text};
 use crate::cell::Word::{One, Two};
 use crate::rows::fixture::{Values, row};
 use crate::rows::look::{is_cell, value_in};
-use far_rows::{NewCell, NewRow, Slot};
+use far_rows::{ColumnIndex, NewCell, NewRow};
 use far_types::{Cell, Kind, LentRow, Refusal};
 use std::alloc::Global;
 
@@ -50,17 +50,17 @@ fn keeps_in(alloc: Global, taken: &mut NewRow) -> Result<bool, Refusal>
     requires texts { length taken.old.texts ≡ 2 }
     requires numbers { length taken.old.numbers ≡ 2 }
 {
-    let slots = [
-        Slot::Text(0),
-        Slot::Number(0),
-        Slot::Text(1),
-        Slot::Number(1),
+    let column_indexes = [
+        ColumnIndex::Text(0),
+        ColumnIndex::Number(0),
+        ColumnIndex::Text(1),
+        ColumnIndex::Number(1),
     ];
     let is_empty = has(taken, [None, None], [None, None]);
-    taken.fill(&slots, row(alloc, &FIRST)?);
-    taken.fill(&slots, row(alloc, &SECOND)?);
+    taken.load(&column_indexes, row(alloc, &FIRST)?);
+    taken.load(&column_indexes, row(alloc, &SECOND)?);
     let is_last = has(taken, [Some("two"), None], [None, Some(2)]);
-    Ok(is_empty && is_last && are_lent(&taken.lend(&slots), &SECOND))
+    Ok(is_empty && is_last && are_lent(&taken.lend(&column_indexes), &SECOND))
 }
 
 fn keeps_once(alloc: Global) -> Result<bool, Refusal> {

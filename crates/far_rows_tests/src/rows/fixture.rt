@@ -46,7 +46,7 @@ impl<'a, S: FarStore> Model for Fixture<'a, S> {
 
     ghost view = { λ fixture. fixture.rows };
 
-    ghost invariant = { λ fixture. (length fixture.rows.numbers ≡ 2) × (length fixture.rows.texts ≡ 2) × AreHere S.is_of (S.name fixture.store.now) fixture.rows.number_objects × AreHere S.is_of (S.name fixture.store.now) fixture.rows.text_objects };
+    ghost invariant = { λ fixture. (length fixture.rows.numbers ≡ 2) × (length fixture.rows.texts ≡ 2) × AreHere S.is_of (S.store_id fixture.store.now) fixture.rows.number_objects × AreHere S.is_of (S.store_id fixture.store.now) fixture.rows.text_objects };
 }
 
 impl<'a, S: FarStore> Fixture<'a, S> {
@@ -98,7 +98,7 @@ impl<'a, S: FarStore> Fixture<'a, S> {
         }
     }
 
-    /// What a call answers. One that is refused for want of memory is made once more.
+    /// What a call answers. One that is refused for lack of memory is made once more.
     pub fn answer(&mut self, alloc: Global, call: &Call) -> Result<(), Refusal> {
         match self.reply(alloc, call) {
             Err(Refusal::NoMemory) => self.reply(alloc, call),

@@ -5,7 +5,7 @@ use crate::cell::Cell;
 use crate::rows::fixture::Values;
 use crate::rows::pushing::ROWS;
 use far_codec::text_of;
-use far_rows::{LentColumn, Rows, Slot};
+use far_rows::{ColumnIndex, LentColumn, Rows};
 use far_store::FarTickets;
 use far_types::{CellRef, Kind, Name, Refusal};
 use naming::{numbers_named, texts_named};
@@ -20,13 +20,13 @@ pub enum Look {
     Values(usize, Values),
     /// How many places there are.
     Len(usize),
-    /// Whether a place is alive; `None` where there is no such place.
+    /// Whether a place is alive; `None` if there is no such place.
     Alive(usize, Option<bool>),
     /// The object that goes away first.
     Coldest(Option<Name>),
     /// Where the columns lie.
-    Slots(&'static [Slot]),
-    /// The kind of a column; `None` where there is no such column.
+    ColumnIndexes(&'static [ColumnIndex]),
+    /// The kind of a column; `None` if there is no such column.
     Kind(usize, Option<Kind>),
     /// Whether the far store has a row group of a column as it is.
     Copy(usize, u32, bool),
@@ -73,7 +73,7 @@ pub fn is_so<S: FarTickets>(rows: &Rows<S>, look: &Look) -> bool {
         Look::Len(len) => rows.len() == *len,
         Look::Alive(place, alive) => rows.is_alive(*place) == *alive,
         Look::Coldest(name) => rows.coldest() == *name,
-        Look::Slots(slots) => rows.slots() == *slots,
+        Look::ColumnIndexes(column_indexes) => rows.column_indexes() == *column_indexes,
         Look::Kind(column, kind) => rows.kind(*column) == *kind,
         Look::Flags(group, flags) => rows.flags(*group) == *flags,
         Look::Numbers(column, group, numbers) => has_numbers(rows, *column, *group, numbers),

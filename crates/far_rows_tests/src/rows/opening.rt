@@ -1,6 +1,6 @@
 // Tables that are opened: worked examples.
 use crate::rows::look::{Look, first_other};
-use far_rows::{Rows, Slot};
+use far_rows::{ColumnIndex, Rows};
 use far_store::{AgentStore, FarTickets};
 use far_types::{Kind, Limits, Refusal, Schema};
 use std::alloc::Global;
@@ -32,7 +32,11 @@ fn opened<S: FarTickets>(alloc: Global) -> Result<Rows<S>, Refusal> {
 /// What is due of it.
 static OPENED: [Look; 18] = [
     // A column lies behind those of its kind.
-    Look::Slots(&[Slot::Number(0), Slot::Text(0), Slot::Number(1)]),
+    Look::ColumnIndexes(&[
+        ColumnIndex::Number(0),
+        ColumnIndex::Text(0),
+        ColumnIndex::Number(1),
+    ]),
     Look::Kind(0, Some(Kind::Int)),
     Look::Kind(1, Some(Kind::Text)),
     Look::Kind(2, Some(Kind::Int)),

@@ -36,7 +36,7 @@ fn text_owner<S: FarTickets>(rows: &Rows<S>, o: u32) -> Option<Kind>
 
 // The object of a row group that has a place, in a column. There is one.
 fn object_begun<S: FarTickets>(rows: &Rows<S>, column: usize, group: u32) -> Result<Object, Refusal>
-    requires column { column < length rows.now.slots }
+    requires column { column < length rows.now.column_indexes }
     requires used { group * rows.now.size < length rows.now.alive }
     ensures { IsOk result }
 {
@@ -76,7 +76,7 @@ fn unpin_coldest<S: FarTickets>(rows: &mut Rows<S>) -> Result<(), Refusal>
 // Whether the first two columns of a table, one of texts and one of numbers, have their first objects, each of them local.
 fn are_told<S: FarTickets>(rows: &Rows<S>) -> bool {
     rows.len() > 0
-        && rows.slots().len() >= 2
+        && rows.column_indexes().len() >= 2
         && rows.number_objects().count() > 0
         && rows.text_objects().count() > 0
         && object_begun(rows, 0, 0).is_ok()

@@ -1,11 +1,11 @@
 // The compaction of a segment.
 ghost use Rattle.std.specs.Prelude.{◌≡◌, ◌≢◌, ℕ, ◌+◌, ◌<◌, ◌≤◌, ◌↔◌, ◌⊎◌, if◌then◌else◌, length, map, All, AllPairs, OnOk, OnErr, IfOk, IfErr, IsErrOf};
-ghost use Rattle.far_log.specs.Changes.{HasNoEmptyOther};
+ghost use Rattle.far_log.specs.Effects.{HasNoEmptyOther};
 ghost use Rattle.far_pointer.specs.Layout.{is_hot};
 ghost use Rattle.far_scopes.specs.Memory.{list_in};
 ghost use Rattle.far_scopes.specs.Cool.{cool_in};
 ghost use Rattle.far_scopes.specs.Compaction.{IsCompacted};
-ghost use Rattle.far_scopes.specs.SegmentObjects.{offset_if, AreObjects, AreRising, AreHotFirst, Settles};
+ghost use Rattle.far_scopes.specs.SegmentObjects.{offset_if, AreObjects, AreSorted, AreHotFirst, Settles};
 
 use super::LocalMemory;
 use far_codec::Elem;
@@ -29,8 +29,8 @@ impl<T: Elem> LocalMemory<T> {
     pub fn compact(&mut self, alloc: Global, segment: u32) -> Result<(), Refusal>
         ensures ok { OnOk result (IsCompacted self.old self.new segment) }
         ensures lists { (p : ℕ) → list_in self.new p ≡ list_in self.old p }
-        ensures missing { IsErrOf result Refusal.OutOfRange ↔ (length self.old.room ≤ segment) }
-        ensures full { IsErrOf result Refusal.RegionFull ↔ ((segment < length self.old.room) × HasNoEmptyOther self.old.room segment) }
+        ensures missing { IsErrOf result Refusal.OutOfRange ↔ (length self.old.state ≤ segment) }
+        ensures full { IsErrOf result Refusal.RegionFull ↔ ((segment < length self.old.state) × HasNoEmptyOther self.old.state segment) }
         ensures refused { IfErr result (λ e. (e ≡ Refusal.OutOfRange) ⊎ ((e ≡ Refusal.RegionFull) ⊎ (e ≡ Refusal.NoMemory))) }
         ensures err { OnErr result (self.new ≡ self.old) }
     {
@@ -60,7 +60,7 @@ fn rising(
     segment: u32,
     hot: bool,
 ) -> Result<Vec<SegmentObject>, Refusal>
-    ensures found { IfOk result (λ found. AreRising words.now segment hot found.items) }
+    ensures found { IfOk result (λ found. AreSorted words.now segment hot found.items) }
     ensures memory { IfErr result (λ e. e ≡ Refusal.NoMemory) }
 {
     let mut found = objects_in(alloc, words, segment, hot)?;

@@ -4,7 +4,7 @@ ghost use Rattle.std.specs.Option.{option_or};
 ghost use Rattle.far_types.specs.FirstOf.{first_of};
 ghost use Rattle.far_scopes.specs.Memory.{place_of, list_in};
 ghost use Rattle.far_scopes.specs.Refusing.{refusal_in};
-ghost use Rattle.far_scopes.specs.Replacing.{AreListedOnce, ChangesLists, no_room_for_all, first_fits, replaced_all, taken_over};
+ghost use Rattle.far_scopes.specs.Replacing.{AreListedOnce, ChangesLists, no_space_for_all, first_fits, replaced_all, taken_over};
 
 use super::{LocalMemory, at_of, cool_of};
 use crate::replacement::Replacement;
@@ -26,9 +26,9 @@ impl<T: Elem> LocalMemory<T> {
         requires once { AreListedOnce lists.now }
         ensures ok { OnOk result (self.new ≡ replaced_all self.old lists.now) }
         ensures lists { OnOk result (ChangesLists (list_in self.old) (list_in self.new) lists.now) }
-        ensures free { OnOk result (option_or (first_of (no_room_for_all self.old.room lists.now ∷ [])) (refusal_in checked) ≡ None) }
-        ensures refused { IfErr result (λ e. (option_or (first_of (no_room_for_all self.old.room lists.now ∷ [])) (refusal_in checked) ≡ Some e) ⊎ (e ≡ Refusal.NoMemory)) }
-        ensures memory { IfErr result (λ e. e ≡ Refusal.NoMemory → first_fits self.old.room lists.now ≡ true) }
+        ensures free { OnOk result (option_or (first_of (no_space_for_all self.old.state lists.now ∷ [])) (refusal_in checked) ≡ None) }
+        ensures refused { IfErr result (λ e. (option_or (first_of (no_space_for_all self.old.state lists.now ∷ [])) (refusal_in checked) ≡ Some e) ⊎ (e ≡ Refusal.NoMemory)) }
+        ensures memory { IfErr result (λ e. e ≡ Refusal.NoMemory → first_fits self.old.state lists.now ≡ true) }
         ensures err { OnErr result (self.new ≡ self.old) }
     {
         let Some((first, rest)) = lists.split_first() else {

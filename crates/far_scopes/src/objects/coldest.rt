@@ -10,10 +10,11 @@ use far_store::FarTickets;
 
 impl<T: Elem, S: FarTickets> Objects<T, S> {
     /// The object that goes away first: of those without pins that are not hot the one whose last use is the longest ago,
-    /// and where there is none, that of all without pins. `None` exactly where no local object is without pins.
+    /// and where there is none, that of all without pins. `None` exactly if no local object is without pins.
     ///
-    /// Takes no memory. It looks at the order of use from its end. If every local object is hot, it stops at the first
-    /// object without pins, else at the first that is neither pinned nor hot.
+    /// Allocates nothing. It looks at the order of use from its end. If every local object is hot, it stops at the first
+    /// object without pins. Else it stops at the first that is neither pinned nor hot, or where there is none at the order's
+    /// beginning.
     pub fn coldest(&self) -> Option<u32>
         ensures coldest { result ≡ coldest self.now }
         ensures local { IfSome result (λ o. is_local self.now o ≡ true) }

@@ -1,6 +1,6 @@
 // A segment of the objects' local memory that is compacted.
 ghost use Rattle.std.specs.Prelude.{◌≡◌, ℕ, ◌<◌, ◌≤◌, ◌↔◌, ◌⊎◌, length, OnOk, OnErr, IfErr, IsErrOf, List};
-ghost use Rattle.far_log.specs.Changes.{HasNoEmptyOther};
+ghost use Rattle.far_log.specs.Effects.{HasNoEmptyOther};
 ghost use Rattle.far_scopes.specs.Compaction.{IsCompacted};
 ghost use Rattle.far_scopes.specs.Movement.{list_of, AreClean, AreHere};
 
@@ -15,7 +15,7 @@ impl<T: Elem, S: FarTickets> Objects<T, S> {
     /// those of hot objects first, then the others, each by where they lay; and none of their objects is hot. Every
     /// list, what is local, dirty or away, and the order of use stay.
     ///
-    /// Refused with `OutOfRange` (14) exactly where there is no such segment, with `RegionFull` (17) exactly where there is
+    /// Refused with `OutOfRange` (14) exactly if there is no such segment, with `RegionFull` (17) exactly if there is
     /// one and no other is without parts, else with `NoMemory` (1) alone; then nothing is changed.
     pub fn compact(&mut self, alloc: Global, segment: u32) -> Result<(), Refusal>
         ensures compacted { OnOk result (IsCompacted self.old.memory self.new.memory segment) }
@@ -23,8 +23,8 @@ impl<T: Elem, S: FarTickets> Objects<T, S> {
         ensures lists { (p : ℕ) → list_of T.meaning S.content self.new p ≡ list_of T.meaning S.content self.old p }
         ensures clean { AreClean T.meaning S.content self.old → AreClean T.meaning S.content self.new }
         ensures store { (name : List ℕ) → AreHere S.is_of name self.old → AreHere S.is_of name self.new }
-        ensures missing { IsErrOf result Refusal.OutOfRange ↔ (length self.old.memory.room ≤ segment) }
-        ensures full { IsErrOf result Refusal.RegionFull ↔ ((segment < length self.old.memory.room) × HasNoEmptyOther self.old.memory.room segment) }
+        ensures missing { IsErrOf result Refusal.OutOfRange ↔ (length self.old.memory.state ≤ segment) }
+        ensures full { IsErrOf result Refusal.RegionFull ↔ ((segment < length self.old.memory.state) × HasNoEmptyOther self.old.memory.state segment) }
         ensures refused { IfErr result (λ e. (e ≡ Refusal.OutOfRange) ⊎ ((e ≡ Refusal.RegionFull) ⊎ (e ≡ Refusal.NoMemory))) }
         ensures err { OnErr result (self.new ≡ self.old) }
     {

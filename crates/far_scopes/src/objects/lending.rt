@@ -15,9 +15,9 @@ use far_store::FarTickets;
 use far_types::Refusal;
 
 impl<T: Elem, S: FarTickets> Objects<T, S> {
-    /// The list of an object, lent in place. Takes no memory.
+    /// The list of an object, lent in place. Allocates nothing.
     ///
-    /// Refused with `Absent` (16) exactly where the object is away.
+    /// Refused with `Absent` (16) exactly if the object is away.
     pub fn lend(&self, o: u32) -> Result<&[T], Refusal>
         requires { o < length self.now.entries }
         ensures lent { IfOk result (λ list. list_in self.now.memory o ≡ Some list.now) }
@@ -27,9 +27,9 @@ impl<T: Elem, S: FarTickets> Objects<T, S> {
         Ok(self.memory.lend(o as usize, self.entries[o as usize].len))
     }
 
-    /// Whether an object is local, as its pointer word alone tells. Takes no memory.
+    /// Whether an object is local, as its pointer word alone tells. Allocates nothing.
     ///
-    /// Refused with `Absent` (16) exactly where the object is away, as `lend` is.
+    /// Refused with `Absent` (16) exactly if the object is away, as `lend` is.
     pub fn here(&self, o: u32) -> Result<(), Refusal>
         requires { o < length self.now.entries }
         ensures { refusal_in result ≡ lend_refusal self.now o }
@@ -40,22 +40,22 @@ impl<T: Elem, S: FarTickets> Objects<T, S> {
         Ok(())
     }
 
-    /// Whether an object may be written. Takes no memory.
+    /// Whether an object may be written. Allocates nothing.
     ///
-    /// Refused with `Absent` (16) exactly where the object is away, and with `EditsUsedUp` (24) exactly where it is local
+    /// Refused with `Absent` (16) exactly if the object is away, and with `EditsUsedUp` (24) exactly if it is local
     /// and was written as often as objects may be.
     pub fn may_write(&self, o: u32) -> Result<(), Refusal>
         requires { o < length self.now.entries }
         ensures { refusal_in result ≡ write_refusal self.now o }
     {
         self.here(o)?;
-        if self.entries[o as usize].version >= self.changes {
+        if self.entries[o as usize].version >= self.max_writes {
             return Err(Refusal::EditsUsedUp);
         }
         Ok(())
     }
 
-    /// The list of an object that may be written, lent in place to be written. Takes no memory.
+    /// The list of an object that may be written, lent in place to be written. Allocates nothing.
     ///
     /// Before it is lent, the object counts as written: it is dirty, hot and used last, and its version is one more. What
     /// the borrow leaves is the object's list, and no other list changes (`alone`).
@@ -75,7 +75,7 @@ impl<T: Elem, S: FarTickets> Objects<T, S> {
         memory.lend_mut(o as usize, len)
     }
 
-    /// The elements `from` to `to` of an object that may be written, lent in place to be written. Takes no memory.
+    /// The elements `from` to `to` of an object that may be written, lent in place to be written. Allocates nothing.
     ///
     /// The object counts as written, as with `lend_mut`.
     pub fn lend_range_mut(&mut self, o: u32, from: usize, to: usize) -> &mut [T]
@@ -106,12 +106,13 @@ impl<T: Elem, S: FarTickets> Objects<T, S> {
         ensures lists { (p : ℕ) → list_of T.meaning S.content self.new p ≡ list_of T.meaning S.content self.old p }
         ensures clean { AreClean T.meaning S.content self.old → AreClean T.meaning S.content self.new }
     {
-        self.memory.mark(o as usize);
-        self.entries[o as usize].version += 1;
+        // The word comes last: who lends the object next finds it at hand.
         self.order.touch(o);
+        self.entries[o as usize].version += 1;
+        self.memory.mark(o as usize);
     }
 
-    /// Whether an object is local: its list is in local memory, and may be lent. Takes no memory.
+    /// Whether an object is local: its list is in local memory, and may be lent. Allocates nothing.
     pub fn is_local(&self, o: u32) -> bool
         requires { o < length self.now.entries }
         ensures { result ≡ is_local self.now o }

@@ -1,11 +1,11 @@
 // Objects that go away and come back.
 ghost use Rattle.std.specs.Prelude.{◌≡◌, ℕ, ◌<◌, ◌↔◌, ◌⊎◌, length, false, true, Some, None, OnOk, OnErr, IfErr, IfSome, IsSomeAnd, IsErrOf, List};
 ghost use Rattle.far_codec.specs.Spelling.{IsSpelled};
-ghost use Rattle.far_log.specs.Room.{fits_in};
+ghost use Rattle.far_log.specs.RegionState.{fits_in};
 ghost use Rattle.far_scopes.specs.Memory.{list_in, ChangesList};
 ghost use Rattle.far_scopes.specs.Movement.{list_of, AreClean, is_local, pins_of, leavings_of, ticket_of, AreHere, ChangesObject};
 ghost use Rattle.far_scopes.specs.Refusing.{write_refusal};
-ghost use Rattle.far_scopes.specs.Effects.{departed, arrived, replaced};
+ghost use Rattle.far_scopes.specs.Effects.{after_leave, after_arrive, after_replace};
 
 use super::Objects;
 use far_codec::Elem;
@@ -16,15 +16,15 @@ impl<T: Elem, S: FarTickets> Objects<T, S> {
     /// Sends an object away whose far copy is this ticket's content. Its part is dropped and its record kept. Takes no
     /// memory.
     pub fn leave(&mut self, store: &S, o: u32, ticket: &S::Ticket)
-        requires here { S.is_of ticket.now (S.name store.now) }
+        requires here { S.is_of ticket.now (S.store_id store.now) }
         requires copied { IsSomeAnd (list_in self.old.memory o) (λ list. IsSpelled T.in_range T.has_spelling T.spelling list (S.content ticket.now)) }
         requires unpinned { pins_of self.old o ≡ 0 }
         requires left { leavings_of self.old o < self.old.leavings }
-        ensures departed { self.new ≡ departed self.old o ticket.now }
+        ensures departed { self.new ≡ after_leave self.old o ticket.now }
         ensures lists { (p : ℕ) → list_of T.meaning S.content self.new p ≡ list_of T.meaning S.content self.old p }
         ensures clean { AreClean T.meaning S.content self.old → AreClean T.meaning S.content self.new }
         ensures others { ChangesObject self.old self.new o }
-        ensures store { AreHere S.is_of (S.name store.now) self.old → AreHere S.is_of (S.name store.now) self.new }
+        ensures store { AreHere S.is_of (S.store_id store.now) self.old → AreHere S.is_of (S.store_id store.now) self.new }
     {
         self.memory.send_away(o as usize);
         let entry = &mut self.entries[o as usize];
@@ -35,18 +35,18 @@ impl<T: Elem, S: FarTickets> Objects<T, S> {
 
     /// Brings an object back that is away and whose ticket means these elements.
     ///
-    /// Refused with `RegionFull` (17) exactly where no segment has the space, else with `NoMemory` (1) alone; then nothing
+    /// Refused with `RegionFull` (17) exactly if no segment has the space, else with `NoMemory` (1) alone; then nothing
     /// is changed.
     pub fn arrive(&mut self, o: u32, items: &[T]) -> Result<(), Refusal>
         requires within { o < length self.old.entries }
         requires away { is_local self.old o ≡ false }
         requires meant { list_of T.meaning S.content self.old o ≡ Some items.now }
-        ensures arrived { OnOk result (self.new ≡ arrived self.old o items.now) }
+        ensures arrived { OnOk result (self.new ≡ after_arrive self.old o items.now) }
         ensures lists { (p : ℕ) → list_of T.meaning S.content self.new p ≡ list_of T.meaning S.content self.old p }
         ensures clean { AreClean T.meaning S.content self.old → AreClean T.meaning S.content self.new }
         ensures others { OnOk result (ChangesObject self.old self.new o) }
         ensures store { (name : List ℕ) → AreHere S.is_of name self.old → AreHere S.is_of name self.new }
-        ensures full { IsErrOf result Refusal.RegionFull ↔ (fits_in self.old.memory.room (length items.now) ≡ false) }
+        ensures full { IsErrOf result Refusal.RegionFull ↔ (fits_in self.old.memory.state (length items.now) ≡ false) }
         ensures refused { IfErr result (λ e. (e ≡ Refusal.RegionFull) ⊎ (e ≡ Refusal.NoMemory)) }
         ensures err { OnErr result (self.new ≡ self.old) }
     {

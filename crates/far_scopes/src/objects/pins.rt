@@ -1,7 +1,7 @@
 // Pins, which keep objects from going away.
 ghost use Rattle.std.specs.Prelude.{◌≡◌, ◌<◌, List, ℕ, length, OnOk, OnErr};
 ghost use Rattle.far_scopes.specs.Refusing.{refusal_in, pin_refusal, unpin_refusal};
-ghost use Rattle.far_scopes.specs.Effects.{pinned, unpinned, touched};
+ghost use Rattle.far_scopes.specs.Effects.{after_pin, after_unpin, after_touch};
 ghost use Rattle.far_scopes.specs.Movement.{list_of, AreClean, AreHere, ChangesObject};
 
 use super::Objects;
@@ -10,13 +10,13 @@ use far_store::FarTickets;
 use far_types::Refusal;
 
 impl<T: Elem, S: FarTickets> Objects<T, S> {
-    /// Pins an object once more. Takes no memory.
+    /// Pins an object once more. Allocates nothing.
     ///
-    /// Refused with `Absent` (16) exactly where the object is away, and with `EditsUsedUp` (24) exactly where it has 65,535
+    /// Refused with `Absent` (16) exactly if the object is away, and with `EditsUsedUp` (24) exactly if it has 65,535
     /// pins; then nothing is changed.
     pub fn pin(&mut self, o: u32) -> Result<(), Refusal>
         requires { o < length self.old.entries }
-        ensures pinned { OnOk result (self.new ≡ pinned self.old o) }
+        ensures pinned { OnOk result (self.new ≡ after_pin self.old o) }
         ensures lists { (p : ℕ) → list_of T.meaning S.content self.new p ≡ list_of T.meaning S.content self.old p }
         ensures clean { AreClean T.meaning S.content self.old → AreClean T.meaning S.content self.new }
         ensures others { OnOk result (ChangesObject self.old self.new o) }
@@ -35,12 +35,12 @@ impl<T: Elem, S: FarTickets> Objects<T, S> {
         Ok(())
     }
 
-    /// Pins an object once less. Takes no memory.
+    /// Pins an object once less. Allocates nothing.
     ///
-    /// Refused with `NotPinned` (18) exactly where it has no pin; then nothing is changed.
+    /// Refused with `NotPinned` (18) exactly if it has no pin; then nothing is changed.
     pub fn unpin(&mut self, o: u32) -> Result<(), Refusal>
         requires { o < length self.old.entries }
-        ensures unpinned { OnOk result (self.new ≡ unpinned self.old o) }
+        ensures unpinned { OnOk result (self.new ≡ after_unpin self.old o) }
         ensures lists { (p : ℕ) → list_of T.meaning S.content self.new p ≡ list_of T.meaning S.content self.old p }
         ensures clean { AreClean T.meaning S.content self.old → AreClean T.meaning S.content self.new }
         ensures others { OnOk result (ChangesObject self.old self.new o) }
@@ -56,10 +56,10 @@ impl<T: Elem, S: FarTickets> Objects<T, S> {
         Ok(())
     }
 
-    /// Uses an object: it is hot and used last, if it is local. Takes no memory.
+    /// Uses an object: it is hot and used last, if it is local. Allocates nothing.
     pub fn touch(&mut self, o: u32)
         requires { o < length self.old.entries }
-        ensures touched { self.new ≡ touched self.old o }
+        ensures touched { self.new ≡ after_touch self.old o }
         ensures lists { (p : ℕ) → list_of T.meaning S.content self.new p ≡ list_of T.meaning S.content self.old p }
         ensures clean { AreClean T.meaning S.content self.old → AreClean T.meaning S.content self.new }
         ensures others { ChangesObject self.old self.new o }

@@ -1,7 +1,7 @@
 // What is asked of objects before they move.
-ghost use Rattle.std.specs.Prelude.{◌≡◌, ◌<◌, ◌≤◌, ◌↔◌, length, All, Some, IsTrue, option_map};
-ghost use Rattle.far_log.specs.Room.{fits_in, fit_in_order, spaces_of, space_of, capacity_of};
-ghost use Rattle.far_scopes.specs.Movement.{entry_of, leavings_of};
+ghost use Rattle.std.specs.Prelude.{◌≡◌, ℕ, ◌<◌, ◌≤◌, ◌↔◌, length, All, Some, IsTrue, true, option_map};
+ghost use Rattle.far_log.specs.RegionState.{fits_in, fit_in_order, spaces_of, space_of, capacity_of};
+ghost use Rattle.far_scopes.specs.Movement.{entry_of, leavings_of, is_local};
 
 use super::Objects;
 use far_codec::Elem;
@@ -9,14 +9,23 @@ use far_store::FarTickets;
 use far_types::Name;
 
 impl<T: Elem, S: FarTickets> Objects<T, S> {
-    /// How many objects there are: the numbers below are in use. Takes no memory.
+    /// How many objects there are: the numbers below are in use. Allocates nothing.
     pub fn count(&self) -> u32
         ensures { result ≡ length self.now.entries }
     {
         self.entries.len() as u32
     }
 
-    /// How many elements the list of an object has, local or away. Takes no memory.
+    /// Whether every object is local. Allocates nothing, and looks at no object: the local ones are those in the order of use.
+    pub fn are_all_local(&self) -> bool
+        ensures { IsTrue result ↔ ((o : ℕ) → o < length self.now.entries → is_local self.now o ≡ true) }
+    {
+        let local = self.order.len();
+        let all = self.entries.len();
+        local == all
+    }
+
+    /// How many elements the list of an object has, local or away. Allocates nothing.
     pub fn len(&self, o: u32) -> usize
         requires { o < length self.now.entries }
         ensures { option_map (λ entry. entry.len) (entry_of self.now o) ≡ Some result }
@@ -24,7 +33,7 @@ impl<T: Elem, S: FarTickets> Objects<T, S> {
         self.entries[o as usize].len
     }
 
-    /// The name of an object: the column and the row group that were given to `create`. Takes no memory.
+    /// The name of an object: the column and the row group that were given to `create`. Allocates nothing.
     pub fn name(&self, o: u32) -> Name
         requires { o < length self.now.entries }
         ensures { option_map (λ entry. entry.name) (entry_of self.now o) ≡ Some result }
@@ -32,40 +41,40 @@ impl<T: Elem, S: FarTickets> Objects<T, S> {
         self.entries[o as usize].name
     }
 
-    /// Whether some segment has the space for a list of so many elements. Takes no memory.
+    /// Whether some segment has the space for a list of so many elements. Allocates nothing.
     pub fn fits(&self, len: usize) -> bool
-        ensures { result ≡ fits_in self.now.memory.room len }
+        ensures { result ≡ fits_in self.now.memory.state len }
     {
         self.memory.fits(len)
     }
 
     /// Whether lists of these lengths, none of them empty and at most 16, can be placed one after the other, each in the
-    /// lowest segment that has the space. Takes no memory.
+    /// lowest segment that has the space. Allocates nothing.
     pub fn fits_in_order(&self, lens: &[usize]) -> bool
         requires few { length lens.now ≤ 16 }
         requires some { All (λ len. 0 < len) lens.now }
-        ensures { result ≡ fit_in_order (spaces_of self.now.memory.room) lens.now }
+        ensures { result ≡ fit_in_order (spaces_of self.now.memory.state) lens.now }
     {
         self.memory.fits_in_order(lens)
     }
 
-    /// For how many elements there is space, in all segments together. Takes no memory.
+    /// For how many elements there is space, in all segments together. Allocates nothing.
     ///
     /// A list needs its space in one segment, so one that is no longer than this need not fit.
     pub fn space(&self) -> usize
-        ensures { result ≡ space_of self.now.memory.room }
+        ensures { result ≡ space_of self.now.memory.state }
     {
         self.memory.space()
     }
 
-    /// For how many elements all segments are made together. Takes no memory.
+    /// For how many elements all segments are made together. Allocates nothing.
     pub fn capacity(&self) -> usize
-        ensures { result ≡ capacity_of self.now.memory.room }
+        ensures { result ≡ capacity_of self.now.memory.state }
     {
         self.memory.capacity()
     }
 
-    /// Whether an object may go away once more: each may as often as was given to `new`. Takes no memory.
+    /// Whether an object may go away once more: each may as often as was given to `new`. Allocates nothing.
     pub fn may_leave(&self, o: u32) -> bool
         requires { o < length self.now.entries }
         ensures { IsTrue result ↔ (leavings_of self.now o < self.now.leavings) }

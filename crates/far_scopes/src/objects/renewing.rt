@@ -2,9 +2,9 @@
 ghost use Rattle.std.specs.Prelude.{◌≡◌, ◌+◌, ◌<◌, ◌^◌, ℕ, List, [], ◌∷◌, length, if◌then◌else◌, None, IfOk, option_map};
 ghost use Rattle.far_store.specs.Faults.{faults_in, RefusedBy};
 ghost use Rattle.far_scopes.specs.Movement.{list_of, AreClean, AreHere, is_local, ticket_of};
-ghost use Rattle.far_scopes.specs.Renewal.{Renews, renewed, AreTicketsHere};
+ghost use Rattle.far_scopes.specs.Renewal.{Renews, after_renew, AreTicketsHere};
 
-use super::{Entry, Objects};
+use super::{ObjectRecord, Objects};
 use crate::renewal::Renewal;
 use far_codec::Elem;
 use far_store::{FarRead, FarStore, FarTickets, Meter};
@@ -15,7 +15,7 @@ impl<T: Elem, S: FarRead> Objects<T, S> {
     /// Puts the content of each object that is away into another store, by rising object number, and makes all room that
     /// `renew` needs. These objects stay as they are.
     ///
-    /// Refused with `FarFault` (21) where one of the stores fails, with `FarFull` (22) where the new one gives out no
+    /// Refused with `FarFault` (21) if one of the stores fails, with `FarFull` (22) if the new one gives out no
     /// more numbers, and with `NoMemory` (1). It ends at the first object that is refused; what was put before stays in
     /// the new store.
     pub fn renewal<N: FarStore>(
@@ -26,9 +26,9 @@ impl<T: Elem, S: FarRead> Objects<T, S> {
         meter: &mut Meter,
     ) -> Result<Renewal<N>, Refusal>
         requires few { meter.old < 2 ^ 63 }
-        requires here { AreHere S.is_of (S.name store.now) self.now }
+        requires here { AreHere S.is_of (S.store_id store.now) self.now }
         ensures renews { IfOk result (λ tickets. Renews S.content N.content self.now tickets) }
-        ensures there { IfOk result (λ tickets. AreTicketsHere N.is_of (N.name new_store.now) tickets) }
+        ensures there { IfOk result (λ tickets. AreTicketsHere N.is_of (N.store_id new_store.now) tickets) }
         ensures faults { meter.new ≡ meter.old + faults_in result }
         ensures refused { RefusedBy (21 ∷ 22 ∷ 1 ∷ []) result }
     {
@@ -56,10 +56,10 @@ impl<T: Elem, S: FarRead> Objects<T, S> {
 impl<T: Elem, S: FarTickets> Objects<T, S> {
     /// The same objects, whose far copies are those of the renewal from now on. Those that are away have their tickets
     /// there; the local ones are dirty, since they have no copy there. Every list, what is local, hot or pinned, versions,
-    /// leavings, the order of use and the room stay. Takes no memory.
+    /// leavings, the order of use and the region stay. Allocates nothing.
     pub fn renew<N: FarTickets>(self, renewal: Renewal<N>) -> Objects<T, N>
         requires { Renews S.content N.content self renewal }
-        ensures renewed { result ≡ renewed self renewal }
+        ensures renewed { result ≡ after_renew self renewal }
         ensures lists { (p : ℕ) → list_of T.meaning N.content result p ≡ list_of T.meaning S.content self p }
         ensures clean { AreClean T.meaning N.content result }
         ensures store { (name : List ℕ) → AreTicketsHere N.is_of name renewal → AreHere N.is_of name result }
@@ -75,7 +75,7 @@ impl<T: Elem, S: FarTickets> Objects<T, S> {
         memory.forget_copies();
         Objects {
             number: self.number,
-            changes: self.changes,
+            max_writes: self.max_writes,
             leavings: self.leavings,
             memory,
             entries,
@@ -106,8 +106,8 @@ fn put_again<S: FarRead, N: FarStore>(
     buffer: &mut Vec<u8>,
 ) -> Result<N::Ticket, Refusal>
     requires few { meter.old < 2 ^ 63 }
-    requires here { S.is_of ticket.now (S.name store.now) }
-    ensures there { IfOk result (λ new. N.is_of new (N.name new_store.now)) }
+    requires here { S.is_of ticket.now (S.store_id store.now) }
+    ensures there { IfOk result (λ new. N.is_of new (N.store_id new_store.now)) }
     ensures content { IfOk result (λ new. N.content new ≡ S.content ticket.now) }
     ensures faults { meter.new ≡ meter.old + faults_in result }
     ensures refused { RefusedBy (21 ∷ 22 ∷ 1 ∷ []) result }

@@ -5,10 +5,10 @@ ghost use Rattle.far_scopes.specs.Memory.{ChangesList};
 ghost use Rattle.far_scopes.specs.Movement.{list_of, AreClean, AreHere, ChangesObject};
 ghost use Rattle.far_scopes.specs.Replacing.{AreListedOnce, ChangesLists, AreCleanBeside, first_fits};
 ghost use Rattle.far_scopes.specs.Refusing.{refusal_in, replace_refusal, write_refusal, first_absent, any_written_out, replace_all_refusal};
-ghost use Rattle.far_scopes.specs.Effects.{replaced, with_lens, written_all, replaced_all};
+ghost use Rattle.far_scopes.specs.Effects.{after_replace, with_lens, written_all, after_replace_all};
 
 use super::Objects;
-use crate::entry::Entry;
+use crate::object_record::ObjectRecord;
 use crate::replacement::Replacement;
 use far_codec::Elem;
 use far_store::FarTickets;
@@ -18,13 +18,13 @@ impl<T: Elem, S: FarTickets> Objects<T, S> {
     /// Gives an object another list: the new part is placed before the old one is dropped. The object counts as written:
     /// it is dirty, hot and used last, and its version is one more. Its ticket stays.
     ///
-    /// Refused with `Absent` (16) exactly where the object is away, else with `RegionFull` (17) exactly where no segment
-    /// has the space, else with `EditsUsedUp` (24) exactly where it was written as often as objects may be, else with
+    /// Refused with `Absent` (16) exactly if the object is away, else with `RegionFull` (17) exactly if no segment
+    /// has the space, else with `EditsUsedUp` (24) exactly if it was written as often as objects may be, else with
     /// `NoMemory` (1) alone; then nothing is changed.
     pub fn replace(&mut self, o: u32, items: &[T]) -> Result<(), Refusal>
         requires some { 0 < length items.now }
         requires within { o < length self.old.entries }
-        ensures replaced { OnOk result (self.new ≡ replaced self.old o items.now) }
+        ensures replaced { OnOk result (self.new ≡ after_replace self.old o items.now) }
         ensures list { OnOk result (ChangesList (list_of T.meaning S.content self.old) (list_of T.meaning S.content self.new) o (Some items.now)) }
         ensures clean { AreClean T.meaning S.content self.old → AreClean T.meaning S.content self.new }
         ensures others { OnOk result (ChangesObject self.old self.new o) }
@@ -40,10 +40,10 @@ impl<T: Elem, S: FarTickets> Objects<T, S> {
         Ok(())
     }
 
-    /// Whether an object may get another list, of so many elements. Takes no memory.
+    /// Whether an object may get another list, of so many elements. Allocates nothing.
     ///
-    /// Refused as `replace` is, but never for want of memory: with `Absent` (16) exactly where the object is away, else
-    /// with `RegionFull` (17) exactly where no segment has the space, else with `EditsUsedUp` (24) exactly where it was
+    /// Refused as `replace` is, but never for lack of memory: with `Absent` (16) exactly if the object is away, else
+    /// with `RegionFull` (17) exactly if no segment has the space, else with `EditsUsedUp` (24) exactly if it was
     /// written as often as objects may be.
     pub fn may_replace(&self, o: u32, len: usize) -> Result<(), Refusal>
         requires { o < length self.now.entries }
@@ -53,7 +53,7 @@ impl<T: Elem, S: FarTickets> Objects<T, S> {
         if !self.memory.fits(len) {
             return Err(Refusal::RegionFull);
         }
-        if self.entries[o as usize].version >= self.changes {
+        if self.entries[o as usize].version >= self.max_writes {
             return Err(Refusal::EditsUsedUp);
         }
         Ok(())
@@ -63,23 +63,23 @@ impl<T: Elem, S: FarTickets> Objects<T, S> {
     /// dropped. The objects count as written in that order: each is dirty and hot, its version is one more, and the last
     /// is the one that was used last. Their tickets stay.
     ///
-    /// Refused with `Absent` (16) exactly where a listed object is away, naming the first such; else with `RegionFull`
-    /// (17) where the new parts, placed one after the other, do not find room beside all that is there; else with
-    /// `EditsUsedUp` (24) where some listed object was written as often as objects may be; and with `NoMemory` (1) where a
-    /// growth was refused, which may come before it is seen that 17 or 24 applies, but only where the first new part finds
+    /// Refused with `Absent` (16) exactly if a listed object is away, naming the first such; else with `RegionFull`
+    /// (17) if the new parts, placed one after the other, do not find room beside all that is there; else with
+    /// `EditsUsedUp` (24) if some listed object was written as often as objects may be; and with `NoMemory` (1) if a
+    /// growth was refused, which may come before it is seen that 17 or 24 applies, but only if the first new part finds
     /// room. Then nothing is changed.
     pub fn replace_all(&mut self, lists: &[Replacement<T>]) -> Result<(), Refusal>
         requires some { All (λ r. 0 < length r.list.items) lists.now }
         requires within { All (λ r. r.object < length self.old.entries) lists.now }
         requires once { AreListedOnce lists.now }
-        ensures replaced { OnOk result (self.new ≡ replaced_all self.old lists.now) }
+        ensures replaced { OnOk result (self.new ≡ after_replace_all self.old lists.now) }
         ensures lists { OnOk result (ChangesLists (list_of T.meaning S.content self.old) (list_of T.meaning S.content self.new) lists.now) }
         ensures count { length self.new.entries ≡ length self.old.entries }
         ensures clean { AreClean T.meaning S.content self.old → AreClean T.meaning S.content self.new }
         ensures store { (name : List ℕ) → AreHere S.is_of name self.old → AreHere S.is_of name self.new }
         ensures free { OnOk result (replace_all_refusal self.old lists.now ≡ None) }
         ensures refused { IfErr result (λ e. (replace_all_refusal self.old lists.now ≡ Some e) ⊎ ((first_absent self.old (map (λ r. r.object) lists.now) ≡ None) × (e ≡ Refusal.NoMemory))) }
-        ensures memory { IfErr result (λ e. e ≡ Refusal.NoMemory → first_fits self.old.memory.room lists.now ≡ true) }
+        ensures memory { IfErr result (λ e. e ≡ Refusal.NoMemory → first_fits self.old.memory.state lists.now ≡ true) }
         ensures err { OnErr result (self.new ≡ self.old) }
     {
         self.all_here(lists)?;
@@ -110,7 +110,7 @@ impl<T: Elem, S: FarTickets> Objects<T, S> {
         ensures { refusal_in result ≡ first_of (any_written_out self.now lists.now ∷ []) }
     {
         for replacement in lists {
-            if self.entries[replacement.object as usize].version >= self.changes {
+            if self.entries[replacement.object as usize].version >= self.max_writes {
                 return Err(Refusal::EditsUsedUp);
             }
         }
@@ -134,7 +134,7 @@ impl<T: Elem, S: FarTickets> Objects<T, S> {
 }
 
 // Notes how long the lists of listed objects are.
-fn set_lens<T, K>(entries: &mut [Entry<K>], lists: &[Replacement<T>])
+fn set_lens<T, K>(entries: &mut [ObjectRecord<K>], lists: &[Replacement<T>])
     requires { All (λ r. r.object < length entries.old) lists.now }
     ensures { entries.new ≡ with_lens entries.old lists.now }
 {

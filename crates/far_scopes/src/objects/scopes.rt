@@ -1,9 +1,9 @@
 // Objects that are pinned together.
 ghost use Rattle.std.specs.Prelude.{◌≡◌, ◌⊎◌, ◌==◌, not, false, IsTrue, ◌<◌, ◌≤◌, ◌^◌, ℕ, List, length, take, All, Some, None, OnOk, OnErr, IfOk, IfErr};
 ghost use Rattle.far_scopes.specs.Movement.{Movement, list_of, AreClean, pins_of, AreHere};
-ghost use Rattle.far_scopes.specs.Effects.{unpinned};
+ghost use Rattle.far_scopes.specs.Effects.{after_unpin};
 ghost use Rattle.far_scopes.specs.Refusing.{refusal_in, first_absent};
-ghost use Rattle.far_scopes.specs.Entering.{pinned_all, enter_refusal, pins_overflow, closed};
+ghost use Rattle.far_scopes.specs.Entering.{after_pin_all, enter_refusal, pins_overflow, after_close};
 
 use super::Objects;
 use crate::scope::Scope;
@@ -15,14 +15,14 @@ use std::alloc::Global;
 impl<T: Elem, S: FarTickets> Objects<T, S> {
     /// Pins objects together, one pin for each listing, all or none. The scope must be spent by `close`.
     ///
-    /// Refused with `Absent` (16) exactly where a listed object is away, naming the first such; with `EditsUsedUp` (24)
-    /// exactly where none is and one would get more than 65,535 pins; else with `NoMemory` (1) alone. Then nothing is
+    /// Refused with `Absent` (16) exactly if a listed object is away, naming the first such; with `EditsUsedUp` (24)
+    /// exactly if none is and one would get more than 65,535 pins; else with `NoMemory` (1) alone. Then nothing is
     /// changed.
     pub fn enter(&mut self, alloc: Global, objects: &[u32]) -> Result<Scope, Refusal>
         requires within { All (λ o. o < length self.old.entries) objects.now }
         requires few { length objects.now < 2 ^ 32 }
         ensures scope { IfOk result (λ scope. scope ≡ objects.now) }
-        ensures pinned { OnOk result (self.new ≡ pinned_all self.old objects.now) }
+        ensures pinned { OnOk result (self.new ≡ after_pin_all self.old objects.now) }
         ensures lists { (p : ℕ) → list_of T.meaning S.content self.new p ≡ list_of T.meaning S.content self.old p }
         ensures clean { AreClean T.meaning S.content self.old → AreClean T.meaning S.content self.new }
         ensures store { (name : List ℕ) → AreHere S.is_of name self.old → AreHere S.is_of name self.new }
@@ -58,7 +58,7 @@ impl<T: Elem, S: FarTickets> Objects<T, S> {
     fn pin_all(&mut self, objects: &[u32]) -> Result<(), Refusal>
         requires within { All (λ o. o < length self.old.entries) objects.now }
         requires local { first_absent self.old objects.now ≡ None }
-        ensures pinned { OnOk result (self.new ≡ pinned_all self.old objects.now) }
+        ensures pinned { OnOk result (self.new ≡ after_pin_all self.old objects.now) }
         ensures clean { AreClean T.meaning S.content self.old → AreClean T.meaning S.content self.new }
         ensures refused { refusal_in result ≡ pins_overflow self.old objects.now }
         ensures err { OnErr result (self.new ≡ self.old) }
@@ -75,7 +75,7 @@ impl<T: Elem, S: FarTickets> Objects<T, S> {
     // Takes the pins back that `pin_all` took.
     fn unpin_all(&mut self, objects: &[u32])
         requires { All (λ o. o < length self.old.entries) objects.now }
-        ensures undone { (m : Movement T S.Ticket) → self.old ≡ pinned_all m objects.now → self.new ≡ m }
+        ensures undone { (m : Movement T S.Ticket) → self.old ≡ after_pin_all m objects.now → self.new ≡ m }
     {
         let mut left = objects.len();
         while left > 0 {
@@ -87,7 +87,7 @@ impl<T: Elem, S: FarTickets> Objects<T, S> {
     // Takes a pin back that an object has, and answers whether it had one.
     fn take_pin(&mut self, o: u32) -> bool
         requires { o < length self.old.entries }
-        ensures taken { IsTrue result → self.new ≡ unpinned self.old o }
+        ensures taken { IsTrue result → self.new ≡ after_unpin self.old o }
         ensures none { result ≡ not (pins_of self.old o == 0) }
         ensures kept { result ≡ false → self.new ≡ self.old }
         ensures long { length self.new.entries ≡ length self.old.entries }
@@ -97,11 +97,11 @@ impl<T: Elem, S: FarTickets> Objects<T, S> {
     }
 
     /// Takes back one pin for each listing of an object in a scope, where there is one, and answers how many that were.
-    /// Takes no memory.
+    /// Allocates nothing.
     pub fn close(&mut self, scope: Scope) -> u32
         requires { All (λ o. o < length self.old.entries) scope }
-        ensures closed { self.new ≡ (closed self.old scope).0 }
-        ensures count { result ≡ (closed self.old scope).1 }
+        ensures closed { self.new ≡ (after_close self.old scope).0 }
+        ensures count { result ≡ (after_close self.old scope).1 }
         ensures lists { (p : ℕ) → list_of T.meaning S.content self.new p ≡ list_of T.meaning S.content self.old p }
         ensures clean { AreClean T.meaning S.content self.old → AreClean T.meaning S.content self.new }
         ensures store { (name : List ℕ) → AreHere S.is_of name self.old → AreHere S.is_of name self.new }

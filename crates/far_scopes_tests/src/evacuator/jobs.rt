@@ -4,7 +4,7 @@ mod cases;
 use crate::evacuator::call::Call::{self, Create, Move};
 use crate::evacuator::call::Phase::{self, Begin, BeginFetch, Carry, CarryFetch, Commit, Install};
 use crate::evacuator::call::away;
-use crate::evacuator::desk::Desk;
+use crate::evacuator::fixture::Fixture;
 use crate::evacuator::stores::{Plan, failing, sound};
 use far_evacuator::Want;
 use far_scopes::ObjectLimits;
@@ -63,10 +63,10 @@ fn play_in<S: FarStore>(
 }
 
 fn play_over<S: FarStore>(alloc: Global, store: &S, case: &Case) -> Result<Option<usize>, Refusal> {
-    match Desk::new(alloc, store, 0, case.limits) {
-        Ok(mut desk) => {
-            let wrong = first_wrong(&mut desk, alloc, case);
-            drop(desk);
+    match Fixture::new(alloc, store, 0, case.limits) {
+        Ok(mut fixture) => {
+            let wrong = first_wrong(&mut fixture, alloc, case);
+            drop(fixture);
             Ok(wrong)
         }
         Err(refusal) => Err(refusal),
@@ -74,12 +74,12 @@ fn play_over<S: FarStore>(alloc: Global, store: &S, case: &Case) -> Result<Optio
 }
 
 fn first_wrong<S: FarStore>(
-    desk: &mut Desk<'_, i64, S>,
+    fixture: &mut Fixture<'_, i64, S>,
     alloc: Global,
     case: &Case,
 ) -> Option<usize> {
     for (index, step) in case.steps.iter().enumerate() {
-        if !turns_out(desk, alloc, case.limits, step) {
+        if !turns_out(fixture, alloc, case.limits, step) {
             return Some(index);
         }
     }
@@ -87,27 +87,31 @@ fn first_wrong<S: FarStore>(
 }
 
 fn turns_out<S: FarStore>(
-    desk: &mut Desk<'_, i64, S>,
+    fixture: &mut Fixture<'_, i64, S>,
     alloc: Global,
     limits: ObjectLimits,
     step: &Step,
 ) -> bool {
     match step {
-        Step::Done(call) => desk.make(alloc, call).is_ok(),
-        Step::Refused(call, refusal) => desk.make(alloc, call) == Err(*refusal),
-        Step::SentAway(o) => are_done(desk, alloc, &[Begin(Want::Object(*o)), Carry, Commit]),
-        Step::BroughtBack(o) => are_done(desk, alloc, &[BeginFetch(*o), CarryFetch, Install]),
-        Step::Frame(number) => begins_frame(desk, alloc, limits, *number),
-        Step::Has(o, list) => desk.list(*o) == Ok(*list),
-        Step::HasCopy(o) => desk.has_copy(alloc, *o) == Ok(true),
-        Step::IsAway(o) => is_away(desk, *o),
+        Step::Done(call) => fixture.make(alloc, call).is_ok(),
+        Step::Refused(call, refusal) => fixture.make(alloc, call) == Err(*refusal),
+        Step::SentAway(o) => are_done(fixture, alloc, &[Begin(Want::Object(*o)), Carry, Commit]),
+        Step::BroughtBack(o) => are_done(fixture, alloc, &[BeginFetch(*o), CarryFetch, Install]),
+        Step::Frame(number) => begins_frame(fixture, alloc, limits, *number),
+        Step::Has(o, list) => fixture.list(*o) == Ok(*list),
+        Step::HasCopy(o) => fixture.has_copy(alloc, *o) == Ok(true),
+        Step::IsAway(o) => is_away(fixture, *o),
     }
 }
 
 // Whether these phases are accepted, one after the other.
-fn are_done<S: FarStore>(desk: &mut Desk<'_, i64, S>, alloc: Global, phases: &[Phase]) -> bool {
+fn are_done<S: FarStore>(
+    fixture: &mut Fixture<'_, i64, S>,
+    alloc: Global,
+    phases: &[Phase],
+) -> bool {
     for phase in phases {
-        if desk.make(alloc, &Move(*phase)).is_err() {
+        if fixture.make(alloc, &Move(*phase)).is_err() {
             return false;
         }
     }
@@ -115,19 +119,19 @@ fn are_done<S: FarStore>(desk: &mut Desk<'_, i64, S>, alloc: Global, phases: &[P
 }
 
 // Whether an object is neither lent nor may be written since it is away.
-fn is_away<S: FarStore>(desk: &Desk<'_, i64, S>, o: u32) -> bool {
-    desk.list(o) == Err(away(o)) && desk.may_write(o) == Err(away(o))
+fn is_away<S: FarStore>(fixture: &Fixture<'_, i64, S>, o: u32) -> bool {
+    fixture.list(o) == Err(away(o)) && fixture.may_write(o) == Err(away(o))
 }
 
 fn begins_frame<S: FarStore>(
-    desk: &mut Desk<'_, i64, S>,
+    fixture: &mut Fixture<'_, i64, S>,
     alloc: Global,
     limits: ObjectLimits,
     number: u32,
 ) -> bool {
-    let mut begins = desk.clear(alloc, number, limits).is_ok();
+    let mut begins = fixture.clear(alloc, number, limits).is_ok();
     for first in 0..8 {
-        begins &= desk.make(alloc, &Create([first, 5].as_slice())).is_ok();
+        begins &= fixture.make(alloc, &Create([first, 5].as_slice())).is_ok();
     }
     begins
 }
@@ -150,7 +154,7 @@ fn uses_log<R: Wait + Sync + Drop + Copy>(
     }
 }
 
-// Plays cases, and fails where a step of one turns out otherwise.
+// Plays cases, and fails if a step of one turns out otherwise.
 fn play_all<R: Wait + Sync + Drop + Copy>(
     rt: R,
     alloc: Global,

@@ -1,7 +1,7 @@
 // Calls on objects.
 ghost use Rattle.std.specs.Prelude.{◌≡◌, ◌≢◌, ◌<◌, ◌^◌, ℕ, List, length, All, false, Some, IfOk, IfErr, OnOk};
 ghost use Rattle.far_pointer.specs.declared.pointer.At.{At};
-ghost use Rattle.far_log.specs.Room.{fits_in};
+ghost use Rattle.far_log.specs.RegionState.{fits_in};
 ghost use Rattle.far_scopes.specs.Memory.{place_of};
 ghost use Rattle.far_scopes.specs.Movement.{AreHere};
 
@@ -20,8 +20,8 @@ pub fn last_reply<S: FarStore>(
     objects: &mut Objects<i64, S>,
     call: &Call,
 ) -> Result<(), Refusal>
-    requires { AreHere S.is_of (S.name store.now) objects.old }
-    ensures { AreHere S.is_of (S.name store.now) objects.new }
+    requires { AreHere S.is_of (S.store_id store.now) objects.old }
+    ensures { AreHere S.is_of (S.store_id store.now) objects.new }
 {
     let before = digest_of(objects);
     match reply(alloc, store, objects, call) {
@@ -37,8 +37,8 @@ fn reply<S: FarStore>(
     objects: &mut Objects<i64, S>,
     call: &Call,
 ) -> Result<(), Refusal>
-    requires { AreHere S.is_of (S.name store.now) objects.old }
-    ensures { AreHere S.is_of (S.name store.now) objects.new }
+    requires { AreHere S.is_of (S.store_id store.now) objects.old }
+    ensures { AreHere S.is_of (S.store_id store.now) objects.new }
 {
     match call {
         Call::Create(group, list) => create(objects, *group, list),
@@ -110,8 +110,8 @@ fn change_one<S: FarStore>(
     o: u32,
     change: &Change,
 ) -> Result<(), Refusal>
-    requires { AreHere S.is_of (S.name store.now) objects.old }
-    ensures { AreHere S.is_of (S.name store.now) objects.new }
+    requires { AreHere S.is_of (S.store_id store.now) objects.old }
+    ensures { AreHere S.is_of (S.store_id store.now) objects.new }
 {
     if o >= objects.count() {
         return Err(WRONG);
@@ -239,7 +239,7 @@ fn enter<S: FarTickets>(
     Ok(scope)
 }
 
-/// Gives an object another list by the call that gives several. It is not refused for want of memory where no segment has
+/// Gives an object another list by the call that gives several. It is not refused for lack of memory where no segment has
 /// the space.
 fn give<S: FarTickets>(
     objects: &mut Objects<i64, S>,
@@ -248,7 +248,7 @@ fn give<S: FarTickets>(
     requires some { 0 < length replacement.list.items }
     requires within { replacement.object < length objects.old.entries }
     ensures store { (name : List ℕ) → AreHere S.is_of name objects.old → AreHere S.is_of name objects.new }
-    ensures memory { fits_in objects.old.memory.room (length replacement.list.items) ≡ false → IfErr result (λ e. e ≢ Refusal.NoMemory) }
+    ensures memory { fits_in objects.old.memory.state (length replacement.list.items) ≡ false → IfErr result (λ e. e ≢ Refusal.NoMemory) }
 {
     objects.replace_all(&[replacement])
 }
@@ -290,7 +290,7 @@ fn find<S: FarStore>(
     o: u32,
     fact: &Fact,
 ) -> Result<(), Refusal>
-    requires { AreHere S.is_of (S.name store.now) objects.now }
+    requires { AreHere S.is_of (S.store_id store.now) objects.now }
 {
     let count = objects.count();
     if o >= count {
@@ -331,7 +331,7 @@ fn is_so_of<S: FarTickets>(objects: &Objects<i64, S>, o: u32, fact: &Fact) -> bo
 }
 
 fn is_put_before<S: FarStore>(store: &S, objects: &Objects<i64, S>, o: u32, p: u32) -> bool
-    requires here { AreHere S.is_of (S.name store.now) objects.now }
+    requires here { AreHere S.is_of (S.store_id store.now) objects.now }
     requires one { o < length objects.now.entries }
     requires other { p < length objects.now.entries }
 {

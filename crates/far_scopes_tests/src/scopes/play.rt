@@ -13,7 +13,7 @@ use std::alloc::Global;
 use std::sync::Wait;
 use std::test::Fail;
 
-/// Fails where a line of a script does not get its reply, and names both.
+/// Fails if a line of a script does not get its reply, and names both.
 pub fn play_all<R: Wait + Sync + Copy + Drop>(
     rt: R,
     alloc: Global,
@@ -77,8 +77,8 @@ fn play<S: FarStore>(
     lines: &[Line],
     first: usize,
 ) -> Option<usize>
-    requires { AreHere S.is_of (S.name store.now) objects.old }
-    ensures { AreHere S.is_of (S.name store.now) objects.new }
+    requires { AreHere S.is_of (S.store_id store.now) objects.old }
+    ensures { AreHere S.is_of (S.store_id store.now) objects.new }
 {
     for (index, (call, due)) in lines.iter().enumerate() {
         if last_reply(alloc, store, objects, call) != *due {
@@ -96,7 +96,7 @@ fn play_on<S: FarStore, N: FarStore>(
     next: &N,
     script: &Script,
 ) -> Result<Option<usize>, Refusal>
-    requires { AreHere S.is_of (S.name store.now) objects }
+    requires { AreHere S.is_of (S.store_id store.now) objects }
 {
     let before = script.lines.len();
     let are_refused = are_refused(alloc, store, &objects, next, script.refused);
@@ -126,7 +126,7 @@ fn are_refused<S: FarStore, N: FarStore>(
     next: &N,
     refused: &[Refusal],
 ) -> bool
-    requires { AreHere S.is_of (S.name store.now) objects.now }
+    requires { AreHere S.is_of (S.store_id store.now) objects.now }
 {
     for refusal in refused {
         if renewal(alloc, store, objects, next).err() != Some(*refusal) {
@@ -143,9 +143,9 @@ fn renewal<S: FarStore, N: FarStore>(
     objects: &Objects<i64, S>,
     next: &N,
 ) -> Result<Renewal<N>, Refusal>
-    requires here { AreHere S.is_of (S.name store.now) objects.now }
+    requires here { AreHere S.is_of (S.store_id store.now) objects.now }
     ensures renews { IfOk result (λ tickets. Renews S.content N.content objects.now tickets) }
-    ensures there { IfOk result (λ tickets. AreTicketsHere N.is_of (N.name next.now) tickets) }
+    ensures there { IfOk result (λ tickets. AreTicketsHere N.is_of (N.store_id next.now) tickets) }
 {
     match objects.renewal(alloc, store, next, &mut Meter::new()) {
         Err(Refusal::NoMemory) => objects.renewal(alloc, store, next, &mut Meter::new()),
@@ -160,8 +160,8 @@ fn renewed<S: FarStore, N: FarStore>(
     renewal: Renewal<N>,
 ) -> Objects<i64, N>
     requires renews { Renews S.content N.content objects renewal }
-    requires there { AreTicketsHere N.is_of (N.name next.now) renewal }
-    ensures { AreHere N.is_of (N.name next.now) result }
+    requires there { AreTicketsHere N.is_of (N.store_id next.now) renewal }
+    ensures { AreHere N.is_of (N.store_id next.now) result }
 {
     objects.renew(renewal)
 }

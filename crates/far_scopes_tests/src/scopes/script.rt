@@ -37,7 +37,7 @@ pub const SCRIPT: Script = Script {
 pub const TWO_OF_FOUR: ObjectLimits = ObjectLimits {
     segments: 2,
     size: 4,
-    changes: 2,
+    max_writes: 2,
     leavings: 1,
 };
 

@@ -4,7 +4,7 @@ ghost use Rattle.far_codec.specs.PlainNumbers.{plain_meaning};
 ghost use Rattle.far_scopes.specs.Movement.{list_of};
 ghost use Rattle.far_vector.specs.Vector.{Vector, IsVector};
 ghost use Rattle.far_vector.specs.Refusing.{write_part_refusal};
-ghost use Rattle.far_vector.specs.Effects.{pushed, pushed_in};
+ghost use Rattle.far_vector.specs.Effects.{after_push, pushed_in};
 
 use crate::vector::script::{Call, WRONG, finds, found};
 use far_codec::Elem;
@@ -69,7 +69,7 @@ pub fn push<S: FarTickets>(
     x: i64,
 ) -> Result<(), Refusal>
     requires { IsVector (list_of plain_meaning S.content objects.old) vector.old }
-    ensures pushed { OnOk result (vector.new ≡ pushed vector.old (length objects.old.entries)) }
+    ensures pushed { OnOk result (vector.new ≡ after_push vector.old (length objects.old.entries)) }
     ensures written { OnOk result (objects.new ≡ pushed_in objects.old vector.old x) }
     ensures is { IsVector (list_of plain_meaning S.content objects.new) vector.new }
 {

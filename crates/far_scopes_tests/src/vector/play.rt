@@ -16,7 +16,7 @@ use std::alloc::Global;
 use std::sync::Wait;
 use std::test::Fail;
 
-/// Fails where a line of a script does not get its reply, and names both.
+/// Fails if a line of a script does not get its reply, and names both.
 pub fn play_all<R: Wait + Sync + Copy + Drop>(
     rt: R,
     alloc: Global,
@@ -49,7 +49,7 @@ fn play_over<S: FarStore>(
     let limits = ObjectLimits {
         segments: 4,
         size: 4,
-        changes: script.changes,
+        max_writes: script.max_writes,
         leavings: 1,
     };
     match no_objects(alloc, &store, limits) {

@@ -11,7 +11,7 @@ pub struct Script {
     /// How many places a row group has.
     pub group: u32,
     /// How often an object may be written.
-    pub changes: u64,
+    pub max_writes: u64,
     pub lines: &'static [Line],
 }
 
@@ -19,7 +19,7 @@ pub struct Script {
 pub const SCRIPT: Script = Script {
     name: "",
     group: 4,
-    changes: 5,
+    max_writes: 5,
     lines: &[],
 };
 

@@ -84,7 +84,7 @@ static SCRIPTS: &[Script] = &[
     },
     Script {
         name: "a row group that was written as often as it may be is not written",
-        changes: 1,
+        max_writes: 1,
         lines: &[
             (Push(1), Ok(())),
             (Set(0, 2), Ok(())),

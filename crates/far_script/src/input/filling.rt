@@ -3,12 +3,14 @@ ghost use Rattle.std.specs.Prelude.{◌≡◌, ◌≢◌, ◌==◌, ◌≤◌, �
 ghost use Rattle.std.specs.List.{list_any};
 ghost use Rattle.std.specs.Str.{IsAscii};
 ghost use Rattle.far_script.specs.Faults.{IfInput};
-ghost use Rattle.far_script.specs.Flow.{IsUnseen, Reads, unread};
+ghost use Rattle.far_script.specs.Flow.{IsUnseen, Leaves, Reads, unread};
 
 use super::Input;
 use crate::bounded::Bounded;
 use crate::fault::ShellFault;
+use crate::lines::first_feed;
 use crate::page::Page;
+use crate::source::Source;
 use std::alloc::Global;
 use std::io::Read;
 
@@ -59,17 +61,19 @@ impl<R: Read + Drop> Input<R> {
         self.held.forget(self.start);
         self.start = 0;
     }
+}
 
+impl<R: Source + Drop> Input<R> {
     /// Reads once, and says whether bytes came. They stop at the end of the script alone. Nothing waits to be written
     /// then.
-    pub fn fill(&mut self, gathered: &Page) -> Result<bool, ShellFault>
+    pub fn read_more(&mut self, gathered: &Page) -> Result<bool, ShellFault>
         requires flushed { gathered.now ≡ [] }
         ensures read { OnOk result (Reads R.Read self.old [] self.new) }
         ensures fault { IfErr result (λ fault. fault ≢ ShellFault.BadStart) }
         ensures turns { IfErr result (λ fault. fault ≢ ShellFault.Turns) }
         ensures unwritten { IfErr result (λ fault. fault ≢ ShellFault.Output) }
-        ensures stopped { IfErr result (λ fault. IfInput fault ((self.new.source.bytes ≡ self.old.source.bytes) × (unread R.Read self.new ≡ unread R.Read self.old))) }
-        ensures unseen { IfErr result (λ fault. IfInput fault (IsUnseen R.Read self.old self.new)) }
+        ensures stopped { IfErr result (λ fault. IfInput fault ((self.new.source.bytes ≡ self.old.source.bytes) × (unread R.Read self.new ≡ unread R.Read self.old) × Leaves (R.remaining self.old.source.reader) (R.remaining self.new.source.reader) [] self.new.source.bytes)) }
+        ensures unseen { IfErr result (λ fault. IfInput fault (IsUnseen R.Read R.may_fail self.old self.new)) }
         ensures asked { self.new.source.reads ≤ self.old.source.reads }
         ensures going { IfOk result (λ more. more ≡ true → self.new.source.ended ≡ false) }
         ensures taken { IfOk result (λ more. more ≡ true → self.new.source.reads < self.old.source.reads) }
@@ -86,7 +90,9 @@ impl<R: Read + Drop> Input<R> {
             Err(refusal) => Err(ShellFault::of_memory(refusal)),
         }
     }
+}
 
+impl<R: Read + Drop> Input<R> {
     /// Where the first line ends that is whole in the buffer.
     pub fn line_end(&mut self) -> Option<usize>
         ensures end { IfSome result (λ end. (self.new.start ≤ end) × (end < length self.new.held) × (slice_index self.new.held end ≡ 10) × (list_any (λ c. c == 10) (slice_range self.new.held self.new.start end) ≡ false)) }
@@ -122,14 +128,13 @@ fn stay_ascii(is_ascii: bool, held: &Page, came: &[u8]) -> bool
 
 /// The place of the first line feed, where there is none before `from`.
 fn line_feed(bytes: &[u8], from: usize) -> Option<usize>
-    requires { list_any (λ c. c == 10) (take from bytes.now) ≡ false }
+    requires within { from ≤ length bytes.now }
+    requires none { list_any (λ c. c == 10) (take from bytes.now) ≡ false }
     ensures some { IfSome result (λ at. (at < length bytes.now) × (slice_index bytes.now at ≡ 10) × (list_any (λ c. c == 10) (take at bytes.now) ≡ false)) }
     ensures none { IfNone result (list_any (λ c. c == 10) bytes.now ≡ false) }
 {
-    for at in from..bytes.len() {
-        if bytes[at] == b'\n' {
-            return Some(at);
-        }
+    match first_feed(&bytes[from..]) {
+        Some(at) => Some(from + at),
+        None => None,
     }
-    None
 }

@@ -1,22 +1,23 @@
 // Lines and loads of a script.
-ghost use Rattle.std.specs.Prelude.{◌↔◌, ◌≡◌, ◌≢◌, ◌==◌, ◌≤◌, ◌<◌, ◌+◌, [], false, true, length, slice_index, slice_range, take, IsTrue, IsUtf8, IfNone, IfErr, IfOk, IfSome, OnOk};
+ghost use Rattle.std.specs.Prelude.{◌↔◌, ◌≡◌, ◌≢◌, ◌==◌, ◌≤◌, ◌<◌, [], false, true, length, slice_index, slice_range, take, IsTrue, IsUtf8, IfNone, IfErr, IfOk, IfSome, OnOk};
 ghost use Rattle.std.specs.Io.BufRead.{strip_last};
 ghost use Rattle.std.specs.List.{list_any};
 ghost use Rattle.far_script.specs.Faults.{IfInput};
-ghost use Rattle.far_script.specs.Flow.{Holds, IsUnseen, Prints, Reads, Stops, TakesLine, has_failed, span_of, spanned, unread};
+ghost use Rattle.far_script.specs.Flow.{Holds, IsShort, IsUnseen, Prints, Reads, Stops, TakesLine, has_failed, span_of, spanned, unread};
 ghost use Rattle.far_script.specs.Lines.{IsOneLine};
 
-use super::{Input, Line, Span};
+use super::{ByteRange, Input, Line};
 use crate::bounded::MAX_READS;
 use crate::fault::ShellFault;
 use crate::output::Output;
-use std::io::{Read, Write};
+use crate::source::Source;
+use std::io::Write;
 use std::str;
 
-/// More turns than reads are made for a script.
+/// More turns than reads are made for a script: each turn but the last makes one.
 const MORE_THAN_READS: u32 = MAX_READS + 1;
 
-impl Span {
+impl ByteRange {
     /// Whether there is no byte.
     pub fn is_empty(self) -> bool
         ensures { IsTrue result ↔ (self.to ≤ self.from) }
@@ -38,7 +39,7 @@ fn line_len(line: &[u8]) -> usize
     }
 }
 
-impl<R: Read + Drop> Input<R> {
+impl<R: Source + Drop> Input<R> {
     /// Reads until a whole line is at hand, and says where it ends; `None` at the end of the script. Replies are written
     /// before the reader is asked.
     fn seek_line<W: Write>(
@@ -49,8 +50,8 @@ impl<R: Read + Drop> Input<R> {
         ensures read { OnOk result (Reads R.Read self.old [] self.new) }
         ensures fault { IfErr result (λ fault. fault ≢ ShellFault.BadStart) }
         ensures turns { IfErr result (λ fault. fault ≢ ShellFault.Turns) }
-        ensures stopped { IfErr result (λ fault. IfInput fault (Stops R.Read IsOneLine self.old self.new)) }
-        ensures unseen { IfErr result (λ fault. IfInput fault (IsUnseen R.Read self.old self.new)) }
+        ensures stopped { IfErr result (λ fault. IfInput fault (Stops R.Read (λ bytes rest. IsOneLine bytes) self.old self.new)) }
+        ensures unseen { IfErr result (λ fault. IfInput fault (IsUnseen R.Read R.may_fail self.old self.new)) }
         ensures asked { self.new.source.reads ≤ self.old.source.reads }
         ensures printed { Prints (W.contents writer.old) output.old.page [] (W.contents writer.new) output.new.page }
         ensures failed { IfErr result (λ fault. fault ≡ ShellFault.Output → has_failed output.new ≡ true) }
@@ -62,18 +63,15 @@ impl<R: Read + Drop> Input<R> {
                 return Ok(Some(end));
             }
             output.flush(writer)?;
-            if !self.fill(&output.page)? {
+            if !self.read_more(&output.page)? {
                 return Ok(None);
             }
         }
-        match self.line_end() {
-            Some(end) => Ok(Some(end)),
-            None => Err(ShellFault::Input),
-        }
+        Err(ShellFault::Input)
     }
 
     /// Takes what stands up to a place.
-    fn take(&mut self, end: usize, next: usize) -> Span
+    fn take(&mut self, end: usize, next: usize) -> ByteRange
         requires { (self.old.start ≤ end) × (end ≤ next) × (next ≤ length self.old.held) }
         ensures from { result.from ≡ self.old.start }
         ensures to { result.to ≡ end }
@@ -84,7 +82,7 @@ impl<R: Read + Drop> Input<R> {
         let from = self.start;
         self.start = next;
         self.plain = 0;
-        Span { from, to: end }
+        ByteRange { from, to: end }
     }
 
     /// Takes the next line, whose end is a line feed and a carriage return directly before it, if there is one.
@@ -96,8 +94,8 @@ impl<R: Read + Drop> Input<R> {
         ensures line { IfOk result (λ line. Holds R.Read self.new (span_of R.Read line) × TakesLine R.Read self.old line self.new) }
         ensures fault { IfErr result (λ fault. fault ≢ ShellFault.BadStart) }
         ensures turns { IfErr result (λ fault. fault ≢ ShellFault.Turns) }
-        ensures stopped { IfErr result (λ fault. IfInput fault (Stops R.Read IsOneLine self.old self.new)) }
-        ensures unseen { IfErr result (λ fault. IfInput fault (IsUnseen R.Read self.old self.new)) }
+        ensures stopped { IfErr result (λ fault. IfInput fault (Stops R.Read (λ bytes rest. IsOneLine bytes) self.old self.new)) }
+        ensures unseen { IfErr result (λ fault. IfInput fault (IsUnseen R.Read R.may_fail self.old self.new)) }
         ensures asked { self.new.source.reads ≤ self.old.source.reads }
         ensures printed { Prints (W.contents writer.old) output.old.page [] (W.contents writer.new) output.new.page }
         ensures failed { IfErr result (λ fault. fault ≡ ShellFault.Output → has_failed output.new ≡ true) }
@@ -109,45 +107,42 @@ impl<R: Read + Drop> Input<R> {
         };
         let line = self.take(end, end + 1);
         let whole = line_len(&self.held.as_slice()[line.from..line.to]);
-        Ok(Line::Whole(Span {
+        Ok(Line::Whole(ByteRange {
             from: line.from,
             to: line.from + whole,
         }))
     }
 
-    /// Takes the next bytes, as many as asked. Where the script ends before them, the fault is `Input`.
+    /// Takes the next bytes, as many as asked. Where the script ends before them, or no more of it comes, the fault is `Input`.
     pub fn bytes<W: Write>(
         &mut self,
         output: &mut Output,
         writer: &mut W,
         count: usize,
-    ) -> Result<Span, ShellFault>
+    ) -> Result<ByteRange, ShellFault>
         ensures span { IfOk result (λ span. Holds R.Read self.new span × (length (spanned R.Read self.new span) ≡ count) × Reads R.Read self.old (spanned R.Read self.new span) self.new) }
         ensures fault { IfErr result (λ fault. fault ≢ ShellFault.BadStart) }
         ensures turns { IfErr result (λ fault. fault ≢ ShellFault.Turns) }
-        ensures stopped { IfErr result (λ fault. IfInput fault (Stops R.Read (λ bytes. length bytes < count) self.old self.new)) }
+        ensures stopped { IfErr result (λ fault. IfInput fault (Stops R.Read (λ bytes rest. (length bytes < count) × IsShort R.Read R.may_fail self.old self.new rest) self.old self.new)) }
         ensures asked { self.new.source.reads ≤ self.old.source.reads }
         ensures printed { Prints (W.contents writer.old) output.old.page [] (W.contents writer.new) output.new.page }
         ensures failed { IfErr result (λ fault. fault ≡ ShellFault.Output → has_failed output.new ≡ true) }
     {
-        for _ in 0..=MAX_READS {
+        for turn in 0..MORE_THAN_READS {
             if self.held.len() - self.start >= count {
-                break;
+                let end = self.start + count;
+                return Ok(self.take(end, end));
             }
             output.flush(writer)?;
-            if !self.fill(&output.page)? {
+            if !self.read_more(&output.page)? {
                 return Err(ShellFault::Input);
             }
         }
-        if self.held.len() - self.start < count {
-            return Err(ShellFault::Input);
-        }
-        let end = self.start + count;
-        Ok(self.take(end, end))
+        Err(ShellFault::Input)
     }
 
     /// The text of a line or of a load that was just taken. Where it is no UTF-8, the fault is `Input`.
-    pub fn text(&self, span: Span) -> Result<&str, ShellFault>
+    pub fn text(&self, span: ByteRange) -> Result<&str, ShellFault>
         requires { Holds R.Read self.now span }
         ensures ok { IfOk result (λ text. (text.now ≡ spanned R.Read self.now span) × IsUtf8 text.now) }
         ensures fault { IfErr result (λ fault. (fault ≡ ShellFault.Input) × ¬ (IsUtf8 (spanned R.Read self.now span))) }

@@ -17,8 +17,8 @@ use far_store::FarTickets;
 use far_types::Refusal;
 
 impl<S: FarTickets> LiveTable<S> {
-    /// Whether `scan_group` would build a row group into the aggregate of a number, out of memory aside: the row group is still to be
-    /// built in, and the columns that the aggregate needs are local. Allocates nothing.
+    /// Whether `scan_group` would build a row group into the aggregate of a number, out of memory aside: the row group is still
+    /// pending, and the columns that the aggregate needs are local. Allocates nothing.
     pub fn may_scan(&self, a: u32, group: u32) -> bool
         ensures { result ≡ is_none (scan_refusal self.now (aggregate_at self.now.table a) group) }
     {
@@ -67,9 +67,9 @@ impl<S: FarTickets> LiveTable<S> {
     ///
     /// Refused as `may_offload` is, with `NoAggregate` (12), `OutOfRange` (14) or `StaleJob` (20); else with `NoMemory` (1) alone.
     pub fn begin_offload(&self, store: &S, a: u32, group: u32) -> Result<OffloadBuild<S>, Refusal>
-        requires here { AreAt S.is_of (S.name store.now) self.now.rows }
+        requires here { AreAt S.is_of (S.store_id store.now) self.now.rows }
         ensures begun { IfOk result (IsOffloadBegun self.now a group) }
-        ensures here { IfOk result (λ build. AreTicketsOf S.is_of (S.name store.now) build.job.tickets) }
+        ensures here { IfOk result (λ build. AreTicketsOf S.is_of (S.store_id store.now) build.job.tickets) }
         ensures free { OnOk result (offload_refusal self.now (aggregate_at self.now.table a) group ≡ None) }
         ensures refused { IfErr result (MayRefuse (offload_refusal self.now (aggregate_at self.now.table a) group) true) }
     {
@@ -98,11 +98,11 @@ impl<S: FarTickets> LiveTable<S> {
     ///
     /// Refused with `NoAggregate` (12) exactly if the build's aggregate is not registered; else with `StaleJob` (20) exactly if what
     /// the build rests on does not hold any more (`IsMergeable`); else with `NoMemory` (1) alone. Then nothing is changed. The build
-    /// rests on this: the table, the registration and its specification are the same; the row group is still to be built in; the object
+    /// rests on this: the table, the registration and its specification are the same; the row group is still pending; the object
     /// of each column that is needed is clean, under a ticket of the same number; the alive flags are the same.
     pub fn merge(&mut self, store: &S, carried: &OffloadCarried<S>) -> Result<(), Refusal>
-        requires here { AreAt S.is_of (S.name store.now) self.old.rows }
-        requires carried_here { AreTicketsOf S.is_of (S.name store.now) carried.now.job.tickets }
+        requires here { AreAt S.is_of (S.store_id store.now) self.old.rows }
+        requires carried_here { AreTicketsOf S.is_of (S.store_id store.now) carried.now.job.tickets }
         ensures merged { OnOk result (IsMerged S.number_of self.old carried.now self.new) }
         ensures unregistered { IsErrOf result Refusal.NoAggregate ↔ (aggregate_at self.old.table carried.now.aggregate ≡ None) }
         ensures stale { IsErrOf result Refusal.StaleJob ↔ (IsSome (aggregate_at self.old.table carried.now.aggregate) × ¬ IsMergeable S.number_of self.old carried.now) }
@@ -132,8 +132,8 @@ impl<S: FarTickets> LiveTable<S> {
 
     // Whether what a build rests on holds still. Then its contents are those of the row group.
     fn holds_still(&self, store: &S, build: &OffloadBuild<S>) -> bool
-        requires here { AreAt S.is_of (S.name store.now) self.now.rows }
-        requires build_here { AreTicketsOf S.is_of (S.name store.now) build.now.job.tickets }
+        requires here { AreAt S.is_of (S.store_id store.now) self.now.rows }
+        requires build_here { AreTicketsOf S.is_of (S.store_id store.now) build.now.job.tickets }
         ensures exact { IsTrue result ↔ IsMergeable S.number_of self.now build.now }
         ensures copies { IsTrue result → AreCopies S.content record { rows = self.now.rows; build = build.now } }
     {

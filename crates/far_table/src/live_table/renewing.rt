@@ -14,7 +14,7 @@ impl<S: FarRead> LiveTable<S> {
     /// Puts the content of each object that is away into another store, those of numbers before those of texts, each by rising
     /// object number, and makes all room that `renew` needs. The table stays as it is.
     ///
-    /// Refused with `FarFault` (21) where one of the stores fails, exactly where the meter rises, by one; with `FarFull` (22) where
+    /// Refused with `FarFault` (21) if one of the stores fails, exactly if the meter rises, by one; with `FarFull` (22) where
     /// the new one gives out no more numbers; and with `NoMemory` (1). It ends at the first object that is refused; what was put
     /// before stays in the new store.
     pub fn renewal<N: FarStore>(
@@ -24,9 +24,9 @@ impl<S: FarRead> LiveTable<S> {
         meter: &mut Meter,
     ) -> Result<RowsRenewal<N>, Refusal>
         requires few { meter.old < 2 ^ 63 }
-        requires here { AreAt S.is_of (S.name store.now) self.now.rows }
+        requires here { AreAt S.is_of (S.store_id store.now) self.now.rows }
         ensures renews { IfOk result (RenewsRows S.content N.content self.now.rows) }
-        ensures there { IfOk result (AreTicketsAt N.is_of (N.name new_store.now)) }
+        ensures there { IfOk result (AreTicketsAt N.is_of (N.store_id new_store.now)) }
         ensures faults { meter.new ≡ meter.old + faults_in result }
         ensures refused { RefusedBy (21 ∷ 22 ∷ 1 ∷ []) result }
     {
@@ -36,7 +36,7 @@ impl<S: FarRead> LiveTable<S> {
 
 impl<S: FarTickets> LiveTable<S> {
     /// The same table, whose far copies are those of the renewal from now on. Every row, aggregate and answer stays, and what is
-    /// local, hot or pinned; the local objects are dirty, since they have no copy in the new store. Takes no memory.
+    /// local, hot or pinned; the local objects are dirty, since they have no copy in the new store. Allocates nothing.
     pub fn renew<N: FarTickets>(self, renewal: RowsRenewal<N>) -> LiveTable<N>
         requires { RenewsRows S.content N.content self.rows renewal }
         ensures renewed { result ≡ renewed_state self renewal }

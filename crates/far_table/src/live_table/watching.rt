@@ -12,11 +12,11 @@ use far_store::FarTickets;
 use far_types::{Answer, Refusal, Spec};
 
 impl<S: FarTickets> LiveTable<S> {
-    /// Registers an aggregate under the lowest free number of 0 to 31; all row groups that have a place are still to be built
-    /// in.
+    /// Registers an aggregate under the lowest free number of 0 to 31; all row groups that have a place are still
+    /// pending.
     ///
-    /// Refused with `BadSpec` (3), `NoColumn` (4) or `WrongKind` (5) where the aggregate cannot be had over the schema, else
-    /// with `TooManyAggregates` (13) where 32 are registered or 2^32 were, else with `NoMemory` (1) alone; then nothing is
+    /// Refused with `BadSpec` (3), `NoColumn` (4) or `WrongKind` (5) if the aggregate cannot be had over the schema, else
+    /// with `TooManyAggregates` (13) if 32 are registered or 2^32 were, else with `NoMemory` (1) alone; then nothing is
     /// changed.
     pub fn watch(&mut self, spec: Spec) -> Result<u32, Refusal>
         ensures ok { IfOk result (IsWatched self.old self.new spec) }
@@ -37,9 +37,9 @@ impl<S: FarTickets> LiveTable<S> {
         Ok(a)
     }
 
-    /// Forgets the aggregate of a number. Takes no memory.
+    /// Forgets the aggregate of a number. Allocates nothing.
     ///
-    /// Refused with `NoAggregate` (12) exactly where there is none; then nothing is changed.
+    /// Refused with `NoAggregate` (12) exactly if there is none; then nothing is changed.
     pub fn unwatch(&mut self, a: u32) -> Result<(), Refusal>
         ensures ok { OnOk result (IsUnwatched self.old self.new a) }
         ensures err { IfErr result (λ e. Refuses (unwatch_refusal (aggregate_at self.old.table a)) false self.old e self.new) }
@@ -53,8 +53,8 @@ impl<S: FarTickets> LiveTable<S> {
 
     /// Builds the rows of a row group into the aggregate of a number.
     ///
-    /// Refused with `NoAggregate` (12); `OutOfRange` (14) where the row group has no place; `StaleJob` (20) where it is built
-    /// in already; `Absent` (16) where the object of a column that the aggregate needs is away, naming the first in the order
+    /// Refused with `NoAggregate` (12); `OutOfRange` (14) if the row group has no place; `StaleJob` (20) if it is built
+    /// in already; `Absent` (16) if the object of a column that the aggregate needs is away, naming the first in the order
     /// of the columns: the first of these that applies. Else with `NoMemory` (1) alone. Then nothing is changed.
     pub fn scan_group(&mut self, a: u32, group: u32) -> Result<(), Refusal>
         ensures ok { OnOk result (IsScanned self.old self.new a group) }
@@ -91,23 +91,23 @@ impl<S: FarTickets> LiveTable<S> {
         self.aggregates.answer(self.alloc, a)
     }
 
-    /// The specification of the aggregate of a number, or `None` where there is none. Takes no memory.
+    /// The specification of the aggregate of a number, or `None` if there is none. Allocates nothing.
     pub fn spec(&self, a: u32) -> Option<&Spec>
         ensures { option_copied result ≡ option_map (λ aggregate. aggregate.spec) (aggregate_at self.now.table a) }
     {
         self.aggregates.spec(a)
     }
 
-    /// An aggregate and a row group that is still to be built into it, or `None` where there is none. Takes no memory.
+    /// An aggregate and a row group that is still pending in it, or `None` if there is none. Allocates nothing.
     pub fn unbuilt(&self) -> Option<(u32, u32)>
         ensures some { IfSome result (λ at. is_left (aggregate_at self.now.table at.0) at.1 ≡ true) }
         ensures none { IfNone result ((a : ℕ) → (g : ℕ) → is_left (aggregate_at self.now.table a) g ≡ false) }
     {
-        self.aggregates.first_unbuilt()
+        self.aggregates.first_pending()
     }
 
-    /// How many rows an aggregate of totals without key column folds, and the sum of their values: `None` where there is no
-    /// such aggregate, and where row groups are still to be built in. Takes no memory.
+    /// How many rows an aggregate of totals without key column folds, and the sum of their values: `None` if there is no
+    /// such aggregate, and where row groups are still pending. Allocates nothing.
     pub fn plain(&self, a: u32) -> Option<(u64, i128)>
         ensures { result ≡ plain_in self.now.table.places (aggregate_at self.now.table a) }
     {

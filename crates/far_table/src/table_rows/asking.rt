@@ -3,7 +3,7 @@ ghost use Rattle.std.specs.Prelude.{◌≡◌, ◌==◌, ◌<◌, ◌*◌, ◌�
 ghost use Rattle.far_types.specs.declared.edit.Edit.TheVariants as edit;
 ghost use Rattle.far_types.specs.FirstOf.{first_of};
 ghost use Rattle.far_scopes.specs.Refusing.{refusal_in};
-ghost use Rattle.far_rows.specs.Slots.{row_of};
+ghost use Rattle.far_rows.specs.ColumnIndexes.{row_of};
 ghost use Rattle.far_rows.specs.Setting.{cell_of};
 ghost use Rattle.far_table.specs.TableRows.{asked};
 ghost use Rattle.far_table.specs.Edits.{edit_due, MayPush, MayPut};
@@ -16,15 +16,15 @@ use far_store::FarTickets;
 use far_types::{Cell, LentRow, Refusal, Row, Spec};
 
 impl<S: FarTickets> TableRows<S> {
-    /// Takes a row, if it may be appended. Takes no memory.
+    /// Takes a row, if it may be appended. Allocates nothing.
     ///
-    /// Refused with `WrongKind` (5), `RowWidth` (6), `TextTooLong` (7), `TableFull` (10); `Absent` (16) where the last row group
+    /// Refused with `WrongKind` (5), `RowWidth` (6), `TextTooLong` (7), `TableFull` (10); `Absent` (16) if the last row group
     /// is begun and an object of it is away, naming the first in the order of the columns; `ChunkFull` (11), `RegionFull`
     /// (17) and `EditsUsedUp` (24): the first of these that applies. Where it is not refused, `push` can be refused with
     /// `NoMemory` (1) alone.
     pub fn may_insert(&mut self, row: Row) -> Result<(), Refusal>
         ensures refused { refusal_in result ≡ edit_due (asked self.old) (edit.Insert row) }
-        ensures taken { OnOk result (row_of self.new.held.slots self.new.new_row ≡ row) }
+        ensures taken { OnOk result (row_of self.new.held.column_indexes self.new.new_row ≡ row) }
         ensures free { OnOk result (MayPush S.content self.new) }
         ensures stays { self.new ≡ record self.old { new_row = self.new.new_row } }
     {
@@ -32,14 +32,21 @@ impl<S: FarTickets> TableRows<S> {
         let len = self.rows.len();
         let _cells = row.as_slice();
         row_faults(&self.schema, &self.limits, len, &row)?;
-        self.new_row.fill(self.rows.slots(), row);
+        self.new_row.load(self.rows.column_indexes(), row);
         self.rows.may_push(&self.new_row)?;
         self.may_count()
     }
 
-    /// Whether a cell may be put in a column of a place, and the value that it is there. Takes no memory.
+    /// Cells that are needed no more: a row to come may be made in their memory. Allocates nothing.
+    pub fn spare_cells(&mut self) -> Vec<Cell>
+        ensures { self.new ≡ self.old }
+    {
+        self.new_row.spare_cells()
+    }
+
+    /// Whether a cell may be put in a column of a place, and the value that it is there. Allocates nothing.
     ///
-    /// Refused with `NoColumn` (4), `WrongKind` (5), `TextTooLong` (7), `NoRow` (8), `RemovedRow` (9); `Absent` (16) where an
+    /// Refused with `NoColumn` (4), `WrongKind` (5), `TextTooLong` (7), `NoRow` (8), `RemovedRow` (9); `Absent` (16) if an
     /// object of the place's row group is away, naming the first in the order of the columns; `ChunkFull` (11), `RegionFull`
     /// (17) and `EditsUsedUp` (24): the first of these that applies. Where it is not refused, `set` can be refused with
     /// `NoMemory` (1) alone.
@@ -60,9 +67,9 @@ impl<S: FarTickets> TableRows<S> {
         Ok(value)
     }
 
-    /// Whether a place may be removed, and its row, lent in place. Takes no memory.
+    /// Whether a place may be removed, and its row, lent in place. Allocates nothing.
     ///
-    /// Refused with `NoRow` (8), `RemovedRow` (9); `Absent` (16) where an object of the place's row group is away, naming the
+    /// Refused with `NoRow` (8), `RemovedRow` (9); `Absent` (16) if an object of the place's row group is away, naming the
     /// first in the order of the columns; and `EditsUsedUp` (24): the first of these that applies.
     pub fn may_remove(&self, place: u32) -> Result<LentRow<'_>, Refusal>
         ensures refused { refusal_in result ≡ edit_due (asked self.now) (edit.Remove place) }
@@ -76,12 +83,12 @@ impl<S: FarTickets> TableRows<S> {
         Ok(row)
     }
 
-    /// Whether the columns that an aggregate needs are local in a row group, which has a place. Takes no memory.
+    /// Whether the columns that an aggregate needs are local in a row group, which has a place. Allocates nothing.
     ///
-    /// Refused with `Absent` (16) exactly where one is away, naming the first in the order of the columns.
+    /// Refused with `Absent` (16) exactly if one is away, naming the first in the order of the columns.
     pub fn may_scan(&self, spec: &Spec, group: u32) -> Result<(), Refusal>
         requires { group * self.now.limits.group < length self.now.places }
-        ensures { refusal_in result ≡ first_of (needed_from self.now.held spec.now group 0 self.now.held.slots) }
+        ensures { refusal_in result ≡ first_of (needed_from self.now.held spec.now group 0 self.now.held.column_indexes) }
     {
         // It tells what the rows are.
         let _len = self.rows.len();

@@ -53,7 +53,7 @@ impl<S: FarTickets> TableRows<S> {
         Ok(())
     }
 
-    /// The place is dead from now on, and the edit is counted; its cells stay. Takes no memory.
+    /// The place is dead from now on, and the edit is counted; its cells stay. Allocates nothing.
     ///
     /// The place is one that `may_remove` accepted.
     pub fn remove(&mut self, place: u32)

@@ -17,7 +17,7 @@ use std::marker::Model;
 /// A text of a column, lent in place, and the flag of its place.
 #[derive(Clone, Copy)]
 pub struct TextCell<'a> {
-    /// The text; `None` where it is missing.
+    /// The text; `None` if it is missing.
     pub text: Option<&'a str>,
     /// Whether the place is alive.
     pub alive: bool,
@@ -72,7 +72,7 @@ impl<'a, S: FarTickets> TextCells<'a, S> {
         }
     }
 
-    /// The next text with its flag, and `None` where there is none left. Takes no memory.
+    /// The next text with its flag, and `None` if there is none left. Allocates nothing.
     ///
     /// It is no `Iterator`'s: a trait's own method gets no proof where it calls what asks for objects that may be shared by
     /// threads.
@@ -116,10 +116,10 @@ impl TextColumn {
     }
 
     /// The texts of the places `from` to `to`, in order, each with the flag of its place, lent in place. The caller lends the
-    /// flags of all places. Takes no memory.
+    /// flags of all places. Allocates nothing.
     ///
-    /// Refused with `OutOfRange` (14) exactly where `from` is behind `to` or `to` past the end, else with `Absent` (16)
-    /// exactly where the object of a row group that the part touches is away, naming the first such.
+    /// Refused with `OutOfRange` (14) exactly if `from` is behind `to` or `to` past the end, else with `Absent` (16)
+    /// exactly if the object of a row group that the part touches is away, naming the first such.
     pub fn texts<'a, S: FarTickets>(
         &'a self,
         objects: &'a Objects<u8, S>,
@@ -128,7 +128,7 @@ impl TextColumn {
         to: usize,
     ) -> Result<TextCells<'a, S>, Refusal>
         requires is { IsTextColumn (lists_of S.content objects.now) self.now }
-        requires even { length alive.now ≡ self.now.len }
+        requires same_length { length alive.now ≡ self.now.len }
         ensures lent { IfOk result (λ lent. lent ≡ zip (slice_range (texts_in (lists_of S.content objects.now) self.now) from to) (slice_range alive.now from to)) }
         ensures refused { refusal_in result ≡ texts_refusal objects.now self.now from to }
     {

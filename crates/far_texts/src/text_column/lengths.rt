@@ -4,7 +4,7 @@ ghost use Rattle.far_types.specs.FormLengths.{texts_length};
 ghost use Rattle.far_codec.specs.TextForm.{bytes_of};
 ghost use Rattle.far_scopes.specs.Refusing.{refusal_in};
 ghost use Rattle.far_texts.specs.Texts.{lists_of, IsTextColumn};
-ghost use Rattle.far_texts.specs.Changes.{begins_group, group_with, group_with_next};
+ghost use Rattle.far_texts.specs.Effects.{begins_group, group_with, group_with_next};
 ghost use Rattle.far_texts.specs.Refusing.{length_refusal, next_length_refusal};
 
 use super::TextColumn;
@@ -13,7 +13,7 @@ use far_scopes::Objects;
 use far_store::FarTickets;
 use far_types::{Refusal, Text};
 
-/// How many bytes a text has; none where it is missing.
+/// How many bytes a text has; none if it is missing.
 pub(crate) fn text_length(text: &Option<Text>) -> usize
     ensures { result ≡ length (bytes_of text.now) }
 {
@@ -41,9 +41,9 @@ impl TextColumn {
         self.len == self.objects.len() * self.size
     }
 
-    /// How many bytes the form of a place's row group has once the place has this text. Takes no memory.
+    /// How many bytes the form of a place's row group has once the place has this text. Allocates nothing.
     ///
-    /// Refused with `OutOfRange` (14) exactly past the end, else with `Absent` (16) exactly where the object of the row
+    /// Refused with `OutOfRange` (14) exactly past the end, else with `Absent` (16) exactly if the object of the row
     /// group is away.
     pub fn form_length_with<S: FarTickets>(
         &self,
@@ -63,9 +63,9 @@ impl TextColumn {
         Ok(length_with(form, self.index_in(group, place), text))
     }
 
-    /// How many bytes the form of the next place's row group has once the place has this text. Takes no memory.
+    /// How many bytes the form of the next place's row group has once the place has this text. Allocates nothing.
     ///
-    /// Refused with `Absent` (16) exactly where the row group is begun and its object is away.
+    /// Refused with `Absent` (16) exactly if the row group is begun and its object is away.
     pub fn form_length_with_next<S: FarTickets>(
         &self,
         objects: &Objects<u8, S>,

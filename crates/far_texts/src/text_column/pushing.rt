@@ -2,13 +2,13 @@
 ghost use Rattle.std.specs.Prelude.{◌≡◌, ◌⊎◌, ◌<◌, ◌≤◌, ◌^◌, ◌++◌, ◌∷◌, ℕ, List, [], length, true, false, None, Some, OnOk, OnErr, IfOk, IfErr};
 ghost use Rattle.far_types.specs.FormLengths.{texts_length};
 ghost use Rattle.far_codec.specs.TextForm.{texts_form, texts_meaning, IsTextsForm};
-ghost use Rattle.far_log.specs.Room.{fits_in};
+ghost use Rattle.far_log.specs.RegionState.{fits_in};
 ghost use Rattle.far_scopes.specs.Memory.{ChangesList};
 ghost use Rattle.far_scopes.specs.Movement.{AreClean, AreHere};
-ghost use Rattle.far_scopes.specs.Effects.{created, replaced};
+ghost use Rattle.far_scopes.specs.Effects.{after_create, after_replace};
 ghost use Rattle.far_scopes.specs.Refusing.{refusal_in, replace_refusal};
-ghost use Rattle.far_texts.specs.Texts.{Texts, lists_of, texts_in, HasGroups, IsTextColumn, AreApart, KeepsOthers};
-ghost use Rattle.far_texts.specs.Changes.{begins_group, last_object, next_object, group_with_next, pushed, pushed_in};
+ghost use Rattle.far_texts.specs.Texts.{Texts, lists_of, texts_in, HasGroups, IsTextColumn, AreDisjoint, KeepsOthers};
+ghost use Rattle.far_texts.specs.Effects.{begins_group, last_object, next_object, group_with_next, pushed, pushed_in};
 ghost use Rattle.far_texts.specs.Refusing.{next_length_refusal, push_refusal};
 
 use super::TextColumn;
@@ -20,8 +20,8 @@ use far_types::{Name, Refusal, Text};
 use std::alloc::Global;
 
 impl TextColumn {
-    // Whether the next place may get this text, but for want of memory.
-    fn may_push<S: FarTickets>(
+    // Whether the next place may get this text, unless memory runs out.
+    pub(super) fn may_push<S: FarTickets>(
         &self,
         objects: &Objects<u8, S>,
         text: &Option<Text>,
@@ -46,10 +46,10 @@ impl TextColumn {
         Ok(())
     }
 
-    // The form of the next place's row group once the place has this text.
+    // The form of the next place's row group once the place has this text, in the memory of a form that is needed no more.
     pub(crate) fn form_pushed<S: FarTickets>(
         &self,
-        alloc: Global,
+        spare: Vec<u8>,
         objects: &Objects<u8, S>,
         text: &Option<Text>,
     ) -> Result<Vec<u8>, Refusal>
@@ -63,10 +63,10 @@ impl TextColumn {
     {
         let groups = self.objects.len();
         if self.begins_group() {
-            return form_of(alloc, text);
+            return form_of(spare, text);
         }
         let form = self.form(objects, groups - 1)?;
-        form_with_next(alloc, form, text)
+        form_with_next(spare, form, text)
     }
 
     // What is known of the column and of the objects before a text is pushed: the next object's number has no list.
@@ -91,12 +91,12 @@ impl TextColumn {
         requires groups { length self.old.objects ≤ length objects.old.entries }
         requires some { 0 < length form.now }
         ensures pushed { OnOk result (self.new ≡ pushed self.old (length objects.old.entries)) }
-        ensures created { OnOk result (objects.new ≡ created objects.old record { column = self.old.column; group = length self.old.objects } form.now) }
+        ensures created { OnOk result (objects.new ≡ after_create objects.old record { column = self.old.column; group = length self.old.objects } form.now) }
         ensures list { OnOk result (ChangesList (lists_of S.content objects.old) (lists_of S.content objects.new) (length objects.old.entries) (Some form.now)) }
         ensures clean { AreClean (λ bytes. bytes) S.content objects.old → AreClean (λ bytes. bytes) S.content objects.new }
         ensures store { (name : List ℕ) → AreHere S.is_of name objects.old → AreHere S.is_of name objects.new }
-        ensures room { OnOk result (fits_in objects.old.memory.room (length form.now) ≡ true) }
-        ensures refused { IfErr result (λ e. ((e ≡ Refusal.RegionFull) × (fits_in objects.old.memory.room (length form.now) ≡ false)) ⊎ (e ≡ Refusal.NoMemory)) }
+        ensures space { OnOk result (fits_in objects.old.memory.state (length form.now) ≡ true) }
+        ensures refused { IfErr result (λ e. ((e ≡ Refusal.RegionFull) × (fits_in objects.old.memory.state (length form.now) ≡ false)) ⊎ (e ≡ Refusal.NoMemory)) }
         ensures err { OnErr result (objects.new ≡ objects.old) }
         ensures kept { OnErr result (self.new ≡ self.old) }
     {
@@ -121,7 +121,7 @@ impl TextColumn {
         requires is { IsTextColumn (lists_of S.content objects.old) self.old }
         requires some { 0 < length form.now }
         ensures pushed { OnOk result (self.new ≡ pushed self.old (length objects.old.entries)) }
-        ensures replaced { OnOk result (objects.new ≡ replaced objects.old (last_object self.old) form.now) }
+        ensures replaced { OnOk result (objects.new ≡ after_replace objects.old (last_object self.old) form.now) }
         ensures list { OnOk result (ChangesList (lists_of S.content objects.old) (lists_of S.content objects.new) (last_object self.old) (Some form.now)) }
         ensures clean { AreClean (λ bytes. bytes) S.content objects.old → AreClean (λ bytes. bytes) S.content objects.new }
         ensures store { (name : List ℕ) → AreHere S.is_of name objects.old → AreHere S.is_of name objects.new }
@@ -138,10 +138,10 @@ impl TextColumn {
     /// Appends a text. Where the next place begins a row group an object is made, whose form has this text alone; else the
     /// object of the last row group gets another form, placed before the old one is dropped.
     ///
-    /// Refused with `TextTooLong` (7) exactly where the text has more than 4,096 bytes, else with `Absent` (16) exactly
-    /// where the row group is begun and its object is away, else with `ChunkFull` (11) exactly where the new form would be
-    /// longer than one may be, else with `RegionFull` (17) exactly where no segment has the space, else with `EditsUsedUp`
-    /// (24) exactly where the row group is begun and its object was written as often as objects may be, else with
+    /// Refused with `TextTooLong` (7) exactly if the text has more than 4,096 bytes, else with `Absent` (16) exactly
+    /// where the row group is begun and its object is away, else with `ChunkFull` (11) exactly if the new form would be
+    /// longer than one may be, else with `RegionFull` (17) exactly if no segment has the space, else with `EditsUsedUp`
+    /// (24) exactly if the row group is begun and its object was written as often as objects may be, else with
     /// `NoMemory` (1) alone; then nothing is changed.
     pub fn push<S: FarTickets>(
         &mut self,
@@ -157,7 +157,7 @@ impl TextColumn {
         ensures is { IsTextColumn (lists_of S.content objects.new) self.new }
         ensures texts { OnOk result (texts_in (lists_of S.content objects.new) self.new ≡ texts_in (lists_of S.content objects.old) self.old ++ text.now ∷ []) }
         ensures others { KeepsOthers (lists_of S.content objects.old) (lists_of S.content objects.new) self.old }
-        ensures apart { (d : Texts) → IsTextColumn (lists_of S.content objects.old) d → AreApart self.old d → AreApart self.new d }
+        ensures disjoint { (d : Texts) → IsTextColumn (lists_of S.content objects.old) d → AreDisjoint self.old d → AreDisjoint self.new d }
         ensures clean { AreClean (λ bytes. bytes) S.content objects.old → AreClean (λ bytes. bytes) S.content objects.new }
         ensures store { (name : List ℕ) → AreHere S.is_of name objects.old → AreHere S.is_of name objects.new }
         ensures free { OnOk result (push_refusal S.content objects.old self.old text.now ≡ None) }
@@ -166,7 +166,7 @@ impl TextColumn {
     {
         self.may_push(objects, text)?;
         self.known_before_push(objects);
-        let form = self.form_pushed(alloc, objects, text)?;
+        let form = self.form_pushed(Vec::new(alloc), objects, text)?;
         if self.begins_group() {
             self.begin_group(objects, &form)
         } else {

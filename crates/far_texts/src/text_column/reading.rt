@@ -3,7 +3,7 @@ ghost use Rattle.std.specs.Prelude.{◌≡◌, ◌<◌, length, false, Some, IfO
 ghost use Rattle.std.specs.Option.{option_copied};
 ghost use Rattle.far_scopes.specs.Refusing.{refusal_in, lend_refusal};
 ghost use Rattle.far_texts.specs.Texts.{lists_of, texts_in, IsTextColumn, IsGroupForm};
-ghost use Rattle.far_texts.specs.Changes.{begins_group, last_object};
+ghost use Rattle.far_texts.specs.Effects.{begins_group, last_object};
 ghost use Rattle.far_texts.specs.Refusing.{text_refusal};
 
 use super::TextColumn;
@@ -53,10 +53,10 @@ impl TextColumn {
         self.form(objects, self.objects.len() - 1)
     }
 
-    /// The text of a place, lent in place; `None` where it is missing. Takes no memory, and looks at the head of one form,
+    /// The text of a place, lent in place; `None` if it is missing. Allocates nothing, and looks at the head of one form,
     /// one bit of its mask and two ends alone.
     ///
-    /// Refused with `NoRow` (8) exactly past the end, else with `Absent` (16) exactly where the object of the place's row
+    /// Refused with `NoRow` (8) exactly past the end, else with `Absent` (16) exactly if the object of the place's row
     /// group is away.
     pub fn text<'a, S: FarTickets>(
         &self,

@@ -6,7 +6,7 @@ ghost use Rattle.far_scopes.specs.Memory.{ChangesList};
 ghost use Rattle.far_scopes.specs.Movement.{AreClean, AreHere};
 ghost use Rattle.far_scopes.specs.Refusing.{refusal_in};
 ghost use Rattle.far_texts.specs.Texts.{lists_of, texts_in, object_at, IsTextColumn, KeepsOthers};
-ghost use Rattle.far_texts.specs.Changes.{group_with, set_in};
+ghost use Rattle.far_texts.specs.Effects.{group_with, set_in};
 ghost use Rattle.far_texts.specs.Refusing.{set_refusal};
 
 use super::TextColumn;
@@ -18,12 +18,12 @@ use far_types::{Refusal, Text};
 use std::alloc::Global;
 
 impl TextColumn {
-    /// Whether the text of a place may be set to this one. Takes no memory.
+    /// Whether the text of a place may be set to this one. Allocates nothing.
     ///
-    /// Refused as `set` is, but never for want of memory: with `TextTooLong` (7) exactly where the text has more than 4,096
-    /// bytes, else with `OutOfRange` (14) exactly past the end, else with `Absent` (16) exactly where the object is away,
-    /// else with `ChunkFull` (11) exactly where the new form would be longer than one may be, else with `RegionFull` (17)
-    /// exactly where no segment has the space, else with `EditsUsedUp` (24) exactly where the object was written as often
+    /// Refused as `set` is, but never for lack of memory: with `TextTooLong` (7) exactly if the text has more than 4,096
+    /// bytes, else with `OutOfRange` (14) exactly past the end, else with `Absent` (16) exactly if the object is away,
+    /// else with `ChunkFull` (11) exactly if the new form would be longer than one may be, else with `RegionFull` (17)
+    /// exactly if no segment has the space, else with `EditsUsedUp` (24) exactly if the object was written as often
     /// as objects may be. Where it is not refused, `set` can be refused with `NoMemory` (1) alone.
     pub fn may_set<S: FarTickets>(
         &self,
@@ -67,10 +67,10 @@ impl TextColumn {
     /// Sets the text of a place. The column itself stays as it is: its texts lie in the objects, of which that of the
     /// place's row group gets another form, placed before the old one is dropped.
     ///
-    /// Refused with `TextTooLong` (7) exactly where the text has more than 4,096 bytes, else with `OutOfRange` (14) exactly
-    /// past the end, else with `Absent` (16) exactly where the object is away, else with `ChunkFull` (11) exactly where the
-    /// new form would be longer than one may be, else with `RegionFull` (17) exactly where no segment has the space, else
-    /// with `EditsUsedUp` (24) exactly where the object was written as often as objects may be, else with `NoMemory` (1)
+    /// Refused with `TextTooLong` (7) exactly if the text has more than 4,096 bytes, else with `OutOfRange` (14) exactly
+    /// past the end, else with `Absent` (16) exactly if the object is away, else with `ChunkFull` (11) exactly if the
+    /// new form would be longer than one may be, else with `RegionFull` (17) exactly if no segment has the space, else
+    /// with `EditsUsedUp` (24) exactly if the object was written as often as objects may be, else with `NoMemory` (1)
     /// alone; then nothing is changed.
     pub fn set<S: FarTickets>(
         &self,

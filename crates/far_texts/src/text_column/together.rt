@@ -2,7 +2,7 @@
 ghost use Rattle.std.specs.Prelude.{◌≡◌, if◌then◌else◌, ◌⊎◌, ◌<◌, ◌≤◌, ◌+◌, ◌^◌, ◌∷◌, ℕ, List, [], length, map, true, false, None, Some, All, OnOk, IfErr, OnErr};
 ghost use Rattle.far_types.specs.FirstOf.{first_of};
 ghost use Rattle.far_scopes.specs.Movement.{AreClean, AreHere};
-ghost use Rattle.far_texts.specs.Texts.{Texts, IsTextColumn, AreApart, lists_of, texts_in};
+ghost use Rattle.far_texts.specs.Texts.{Texts, IsTextColumn, AreDisjoint, lists_of, texts_in};
 ghost use Rattle.far_texts.specs.Together.{AreColumns, all_begin, next_forms, all_pushed, all_texts_with, ChangesTo, KeepsColumns, all_created, AreReplaced};
 ghost use Rattle.far_texts.specs.RefusingTogether.{first_tests, push_texts_refusal};
 
@@ -23,22 +23,24 @@ use std::alloc::Global;
 
 /// Appends a text to each of several columns, to all or to none. Where the next places begin row groups an object is made
 /// for each column; else the last object of each gets another form, and all new forms are placed, in the order of the
-/// columns, before an old one is dropped.
+/// columns, before an old one is dropped. The form of a single column is made in the memory of `spare`, a form that is needed
+/// no more, and `spare` is that form afterwards: so a text after the other allocates nothing while the forms are of one length.
 ///
-/// Refused with `TextTooLong` (7) exactly where some text has more than 4,096 bytes, else with `Absent` (16) exactly where
+/// Refused with `TextTooLong` (7) exactly if some text has more than 4,096 bytes, else with `Absent` (16) exactly where
 /// the row groups are begun and some column's last object is away, naming the first such; else with `ChunkFull` (11)
-/// exactly where some new form would be longer than its column's may be; else with `RegionFull` (17) where the new forms,
-/// placed one after the other, do not find room beside all that is there; else with `EditsUsedUp` (24) where the row
-/// groups are begun and some last object was written as often as objects may be; and with `NoMemory` (1) where a growth
-/// was refused, which may come before it is seen that 17 or 24 applies. Then nothing is changed.
+/// exactly if some new form would be longer than its column's may be; else with `RegionFull` (17) if the new forms,
+/// placed one after the other, do not find room beside all that is there; else with `EditsUsedUp` (24) if the row
+/// groups are begun and some last object was written as often as objects may be; and with `NoMemory` (1) if an allocation
+/// failed, which may come before it is seen that 17 or 24 applies. Then nothing is changed.
 pub fn push_texts<S: FarTickets>(
     alloc: Global,
+    spare: &mut Vec<u8>,
     objects: &mut Objects<u8, S>,
     columns: &mut [TextColumn],
     texts: &[Option<Text>],
 ) -> Result<(), Refusal>
     requires are { AreColumns (lists_of S.content objects.old) columns.old }
-    requires even { length texts.now ≡ length columns.old }
+    requires same_length { length texts.now ≡ length columns.old }
     requires few { all_begin columns.old ≡ true → length objects.old.entries + length columns.old ≤ 2 ^ 28 }
     ensures pushed { OnOk result (columns.new ≡ all_pushed (length objects.old.entries) columns.old) }
     ensures begun { OnOk result (all_begin columns.old ≡ true → objects.new ≡ all_created objects.old columns.old (next_forms (lists_of S.content objects.old) (length objects.old.entries) columns.old texts.now)) }
@@ -48,7 +50,7 @@ pub fn push_texts<S: FarTickets>(
     ensures are { AreColumns (lists_of S.content objects.new) columns.new }
     ensures texts { OnOk result (map (texts_in (lists_of S.content objects.new)) columns.new ≡ all_texts_with (lists_of S.content objects.old) columns.old texts.now) }
     ensures others { KeepsColumns (lists_of S.content objects.old) (lists_of S.content objects.new) columns.old }
-    ensures apart { (d : Texts) → IsTextColumn (lists_of S.content objects.old) d → All (λ c. AreApart c d) columns.old → All (λ c. AreApart c d) columns.new }
+    ensures disjoint { (d : Texts) → IsTextColumn (lists_of S.content objects.old) d → All (λ c. AreDisjoint c d) columns.old → All (λ c. AreDisjoint c d) columns.new }
     ensures clean { AreClean (λ bytes. bytes) S.content objects.old → AreClean (λ bytes. bytes) S.content objects.new }
     ensures store { (name : List ℕ) → AreHere S.is_of name objects.old → AreHere S.is_of name objects.new }
     ensures free { OnOk result (push_texts_refusal S.content objects.old columns.old texts.now ≡ None) }
@@ -56,21 +58,22 @@ pub fn push_texts<S: FarTickets>(
     ensures err { OnErr result ((columns.new ≡ columns.old) × (objects.new ≡ objects.old)) }
 {
     may_make_forms(objects, columns, texts)?;
-    make_forms(alloc, objects, columns, texts)
+    make_forms(alloc, spare, objects, columns, texts)
 }
 
 /// Appends a text to each of several columns, to all or to none, as `push_texts` does, once `may_push_texts` told that none is
 /// refused. So no text is measured and no object is asked before the forms are made.
 ///
-/// Refused with `NoMemory` (1) alone, where a growth was refused; then nothing is changed.
+/// Refused with `NoMemory` (1) alone, where an allocation failed; then nothing is changed.
 pub fn fill_texts<S: FarTickets>(
     alloc: Global,
+    spare: &mut Vec<u8>,
     objects: &mut Objects<u8, S>,
     columns: &mut [TextColumn],
     texts: &[Option<Text>],
 ) -> Result<(), Refusal>
     requires are { AreColumns (lists_of S.content objects.old) columns.old }
-    requires even { length texts.now ≡ length columns.old }
+    requires same_length { length texts.now ≡ length columns.old }
     requires few { all_begin columns.old ≡ true → length objects.old.entries + length columns.old ≤ 2 ^ 28 }
     requires free { push_texts_refusal S.content objects.old columns.old texts.now ≡ None }
     ensures pushed { OnOk result (columns.new ≡ all_pushed (length objects.old.entries) columns.old) }
@@ -81,11 +84,11 @@ pub fn fill_texts<S: FarTickets>(
     ensures are { AreColumns (lists_of S.content objects.new) columns.new }
     ensures texts { OnOk result (map (texts_in (lists_of S.content objects.new)) columns.new ≡ all_texts_with (lists_of S.content objects.old) columns.old texts.now) }
     ensures others { KeepsColumns (lists_of S.content objects.old) (lists_of S.content objects.new) columns.old }
-    ensures apart { (d : Texts) → IsTextColumn (lists_of S.content objects.old) d → All (λ c. AreApart c d) columns.old → All (λ c. AreApart c d) columns.new }
+    ensures disjoint { (d : Texts) → IsTextColumn (lists_of S.content objects.old) d → All (λ c. AreDisjoint c d) columns.old → All (λ c. AreDisjoint c d) columns.new }
     ensures clean { AreClean (λ bytes. bytes) S.content objects.old → AreClean (λ bytes. bytes) S.content objects.new }
     ensures store { (name : List ℕ) → AreHere S.is_of name objects.old → AreHere S.is_of name objects.new }
     ensures memory { IfErr result (λ e. e ≡ Refusal.NoMemory) }
     ensures err { OnErr result ((columns.new ≡ columns.old) × (objects.new ≡ objects.old)) }
 {
-    make_forms(alloc, objects, columns, texts)
+    make_forms(alloc, spare, objects, columns, texts)
 }

@@ -1,12 +1,12 @@
 // Elements added and taken back at the end.
 ghost use Rattle.std.specs.Prelude.{◌≡◌, ℕ, ◌+◌, ◌-◌, ◌*◌, ◌<◌, ◌^◌, ◌⊎◌, ◌++◌, List, [], ◌∷◌, length, true, false, take, Some, None, OnOk, OnErr, IfErr, slice_index, slice_get};
-ghost use Rattle.far_log.specs.Room.{spaces_of, fit_in_order};
+ghost use Rattle.far_log.specs.RegionState.{spaces_of, fit_in_order};
 ghost use Rattle.far_scopes.specs.Movement.{list_of, AreClean, AreHere, ChangesObject, is_local, pins_of};
-ghost use Rattle.far_scopes.specs.Effects.{created, uncreated};
-ghost use Rattle.far_scopes.specs.Refusing.{refusal_in, lend_refusal, no_room, write_refusal};
+ghost use Rattle.far_scopes.specs.Effects.{after_create, after_uncreate};
+ghost use Rattle.far_scopes.specs.Refusing.{refusal_in, lend_refusal, no_space, write_refusal};
 ghost use Rattle.far_types.specs.FirstOf.{first_of};
-ghost use Rattle.far_vector.specs.Vector.{Vector, IsVector, IsUntouched, AreApart, KeepsOthers, elements, object_at};
-ghost use Rattle.far_vector.specs.Effects.{is_full, next_name, next_group, pushed, pushed_in, unpushed, range_written};
+ghost use Rattle.far_vector.specs.Vector.{Vector, IsVector, IsUntouched, AreDisjoint, KeepsOthers, elements, object_at};
+ghost use Rattle.far_vector.specs.Effects.{is_full, next_name, next_group, after_push, pushed_in, after_unpush, range_written};
 ghost use Rattle.far_vector.specs.Refusing.{push_refusal};
 
 use super::FarVector;
@@ -16,16 +16,16 @@ use far_store::FarTickets;
 use far_types::{Name, Refusal};
 
 impl<T: Elem> FarVector<T> {
-    /// Whether the next element begins a row group. Takes no memory.
+    /// Whether the next element begins a row group. Allocates nothing.
     pub fn begins_group(&self) -> bool
         ensures { result ≡ is_full self.now }
     {
         self.len == self.objects.len() * self.size
     }
 
-    /// Whether the object of the next place is local, whose row group is begun. Takes no memory.
+    /// Whether the object of the next place is local, whose row group is begun. Allocates nothing.
     ///
-    /// Refused with `Absent` (16) exactly where it is away.
+    /// Refused with `Absent` (16) exactly if it is away.
     pub fn next_is_here<S: FarTickets>(&self, objects: &Objects<T, S>) -> Result<(), Refusal>
         requires is { IsVector (list_of T.meaning S.content objects.now) self.now }
         requires begun { is_full self.now ≡ false }
@@ -34,9 +34,9 @@ impl<T: Elem> FarVector<T> {
         objects.here(self.next_position(objects).object)
     }
 
-    /// Whether the object of the next place may be written, whose row group is begun. Takes no memory.
+    /// Whether the object of the next place may be written, whose row group is begun. Allocates nothing.
     ///
-    /// Refused with `Absent` (16) exactly where it is away, else with `EditsUsedUp` (24) exactly where it was written as
+    /// Refused with `Absent` (16) exactly if it is away, else with `EditsUsedUp` (24) exactly if it was written as
     /// often as objects may be.
     pub fn next_is_writable<S: FarTickets>(&self, objects: &Objects<T, S>) -> Result<(), Refusal>
         requires is { IsVector (list_of T.meaning S.content objects.now) self.now }
@@ -49,21 +49,21 @@ impl<T: Elem> FarVector<T> {
     /// Adds an element at the end: in the last row group, or, where that is full, in a new one, whose object is made here.
     /// `unpush` undoes a push that made an object (`undone`).
     ///
-    /// Refused, where it begins a row group, with `RegionFull` (17) exactly where no segment has the space, else with
-    /// `NoMemory` (1) alone. Elsewhere refused with `Absent` (16) exactly where the last row group's object is away, else with
-    /// `EditsUsedUp` (24) exactly where that was written as often as objects may be, and takes no memory. Then nothing is
+    /// Refused, where it begins a row group, with `RegionFull` (17) exactly if no segment has the space, else with
+    /// `NoMemory` (1) alone. Elsewhere refused with `Absent` (16) exactly if the last row group's object is away, else with
+    /// `EditsUsedUp` (24) exactly if that was written as often as objects may be, and allocates nothing. Then nothing is
     /// changed.
     pub fn push<S: FarTickets>(&mut self, objects: &mut Objects<T, S>, x: T) -> Result<(), Refusal>
         requires is { IsVector (list_of T.meaning S.content objects.old) self.old }
         requires few { is_full self.old ≡ true → length objects.old.entries < 2 ^ 28 }
-        ensures pushed { OnOk result (self.new ≡ pushed self.old (length objects.old.entries)) }
+        ensures pushed { OnOk result (self.new ≡ after_push self.old (length objects.old.entries)) }
         ensures written { OnOk result (objects.new ≡ pushed_in objects.old self.old x) }
-        ensures undone { OnOk result (is_full self.old ≡ true → (unpushed self.new ≡ self.old) × (uncreated objects.new ≡ objects.old)) }
+        ensures undone { OnOk result (is_full self.old ≡ true → (after_unpush self.new ≡ self.old) × (after_uncreate objects.new ≡ objects.old)) }
         ensures last { OnOk result (is_full self.old ≡ true → (is_local objects.new (length objects.old.entries) ≡ true) × (pins_of objects.new (length objects.old.entries) ≡ 0)) }
-        ensures next { OnOk result (is_full self.old ≡ true → (lens : List ℕ) → fit_in_order (spaces_of objects.old.memory.room) (self.old.size ∷ lens) ≡ fit_in_order (spaces_of objects.new.memory.room) lens) }
+        ensures next { OnOk result (is_full self.old ≡ true → (lens : List ℕ) → fit_in_order (spaces_of objects.old.memory.state) (self.old.size ∷ lens) ≡ fit_in_order (spaces_of objects.new.memory.state) lens) }
         ensures elements { OnOk result (elements (list_of T.meaning S.content objects.new) self.new ≡ elements (list_of T.meaning S.content objects.old) self.old ++ x ∷ []) }
         ensures is { IsVector (list_of T.meaning S.content objects.new) self.new }
-        ensures apart { (w : Vector T) → IsVector (list_of T.meaning S.content objects.old) w → AreApart self.old w → IsUntouched (list_of T.meaning S.content objects.old) (list_of T.meaning S.content objects.new) self.new w }
+        ensures disjoint { (w : Vector T) → IsVector (list_of T.meaning S.content objects.old) w → AreDisjoint self.old w → IsUntouched (list_of T.meaning S.content objects.old) (list_of T.meaning S.content objects.new) self.new w }
         ensures lists { OnOk result (KeepsOthers (list_of T.meaning S.content objects.old) (list_of T.meaning S.content objects.new) (object_at self.new self.old.len)) }
         ensures others { OnOk result (ChangesObject objects.old objects.new (object_at self.new self.old.len)) }
         ensures clean { AreClean T.meaning S.content objects.old → AreClean T.meaning S.content objects.new }
@@ -89,20 +89,20 @@ impl<T: Elem> FarVector<T> {
         requires is { IsVector (list_of T.meaning S.content objects.old) self.old }
         requires few { length objects.old.entries < 2 ^ 28 }
         ensures pushed { OnOk result (self.new ≡ record self.old { objects = self.old.objects ++ length objects.old.entries ∷ []; len = self.old.len + 1 }) }
-        ensures written { OnOk result (objects.new ≡ created objects.old (next_name self.old) (next_group self.old x)) }
-        ensures undone { OnOk result ((unpushed self.new ≡ self.old) × (uncreated objects.new ≡ objects.old)) }
+        ensures written { OnOk result (objects.new ≡ after_create objects.old (next_name self.old) (next_group self.old x)) }
+        ensures undone { OnOk result ((after_unpush self.new ≡ self.old) × (after_uncreate objects.new ≡ objects.old)) }
         ensures last { OnOk result ((is_local objects.new (length objects.old.entries) ≡ true) × (pins_of objects.new (length objects.old.entries) ≡ 0)) }
-        ensures next { OnOk result ((lens : List ℕ) → fit_in_order (spaces_of objects.old.memory.room) (self.old.size ∷ lens) ≡ fit_in_order (spaces_of objects.new.memory.room) lens) }
+        ensures next { OnOk result ((lens : List ℕ) → fit_in_order (spaces_of objects.old.memory.state) (self.old.size ∷ lens) ≡ fit_in_order (spaces_of objects.new.memory.state) lens) }
         ensures elements { OnOk result (elements (list_of T.meaning S.content objects.new) self.new ≡ elements (list_of T.meaning S.content objects.old) self.old ++ x ∷ []) }
         ensures is { IsVector (list_of T.meaning S.content objects.new) self.new }
-        ensures apart { (w : Vector T) → IsVector (list_of T.meaning S.content objects.old) w → AreApart self.old w → IsUntouched (list_of T.meaning S.content objects.old) (list_of T.meaning S.content objects.new) self.new w }
+        ensures disjoint { (w : Vector T) → IsVector (list_of T.meaning S.content objects.old) w → AreDisjoint self.old w → IsUntouched (list_of T.meaning S.content objects.old) (list_of T.meaning S.content objects.new) self.new w }
         ensures object { OnOk result (object_at self.new self.old.len ≡ length objects.old.entries) }
         ensures lists { OnOk result (KeepsOthers (list_of T.meaning S.content objects.old) (list_of T.meaning S.content objects.new) (length objects.old.entries)) }
         ensures others { OnOk result (ChangesObject objects.old objects.new (length objects.old.entries)) }
         ensures clean { AreClean T.meaning S.content objects.old → AreClean T.meaning S.content objects.new }
         ensures store { (name : List ℕ) → AreHere S.is_of name objects.old → AreHere S.is_of name objects.new }
-        ensures free { OnOk result (first_of (no_room objects.old (length objects.old.entries) self.old.size ∷ []) ≡ None) }
-        ensures refused { IfErr result (λ e. (first_of (no_room objects.old (length objects.old.entries) self.old.size ∷ []) ≡ Some e) ⊎ ((first_of (no_room objects.old (length objects.old.entries) self.old.size ∷ []) ≡ None) × (e ≡ Refusal.NoMemory))) }
+        ensures free { OnOk result (first_of (no_space objects.old (length objects.old.entries) self.old.size ∷ []) ≡ None) }
+        ensures refused { IfErr result (λ e. (first_of (no_space objects.old (length objects.old.entries) self.old.size ∷ []) ≡ Some e) ⊎ ((first_of (no_space objects.old (length objects.old.entries) self.old.size ∷ []) ≡ None) × (e ≡ Refusal.NoMemory))) }
         ensures err { OnErr result ((self.new ≡ self.old) × (objects.new ≡ objects.old)) }
     {
         let _ = objects.number();
@@ -133,7 +133,7 @@ impl<T: Elem> FarVector<T> {
         ensures written { OnOk result (objects.new ≡ range_written objects.old self.old self.old.len (x ∷ [])) }
         ensures elements { OnOk result (elements (list_of T.meaning S.content objects.new) self.new ≡ elements (list_of T.meaning S.content objects.old) self.old ++ x ∷ []) }
         ensures is { IsVector (list_of T.meaning S.content objects.new) self.new }
-        ensures apart { (w : Vector T) → IsVector (list_of T.meaning S.content objects.old) w → AreApart self.old w → IsUntouched (list_of T.meaning S.content objects.old) (list_of T.meaning S.content objects.new) self.new w }
+        ensures disjoint { (w : Vector T) → IsVector (list_of T.meaning S.content objects.old) w → AreDisjoint self.old w → IsUntouched (list_of T.meaning S.content objects.old) (list_of T.meaning S.content objects.new) self.new w }
         ensures lists { OnOk result (KeepsOthers (list_of T.meaning S.content objects.old) (list_of T.meaning S.content objects.new) (object_at self.new self.old.len)) }
         ensures others { OnOk result (ChangesObject objects.old objects.new (object_at self.new self.old.len)) }
         ensures clean { AreClean T.meaning S.content objects.old → AreClean T.meaning S.content objects.new }
@@ -148,18 +148,18 @@ impl<T: Elem> FarVector<T> {
         Ok(())
     }
 
-    /// Takes back a push that made an object: its element, the only one of its row group, and the object. Takes no memory.
+    /// Takes back a push that made an object: its element, the only one of its row group, and the object. Allocates nothing.
     pub fn unpush<S: FarTickets>(&mut self, objects: &mut Objects<T, S>)
         requires is { IsVector (list_of T.meaning S.content objects.old) self.old }
         requires alone { self.old.len ≡ (length self.old.objects - 1) * self.old.size + 1 }
         requires last { slice_get self.old.objects (length self.old.objects - 1) ≡ Some (length objects.old.entries - 1) }
         requires local { is_local objects.old (length objects.old.entries - 1) ≡ true }
         requires unpinned { pins_of objects.old (length objects.old.entries - 1) ≡ 0 }
-        ensures unpushed { self.new ≡ unpushed self.old }
-        ensures uncreated { objects.new ≡ uncreated objects.old }
+        ensures unpushed { self.new ≡ after_unpush self.old }
+        ensures uncreated { objects.new ≡ after_uncreate objects.old }
         ensures elements { elements (list_of T.meaning S.content objects.new) self.new ≡ take (self.old.len - 1) (elements (list_of T.meaning S.content objects.old) self.old) }
         ensures is { IsVector (list_of T.meaning S.content objects.new) self.new }
-        ensures apart { (w : Vector T) → IsVector (list_of T.meaning S.content objects.old) w → AreApart self.old w → IsUntouched (list_of T.meaning S.content objects.old) (list_of T.meaning S.content objects.new) self.new w }
+        ensures disjoint { (w : Vector T) → IsVector (list_of T.meaning S.content objects.old) w → AreDisjoint self.old w → IsUntouched (list_of T.meaning S.content objects.old) (list_of T.meaning S.content objects.new) self.new w }
         ensures lists { KeepsOthers (list_of T.meaning S.content objects.old) (list_of T.meaning S.content objects.new) (length objects.old.entries - 1) }
         ensures others { ChangesObject objects.old objects.new (length objects.old.entries - 1) }
         ensures clean { AreClean T.meaning S.content objects.old → AreClean T.meaning S.content objects.new }

@@ -16,9 +16,9 @@ use far_store::FarTickets;
 use far_types::Refusal;
 
 impl<T: Elem> FarVector<T> {
-    /// The element at a place. Takes no memory.
+    /// The element at a place. Allocates nothing.
     ///
-    /// Refused with `OutOfRange` (14) exactly where the list has no such place, else with `Absent` (16) exactly where the
+    /// Refused with `OutOfRange` (14) exactly if the list has no such place, else with `Absent` (16) exactly if the
     /// object of its row group is away.
     pub fn get<S: FarTickets>(&self, objects: &Objects<T, S>, i: usize) -> Result<T, Refusal>
         requires { IsVector (list_of T.meaning S.content objects.now) self.now }
@@ -33,10 +33,10 @@ impl<T: Elem> FarVector<T> {
         Ok(list[at.index])
     }
 
-    /// The elements `from` up to `to`, all of one row group, lent in place. Takes no memory.
+    /// The elements `from` up to `to`, all of one row group, lent in place. Allocates nothing.
     ///
-    /// Refused with `OutOfRange` (14) exactly where `from` is above `to`, `to` is past the end, or the part is not empty and
-    /// crosses row groups; else with `Absent` (16) exactly where it is not empty and the object of its row group is away.
+    /// Refused with `OutOfRange` (14) exactly if `from` is above `to`, `to` is past the end, or the part is not empty and
+    /// crosses row groups; else with `Absent` (16) exactly if it is not empty and the object of its row group is away.
     pub fn part<'a, S: FarTickets>(
         &self,
         objects: &'a Objects<T, S>,
@@ -59,8 +59,8 @@ impl<T: Elem> FarVector<T> {
     /// The elements `from` up to `to`, lent in place piece by piece: one for each row group that has some of them. Takes no
     /// memory.
     ///
-    /// Refused with `OutOfRange` (14) exactly where `from` is above `to` or `to` is past the end; else with `Absent` (16)
-    /// exactly where the object of a row group with some of them is away, naming the first such.
+    /// Refused with `OutOfRange` (14) exactly if `from` is above `to` or `to` is past the end; else with `Absent` (16)
+    /// exactly if the object of a row group with some of them is away, naming the first such.
     pub fn pieces<'a, S: FarTickets>(
         &'a self,
         objects: &'a Objects<T, S>,
@@ -109,7 +109,12 @@ impl<T: Elem> FarVector<T> {
         if from > to || to > self.len {
             return Err(Refusal::OutOfRange);
         }
-        if from < to && from / self.size != (to - 1) / self.size {
+        if from == to {
+            return Ok(());
+        }
+        let first = self.group_of(from);
+        let last = self.group_of(to - 1);
+        if first != last {
             return Err(Refusal::OutOfRange);
         }
         Ok(())

@@ -1,11 +1,11 @@
 // Elements written in place.
-ghost use Rattle.std.specs.Prelude.{◌≡◌, ℕ, ◌+◌, ◌-◌, ◌*◌, ◌%◌, ◌<◌, ◌++◌, List, [], ◌∷◌, length, take, drop, Some, None, IsSomeAnd, OnOk, OnErr, slice_set, slice_range};
+ghost use Rattle.std.specs.Prelude.{◌≡◌, ℕ, ◌+◌, ◌-◌, ◌*◌, ◌/◌, ◌%◌, ◌<◌, ◌++◌, List, [], ◌∷◌, length, take, drop, Some, None, IsSomeAnd, OnOk, OnErr, slice_set, slice_range};
 ghost use Rattle.std.specs.Borrow.{sem};
 ghost use Rattle.far_scopes.specs.Memory.{list_in};
 ghost use Rattle.far_scopes.specs.Movement.{list_of, AreClean, AreHere, ChangesObject};
 ghost use Rattle.far_scopes.specs.Refusing.{refusal_in, write_refusal};
 ghost use Rattle.far_scopes.specs.ObjectsLending.{lends_written};
-ghost use Rattle.far_vector.specs.Vector.{Vector, IsVector, IsUntouched, AreApart, KeepsOthers, WritesPlaces, elements, object_at};
+ghost use Rattle.far_vector.specs.Vector.{Vector, IsVector, IsUntouched, AreDisjoint, KeepsOthers, WritesPlaces, elements, object_at};
 ghost use Rattle.far_vector.specs.Effects.{range_written};
 ghost use Rattle.far_vector.specs.Refusing.{set_refusal, write_part_refusal};
 
@@ -16,10 +16,10 @@ use far_store::FarTickets;
 use far_types::Refusal;
 
 impl<T: Elem> FarVector<T> {
-    /// Writes the element at a place; its row group's object counts as written. Takes no memory.
+    /// Writes the element at a place; its row group's object counts as written. Allocates nothing.
     ///
-    /// Refused with `OutOfRange` (14) exactly where the list has no such place, else with `Absent` (16) exactly where the
-    /// object of its row group is away, else with `EditsUsedUp` (24) exactly where that was written as often as objects may
+    /// Refused with `OutOfRange` (14) exactly if the list has no such place, else with `Absent` (16) exactly if the
+    /// object of its row group is away, else with `EditsUsedUp` (24) exactly if that was written as often as objects may
     /// be; then nothing is changed.
     pub fn set<S: FarTickets>(
         &self,
@@ -31,7 +31,7 @@ impl<T: Elem> FarVector<T> {
         ensures written { OnOk result (objects.new ≡ range_written objects.old self.now i (x ∷ [])) }
         ensures elements { OnOk result (elements (list_of T.meaning S.content objects.new) self.now ≡ slice_set (elements (list_of T.meaning S.content objects.old) self.now) i x) }
         ensures is { IsVector (list_of T.meaning S.content objects.new) self.now }
-        ensures apart { (w : Vector T) → IsVector (list_of T.meaning S.content objects.old) w → AreApart self.now w → IsUntouched (list_of T.meaning S.content objects.old) (list_of T.meaning S.content objects.new) self.now w }
+        ensures disjoint { (w : Vector T) → IsVector (list_of T.meaning S.content objects.old) w → AreDisjoint self.now w → IsUntouched (list_of T.meaning S.content objects.old) (list_of T.meaning S.content objects.new) self.now w }
         ensures lists { KeepsOthers (list_of T.meaning S.content objects.old) (list_of T.meaning S.content objects.new) (object_at self.now i) }
         ensures others { ChangesObject objects.old objects.new (object_at self.now i) }
         ensures clean { AreClean T.meaning S.content objects.old → AreClean T.meaning S.content objects.new }
@@ -48,7 +48,34 @@ impl<T: Elem> FarVector<T> {
         Ok(())
     }
 
-    /// Whether the element of a place may be written. Takes no memory, and is refused exactly as `set` is.
+    /// Writes the element at a place that may be written, as `set` does, where the caller knows its row group. So nothing is
+    /// asked again, and no place is divided. Allocates nothing.
+    pub fn set_in_group<S: FarTickets>(
+        &self,
+        objects: &mut Objects<T, S>,
+        group: u32,
+        i: usize,
+        x: T,
+    )
+        requires is { IsVector (list_of T.meaning S.content objects.old) self.now }
+        requires group { group ≡ i / self.now.size }
+        requires free { set_refusal objects.old self.now i ≡ None }
+        ensures written { objects.new ≡ range_written objects.old self.now i (x ∷ []) }
+        ensures elements { elements (list_of T.meaning S.content objects.new) self.now ≡ slice_set (elements (list_of T.meaning S.content objects.old) self.now) i x }
+        ensures is { IsVector (list_of T.meaning S.content objects.new) self.now }
+        ensures disjoint { (w : Vector T) → IsVector (list_of T.meaning S.content objects.old) w → AreDisjoint self.now w → IsUntouched (list_of T.meaning S.content objects.old) (list_of T.meaning S.content objects.new) self.now w }
+        ensures lists { KeepsOthers (list_of T.meaning S.content objects.old) (list_of T.meaning S.content objects.new) (object_at self.now i) }
+        ensures others { ChangesObject objects.old objects.new (object_at self.now i) }
+        ensures clean { AreClean T.meaning S.content objects.old → AreClean T.meaning S.content objects.new }
+        ensures store { (name : List ℕ) → AreHere S.is_of name objects.old → AreHere S.is_of name objects.new }
+    {
+        // It tells that a row group is begun for each element.
+        let _len = self.len();
+        let at = self.position_in(objects, group as usize, i);
+        self.write(objects, at, x);
+    }
+
+    /// Whether the element of a place may be written. Allocates nothing, and is refused exactly as `set` is.
     pub fn may_set<S: FarTickets>(&self, objects: &Objects<T, S>, i: usize) -> Result<(), Refusal>
         requires { IsVector (list_of T.meaning S.content objects.now) self.now }
         ensures { refusal_in result ≡ set_refusal objects.now self.now i }
@@ -59,11 +86,11 @@ impl<T: Elem> FarVector<T> {
         objects.may_write(self.position(objects, i).object)
     }
 
-    /// Whether the elements `from` up to `to`, all of one row group, may be written. Takes no memory.
+    /// Whether the elements `from` up to `to`, all of one row group, may be written. Allocates nothing.
     ///
-    /// Refused with `OutOfRange` (14) exactly where `from` is above `to`, `to` is past the end, or the part is not empty and
-    /// crosses row groups; else, if it is not empty, with `Absent` (16) exactly where the object of its row group is away, and
-    /// with `EditsUsedUp` (24) exactly where that was written as often as objects may be.
+    /// Refused with `OutOfRange` (14) exactly if `from` is above `to`, `to` is past the end, or the part is not empty and
+    /// crosses row groups; else, if it is not empty, with `Absent` (16) exactly if the object of its row group is away, and
+    /// with `EditsUsedUp` (24) exactly if that was written as often as objects may be.
     pub fn may_write_part<S: FarTickets>(
         &self,
         objects: &Objects<T, S>,
@@ -97,7 +124,7 @@ impl<T: Elem> FarVector<T> {
         ensures lent { result.now ≡ slice_range (elements (list_of T.meaning S.content objects.old) vector.now) from to }
         ensures elements { (range : List T) → length range ≡ to - from → let now = list_of T.meaning S.content (range_written objects.old vector.now from range) in let was = elements (list_of T.meaning S.content objects.old) vector.now in elements now vector.now ≡ take from was ++ (range ++ drop to was) }
         ensures is { (range : List T) → length range ≡ to - from → IsVector (list_of T.meaning S.content (range_written objects.old vector.now from range)) vector.now }
-        ensures apart { (range : List T) → length range ≡ to - from → (w : Vector T) → IsVector (list_of T.meaning S.content objects.old) w → AreApart vector.now w → IsUntouched (list_of T.meaning S.content objects.old) (list_of T.meaning S.content (range_written objects.old vector.now from range)) vector.now w }
+        ensures disjoint { (range : List T) → length range ≡ to - from → (w : Vector T) → IsVector (list_of T.meaning S.content objects.old) w → AreDisjoint vector.now w → IsUntouched (list_of T.meaning S.content objects.old) (list_of T.meaning S.content (range_written objects.old vector.now from range)) vector.now w }
         ensures lists { (range : List T) → length range ≡ to - from → KeepsOthers (list_of T.meaning S.content objects.old) (list_of T.meaning S.content (range_written objects.old vector.now from range)) (object_at vector.now from) }
         ensures others { (range : List T) → ChangesObject objects.old (range_written objects.old vector.now from range) (object_at vector.now from) }
         ensures clean { (range : List T) → length range ≡ to - from → AreClean T.meaning S.content objects.old → AreClean T.meaning S.content (range_written objects.old vector.now from range) }

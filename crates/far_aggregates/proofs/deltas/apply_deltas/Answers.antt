@@ -5,7 +5,7 @@ use Rattle.far_aggregates.specs.declared.deltas.Delta.{Delta}
 use Rattle.far_aggregates.specs.Accumulators.{Slot}
 use Rattle.far_aggregates.specs.Pairs.{row_gives, Folds}
 use Rattle.far_aggregates.specs.Deltas.{row_delta, added, undo, EachMayUndo}
-use Rattle.far_aggregates.specs.Reserve.{HasRoom}
+use Rattle.far_aggregates.specs.Reserve.{IsReserved}
 use Rattle.far_aggregates.specs.Until.{zip_until, zip_all}
 use Rattle.far_aggregates.proofs.ListLaws.{all-get, get-map, set_same}
 use Rattle.far_aggregates.proofs.UntilLaws.{zip_until-here, zip_until-next, zip_until-all, length-zip_until}
@@ -21,14 +21,14 @@ apply_next-requires-clause-folds g c =
     let was = sym (zip_until-here (added at) c.loop-i.i slots (map delta slots)) ∙ ap (λ (l : List Slot). slice_get l c.loop-i.i) (sym c.loop-i.invariant.slots) ∙ here in
     subst Folds c.index-slots-i.is (c.requires.folds c.loop-i.i c.index-slots-i.result was)
 
-pub apply_next-requires-clause-room : goal.apply_next-requires-clause-room
-apply_next-requires-clause-room g c =
+pub apply_next-requires-clause-reserved : goal.apply_next-requires-clause-reserved
+apply_next-requires-clause-reserved g c =
     let at = c.args.place / c.args.size in
     let delta = row_delta c.args.size c.args.place (row_gives (g.R.LendCells.cells c.args.row.now)) in
     let slots = c.args.slots.now in
     let here = slice_get_read c.loop-i.slots _ c.loop-i.i c.index-slots-i.result refl (omega arith) c.index-slots-i.is in
     let was = sym (zip_until-here (added at) c.loop-i.i slots (map delta slots)) ∙ ap (λ (l : List Slot). slice_get l c.loop-i.i) (sym c.loop-i.invariant.slots) ∙ here in
-    subst (HasRoom at) c.index-slots-i.is (all-get (HasRoom at) slots c.loop-i.i c.index-slots-i.result c.requires.room was)
+    subst (IsReserved at) c.index-slots-i.is (all-get (IsReserved at) slots c.loop-i.i c.index-slots-i.result c.requires.reserved was)
 
 pub apply_next-requires-clause-place : goal.apply_next-requires-clause-place
 apply_next-requires-clause-place g c =
@@ -75,7 +75,7 @@ undo_first-requires-clause-may g c =
     let here = slice_get_read c.loop-i.slots _ i slot refl (omega arith) c.index-slots-i.is in
     let within : i < length slots = omega (arith, length-zip_until (added at) i slots (map delta slots), ap length c.loop-i.invariant.slots) in
     let same = ap (slice_set c.loop-i.slots i) (c.in-Err.ensures.err ∙ sym c.index-slots-i.is) ∙ set_same c.loop-i.slots i slot here ∙ c.loop-i.invariant.slots in
-    let may = next-may_undo c.args.size c.args.place gives slots c.requires.folds c.requires.room i within c.apply_next.new.deltas.items (c.in-Err.ensures.before ∙ c.loop-i.invariant.deltas) in
+    let may = next-may_undo c.args.size c.args.place gives slots c.requires.folds c.requires.reserved i within c.apply_next.new.deltas.items (c.in-Err.ensures.before ∙ c.loop-i.invariant.deltas) in
     subst (λ n. EachMayUndo n i (slice_set c.loop-i.slots i c.apply_next.new.slot) c.as_slice.result.now) (sym c.requires.group)
     (subst (λ (l : List Slot). EachMayUndo at i l c.as_slice.result.now) (sym same) (subst (λ (l : List (Option Delta)). EachMayUndo at i (zip_until (added at) i slots (map delta slots)) l) (sym c.as_slice.ensures.value) may))
 
@@ -94,7 +94,7 @@ returns-in-Err-clause-err g c =
     ∙ ap (λ n. zip_until (undo n) i (slice_set c.loop-i.slots i c.apply_next.new.slot) c.as_slice.result.now) c.requires.group
     ∙ ap (λ (l : List Slot). zip_until (undo at) i l c.as_slice.result.now) same
     ∙ ap (zip_until (undo at) i (zip_until (added at) i slots (map delta slots))) c.as_slice.ensures.value
-    ∙ next-undone c.args.size c.args.place gives slots c.requires.folds c.requires.room i within c.apply_next.new.deltas.items (c.in-Err.ensures.before ∙ c.loop-i.invariant.deltas)
+    ∙ next-undone c.args.size c.args.place gives slots c.requires.folds c.requires.reserved i within c.apply_next.new.deltas.items (c.in-Err.ensures.before ∙ c.loop-i.invariant.deltas)
 
 pub returns-clause-ok : goal.returns-clause-ok
 returns-clause-ok g c =
@@ -113,7 +113,7 @@ returns-clause-may_undo g c =
     let many : length slots ≤ c.loop-i.i = omega (arith, length-zip_until (added at) c.loop-i.i slots (map delta slots), ap length c.loop-i.invariant.slots) in
     let is = c.loop-i.invariant.deltas ∙ ap (map delta) (take_all c.loop-i.i slots many) in
     let applied = c.loop-i.invariant.slots ∙ zip_until-all (added at) c.loop-i.i slots (map delta slots) many ∙ ap (zip_all (added at) slots) (sym is) in
-    applied-may_undo c.args.size c.args.place gives slots c.loop-i.slots c.loop-i.deltas.items is applied c.requires.folds c.requires.room
+    applied-may_undo c.args.size c.args.place gives slots c.loop-i.slots c.loop-i.deltas.items is applied c.requires.folds c.requires.reserved
 
 pub returns-clause-undo : goal.returns-clause-undo
 returns-clause-undo g c =
@@ -124,4 +124,4 @@ returns-clause-undo g c =
     let many : length slots ≤ c.loop-i.i = omega (arith, length-zip_until (added at) c.loop-i.i slots (map delta slots), ap length c.loop-i.invariant.slots) in
     let is = c.loop-i.invariant.deltas ∙ ap (map delta) (take_all c.loop-i.i slots many) in
     let applied = c.loop-i.invariant.slots ∙ zip_until-all (added at) c.loop-i.i slots (map delta slots) many ∙ ap (zip_all (added at) slots) (sym is) in
-    applied-undone c.args.size c.args.place gives slots c.loop-i.slots c.loop-i.deltas.items is applied c.requires.folds c.requires.room
+    applied-undone c.args.size c.args.place gives slots c.loop-i.slots c.loop-i.deltas.items is applied c.requires.folds c.requires.reserved

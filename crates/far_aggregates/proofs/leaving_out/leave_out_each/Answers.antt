@@ -13,9 +13,9 @@ loop-i-preserved c =
     let was = c.loop-i.invariant in
     let delta = c.index-deltas-i.result in
     let applied = slice_get_read c.args.deltas.now _ i delta refl (omega arith) c.index-deltas-i.is in
-    let goes = slice_get_read now _ i c.index-to_retract-i.result refl (omega arith) c.index-to_retract-i.is in
+    let retracts = slice_get_read now _ i c.index-to_retract-i.result refl (omega arith) c.index-to_retract-i.is in
     let out = subst (λ (a : Change). IsLeftOut delta a c.leave_out_one.new.to_retract) (sym c.index-to_retract-i.is) c.leave_out_one.ensures in (
       length-written now i c.leave_out_one.new.to_retract ∙ was.0,
-      left_out-more i c.args.deltas.now c.args.to_retract.now now delta c.index-to_retract-i.result c.leave_out_one.new.to_retract applied goes was.2 out was.1,
-      rest-more i c.args.deltas.now c.args.to_retract.now now delta c.index-to_retract-i.result c.leave_out_one.new.to_retract applied goes was.2 out was.1,
+      left_out-more i c.args.deltas.now c.args.to_retract.now now delta c.index-to_retract-i.result c.leave_out_one.new.to_retract applied retracts was.2 out was.1,
+      rest-more i c.args.deltas.now c.args.to_retract.now now delta c.index-to_retract-i.result c.leave_out_one.new.to_retract applied retracts was.2 out was.1,
     )

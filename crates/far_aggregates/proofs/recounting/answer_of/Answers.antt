@@ -29,7 +29,7 @@ loop-partial-preserved c =
     let told = c.in_ok-merge_next.ensures in
     let long = ap length steps.0 in (
       omega (arith, inv.0, steps.1, long),
-      one-merged spec c.args.size c.args.places items c.loop-partial.aggregate c.merge_next.new.aggregate c.loop-partial.number c.in-Some.partial rest are told.spec told.unbuilt told.kept,
+      one-merged spec c.args.size c.args.places items c.loop-partial.aggregate c.merge_next.new.aggregate c.loop-partial.number c.in-Some.partial rest are told.spec told.pending told.kept,
     )
 
 pub returns-clause-answer : goal.returns-clause-answer

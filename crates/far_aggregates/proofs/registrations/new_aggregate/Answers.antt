@@ -5,5 +5,5 @@ use Rattle.far_aggregates.proofs.registrations.new_aggregate.Goals as goal
 
 pub returns-clause-kept : goal.returns-clause-kept
 returns-clause-kept c =
-    λ all count. new-keeps c.args.size all c.args.spec c.args.registration c.group_count-groups.result c.in_ok-unbuilt.unbuilt c.nothing_kept.result c.requires.size
-    (c.group_count-groups.ensures.value ∙ ap (groups c.args.size) (sym count)) c.nothing_kept.ensures.fold c.in_ok-unbuilt.ensures c.nothing_kept.ensures.nothing
+    λ all count. new-keeps c.args.size all c.args.spec c.args.registration c.group_count-groups.result c.in_ok-pending.pending c.nothing_kept.result c.requires.size
+    (c.group_count-groups.ensures.value ∙ ap (groups c.args.size) (sym count)) c.nothing_kept.ensures.fold c.in_ok-pending.ensures c.nothing_kept.ensures.nothing

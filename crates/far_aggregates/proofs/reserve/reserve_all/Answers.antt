@@ -1,9 +1,9 @@
 use Rattle.std.proofs.Common.{sym, ap, ◌∙◌, subst, arith, refl}
 use Rattle.std.proofs.lemmas.Option.{slice_get_read}
 use Rattle.far_aggregates.specs.Accumulators.{registered_in, KeepsSlot}
-use Rattle.far_aggregates.specs.Reserve.{reserved, HasRoom}
+use Rattle.far_aggregates.specs.Reserve.{reserved, IsReserved}
 use Rattle.far_aggregates.proofs.ListLaws.{all-set, all-get, all-take_set, map-set_like}
-use Rattle.far_aggregates.proofs.ReserveLaws.{reserved-registered, reserved-has, reserved-keeps}
+use Rattle.far_aggregates.proofs.ReserveLaws.{reserved-registered, reserved-is, reserved-keeps}
 use Rattle.far_aggregates.proofs.reserve.reserve_all.Goals as goal
 
 pub loop-i-preserved : goal.loop-i-preserved
@@ -11,7 +11,7 @@ loop-i-preserved c =
     let here = slice_get_read c.loop-i.slots _ c.loop-i.i c.index-slots-i.result refl (omega arith) c.index-slots-i.is in
     let is = c.reserve_one.ensures ∙ ap (reserved c.args.group) (sym c.index-slots-i.is) in
     record {
-      room = all-take_set (HasRoom c.args.group) c.loop-i.i c.loop-i.slots c.reserve_one.new.slot (omega arith) c.loop-i.invariant.room (subst (HasRoom c.args.group) (sym is) (reserved-has c.args.group c.index-slots-i.result));
+      reserved = all-take_set (IsReserved c.args.group) c.loop-i.i c.loop-i.slots c.reserve_one.new.slot (omega arith) c.loop-i.invariant.reserved (subst (IsReserved c.args.group) (sym is) (reserved-is c.args.group c.index-slots-i.result));
       registered = map-set_like registered_in c.loop-i.slots c.loop-i.i c.index-slots-i.result c.reserve_one.new.slot here (ap registered_in is ∙ reserved-registered c.args.group c.index-slots-i.result) ∙ c.loop-i.invariant.registered;
       kept = λ size places h.
           let kept = c.loop-i.invariant.kept size places h in

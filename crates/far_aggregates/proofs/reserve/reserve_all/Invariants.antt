@@ -1,12 +1,12 @@
 use Rattle.std.proofs.Common.{◌≡◌, ℕ, List, map, take}
 use Rattle.far_types.specs.Table.{Place}
 use Rattle.far_aggregates.specs.Accumulators.{Keeps, registered_in}
-use Rattle.far_aggregates.specs.Reserve.{HaveRoom}
+use Rattle.far_aggregates.specs.Reserve.{AreReserved}
 use Rattle.far_aggregates.proofs.reserve.reserve_all.Given as goal
 
 abbrev pub invariant-loop-i : goal.invariant-loop-i
 invariant-loop-i l = record {
-  room : HaveRoom l.group (take l.i l.slots);
+  reserved : AreReserved l.group (take l.i l.slots);
   registered : map registered_in l.slots ≡ map registered_in l.initial.slots;
   kept : (size : ℕ) → (places : List Place) → Keeps size places l.initial.slots → Keeps size places l.slots;
 }

@@ -1,8 +1,8 @@
 use Rattle.std.proofs.Common.{◌≡◌, true, sym, ap, ◌∙◌, subst, arith, length}
-use Rattle.far_types.specs.Table.{is_unbuilt}
+use Rattle.far_types.specs.Table.{is_pending}
 use Rattle.far_aggregates.specs.Accumulators.{Slot, KeepsSlot, registered_in}
 use Rattle.far_aggregates.specs.Lending.{SlotIsServed}
-use Rattle.far_aggregates.specs.Scans.{has_unbuilt, IsScanned, AccumulatorMayScan, SlotMayBuild}
+use Rattle.far_aggregates.specs.Scans.{has_pending, IsScanned, AccumulatorMayScan, SlotMayBuild}
 use Rattle.far_aggregates.proofs.ScanLaws.{group-length, may_scan, slot-scanned, slot-same}
 use Rattle.far_aggregates.proofs.scans.build_in.Goals as goal
 
@@ -26,13 +26,13 @@ pub scan-requires-clause-may_scan : goal.scan-requires-clause-may_scan
 scan-requires-clause-may_scan g c =
     let a = c.in-Some.aggregate in
     let m = subst (SlotMayBuild c.args.size c.args.number (g.G.LendGroup.places c.args.group.now)) c.in-Some.is c.requires.may in
-    let there : is_unbuilt a.unbuilt c.args.number ≡ true = ap (has_unbuilt c.args.number) (sym c.in-Some.is) ∙ c.requires.unbuilt in
+    let there : is_pending a.pending c.args.number ≡ true = ap (has_pending c.args.number) (sym c.in-Some.is) ∙ c.requires.pending in
     subst (λ here. AccumulatorMayScan a.spec c.args.number here a.accumulator) (sym m.1) (may_scan c.args.size m.0 a a.accumulator c.args.number there m.2 m.3.1)
 
 pub returns-in_ok-scan-clause-kept : goal.returns-in_ok-scan-clause-kept
 returns-in_ok-scan-clause-kept g c = λ ps here h.
     let a = c.in-Some.aggregate in
-    let there : is_unbuilt a.unbuilt c.args.number ≡ true = ap (has_unbuilt c.args.number) (sym c.in-Some.is) ∙ c.requires.unbuilt in
+    let there : is_pending a.pending c.args.number ≡ true = ap (has_pending c.args.number) (sym c.in-Some.is) ∙ c.requires.pending in
     let kept = subst (KeepsSlot c.args.size ps) c.in-Some.is h in
     let scanned = subst (λ l. IsScanned a.spec c.args.number l a.accumulator c.scan.new.accumulator) here c.in_ok-scan.ensures.ok in
     slot-scanned c.args.size ps a c.args.number c.clear.new.self c.scan.new.accumulator there c.requires.size kept c.clear.ensures scanned

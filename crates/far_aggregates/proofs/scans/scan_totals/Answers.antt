@@ -1,7 +1,7 @@
 use Rattle.std.proofs.Common.{ℕ, ◌-◌, List, sym, ap, ◌∙◌, subst}
 use Rattle.std.proofs.lemmas.Result.{on_ok_weaker}
 use Rattle.far_types.specs.Answers.{Totals, totals}
-use Rattle.far_types.specs.Changes.{joined_totals}
+use Rattle.far_types.specs.Effects.{joined_totals}
 use Rattle.far_types.specs.Pairs.{Pair}
 use Rattle.far_groups.specs.Live.{Live, CanJoin}
 use Rattle.far_aggregates.proofs.ScanLaws.{pairs-lent}

@@ -1,5 +1,5 @@
 use Rattle.std.proofs.Common.{◌≡◌, length, set, sym, ap, ◌∙◌, arith}
-use Rattle.far_codec.specs.Changes.{with_text}
+use Rattle.far_codec.specs.Effects.{with_text}
 use Rattle.far_codec.specs.Reading.{flags_of}
 use Rattle.far_codec.specs.TextForm.{texts_form, texts_of, ends_in}
 use Rattle.far_codec.proofs.ChangedForms.{flags_with}

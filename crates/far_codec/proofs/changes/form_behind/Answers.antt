@@ -4,7 +4,7 @@ use Rattle.std.specs.Int.{w32, to_le_bytes}
 use Rattle.std.specs.List.{flat_map}
 use Rattle.std.proofs.lemmas.List.{append-nil, length-append, length-map}
 use Rattle.far_types.specs.FormLengths.{text_bytes}
-use Rattle.far_codec.specs.Changes.{with_text}
+use Rattle.far_codec.specs.Effects.{with_text}
 use Rattle.far_codec.specs.FarForm.{version, head, some_missing}
 use Rattle.far_codec.specs.MaskLaws.{no_mask}
 use Rattle.far_codec.specs.TextForm.{bytes_of, texts_form, texts_of, ends_in, AreTextParts}

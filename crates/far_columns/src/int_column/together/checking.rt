@@ -6,7 +6,7 @@ ghost use Rattle.far_vector.specs.Vector.{IsShaped, IsVector};
 ghost use Rattle.far_vector.specs.Effects.{is_full};
 ghost use Rattle.far_vector.specs.Refusing.{push_refusal};
 ghost use Rattle.far_columns.specs.Numbers.{number_lists};
-ghost use Rattle.far_columns.specs.NumbersTogether.{all_begin, absents, some_written_out, no_room_for_groups};
+ghost use Rattle.far_columns.specs.NumbersTogether.{all_begin, absents, some_written_out, no_space_for_groups};
 
 use crate::int_column::IntColumn;
 use far_scopes::Objects;
@@ -73,7 +73,7 @@ pub(super) fn groups_fit<S: FarTickets>(
 ) -> Result<(), Refusal>
     requires few { length columns.now ≤ 16 }
     requires shaped { All IsShaped columns.now }
-    ensures { refusal_in result ≡ first_of (no_room_for_groups objects.now columns.now ∷ []) }
+    ensures { refusal_in result ≡ first_of (no_space_for_groups objects.now columns.now ∷ []) }
 {
     let mut sizes = [0; 16];
     for k in 0..columns.len() {

@@ -20,15 +20,15 @@ pub(super) fn fill_places<S: FarTickets>(
     numbers: &[Option<i64>],
 )
     requires begun { All (λ c. is_full c ≡ false) columns.old }
-    requires beside { AreVectors (number_lists S.content objects.old) columns.old }
-    requires even { length numbers.now ≡ length columns.old }
+    requires all_disjoint { AreVectors (number_lists S.content objects.old) columns.old }
+    requires same_length { length numbers.now ≡ length columns.old }
     requires free { All (λ c. push_refusal objects.old c ≡ None) columns.old }
     requires shaped { All IsShaped columns.old }
     ensures pushed { (n : ℕ) → columns.new ≡ all_pushed n columns.old }
     ensures moved { objects.new ≡ all_pushed_in objects.old columns.old numbers.now }
     ensures numbers { map (numbers_in S.content objects.new) columns.new ≡ all_numbers_with (number_lists S.content objects.old) columns.old numbers.now }
     ensures count { length objects.new.entries ≡ length objects.old.entries }
-    ensures beside { AreVectors (number_lists S.content objects.new) columns.new }
+    ensures all_disjoint { AreVectors (number_lists S.content objects.new) columns.new }
     ensures others { KeepsNumbers (number_lists S.content objects.old) (number_lists S.content objects.new) columns.old columns.new }
     ensures clean { AreClean ints_meaning S.content objects.old → AreClean ints_meaning S.content objects.new }
     ensures store { (name : List ℕ) → AreHere S.is_of name objects.old → AreHere S.is_of name objects.new }

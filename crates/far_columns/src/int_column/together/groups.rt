@@ -1,10 +1,10 @@
 // Row groups that several columns of numbers begin together, and taking them back.
 ghost use Rattle.std.specs.Prelude.{◌≡◌, ◌⊎◌, ◌≤◌, ◌+◌, ◌-◌, ◌^◌, ℕ, List, length, map, take, true, false, All, OnOk, IfErr, OnErr};
-ghost use Rattle.far_log.specs.Room.{spaces_of, fit_in_order};
+ghost use Rattle.far_log.specs.RegionState.{spaces_of, fit_in_order};
 ghost use Rattle.far_codec.specs.Reading.{ints_meaning};
 ghost use Rattle.far_scopes.specs.Movement.{AreClean, AreHere};
 ghost use Rattle.far_vector.specs.Vectors.{AreVectors};
-ghost use Rattle.far_vector.specs.Effects.{is_full, unpushed};
+ghost use Rattle.far_vector.specs.Effects.{is_full, after_unpush};
 ghost use Rattle.far_columns.specs.Numbers.{number_lists, numbers_in};
 ghost use Rattle.far_columns.specs.NumbersTogether.{all_pushed, all_numbers_with, KeepsNumbers, all_pushed_in};
 ghost use Rattle.far_columns.specs.NumbersBack.{KeepsBelow, AreBegunFrom, AreBegunLast, all_uncreated};
@@ -21,22 +21,22 @@ pub(super) fn begin_groups<S: FarTickets>(
     numbers: &[Option<i64>],
 ) -> Result<(), Refusal>
     requires begin { All (λ c. is_full c ≡ true) columns.old }
-    requires beside { AreVectors (number_lists S.content objects.old) columns.old }
-    requires even { length numbers.now ≡ length columns.old }
+    requires all_disjoint { AreVectors (number_lists S.content objects.old) columns.old }
+    requires same_length { length numbers.now ≡ length columns.old }
     requires few { length objects.old.entries + length columns.old ≤ 2 ^ 28 }
     ensures pushed { OnOk result (columns.new ≡ all_pushed (length objects.old.entries) columns.old) }
     ensures moved { OnOk result (objects.new ≡ all_pushed_in objects.old columns.old numbers.now) }
     ensures numbers { OnOk result (map (numbers_in S.content objects.new) columns.new ≡ all_numbers_with (number_lists S.content objects.old) columns.old numbers.now) }
-    ensures beside { OnOk result (AreVectors (number_lists S.content objects.new) columns.new) }
+    ensures all_disjoint { OnOk result (AreVectors (number_lists S.content objects.new) columns.new) }
     ensures begun { OnOk result (AreBegunFrom objects.new (length objects.old.entries) columns.new) }
     ensures below { OnOk result (KeepsBelow (length objects.old.entries) objects.old objects.new) }
-    ensures undone { OnOk result ((map unpushed columns.new ≡ columns.old) × (all_uncreated (length columns.old) objects.new ≡ objects.old)) }
+    ensures undone { OnOk result ((map after_unpush columns.new ≡ columns.old) × (all_uncreated (length columns.old) objects.new ≡ objects.old)) }
     ensures count { OnOk result (length objects.new.entries ≡ length objects.old.entries + length columns.old) }
     ensures others { OnOk result (KeepsNumbers (number_lists S.content objects.old) (number_lists S.content objects.new) columns.old columns.new) }
     ensures clean { OnOk result (AreClean ints_meaning S.content objects.old → AreClean ints_meaning S.content objects.new) }
     ensures store { OnOk result ((name : List ℕ) → AreHere S.is_of name objects.old → AreHere S.is_of name objects.new) }
-    ensures room { OnOk result (fit_in_order (spaces_of objects.old.memory.room) (map (λ c. c.size) columns.old) ≡ true) }
-    ensures refused { IfErr result (λ e. ((e ≡ Refusal.RegionFull) × (fit_in_order (spaces_of objects.old.memory.room) (map (λ c. c.size) columns.old) ≡ false)) ⊎ (e ≡ Refusal.NoMemory)) }
+    ensures space { OnOk result (fit_in_order (spaces_of objects.old.memory.state) (map (λ c. c.size) columns.old) ≡ true) }
+    ensures refused { IfErr result (λ e. ((e ≡ Refusal.RegionFull) × (fit_in_order (spaces_of objects.old.memory.state) (map (λ c. c.size) columns.old) ≡ false)) ⊎ (e ≡ Refusal.NoMemory)) }
     ensures err { OnErr result ((columns.new ≡ columns.old) × (objects.new ≡ objects.old)) }
 {
     let Some((column, columns)) = columns.split_first_mut() else {
@@ -60,13 +60,13 @@ pub(super) fn unbegin_groups<S: FarTickets>(
     objects: &mut Objects<Option<i64>, S>,
     columns: &mut [IntColumn],
 )
-    requires beside { AreVectors (number_lists S.content objects.old) columns.old }
+    requires all_disjoint { AreVectors (number_lists S.content objects.old) columns.old }
     requires begun { AreBegunLast objects.old columns.old }
-    ensures unpushed { columns.new ≡ map unpushed columns.old }
+    ensures unpushed { columns.new ≡ map after_unpush columns.old }
     ensures uncreated { objects.new ≡ all_uncreated (length columns.old) objects.old }
     ensures numbers { map (numbers_in S.content objects.new) columns.new ≡ map (λ c. take (c.len - 1) (numbers_in S.content objects.old c)) columns.old }
     ensures below { KeepsBelow (length objects.new.entries) objects.old objects.new }
-    ensures beside { AreVectors (number_lists S.content objects.new) columns.new }
+    ensures all_disjoint { AreVectors (number_lists S.content objects.new) columns.new }
     ensures others { KeepsNumbers (number_lists S.content objects.old) (number_lists S.content objects.new) columns.old columns.new }
     ensures clean { AreClean ints_meaning S.content objects.old → AreClean ints_meaning S.content objects.new }
     ensures store { (name : List ℕ) → AreHere S.is_of name objects.old → AreHere S.is_of name objects.new }

@@ -5,7 +5,7 @@ use Rattle.far_script.specs.declared.fault.ShellFault.TheVariants as fault
 use Rattle.far_script.specs.Printing.{numbered_text, refusal_text}
 use Rattle.far_script.proofs.FlowLaws.{prints}
 use Rattle.far_script.proofs.StopLaws.{handed-on}
-use Rattle.far_commands.specs.Listings.{cells_at, listing_of, row_line}
+use Rattle.far_commands.specs.Listings.{cells_at, row_line}
 use Rattle.far_commands.proofs.DumpLaws.{gather-cut, gather-end, gather-memory, gather-row, gather-skip, listed-refusal, rows-cut, rows-listed}
 use Rattle.far_commands.proofs.listing.dump.Goals.{then-is_live+in-Ok-print_place+in_ok-add_if_long-in-Ok-print_place, else-is_live}
 use Rattle.far_commands.proofs.listing.dump.Goals as goal

@@ -1,7 +1,7 @@
-use Rattle.std.proofs.Common.{◌≡◌, ◌<◌, ◌+◌, Option, Some, codes, inl, inr, [], refl, sym, ap, subst, ◌∙◌, arith}
+use Rattle.std.proofs.Common.{◌≡◌, ◌<◌, ◌+◌, ℕ, List, Option, Some, codes, inl, inr, [], refl, sym, ap, subst, ◌∙◌, arith}
 use Rattle.far_frame.specs.State.{State, live}
 use Rattle.far_script.specs.declared.fault.ShellFault.TheVariants as fault
-use Rattle.far_script.specs.Flow.{spanned}
+use Rattle.far_script.specs.Flow.{IsShort, spanned}
 use Rattle.far_script.specs.Printing.{numbered_text}
 use Rattle.far_commands.specs.declared.command.Command.{Command}
 use Rattle.far_commands.specs.declared.command.Command.TheVariants as command
@@ -9,7 +9,7 @@ use Rattle.far_commands.specs.Listings.{listing_of}
 use Rattle.far_commands.specs.Replies.{AnswersLine}
 use Rattle.far_commands.specs.Progress.{At}
 use Rattle.far_commands.specs.Cuts.{Fails, FailsBy, Lists}
-use Rattle.far_script.proofs.StopLaws.{each-fault, handed-on, if-input, stops-here, stops-more}
+use Rattle.far_script.proofs.StopLaws.{each-fault, handed-on, if-input, leaves-same, stops-here, stops-more}
 use Rattle.far_script.proofs.FlowLaws.{reads-none, prints, prints-none, range-empty, range-some}
 use Rattle.far_commands.proofs.CutLaws.{cut-more, no-input, no-output, printed-err}
 use Rattle.far_commands.proofs.ResultLaws.{on-ok}
@@ -94,15 +94,16 @@ returns-in_err-text-clause-stopped g c =
     let f = c.in_err-text.ensures.fault in
     let line = spanned g.R.Read c.args.input.now c.args.line in
     handed-on c.from_residual.result fault.Input _ (rw f.0 at c.from_residual.ensures.1)
-    (stops-here g.R.Read c.args.input.now c.args.input.now (λ behind. Fails c.args.progress.now.world.state.table.schema line behind) refl (inl f.1))
+    (stops-here g.R.Read c.args.input.now c.args.input.now (λ behind rest. Fails (IsShort g.R.Read g.R.Source.may_fail c.args.input.now c.args.input.now rest) c.args.progress.now.world.state.table.schema line behind) refl (λ e. e) (leaves-same _ _) (inl f.1))
 
 pub returns-in-Ok-Some-clause-stopped : goal.returns-in-Ok-Some-clause-stopped
 returns-in-Ok-Some-clause-stopped g c =
+    let short = λ (rest : List ℕ). IsShort g.R.Read g.R.Source.may_fail c.args.input.now c.serve_command.new.input rest in
     let kinds = c.as_slice.ensures ∙ c.schema.ensures ∙ ap (λ (s : State g.row.S-Ticket.Denot). s.table.schema) c.frame.ensures in
     let some = rw (c.in_ok-text.ensures.ok.0, kinds) at (sym c.in-Ok-Some.ensures.command ∙ c.in-Ok-Some.field-0-is) in
     let line = spanned g.R.Read c.args.input.now c.args.line in
-    each-fault c.serve_command.result _ _ (λ why stopped. if-input why _ _ (λ s. stops-more g.R.Read c.args.input.now c.serve_command.new.input (λ behind. FailsBy (Some c.in-Ok-Some.command) behind) (λ behind. Fails c.args.progress.now.world.state.table.schema line behind)
-    (λ bytes f. subst (λ (at : At g.row.S-Ticket.Denot). Fails at.world.state.table.schema line bytes) c.progress.view_is (inr (subst (λ (asked : Option Command). FailsBy asked bytes) (sym some) f))) s) stopped)
+    each-fault c.serve_command.result _ _ (λ why stopped. if-input why _ _ (λ s. stops-more g.R.Read c.args.input.now c.serve_command.new.input (λ behind rest. FailsBy (short rest) (Some c.in-Ok-Some.command) behind) (λ behind rest. Fails (short rest) c.args.progress.now.world.state.table.schema line behind)
+    (λ bytes rest f. subst (λ (at : At g.row.S-Ticket.Denot). Fails (short rest) at.world.state.table.schema line bytes) c.progress.view_is (inr (subst (λ (asked : Option Command). FailsBy (short rest) asked bytes) (sym some) f))) s) stopped)
     c.serve_command.ensures.stopped
 
 pub returns-in-Ok-None-clause-failed : goal.returns-in-Ok-None-clause-failed

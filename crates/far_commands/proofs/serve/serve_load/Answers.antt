@@ -1,12 +1,12 @@
 use Rattle.std.proofs.Common.{ℕ, List, [], length, ◌<◌, inl, inr, refl, subst}
 use Rattle.std.specs.Prelude.{⊤, IsUtf8, Some}
 use Rattle.far_script.specs.declared.fault.ShellFault.TheVariants as fault
-use Rattle.far_script.specs.Flow.{spanned}
+use Rattle.far_script.specs.Flow.{IsShort, spanned}
 use Rattle.far_script.proofs.FlowLaws.{prints, prints-nothing-then}
-use Rattle.far_script.proofs.StopLaws.{each-fault, handed-on, if-input, stops-here, stops-more, stops-then}
+use Rattle.far_script.proofs.StopLaws.{each-fault, handed-on, if-input, leaves-same, stops-here, stops-more, stops-then}
 use Rattle.far_commands.specs.declared.command.Command.TheVariants as command
 use Rattle.far_commands.specs.Cuts.{FailsBy}
-use Rattle.far_commands.proofs.CutLaws.{no-input, no-output, printed-err, prints-cut-more, prints-cut-none, take-front}
+use Rattle.far_commands.proofs.CutLaws.{front-came, no-input, no-output, printed-err, prints-cut-more, prints-cut-none, take-front}
 use Rattle.far_commands.proofs.ResultLaws.{printed-ok}
 use Rattle.far_commands.proofs.serve.serve_load.Goals as goal
 
@@ -36,9 +36,10 @@ pub returns-in_err-rows-clause-stopped : goal.returns-in_err-rows-clause-stopped
 returns-in_err-rows-clause-stopped g c =
     let why = c.in_err-rows.field-0.0 in
     let count = c.args.count in
+    let short = λ (rest : List ℕ). IsShort g.R.Read g.R.Source.may_fail c.args.input.now c.bytes.new.self rest in
     handed-on c.from_residual.result why _ c.from_residual.ensures.1
-    (if-input why _ _ (λ s. stops-more g.R.Read c.args.input.now c.bytes.new.self (λ bytes. length bytes < count) (λ behind. FailsBy (Some (command.Load count)) behind)
-    (λ bytes low. (count, refl, inl low)) s) c.in_err-rows.ensures.stopped)
+    (if-input why _ _ (λ s. stops-more g.R.Read c.args.input.now c.bytes.new.self (λ bytes rest. (length bytes < count) × short rest) (λ behind rest. FailsBy (short rest) (Some (command.Load count)) behind)
+    (λ bytes rest low. (count, refl, inl low)) s) c.in_err-rows.ensures.stopped)
 
 pub returns-in_err-text-clause-stopped : goal.returns-in_err-text-clause-stopped
 returns-in_err-text-clause-stopped g c =
@@ -47,9 +48,10 @@ returns-in_err-text-clause-stopped g c =
     let rows = spanned g.R.Read c.bytes.new.self c.in_ok-rows.rows in
     let f = c.in_err-text.ensures.fault in
     handed-on c.from_residual-in_err-text.result fault.Input _ (rw f.0 at c.from_residual-in_err-text.ensures.1)
-    (stops-then g.R.Read c.args.input.now c.bytes.new.self c.bytes.new.self rows (λ bytes. ⊤) (λ behind. FailsBy (Some (command.Load count)) behind) s.2
-    (λ bytes h. (count, refl, inr (λ u. f.1 (subst (λ (z : List ℕ). IsUtf8 z) (take-front rows bytes count s.1) u))))
-    (stops-here g.R.Read c.bytes.new.self c.bytes.new.self (λ bytes. ⊤) refl tt))
+    (stops-then g.R.Read c.args.input.now c.bytes.new.self c.bytes.new.self rows (λ bytes rest. ⊤)
+    (λ behind rest. FailsBy (IsShort g.R.Read g.R.Source.may_fail c.args.input.now c.bytes.new.self rest) (Some (command.Load count)) behind) s.2
+    (λ bytes rest h. (count, refl, inr (front-came rows bytes count s.1, λ u. f.1 (subst (λ (z : List ℕ). IsUtf8 z) (take-front rows bytes count s.1) u))))
+    (stops-here g.R.Read c.bytes.new.self c.bytes.new.self (λ bytes rest. ⊤) refl (λ e. e) (leaves-same _ _) tt))
 
 pub returns-in_err-text-clause-err : goal.returns-in_err-text-clause-err
 returns-in_err-text-clause-err g c =

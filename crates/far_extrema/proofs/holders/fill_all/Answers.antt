@@ -1,14 +1,14 @@
 use Rattle.std.proofs.Common.{sym, subst}
-use Rattle.far_types.proofs.ByKeyMaps.{sorted_apart}
+use Rattle.far_types.proofs.ByKeyMaps.{sorted_distinct}
 use Rattle.far_extrema.specs.Holders.{holders_of}
-use Rattle.far_extrema.proofs.RoomLaws.{IsFilling, next-room, next-new, filled-next, filled-none, filled-all}
+use Rattle.far_extrema.proofs.ReserveLaws.{IsFilling, next-reserved, next-new, filled-next, filled-none, filled-all}
 use Rattle.far_extrema.proofs.holders.fill_all.Goals as goal
 
-pub fill_in-requires-clause-room : goal.fill_in-requires-clause-room
-fill_in-requires-clause-room c =
+pub fill_in-requires-clause-reserved : goal.fill_in-requires-clause-reserved
+fill_in-requires-clause-reserved c =
     let old = holders_of c.args.holders.now.entries in
     let now = holders_of c.loop-key.holders.entries in
-    next-room old now c.args.group c.args.spans.now.entries (c.in-Some.key.now, c.in-Some.span.now) c.next.new.self
+    next-reserved old now c.args.group c.args.spans.now.entries (c.in-Some.key.now, c.in-Some.span.now) c.next.new.self
     (subst (IsFilling old now c.args.group c.args.spans.now.entries) c.in-Some.ensures.steps c.loop-key.invariant.filling)
 
 pub fill_in-requires-clause-new : goal.fill_in-requires-clause-new
@@ -25,7 +25,7 @@ loop-key-preserved c =
     record {
       filling = filled-next old now (holders_of c.fill_in.new.holders.entries) c.args.group c.args.spans.now.entries (c.in-Some.key.now, c.in-Some.span.now) c.next.new.self
           (subst (IsFilling old now c.args.group c.args.spans.now.entries) c.in-Some.ensures.steps c.loop-key.invariant.filling)
-          c.fill_in.ensures.spans c.fill_in.ensures.room;
+          c.fill_in.ensures.spans c.fill_in.ensures.reserved;
     }
 
 pub loop-key-init : goal.loop-key-init
@@ -33,7 +33,7 @@ loop-key-init c =
     let m = holders_of c.args.holders.now.entries in
     record {
       filling = subst (IsFilling m m c.args.group c.args.spans.now.entries) (sym c.into_iter-key-iterator.ensures.into_iter_gives.0)
-          (filled-none m c.args.group c.args.spans.now.entries (sorted_apart c.args.spans.now.entries c.into_iter-key-iterator.ensures.into_iter_gives.5) c.requires.room c.requires.new);
+          (filled-none m c.args.group c.args.spans.now.entries (sorted_distinct c.args.spans.now.entries c.into_iter-key-iterator.ensures.into_iter_gives.5) c.requires.reserved c.requires.new);
     }
 
 pub returns : goal.returns

@@ -1,9 +1,9 @@
 use Rattle.std.proofs.Common.{◌∙◌, refl, IsSome, sym, ap, subst, None, Some, cond, true}
 use Rattle.std.specs.FinMap as fin
 use Rattle.far_types.proofs.ByKeyMaps.{get_at, set_inserts, set_removes}
-use Rattle.far_extrema.specs.Holders.{holders_of, span_in, room_in, IsPut, HaveSameRoom}
+use Rattle.far_extrema.specs.Holders.{holders_of, span_in, reserved_in, IsPut, HaveSameReserved}
 use Rattle.far_extrema.proofs.HolderLaws.{put-set}
-use Rattle.far_extrema.proofs.RoomLaws.{room-insert, room-vacant, put-vacant}
+use Rattle.far_extrema.proofs.ReserveLaws.{reserved-insert, reserved-vacant, put-vacant}
 use Rattle.far_extrema.proofs.holders.leave_in.Goals as goal
 
 pub leave-requires : goal.leave-requires
@@ -21,13 +21,13 @@ returns-then-not-is_vacant-clause-spans c =
     subst (λ n. IsPut m c.args.group c.args.key.now None n) (sym written)
     (put-set m c.args.key.now c.in-Some.holder.now c.leave.new.self c.args.group None previous c.leave.ensures.spans)
 
-pub returns-then-not-is_vacant-clause-room : goal.returns-then-not-is_vacant-clause-room
-returns-then-not-is_vacant-clause-room c =
+pub returns-then-not-is_vacant-clause-reserved : goal.returns-then-not-is_vacant-clause-reserved
+returns-then-not-is_vacant-clause-reserved c =
     let there = subst IsSome c.in-Some.ensures.value refl in
     let written = set_inserts c.args.holders.now.entries (c.get_mut.follows.lender c.leave.new.self).entries c.args.key.now c.leave.new.self ((c.get_mut.follows.holds c.leave.new.self).3 there).0 in
     let m = holders_of c.args.holders.now.entries in
     let previous = get_at c.args.holders.now.entries c.args.key.now ∙ sym c.in-Some.ensures.value in
-    subst (HaveSameRoom m) (sym written) (room-insert m c.args.key.now c.leave.new.self (ap (λ b. cond b (Some true) None) c.leave.ensures.room ∙ sym (ap room_in previous)))
+    subst (HaveSameReserved m) (sym written) (reserved-insert m c.args.key.now c.leave.new.self (ap (λ b. cond b (Some true) None) c.leave.ensures.reserved ∙ sym (ap reserved_in previous)))
 
 pub returns-clause-spans : goal.returns-clause-spans
 returns-clause-spans c =
@@ -39,11 +39,11 @@ returns-clause-spans c =
     subst (λ n. IsPut m c.args.group c.args.key.now None n) (sym removed)
     (put-vacant m c.args.key.now c.in-Some.holder.now c.leave.new.self c.args.group previous c.leave.ensures.spans (c.if-not-is_vacant.ensures.spans refl))
 
-pub returns-clause-room : goal.returns-clause-room
-returns-clause-room c =
+pub returns-clause-reserved : goal.returns-clause-reserved
+returns-clause-reserved c =
     let there = subst IsSome c.in-Some.ensures.value refl in
     let written = set_inserts c.args.holders.now.entries (c.get_mut.follows.lender c.leave.new.self).entries c.args.key.now c.leave.new.self ((c.get_mut.follows.holds c.leave.new.self).3 there).0 in
     let removed = set_removes (c.get_mut.follows.lender c.leave.new.self).entries c.remove.new.self.entries c.args.key.now c.remove.ensures.updates.0 ∙ ap (λ m. fin.remove m c.args.key.now) written in
     let m = holders_of c.args.holders.now.entries in
     let previous = get_at c.args.holders.now.entries c.args.key.now ∙ sym c.in-Some.ensures.value in
-    subst (HaveSameRoom m) (sym removed) (room-vacant m c.args.key.now c.in-Some.holder.now c.leave.new.self previous c.leave.ensures.room (c.if-not-is_vacant.ensures.room refl))
+    subst (HaveSameReserved m) (sym removed) (reserved-vacant m c.args.key.now c.in-Some.holder.now c.leave.new.self previous c.leave.ensures.reserved (c.if-not-is_vacant.ensures.reserved refl))

@@ -2,22 +2,22 @@ use Rattle.std.proofs.Common.{refl, sym, ap, ◌∙◌}
 use Rattle.far_types.proofs.ByKeyMaps.{get_at}
 use Rattle.far_types.proofs.ByKeyMaps as map_in
 use Rattle.far_extrema.specs.Holders.{holders_of}
-use Rattle.far_extrema.proofs.RoomLaws.{rooms-next}
+use Rattle.far_extrema.proofs.ReserveLaws.{reserved-next}
 use Rattle.far_extrema.proofs.holders.reserve_all.Goals as goal
 
 pub loop-key-init : goal.loop-key-init
 loop-key-init c = record {
   spans = λ g q. refl;
-  room = λ q there gone. absurd (there (ap (λ es. map_in.at es q) (sym c.into_iter-key-iterator.ensures.into_iter_gives.0) ∙ gone));
+  reserved = λ q there gone. absurd (there (ap (λ es. map_in.at es q) (sym c.into_iter-key-iterator.ensures.into_iter_gives.0) ∙ gone));
 }
 
 pub loop-key-preserved : goal.loop-key-preserved
 loop-key-preserved c = record {
   spans = λ g q. c.in_ok-reserve_in.ensures.spans g q ∙ c.loop-key.invariant.spans g q;
-  room = rooms-next (holders_of c.loop-key.holders.entries) (holders_of c.reserve_in.new.holders.entries) c.args.spans.now.entries (c.in-Some.key.now, c.in-Some.field-0-1.now) c.next.new.self
-      (λ q there gone. c.loop-key.invariant.room q there (ap (λ es. map_in.at es q) c.in-Some.ensures.steps ∙ gone))
-      c.in_ok-reserve_in.ensures.kept c.in_ok-reserve_in.ensures.room;
+  reserved = reserved-next (holders_of c.loop-key.holders.entries) (holders_of c.reserve_in.new.holders.entries) c.args.spans.now.entries (c.in-Some.key.now, c.in-Some.field-0-1.now) c.next.new.self
+      (λ q there gone. c.loop-key.invariant.reserved q there (ap (λ es. map_in.at es q) c.in-Some.ensures.steps ∙ gone))
+      c.in_ok-reserve_in.ensures.kept c.in_ok-reserve_in.ensures.reserved;
 }
 
-pub returns-clause-room : goal.returns-clause-room
-returns-clause-room c = λ q there. c.loop-key.invariant.room q (λ none. there (get_at c.args.spans.now.entries q ∙ none)) (ap (λ es. map_in.at es q) c.in-None.ensures.steps.0)
+pub returns-clause-reserved : goal.returns-clause-reserved
+returns-clause-reserved c = λ q there. c.loop-key.invariant.reserved q (λ none. there (get_at c.args.spans.now.entries q ∙ none)) (ap (λ es. map_in.at es q) c.in-None.ensures.steps.0)

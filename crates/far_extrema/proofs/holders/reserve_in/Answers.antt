@@ -2,8 +2,8 @@ use Rattle.std.proofs.Common.{◌≡◌, ◌≢◌, ◌∙◌, refl, IsSome, sym
 use Rattle.std.specs.FinMap as fin
 use Rattle.far_types.proofs.ByKeyMaps.{get_at, set_inserts}
 use Rattle.far_extrema.specs.Spreads.{at}
-use Rattle.far_extrema.specs.Holders.{Holding, Holders, holders_of, span_in, room_at, HaveSameSpans, KeepsRoom}
-use Rattle.far_extrema.proofs.RoomLaws.{spans-insert, keeps-insert, room-made, room-had, either, on_ok}
+use Rattle.far_extrema.specs.Holders.{Holding, Holders, holders_of, span_in, reserved_at, HaveSameSpans, KeepsReserved}
+use Rattle.far_extrema.proofs.ReserveLaws.{spans-insert, keeps-insert, reserved-made, reserved-had, either, on_ok}
 use Rattle.far_extrema.proofs.holders.reserve_in.Goals as goal
 
 pub returns-in-Some-clause-spans : goal.returns-in-Some-clause-spans
@@ -21,41 +21,41 @@ returns-in-Some-clause-kept c =
     let written = set_inserts c.args.holders.now.entries (c.get_mut.follows.lender c.reserve.new.self).entries c.args.key.now c.reserve.new.self ((c.get_mut.follows.holds c.reserve.new.self).3 there).0 in
     let m = holders_of c.args.holders.now.entries in
     let previous = get_at c.args.holders.now.entries c.args.key.now ∙ sym c.in-Some.ensures.value in
-    subst (KeepsRoom m) (sym written)
-    (keeps-insert m c.args.key.now c.reserve.new.self (λ had. either c.reserve.result (λ made. made) (λ same. ap (λ (h : Holding). h.room) same ∙ room-had m c.args.key.now c.in-Some.holder.now previous had) c.reserve.ensures.room c.reserve.ensures.err))
+    subst (KeepsReserved m) (sym written)
+    (keeps-insert m c.args.key.now c.reserve.new.self (λ had. either c.reserve.result (λ made. made) (λ same. ap (λ (h : Holding). h.reserved) same ∙ reserved-had m c.args.key.now c.in-Some.holder.now previous had) c.reserve.ensures.reserved c.reserve.ensures.err))
 
-pub returns-in-Some-clause-room : goal.returns-in-Some-clause-room
-returns-in-Some-clause-room c =
+pub returns-in-Some-clause-reserved : goal.returns-in-Some-clause-reserved
+returns-in-Some-clause-reserved c =
     let there = subst IsSome c.in-Some.ensures.value refl in
     let written = set_inserts c.args.holders.now.entries (c.get_mut.follows.lender c.reserve.new.self).entries c.args.key.now c.reserve.new.self ((c.get_mut.follows.holds c.reserve.new.self).3 there).0 in
     let m = holders_of c.args.holders.now.entries in
-    on_ok c.reserve.result (λ made. subst (λ (n : Holders). room_at n c.args.key.now ≢ None) (sym written) (room-made m c.args.key.now c.reserve.new.self made)) c.reserve.ensures.room
+    on_ok c.reserve.result (λ made. subst (λ (n : Holders). reserved_at n c.args.key.now ≢ None) (sym written) (reserved-made m c.args.key.now c.reserve.new.self made)) c.reserve.ensures.reserved
 
 pub returns-in_ok-insert-in-None-clause-spans : goal.returns-in_ok-insert-in-None-clause-spans
 returns-in_ok-insert-in-None-clause-spans c =
     let lent = c.get_mut.follows.lender-at-none.entries in
     let same : holders_of lent ≡ holders_of c.args.holders.now.entries = λ i. holders_of (c.get_mut.follows.holds-at-none i).entries in
     let key = c.in_ok-clone_key-in-None.ensures.equal in
-    let inserted = set_inserts lent c.insert.new.self.entries c.in_ok-clone_key-in-None.field-0 c.with_room.result c.in_ok-insert-in-None.ensures.updates.0 ∙ (λ i. fin.insert (same i) (key i) c.with_room.result) in
+    let inserted = set_inserts lent c.insert.new.self.entries c.in_ok-clone_key-in-None.field-0 c.with_spare.result c.in_ok-insert-in-None.ensures.updates.0 ∙ (λ i. fin.insert (same i) (key i) c.with_spare.result) in
     let m = holders_of c.args.holders.now.entries in
     let absent = get_at c.args.holders.now.entries c.args.key.now ∙ sym c.in-None.ensures.value in
     subst (HaveSameSpans m) (sym inserted)
-    (spans-insert m c.args.key.now c.with_room.result (λ g. ap (λ s. at s g) c.with_room.ensures.spans ∙ sym (ap (λ o. span_in o g) absent)))
+    (spans-insert m c.args.key.now c.with_spare.result (λ g. ap (λ s. at s g) c.with_spare.ensures.spans ∙ sym (ap (λ o. span_in o g) absent)))
 
 pub returns-in_ok-insert-in-None-clause-kept : goal.returns-in_ok-insert-in-None-clause-kept
 returns-in_ok-insert-in-None-clause-kept c =
     let lent = c.get_mut.follows.lender-at-none.entries in
     let same : holders_of lent ≡ holders_of c.args.holders.now.entries = λ i. holders_of (c.get_mut.follows.holds-at-none i).entries in
     let key = c.in_ok-clone_key-in-None.ensures.equal in
-    let inserted = set_inserts lent c.insert.new.self.entries c.in_ok-clone_key-in-None.field-0 c.with_room.result c.in_ok-insert-in-None.ensures.updates.0 ∙ (λ i. fin.insert (same i) (key i) c.with_room.result) in
+    let inserted = set_inserts lent c.insert.new.self.entries c.in_ok-clone_key-in-None.field-0 c.with_spare.result c.in_ok-insert-in-None.ensures.updates.0 ∙ (λ i. fin.insert (same i) (key i) c.with_spare.result) in
     let m = holders_of c.args.holders.now.entries in
-    subst (KeepsRoom m) (sym inserted) (keeps-insert m c.args.key.now c.with_room.result (λ had. c.with_room.ensures.room))
+    subst (KeepsReserved m) (sym inserted) (keeps-insert m c.args.key.now c.with_spare.result (λ had. c.with_spare.ensures.reserved))
 
-pub returns-in_ok-insert-in-None-clause-room : goal.returns-in_ok-insert-in-None-clause-room
-returns-in_ok-insert-in-None-clause-room c =
+pub returns-in_ok-insert-in-None-clause-reserved : goal.returns-in_ok-insert-in-None-clause-reserved
+returns-in_ok-insert-in-None-clause-reserved c =
     let lent = c.get_mut.follows.lender-at-none.entries in
     let same : holders_of lent ≡ holders_of c.args.holders.now.entries = λ i. holders_of (c.get_mut.follows.holds-at-none i).entries in
     let key = c.in_ok-clone_key-in-None.ensures.equal in
-    let inserted = set_inserts lent c.insert.new.self.entries c.in_ok-clone_key-in-None.field-0 c.with_room.result c.in_ok-insert-in-None.ensures.updates.0 ∙ (λ i. fin.insert (same i) (key i) c.with_room.result) in
+    let inserted = set_inserts lent c.insert.new.self.entries c.in_ok-clone_key-in-None.field-0 c.with_spare.result c.in_ok-insert-in-None.ensures.updates.0 ∙ (λ i. fin.insert (same i) (key i) c.with_spare.result) in
     let m = holders_of c.args.holders.now.entries in
-    subst (λ (n : Holders). room_at n c.args.key.now ≢ None) (sym inserted) (room-made m c.args.key.now c.with_room.result c.with_room.ensures.room)
+    subst (λ (n : Holders). reserved_at n c.args.key.now ≢ None) (sym inserted) (reserved-made m c.args.key.now c.with_spare.result c.with_spare.ensures.reserved)

@@ -1,8 +1,8 @@
 use Rattle.std.proofs.Common.{◌∙◌, refl, IsSome, sym, ap, subst, Some, None, cond, true}
 use Rattle.far_types.proofs.ByKeyMaps.{get_at, set_inserts}
-use Rattle.far_extrema.specs.Holders.{holders_of, span_in, room_in, IsPut, HaveSameRoom}
+use Rattle.far_extrema.specs.Holders.{holders_of, span_in, reserved_in, IsPut, HaveSameReserved}
 use Rattle.far_extrema.proofs.HolderLaws.{put-set}
-use Rattle.far_extrema.proofs.RoomLaws.{room-insert}
+use Rattle.far_extrema.proofs.ReserveLaws.{reserved-insert}
 use Rattle.far_extrema.proofs.holders.set_in.Goals as goal
 
 pub put-requires : goal.put-requires
@@ -21,6 +21,6 @@ returns c =
     record {
       spans = subst (λ m. IsPut (holders_of old) c.args.group c.args.key.now (Some c.args.span) m) (sym written)
           (put-set (holders_of old) c.args.key.now c.in-Some.holder.now c.put.new.self c.args.group (Some c.args.span) previous c.put.ensures.spans);
-      room = subst (HaveSameRoom (holders_of old)) (sym written)
-          (room-insert (holders_of old) c.args.key.now c.put.new.self (ap (λ b. cond b (Some true) None) c.put.ensures.room ∙ sym (ap room_in previous)));
+      reserved = subst (HaveSameReserved (holders_of old)) (sym written)
+          (reserved-insert (holders_of old) c.args.key.now c.put.new.self (ap (λ b. cond b (Some true) None) c.put.ensures.reserved ∙ sym (ap reserved_in previous)));
     }

@@ -4,9 +4,9 @@ use Rattle.std.specs.FinMap as fin
 use Rattle.std.proofs.lemmas.Int.{to_z-of_z}
 use Rattle.far_types.proofs.ByKeyMaps.{get_at, set_inserts, set_removes}
 use Rattle.far_extrema.specs.Spreads.{IsSet}
-use Rattle.far_extrema.specs.Holders.{Holders, holders_of, span_in, room_in, IsPut, HaveSameRoom}
+use Rattle.far_extrema.specs.Holders.{Holders, holders_of, span_in, reserved_in, IsPut, HaveSameReserved}
 use Rattle.far_extrema.proofs.HolderLaws.{put-set}
-use Rattle.far_extrema.proofs.RoomLaws.{room-insert, room-vacant, put-vacant, none-vacant}
+use Rattle.far_extrema.proofs.ReserveLaws.{reserved-insert, reserved-vacant, put-vacant, none-vacant}
 use Rattle.far_extrema.proofs.holders.shrink_in.Goals as goal
 
 pub shrink-left-requires-clause-previous : goal.shrink-left-requires-clause-previous
@@ -32,13 +32,13 @@ returns-then-not-is_vacant-clause-spans g c =
     subst (λ (n : Holders). IsPut m c.args.group c.args.key.now left n) (sym written)
     (put-set m c.args.key.now c.in-Some.holder.now c.shrink-left.new.self c.args.group left previous c.shrink-left.ensures.spans)
 
-pub returns-then-not-is_vacant-clause-room : goal.returns-then-not-is_vacant-clause-room
-returns-then-not-is_vacant-clause-room g c =
+pub returns-then-not-is_vacant-clause-reserved : goal.returns-then-not-is_vacant-clause-reserved
+returns-then-not-is_vacant-clause-reserved g c =
     let there = subst IsSome c.in-Some.ensures.value refl in
     let written = set_inserts c.args.holders.now.entries (c.get_mut.follows.lender c.shrink-left.new.self).entries c.args.key.now c.shrink-left.new.self ((c.get_mut.follows.holds c.shrink-left.new.self).3 there).0 in
     let m = holders_of c.args.holders.now.entries in
     let previous = get_at c.args.holders.now.entries c.args.key.now ∙ sym c.in-Some.ensures.value in
-    subst (HaveSameRoom m) (sym written) (room-insert m c.args.key.now c.shrink-left.new.self (ap (λ b. cond b (Some true) None) c.shrink-left.ensures.room ∙ sym (ap room_in previous)))
+    subst (HaveSameReserved m) (sym written) (reserved-insert m c.args.key.now c.shrink-left.new.self (ap (λ b. cond b (Some true) None) c.shrink-left.ensures.reserved ∙ sym (ap reserved_in previous)))
 
 pub returns-clause-left : goal.returns-clause-left
 returns-clause-left g c =
@@ -59,11 +59,11 @@ returns-clause-spans g c =
     (put-vacant m c.args.key.now c.in-Some.holder.now c.shrink-left.new.self c.args.group previous set vacant) in
     subst (λ (o : Option (ℤ × ℤ)). IsPut m c.args.group c.args.key.now o (holders_of c.remove.new.self.entries)) (sym none) put
 
-pub returns-clause-room : goal.returns-clause-room
-returns-clause-room g c =
+pub returns-clause-reserved : goal.returns-clause-reserved
+returns-clause-reserved g c =
     let there = subst IsSome c.in-Some.ensures.value refl in
     let written = set_inserts c.args.holders.now.entries (c.get_mut.follows.lender c.shrink-left.new.self).entries c.args.key.now c.shrink-left.new.self ((c.get_mut.follows.holds c.shrink-left.new.self).3 there).0 in
     let removed = set_removes (c.get_mut.follows.lender c.shrink-left.new.self).entries c.remove.new.self.entries c.args.key.now c.remove.ensures.updates.0 ∙ ap (λ m. fin.remove m c.args.key.now) written in
     let m = holders_of c.args.holders.now.entries in
     let previous = get_at c.args.holders.now.entries c.args.key.now ∙ sym c.in-Some.ensures.value in
-    subst (HaveSameRoom m) (sym removed) (room-vacant m c.args.key.now c.in-Some.holder.now c.shrink-left.new.self previous c.shrink-left.ensures.room (c.if-not-is_vacant.ensures.room refl))
+    subst (HaveSameReserved m) (sym removed) (reserved-vacant m c.args.key.now c.in-Some.holder.now c.shrink-left.new.self previous c.shrink-left.ensures.reserved (c.if-not-is_vacant.ensures.reserved refl))

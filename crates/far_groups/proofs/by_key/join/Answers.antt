@@ -1,24 +1,24 @@
 use Rattle.std.proofs.Common.{◌≡◌, sym, ap, ◌∙◌, subst, OnOk}
 use Rattle.far_types.specs.Answers.{Totals}
-use Rattle.far_types.specs.Changes.{joined_totals}
+use Rattle.far_types.specs.Effects.{joined_totals}
 use Rattle.far_groups.specs.declared.by_key.Form.{Form}
 use Rattle.far_groups.specs.Live.{CanJoin}
-use Rattle.far_groups.specs.Tallies.{AreTallies}
+use Rattle.far_groups.specs.CountSums.{AreCountSums}
 use Rattle.far_groups.specs.ByKey.{in_form, totals_in}
-use Rattle.far_groups.proofs.PlainLaws.{tally_there, plain_room, plain_joined}
+use Rattle.far_groups.proofs.PlainLaws.{count_sum_there, plain_room, plain_joined}
 use Rattle.far_groups.proofs.by_key.join.Goals as goal
 
-pub add_under-requires-clause-more_tallied : goal.add_under-requires-clause-more_tallied
-add_under-requires-clause-more_tallied c =
-    tally_there c.in-Plain.tally (subst (λ (form : Form). AreTallies (in_form form)) c.in-Plain.is c.requires.other_tallied)
+pub add_under-requires-clause-more_valid_sums : goal.add_under-requires-clause-more_valid_sums
+add_under-requires-clause-more_valid_sums c =
+    count_sum_there c.in-Plain.count_sum (subst (λ (form : Form). AreCountSums (in_form form)) c.in-Plain.is c.requires.other_valid_sums)
 
 pub add_under-requires-clause-room : goal.add_under-requires-clause-room
 add_under-requires-clause-room c =
     let here = totals_in c.args.by_key.now in
-    plain_room here c.in-Plain.tally (subst (λ (form : Form). CanJoin here (in_form form)) c.in-Plain.is c.requires.can_join)
+    plain_room here c.in-Plain.count_sum (subst (λ (form : Form). CanJoin here (in_form form)) c.in-Plain.is c.requires.can_join)
 
 pub returns-in-Plain-clause-ok : goal.returns-in-Plain-clause-ok
 returns-in-Plain-clause-ok c =
     let here = totals_in c.args.by_key.now in
-    let joins = plain_joined here c.in-Plain.tally ∙ ap (λ (form : Form). joined_totals here (in_form form)) (sym c.in-Plain.is) in
+    let joins = plain_joined here c.in-Plain.count_sum ∙ ap (λ (form : Form). joined_totals here (in_form form)) (sym c.in-Plain.is) in
     subst (λ (m : Totals). OnOk c.add_under.result (totals_in c.add_under.new.by_key ≡ m)) joins c.add_under.ensures.ok

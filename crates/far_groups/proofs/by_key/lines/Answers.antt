@@ -15,10 +15,10 @@ use Rattle.far_groups.proofs.by_key.lines.Goals as goal
 
 pub returns-in-Plain-clause-ok : goal.returns-in-Plain-clause-ok
 returns-in-Plain-clause-ok c =
-    let tally = c.in-Plain.tally in
+    let count_sum = c.in-Plain.count_sum in
     IfOk-weaker c.plain_line.result _ _ (λ lines is.
     is
-    ∙ ap (map (λ (entry : Option Key × (ℕ × ℤ)). (entry.0, entry.1.0, entry.1.1))) (sym (entries-by_key (one_line tally) (one_ascends tally)))
+    ∙ ap (map (λ (entry : Option Key × (ℕ × ℤ)). (entry.0, entry.1.0, entry.1.1))) (sym (entries-by_key (one_line count_sum) (one_ascends count_sum)))
     ∙ ap (λ (form : Form). total_lines (in_form form)) (sym c.in-Plain.is)) c.plain_line.ensures.ok
 
 pub returns-in-Dense-clause-ok : goal.returns-in-Dense-clause-ok

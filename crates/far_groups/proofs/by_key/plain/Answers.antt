@@ -16,7 +16,7 @@ abbrev under_none : Form → ℕ × ℤ
 under_none form = shown (fin.get (in_form form) None)
 
 pub returns-in-Plain : goal.returns-in-Plain
-returns-in-Plain c = ap shown (sym (get_plain c.in-Plain.tally)) ∙ ap under_none (sym c.in-Plain.is)
+returns-in-Plain c = ap shown (sym (get_plain c.in-Plain.count_sum)) ∙ ap under_none (sym c.in-Plain.is)
 
 pub returns-in-Dense : goal.returns-in-Dense
 returns-in-Dense c = ap shown (sym (get_other (entries_from 0 c.in-Dense.field-0.items) None refl)) ∙ ap under_none (sym c.in-Dense.is)

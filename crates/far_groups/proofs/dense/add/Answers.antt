@@ -7,4 +7,4 @@ on_err (Ok x) h = tt
 on_err (Err e) h = h
 
 pub returns-in_err-grow-clause-only_new : goal.returns-in_err-grow-clause-only_new
-returns-in_err-grow-clause-only_new c = on_err c.from_residual.result (get_behind c.args.dense.now.items c.args.place (c.raise.ensures.behind c.if-not-raise.true))
+returns-in_err-grow-clause-only_new c = on_err c.from_residual.result (get_behind c.args.dense.now.items c.args.place (c.add_existing.ensures.behind c.if-not-add_existing.true))

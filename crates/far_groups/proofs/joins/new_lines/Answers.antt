@@ -7,7 +7,7 @@ use Rattle.far_groups.proofs.joins.new_lines.Goals as goal
 
 pub loop-key-preserved-in_ok-push : goal.loop-key-preserved-in_ok-push
 loop-key-preserved-in_ok-push c =
-    let es = c.args.tallies.now.entries in
+    let es = c.args.count_sums.now.entries in
     let rest = c.next.new.self in
     let e : Option Key × (ℕ × ℤ) = (c.in-Some.key.now, c.in-Some.field-0-1.now) in
     let here = c.in-Some.ensures.steps in
@@ -25,7 +25,7 @@ loop-key-preserved-in_ok-push c =
 
 pub loop-key-preserved : goal.loop-key-preserved
 loop-key-preserved c =
-    let es = c.args.tallies.now.entries in
+    let es = c.args.count_sums.now.entries in
     let rest = c.next.new.self in
     let e : Option Key × (ℕ × ℤ) = (c.in-Some.key.now, c.in-Some.field-0-1.now) in
     let here = c.in-Some.ensures.steps in

@@ -1,7 +1,7 @@
-use Rattle.far_types.specs.Answers.{tally}
+use Rattle.far_types.specs.Answers.{count_sum}
 use Rattle.far_types.proofs.ByKeyMaps.{grouped-one}
 use Rattle.far_groups.proofs.PairLaws.{folded}
 use Rattle.far_groups.proofs.laws.rows_under_one_key_are_folded.Goals as goal
 
 pub returns : goal.returns
-returns c = record { totals = grouped-one tally; tallied = folded }
+returns c = record { totals = grouped-one count_sum; valid_sums = folded }

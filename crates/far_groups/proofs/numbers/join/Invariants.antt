@@ -1,15 +1,15 @@
 use Rattle.std.proofs.Common.{◌≡◌, take, drop}
-use Rattle.far_groups.specs.Tallies.{AreTallies}
+use Rattle.far_groups.specs.CountSums.{AreCountSums}
 use Rattle.far_groups.specs.Numbers.{numbered, by_number}
 use Rattle.far_groups.proofs.JoinLaws.{CanAddAll}
-use Rattle.far_types.specs.Changes.{add_tallies}
+use Rattle.far_types.specs.Effects.{add_count_sums}
 use Rattle.far_types.proofs.ByKeyMaps.{with_all}
 use Rattle.far_groups.proofs.numbers.join.Given as goal
 
 abbrev pub invariant-loop-number : goal.invariant-loop-number
 invariant-loop-number l = record {
-  tallied : AreTallies (by_number l.numbers.entries);
+  valid_sums : AreCountSums (by_number l.numbers.entries);
   place : drop l.done (numbered l.fn.other.entries) ≡ numbered l.number-iterator;
   rest : CanAddAll (by_number l.numbers.entries) (numbered l.number-iterator);
-  joined : by_number l.numbers.entries ≡ with_all add_tallies (by_number l.initial.numbers.entries) (take l.done (numbered l.fn.other.entries));
+  joined : by_number l.numbers.entries ≡ with_all add_count_sums (by_number l.initial.numbers.entries) (take l.done (numbered l.fn.other.entries));
 }

@@ -1,8 +1,8 @@
-use Rattle.far_log.proofs.Entries.{slots-relinked, links-before}
+use Rattle.far_log.proofs.Entries.{extents-relinked, links-before}
 use Rattle.far_log.proofs.links.set_before.Goals as goal
 
-pub returns-clause-slots : goal.returns-clause-slots
-returns-clause-slots c = rw c.set.ensures (slots-relinked c.args.table.now c.args.number c.get-entry.result _ c.get-entry.ensures)
+pub returns-clause-extents : goal.returns-clause-extents
+returns-clause-extents c = rw c.set.ensures (extents-relinked c.args.table.now c.args.number c.get-entry.result _ c.get-entry.ensures)
 
 pub returns-clause-links : goal.returns-clause-links
 returns-clause-links c = rw c.set.ensures (links-before c.args.table.now c.args.number c.args.before c.get-entry.result c.get-entry.ensures)

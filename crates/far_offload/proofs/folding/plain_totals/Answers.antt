@@ -4,7 +4,7 @@ use Rattle.std.proofs.lemmas.Int.{to_z-of_z}
 use Rattle.std.specs.FinMap as fin
 use Rattle.std.specs.List.{enumerate_from}
 use Rattle.far_types.specs.Answers.{Totals, totals}
-use Rattle.far_types.specs.Changes.{joined_totals, count_in}
+use Rattle.far_types.specs.Effects.{joined_totals, count_in}
 use Rattle.far_groups.specs.Live.{Live}
 use Rattle.far_groups.proofs.PairLaws.{counted}
 use Rattle.far_offload.specs.Partials.{values_over}
@@ -18,7 +18,7 @@ live_of left totals = record { left = left; totals = totals }
 pub add_rows-requires-clause-room : goal.add_rows-requires-clause-room
 add_rows-requires-clause-room c =
     let none = counted [] None in
-    omega (arith, ap (λ (m : Totals). count_in (fin.get m None)) c.new-live.ensures.empty, none, c.tally_of-count.ensures.few)
+    omega (arith, ap (λ (m : Totals). count_in (fin.get m None)) c.new-live.ensures.empty, none, c.count_sum_of-count.ensures.few)
 
 pub returns-clause-totals : goal.returns-clause-totals
 returns-clause-totals c =
@@ -27,16 +27,16 @@ returns-clause-totals c =
     let alive = c.args.alive.now in
     let values = values_over spec columns alive in
     let pairs = ap totals (sym (plain-pairs spec columns (enumerate_from 0 alive) c.requires.plain)) in
-    let count : c.tally_of-count.result.0 ≡ length values = ap (λ (t : ℕ × ℤ). t.0) c.tally_of-count.ensures.tally in
-    let sum = to_z-of_z w128 c.tally_of-count.result.1 (omega (arith, c.tally_of-count.ensures.sum, c.tally_of-count.ensures.few)) in
+    let count : c.count_sum_of-count.result.0 ≡ length values = ap (λ (t : ℕ × ℤ). t.0) c.count_sum_of-count.ensures.count_sum in
+    let sum = to_z-of_z w128 c.count_sum_of-count.result.1 (omega (arith, c.count_sum_of-count.ensures.sum, c.count_sum_of-count.ensures.few)) in
     elim c.if-count-ne0.branch [
       | then-count-ne0+in_ok-add_rows w ↦
           w.live-is
           ∙ w.in_ok-add_rows.ensures.ok
-          ∙ ap (λ (s : ℤ). live_of c.new-live.result.left (joined_totals c.new-live.result.totals (fin.insert fin.empty None (c.tally_of-count.result.0, s)))) sum
-          ∙ ap (λ (n : ℕ). live_of n (joined_totals c.new-live.result.totals (fin.insert fin.empty None c.tally_of-count.result))) c.new-live.ensures.left
-          ∙ ap (live_of 0) (ap (λ (m : Totals). joined_totals m (fin.insert fin.empty None c.tally_of-count.result)) c.new-live.ensures.empty
-          ∙ ap (λ (t : ℕ × ℤ). joined_totals fin.empty (fin.insert fin.empty None t)) c.tally_of-count.ensures.tally
+          ∙ ap (λ (s : ℤ). live_of c.new-live.result.left (joined_totals c.new-live.result.totals (fin.insert fin.empty None (c.count_sum_of-count.result.0, s)))) sum
+          ∙ ap (λ (n : ℕ). live_of n (joined_totals c.new-live.result.totals (fin.insert fin.empty None c.count_sum_of-count.result))) c.new-live.ensures.left
+          ∙ ap (live_of 0) (ap (λ (m : Totals). joined_totals m (fin.insert fin.empty None c.count_sum_of-count.result)) c.new-live.ensures.empty
+          ∙ ap (λ (t : ℕ × ℤ). joined_totals fin.empty (fin.insert fin.empty None t)) c.count_sum_of-count.ensures.count_sum
           ∙ added-totals values (λ h. w.if-count-ne0.true (count ∙ h))
           ∙ pairs)
       | else-count-ne0 w ↦

@@ -1,7 +1,7 @@
 use Rattle.std.proofs.Common.{ℤ, Option, Some, get_or, false, take, refl, sym, subst, ap, ◌∙◌, arith}
 use Rattle.std.specs.Int.{w64}
 use Rattle.std.proofs.lemmas.Int.{to_z-of_z}
-use Rattle.far_types.specs.Changes.{widened}
+use Rattle.far_types.specs.Effects.{widened}
 use Rattle.far_offload.specs.Partials.{values_over, span_in, SpanFits}
 use Rattle.far_offload.proofs.FoldLaws.{values-with, values-within, span-more}
 use Rattle.far_offload.proofs.plain.span_of.Goals as goal

@@ -4,7 +4,7 @@ use Rattle.std.specs.FinMap as fin
 use Rattle.std.proofs.lemmas.Int.{to_z-of_z}
 use Rattle.std.proofs.lemmas.Bool.{false≢true}
 use Rattle.far_types.specs.Keys.{line_cmp}
-use Rattle.far_types.specs.Changes.{widened}
+use Rattle.far_types.specs.Effects.{widened}
 use Rattle.far_offload.specs.Partials.{SpanFits}
 use Rattle.far_offload.proofs.UnderLaws.{span-there, span-elsewhere, span-within}
 use Rattle.far_offload.proofs.under.span_under_key.Goals as goal

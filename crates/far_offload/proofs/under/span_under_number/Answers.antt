@@ -7,7 +7,7 @@ use Rattle.far_types.specs.declared.key.Key.{Key}
 use Rattle.far_types.specs.declared.key.Key.TheVariants.{Int}
 use Rattle.far_types.specs.Keys.{line_cmp}
 use Rattle.far_types.specs.Answers.{extrema}
-use Rattle.far_types.specs.Changes.{widened}
+use Rattle.far_types.specs.Effects.{widened}
 use Rattle.far_offload.specs.Partials.{SpanFits}
 use Rattle.far_offload.proofs.FoldLaws.{pairs-valueless}
 use Rattle.far_offload.proofs.UnderLaws.{span-there, span-elsewhere, number_under}

@@ -12,7 +12,7 @@ const FOURS: Layout = Layout {
     group: 4,
     segments: 3,
     size: 20,
-    changes: 9,
+    max_writes: 9,
     leavings: 9,
     limit: None,
 };
@@ -32,7 +32,7 @@ const TWO_FIVES: Layout = Layout {
 
 /// Objects that may be written twice.
 const TWO_WRITES: Layout = Layout {
-    changes: 2,
+    max_writes: 2,
     ..FOURS
 };
 

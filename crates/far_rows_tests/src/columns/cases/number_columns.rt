@@ -13,7 +13,7 @@ const FOURS: Layout = Layout {
     group: 4,
     segments: 2,
     size: 8,
-    changes: 9,
+    max_writes: 9,
     leavings: 9,
     limit: None,
 };
@@ -29,7 +29,7 @@ const ONE_GROUP: Layout = Layout {
 
 /// Objects that may be written once.
 const ONE_WRITE: Layout = Layout {
-    changes: 1,
+    max_writes: 1,
     ..FOURS
 };
 

@@ -14,7 +14,7 @@ const FOURS: Layout = Layout {
     group: 4,
     segments: 3,
     size: 64,
-    changes: 9,
+    max_writes: 9,
     leavings: 9,
     limit: Some(64),
 };
@@ -60,7 +60,7 @@ const LARGE: Layout = Layout {
 /// Two texts in a row group that was written as often as may be and lies in the only segment.
 const WRITTEN_OUT: Layout = Layout {
     segments: 1,
-    changes: 1,
+    max_writes: 1,
     ..FOURS
 };
 

@@ -13,7 +13,7 @@ const FOURS: Layout = Layout {
     group: 4,
     segments: 8,
     size: 64,
-    changes: 9,
+    max_writes: 9,
     leavings: 9,
     limit: Some(64),
 };
@@ -56,7 +56,7 @@ const LONG: Cell = Text(A, 50);
 
 /// Objects that may not be written, in three segments.
 const UNWRITABLE: Layout = Layout {
-    changes: 0,
+    max_writes: 0,
     ..THREE_SEGMENTS
 };
 
@@ -68,7 +68,7 @@ const FOUR_SEGMENTS: Layout = Layout {
 
 /// Objects that may be written once, in four segments.
 const WRITABLE: Layout = Layout {
-    changes: 1,
+    max_writes: 1,
     ..FOUR_SEGMENTS
 };
 
@@ -94,7 +94,7 @@ const SHORT: Cell = Text(D, 1);
 
 /// Objects that may be written once.
 const ONE_WRITE: Layout = Layout {
-    changes: 1,
+    max_writes: 1,
     ..FOURS
 };
 

@@ -98,10 +98,10 @@ fn change_column<S: FarStore>(
 ) -> Result<(), Refusal>
     requires is { IsVector (number_lists S.content objects.old) column.old }
     requires sized { column.old.size ≡ size }
-    requires here { AreHere S.is_of (S.name store.now) objects.old }
+    requires here { AreHere S.is_of (S.store_id store.now) objects.old }
     ensures changes { ChangesVector (number_lists S.content objects.old) (number_lists S.content objects.new) column.old column.new }
     ensures size { column.new.size ≡ column.old.size }
-    ensures here { AreHere S.is_of (S.name store.now) objects.new }
+    ensures here { AreHere S.is_of (S.store_id store.now) objects.new }
 {
     match call {
         Call::Push(_, cell) => push(objects, column, cell.number()),
@@ -125,10 +125,10 @@ pub fn change<S: FarStore>(
 ) -> Result<(), Refusal>
     requires are { AreVectors (number_lists S.content objects.old) columns.old }
     requires sized { All (λ c. c.size ≡ size) columns.old }
-    requires here { AreHere S.is_of (S.name store.now) objects.old }
+    requires here { AreHere S.is_of (S.store_id store.now) objects.old }
     ensures are { AreVectors (number_lists S.content objects.new) columns.new }
     ensures sized { All (λ c. c.size ≡ size) columns.new }
-    ensures here { AreHere S.is_of (S.name store.now) objects.new }
+    ensures here { AreHere S.is_of (S.store_id store.now) objects.new }
 {
     vectors_stay_together::<Option<i64>>();
     if k >= columns.len() {

@@ -55,7 +55,7 @@ pub fn push_all<S: FarTickets>(
     if !are_even(objects, columns, size) || objects.count() >= 32 {
         return Err(WRONG);
     }
-    push_texts(alloc, objects, columns, texts)
+    push_texts(alloc, &mut Vec::new(alloc), objects, columns, texts)
 }
 
 /// Pushes a text to each of two columns, as `push_all` does, once it is known that they may be pushed.
@@ -76,5 +76,5 @@ pub fn fill_all<S: FarTickets>(
         return Err(WRONG);
     }
     may_push_texts(objects, columns, texts)?;
-    fill_texts(alloc, objects, columns, texts)
+    fill_texts(alloc, &mut Vec::new(alloc), objects, columns, texts)
 }

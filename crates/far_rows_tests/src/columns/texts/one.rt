@@ -61,10 +61,10 @@ fn change_column<S: FarStore>(
     text: &Option<Text>,
 ) -> Result<(), Refusal>
     requires is { IsTextColumn (lists_of S.content objects.old) column.old }
-    requires here { AreHere S.is_of (S.name store.now) objects.old }
+    requires here { AreHere S.is_of (S.store_id store.now) objects.old }
     ensures changes { ChangesColumn (lists_of S.content objects.old) (lists_of S.content objects.new) column.old column.new }
     ensures size { column.new.size ≡ column.old.size }
-    ensures here { AreHere S.is_of (S.name store.now) objects.new }
+    ensures here { AreHere S.is_of (S.store_id store.now) objects.new }
 {
     match call {
         Call::Push(_, _) => push(alloc, objects, column, text),
@@ -88,10 +88,10 @@ pub fn change<S: FarStore>(
 ) -> Result<(), Refusal>
     requires are { AreTextColumns (lists_of S.content objects.old) columns.old }
     requires sized { All (λ c. c.size ≡ _size) columns.old }
-    requires here { AreHere S.is_of (S.name store.now) objects.old }
+    requires here { AreHere S.is_of (S.store_id store.now) objects.old }
     ensures are { AreTextColumns (lists_of S.content objects.new) columns.new }
     ensures sized { All (λ c. c.size ≡ _size) columns.new }
-    ensures here { AreHere S.is_of (S.name store.now) objects.new }
+    ensures here { AreHere S.is_of (S.store_id store.now) objects.new }
 {
     columns_stay_together();
     if k >= columns.len() {

@@ -11,7 +11,7 @@ use far_types::Refusal;
 const LIMITS: ObjectLimits = ObjectLimits {
     segments: 4,
     size: 16,
-    changes: 8,
+    max_writes: 8,
     leavings: 8,
 };
 

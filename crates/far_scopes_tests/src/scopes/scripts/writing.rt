@@ -7,7 +7,7 @@ use far_scopes::ObjectLimits;
 use far_types::Refusal;
 
 const ONE_WRITE: ObjectLimits = ObjectLimits {
-    changes: 1,
+    max_writes: 1,
     ..TWO_OF_FOUR
 };
 

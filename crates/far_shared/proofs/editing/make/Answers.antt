@@ -10,35 +10,35 @@ use Rattle.far_shared.proofs.editing.make.Goals as goal
 
 pub returns-in-Insert-clause-may : goal.returns-in-Insert-clause-may
 returns-in-Insert-clause-may g c =
-    rw c.in-Insert.is (IfOk-weaker c.insert.result _ _ (λ place h. made-free g.S.FarTickets.content c.args.frame.now c.insert.new.self c.requires.slots (edit.Insert c.in-Insert.row) (reply.Place place) h) c.insert.ensures.ok)
+    rw c.in-Insert.is (IfOk-weaker c.insert.result _ _ (λ place h. made-free g.S.FarTickets.content c.args.frame.now c.insert.new.self c.requires.column_indexes (edit.Insert c.in-Insert.row) (reply.Place place) h) c.insert.ensures.ok)
 
 pub returns-in-Insert-clause-made : goal.returns-in-Insert-clause-made
 returns-in-Insert-clause-made g c =
-    rw c.in-Insert.is (IfOk-weaker c.insert.result _ _ (λ place h. made-table g.S.FarTickets.content c.args.frame.now c.insert.new.self c.requires.slots (edit.Insert c.in-Insert.row) (reply.Place place) h) c.insert.ensures.ok)
+    rw c.in-Insert.is (IfOk-weaker c.insert.result _ _ (λ place h. made-table g.S.FarTickets.content c.args.frame.now c.insert.new.self c.requires.column_indexes (edit.Insert c.in-Insert.row) (reply.Place place) h) c.insert.ensures.ok)
 
 pub returns-in-Insert-clause-place : goal.returns-in-Insert-clause-place
 returns-in-Insert-clause-place g c =
-    rw c.in-Insert.is (IfOk-weaker c.insert.result _ _ (λ place h. made-place g.S.FarTickets.content c.args.frame.now c.insert.new.self c.requires.slots c.in-Insert.row place h) c.insert.ensures.ok)
+    rw c.in-Insert.is (IfOk-weaker c.insert.result _ _ (λ place h. made-place g.S.FarTickets.content c.args.frame.now c.insert.new.self c.requires.column_indexes c.in-Insert.row place h) c.insert.ensures.ok)
 
 pub returns-in-Insert-clause-refused : goal.returns-in-Insert-clause-refused
 returns-in-Insert-clause-refused g c =
-    rw c.in-Insert.is (if-err c.insert.result _ _ (λ e h. made-refused g.S.FarTickets.content c.args.frame.now c.insert.new.self c.requires.slots (edit.Insert c.in-Insert.row) e h) c.insert.ensures.err)
+    rw c.in-Insert.is (if-err c.insert.result _ _ (λ e h. made-refused g.S.FarTickets.content c.args.frame.now c.insert.new.self c.requires.column_indexes (edit.Insert c.in-Insert.row) e h) c.insert.ensures.err)
 
 pub returns-in_err-set-in-Set-clause-refused : goal.returns-in_err-set-in-Set-clause-refused
 returns-in_err-set-in-Set-clause-refused g c =
-    rw c.in-Set.is (let why = made-refused g.S.FarTickets.content c.args.frame.now c.set.new.self c.requires.slots (edit.Set c.in-Set.place c.in-Set.column c.in-Set.cell) _ c.in_err-set-in-Set.ensures.err in search rules)
+    rw c.in-Set.is (let why = made-refused g.S.FarTickets.content c.args.frame.now c.set.new.self c.requires.column_indexes (edit.Set c.in-Set.place c.in-Set.column c.in-Set.cell) _ c.in_err-set-in-Set.ensures.err in search rules)
 
 pub returns-in_err-remove-in-Remove-clause-refused : goal.returns-in_err-remove-in-Remove-clause-refused
 returns-in_err-remove-in-Remove-clause-refused g c =
-    rw c.in-Remove.is (let why = made-refused g.S.FarTickets.content c.args.frame.now c.remove.new.self c.requires.slots (edit.Remove c.in-Remove.place) _ c.in_err-remove-in-Remove.ensures.err in search rules)
+    rw c.in-Remove.is (let why = made-refused g.S.FarTickets.content c.args.frame.now c.remove.new.self c.requires.column_indexes (edit.Remove c.in-Remove.place) _ c.in_err-remove-in-Remove.ensures.err in search rules)
 
 pub returns-in_ok-set-in-Set-clause-may : goal.returns-in_ok-set-in-Set-clause-may
 returns-in_ok-set-in-Set-clause-may g c =
-    rw c.in-Set.is (made-free g.S.FarTickets.content c.args.frame.now c.set.new.self c.requires.slots (edit.Set c.in-Set.place c.in-Set.column c.in-Set.cell) reply.Done c.in_ok-set-in-Set.ensures.ok)
+    rw c.in-Set.is (made-free g.S.FarTickets.content c.args.frame.now c.set.new.self c.requires.column_indexes (edit.Set c.in-Set.place c.in-Set.column c.in-Set.cell) reply.Done c.in_ok-set-in-Set.ensures.ok)
 
 pub returns-in_ok-remove-in-Remove-clause-may : goal.returns-in_ok-remove-in-Remove-clause-may
 returns-in_ok-remove-in-Remove-clause-may g c =
-    rw c.in-Remove.is (made-free g.S.FarTickets.content c.args.frame.now c.remove.new.self c.requires.slots (edit.Remove c.in-Remove.place) reply.Done c.in_ok-remove-in-Remove.ensures.ok)
+    rw c.in-Remove.is (made-free g.S.FarTickets.content c.args.frame.now c.remove.new.self c.requires.column_indexes (edit.Remove c.in-Remove.place) reply.Done c.in_ok-remove-in-Remove.ensures.ok)
 
 pub returns-in-Insert-clause-columns : goal.returns-in-Insert-clause-columns
 returns-in-Insert-clause-columns g c =
@@ -60,12 +60,12 @@ returns-in_ok-remove-in-Remove-clause-columns g c =
 
 pub returns-in-Insert-clause-accepted : goal.returns-in-Insert-clause-accepted
 returns-in-Insert-clause-accepted g c =
-    rw c.in-Insert.is (IfOk-weaker c.insert.result _ _ (λ place h. made-accepted g.S.FarTickets.content c.args.frame.now c.insert.new.self c.requires.slots (edit.Insert c.in-Insert.row) (reply.Place place) h) c.insert.ensures.ok)
+    rw c.in-Insert.is (IfOk-weaker c.insert.result _ _ (λ place h. made-accepted g.S.FarTickets.content c.args.frame.now c.insert.new.self c.requires.column_indexes (edit.Insert c.in-Insert.row) (reply.Place place) h) c.insert.ensures.ok)
 
 pub returns-in_ok-set-in-Set-clause-accepted : goal.returns-in_ok-set-in-Set-clause-accepted
 returns-in_ok-set-in-Set-clause-accepted g c =
-    rw c.in-Set.is (made-accepted g.S.FarTickets.content c.args.frame.now c.set.new.self c.requires.slots (edit.Set c.in-Set.place c.in-Set.column c.in-Set.cell) reply.Done c.in_ok-set-in-Set.ensures.ok)
+    rw c.in-Set.is (made-accepted g.S.FarTickets.content c.args.frame.now c.set.new.self c.requires.column_indexes (edit.Set c.in-Set.place c.in-Set.column c.in-Set.cell) reply.Done c.in_ok-set-in-Set.ensures.ok)
 
 pub returns-in_ok-remove-in-Remove-clause-accepted : goal.returns-in_ok-remove-in-Remove-clause-accepted
 returns-in_ok-remove-in-Remove-clause-accepted g c =
-    rw c.in-Remove.is (made-accepted g.S.FarTickets.content c.args.frame.now c.remove.new.self c.requires.slots (edit.Remove c.in-Remove.place) reply.Done c.in_ok-remove-in-Remove.ensures.ok)
+    rw c.in-Remove.is (made-accepted g.S.FarTickets.content c.args.frame.now c.remove.new.self c.requires.column_indexes (edit.Remove c.in-Remove.place) reply.Done c.in_ok-remove-in-Remove.ensures.ok)

@@ -1,5 +1,5 @@
 use Rattle.std.proofs.Common.{sym, ap, ◌∙◌}
-use Rattle.far_types.specs.Changes.{join_spans}
+use Rattle.far_types.specs.Effects.{join_spans}
 use Rattle.far_types.proofs.ByKeyMaps.{with_all}
 use Rattle.far_shared.specs.Lines.{spans_in}
 use Rattle.far_shared.proofs.MergeLaws.{nothing, with_extrema}

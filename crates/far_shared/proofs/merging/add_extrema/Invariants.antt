@@ -1,6 +1,6 @@
 use Rattle.std.proofs.Common.{◌≡◌, length}
 use Rattle.std.specs.Vec.Iter.{into_iter_items, into_iter_len}
-use Rattle.far_types.specs.Changes.{join_spans}
+use Rattle.far_types.specs.Effects.{join_spans}
 use Rattle.far_types.proofs.ByKeyMaps.{with_all}
 use Rattle.far_shared.specs.Lines.{spans_in}
 use Rattle.far_shared.proofs.merging.add_extrema.Given as goal

@@ -4,14 +4,14 @@ use Rattle.far_types.specs.declared.key.Key.{Key}
 use Rattle.far_types.specs.declared.answer.Answer.TheVariants as answer
 use Rattle.far_types.specs.Answers.{totals, total_lines, or_zero}
 use Rattle.far_types.proofs.ByKeyMaps.{entries-by_key}
-use Rattle.far_groups.specs.Tallies.{totals_of}
+use Rattle.far_groups.specs.CountSums.{totals_of}
 use Rattle.far_shared.proofs.MergeLaws.{four_lists}
 use Rattle.far_shared.proofs.merging.merge_totals.Goals as goal
 
 pub returns-clause-ok : goal.returns-clause-ok
 returns-clause-ok c p q r s hp hq hr hs =
     let key = c.args.key in
-    let first = c.in_ok-add_totals.ensures.ok key [] p (ap totals_of c.new-tallies.ensures.empty) hp in
+    let first = c.in_ok-add_totals.ensures.ok key [] p (ap totals_of c.new-count_sums.ensures.empty) hp in
     let second = c.in_ok-add_totals-2.ensures.ok key ([] ++ p) q first hq in
     let third = c.in_ok-add_totals-3.ensures.ok key (([] ++ p) ++ q) r second hr in
     let fourth = c.in_ok-add_totals-4.ensures.ok key ((([] ++ p) ++ q) ++ r) s third hs in
@@ -19,5 +19,5 @@ returns-clause-ok c p q r s hp hq hr hs =
     (c.in_ok-lines.ensures.lines
     ∙ ap (or_zero key)
     (c.in_ok-lines_of.ensures.ok
-    ∙ ap (map (λ (entry : Option Key × (ℕ × ℤ)). (entry.0, entry.1.0, entry.1.1))) (sym (entries-by_key c.add_totals-4.new.tallies.entries c.lines_of.ensures.ordered))
+    ∙ ap (map (λ (entry : Option Key × (ℕ × ℤ)). (entry.0, entry.1.0, entry.1.1))) (sym (entries-by_key c.add_totals-4.new.count_sums.entries c.lines_of.ensures.ordered))
     ∙ ap total_lines (fourth ∙ ap totals (four_lists p q r s))))

@@ -1,7 +1,7 @@
 use Rattle.std.proofs.Common.{sym, ◌∙◌, Ok, Err, OnOk}
 use Rattle.std.specs.Prelude.{Result}
 use Rattle.std.proofs.lemmas.Int.{to_z-of_z}
-use Rattle.far_types.specs.Changes.{join_spans}
+use Rattle.far_types.specs.Effects.{join_spans}
 use Rattle.far_types.proofs.ByKeyMaps.{joined-one}
 use Rattle.far_shared.proofs.merging.see.Goals as goal
 
@@ -13,4 +13,4 @@ pub returns-clause-ok : goal.returns-clause-ok
 returns-clause-ok c =
     let low = c.ranges.least in
     let high = c.ranges.greatest in
-    on_ok c.see_rows.result (λ seen. (simp to_z-of_z at seen) ∙ sym (joined-one join_spans c.args.spans.now c.args.key (c.args.least, c.args.greatest))) c.see_rows.ensures.ok
+    on_ok c.observe_rows.result (λ seen. (simp to_z-of_z at seen) ∙ sym (joined-one join_spans c.args.spans.now c.args.key (c.args.least, c.args.greatest))) c.observe_rows.ensures.ok

@@ -27,7 +27,7 @@ pub returns-then-not-is_empty-clause-ok : goal.returns-then-not-is_empty-clause-
 returns-then-not-is_empty-clause-ok g c =
     let i = c.loop-turn.invariant in
     let t = rw c.in-Whole.is at c.in_ok-line.ensures.line in
-    let b = begins-line g.R.Read c.args.input.now c.loop-turn.input c.line.new.self i.0 t.1.0 _ _ i.1 i.2 i.4 t.1.1 t.1.2 t.1.3 c.in_ok-text-in-Whole.ensures.ok.0
+    let b = begins-line g.R.Read c.args.input.now c.loop-turn.input c.line.new.self i.0 t.1.0 _ _ i.1 i.2 i.4 t.1.1 t.1.2 t.1.3 c.in_ok-text-in-Whole.ensures.ok.0 c.in_ok-text-in-Whole.ensures.ok.1
     (range-some c.line.new.self.held c.in-Whole.line.from c.in-Whole.line.to (grind (arith, c.if-not-is_empty.ensures)) t.0.1) in
     (b.0, c.in_ok-text-in-Whole.field-0.now, b.1, b.2, c.in_ok-first-in-Whole.ensures.first)
 
@@ -35,7 +35,7 @@ pub returns-in-Last-clause-ok : goal.returns-in-Last-clause-ok
 returns-in-Last-clause-ok g c =
     let i = c.loop-turn.invariant in
     let t = rw c.in-Last.is at c.in_ok-line.ensures.line in
-    let b = begins-last g.R.Read c.args.input.now c.loop-turn.input c.line.new.self i.0 _ _ i.1 i.2 i.4 t.1.0 t.1.3 (t.1.1, t.1.2) c.in_ok-text-in-Last.ensures.ok.0
+    let b = begins-last g.R.Read c.args.input.now c.loop-turn.input c.line.new.self i.0 _ _ i.1 i.2 i.4 t.1.0 t.1.3 (t.1.1, t.1.2) c.in_ok-text-in-Last.ensures.ok.0 c.in_ok-text-in-Last.ensures.ok.1
     (range-some c.line.new.self.held c.in-Last.line.from c.in-Last.line.to (grind (arith, c.if-is_empty.ensures)) t.0.1) in
     (b.0, c.in_ok-text-in-Last.field-0.now, b.1, b.2, c.in_ok-last-in-Last.ensures.first)
 
@@ -54,9 +54,9 @@ returns-in_err-line-clause-err g c =
     let i = c.loop-turn.invariant in
     let printed = prints-nothing-then (g.W.Write.contents c.args.writer.now) (g.W.Write.contents c.loop-turn.writer) (g.W.Write.contents c.line.new.writer) c.args.output.now.page c.loop-turn.output.page [] c.line.new.output.page c.loop-turn.invariant.3 c.in_err-line.ensures.printed in
     handed-on c.from_residual.result c.in_err-line.field-0.0 _ c.from_residual.ensures.1
-    (breaks-first g.R.Read (IsUnseen g.R.Read c.args.input.now c.line.new.self) c.args.input.now c.loop-turn.input c.line.new.self (g.W.Write.contents c.args.writer.now) (g.W.Write.contents c.line.new.writer) c.args.output.now.page c.line.new.output.page i.0 i.1 c.in_err-line.field-0.0 c.in_err-line.ensures.fault c.in_err-line.ensures.turns i.2 i.4 printed
-    (no-line g.R.Read c.in_err-line.field-0.0 (IsUnseen g.R.Read c.args.input.now c.line.new.self) c.loop-turn.input c.line.new.self
-    (if-unseen g.R.Read c.in_err-line.field-0.0 c.args.input.now c.loop-turn.input c.line.new.self i.6 c.in_err-line.ensures.unseen) c.in_err-line.ensures.stopped))
+    (breaks-first g.R.Read (IsUnseen g.R.Read g.R.Source.may_fail c.args.input.now c.line.new.self) c.args.input.now c.loop-turn.input c.line.new.self (g.W.Write.contents c.args.writer.now) (g.W.Write.contents c.line.new.writer) c.args.output.now.page c.line.new.output.page i.0 i.1 c.in_err-line.field-0.0 c.in_err-line.ensures.fault c.in_err-line.ensures.turns i.2 i.4 printed
+    (no-line g.R.Read c.in_err-line.field-0.0 (IsUnseen g.R.Read g.R.Source.may_fail c.args.input.now c.line.new.self) c.loop-turn.input c.line.new.self
+    (if-unseen g.R.Read g.R.Source.may_fail c.in_err-line.field-0.0 c.args.input.now c.loop-turn.input c.line.new.self i.0 i.2 i.6 c.in_err-line.ensures.unseen) c.in_err-line.ensures.stopped))
 
 pub returns-in_err-text-in-Whole-clause-err : goal.returns-in_err-text-in-Whole-clause-err
 returns-in_err-text-in-Whole-clause-err g c =
@@ -65,8 +65,8 @@ returns-in_err-text-in-Whole-clause-err g c =
     let f = c.in_err-text-in-Whole.ensures.fault in
     let printed = prints-nothing-then (g.W.Write.contents c.args.writer.now) (g.W.Write.contents c.loop-turn.writer) (g.W.Write.contents c.line.new.writer) c.args.output.now.page c.loop-turn.output.page [] c.line.new.output.page c.loop-turn.invariant.3 c.in_ok-line.ensures.printed in
     handed-on c.from_residual-in_err-text-in-Whole.result fault.Input _ (rw f.0 at c.from_residual-in_err-text-in-Whole.ensures.1)
-    (breaks-first g.R.Read (IsUnseen g.R.Read c.args.input.now c.line.new.self) c.args.input.now c.loop-turn.input c.line.new.self (g.W.Write.contents c.args.writer.now) (g.W.Write.contents c.line.new.writer) c.args.output.now.page c.line.new.output.page i.0 i.1 fault.Input (λ e. cc e) (λ e. cc e) i.2 i.4 printed
-    (no-text-line g.R.Read c.loop-turn.input c.line.new.self t.1.0 _ (IsUnseen g.R.Read c.args.input.now c.line.new.self) t.1.1 t.1.2 t.1.3 f.1))
+    (breaks-first g.R.Read (IsUnseen g.R.Read g.R.Source.may_fail c.args.input.now c.line.new.self) c.args.input.now c.loop-turn.input c.line.new.self (g.W.Write.contents c.args.writer.now) (g.W.Write.contents c.line.new.writer) c.args.output.now.page c.line.new.output.page i.0 i.1 fault.Input (λ e. cc e) (λ e. cc e) i.2 i.4 printed
+    (no-text-line g.R.Read c.loop-turn.input c.line.new.self t.1.0 _ (IsUnseen g.R.Read g.R.Source.may_fail c.args.input.now c.line.new.self) t.1.1 t.1.2 t.1.3 f.1))
 
 pub returns-in_err-text-in-Last-clause-err : goal.returns-in_err-text-in-Last-clause-err
 returns-in_err-text-in-Last-clause-err g c =
@@ -75,8 +75,8 @@ returns-in_err-text-in-Last-clause-err g c =
     let f = c.in_err-text-in-Last.ensures.fault in
     let printed = prints-nothing-then (g.W.Write.contents c.args.writer.now) (g.W.Write.contents c.loop-turn.writer) (g.W.Write.contents c.line.new.writer) c.args.output.now.page c.loop-turn.output.page [] c.line.new.output.page c.loop-turn.invariant.3 c.in_ok-line.ensures.printed in
     handed-on c.from_residual-in_err-text-in-Last.result fault.Input _ (rw f.0 at c.from_residual-in_err-text-in-Last.ensures.1)
-    (breaks-first g.R.Read (IsUnseen g.R.Read c.args.input.now c.line.new.self) c.args.input.now c.loop-turn.input c.line.new.self (g.W.Write.contents c.args.writer.now) (g.W.Write.contents c.line.new.writer) c.args.output.now.page c.line.new.output.page i.0 i.1 fault.Input (λ e. cc e) (λ e. cc e) i.2 i.4 printed
-    (no-text-last g.R.Read c.loop-turn.input c.line.new.self _ (IsUnseen g.R.Read c.args.input.now c.line.new.self) t.1.0 t.1.3 (t.1.1, t.1.2) f.1))
+    (breaks-first g.R.Read (IsUnseen g.R.Read g.R.Source.may_fail c.args.input.now c.line.new.self) c.args.input.now c.loop-turn.input c.line.new.self (g.W.Write.contents c.args.writer.now) (g.W.Write.contents c.line.new.writer) c.args.output.now.page c.line.new.output.page i.0 i.1 fault.Input (λ e. cc e) (λ e. cc e) i.2 i.4 printed
+    (no-text-last g.R.Read c.loop-turn.input c.line.new.self _ (IsUnseen g.R.Read g.R.Source.may_fail c.args.input.now c.line.new.self) t.1.0 t.1.3 (t.1.1, t.1.2) f.1))
 
 pub returns-in_err-first-in-Whole-clause-err : goal.returns-in_err-first-in-Whole-clause-err
 returns-in_err-first-in-Whole-clause-err g c =
@@ -84,10 +84,10 @@ returns-in_err-first-in-Whole-clause-err g c =
     let t = rw c.in-Whole.is at c.in_ok-line.ensures.line in
     let p = c.in_err-first-in-Whole.ensures.err in
     let why = c.in_err-first-in-Whole.field-0.0 in
-    let b = begins-line g.R.Read c.args.input.now c.loop-turn.input c.line.new.self i.0 t.1.0 _ _ i.1 i.2 i.4 t.1.1 t.1.2 t.1.3 c.in_ok-text-in-Whole.ensures.ok.0
+    let b = begins-line g.R.Read c.args.input.now c.loop-turn.input c.line.new.self i.0 t.1.0 _ _ i.1 i.2 i.4 t.1.1 t.1.2 t.1.3 c.in_ok-text-in-Whole.ensures.ok.0 c.in_ok-text-in-Whole.ensures.ok.1
     (range-some c.line.new.self.held c.in-Whole.line.from c.in-Whole.line.to (grind (arith, c.if-not-is_empty.ensures)) t.0.1) in
     handed-on c.from_residual-in_err-first-in-Whole.result why _ c.from_residual-in_err-first-in-Whole.ensures.1
-    (rejects-first g.R.Read (IsUnseen g.R.Read c.args.input.now c.line.new.self) c.args.input.now c.line.new.self (g.W.Write.contents c.args.writer.now) (g.W.Write.contents c.line.new.writer) c.args.output.now.page c.line.new.output.page c.read_first.new.output.page b.0 _ p.0 why b.1 b.2 (prints-nothing-then (g.W.Write.contents c.args.writer.now) (g.W.Write.contents c.loop-turn.writer) (g.W.Write.contents c.line.new.writer) c.args.output.now.page c.loop-turn.output.page [] c.line.new.output.page i.3 c.in_ok-line.ensures.printed) p.1 p.2)
+    (rejects-first g.R.Read (IsUnseen g.R.Read g.R.Source.may_fail c.args.input.now c.line.new.self) c.args.input.now c.line.new.self (g.W.Write.contents c.args.writer.now) (g.W.Write.contents c.line.new.writer) c.args.output.now.page c.line.new.output.page c.read_first.new.output.page b.0 _ p.0 why b.1 b.2 (prints-nothing-then (g.W.Write.contents c.args.writer.now) (g.W.Write.contents c.loop-turn.writer) (g.W.Write.contents c.line.new.writer) c.args.output.now.page c.loop-turn.output.page [] c.line.new.output.page i.3 c.in_ok-line.ensures.printed) p.1 p.2)
 
 pub returns-in_err-last-in-Last-clause-err : goal.returns-in_err-last-in-Last-clause-err
 returns-in_err-last-in-Last-clause-err g c =
@@ -95,16 +95,16 @@ returns-in_err-last-in-Last-clause-err g c =
     let t = rw c.in-Last.is at c.in_ok-line.ensures.line in
     let p = c.in_err-last-in-Last.ensures.err in
     let why = c.in_err-last-in-Last.field-0.0 in
-    let b = begins-last g.R.Read c.args.input.now c.loop-turn.input c.line.new.self i.0 _ _ i.1 i.2 i.4 t.1.0 t.1.3 (t.1.1, t.1.2) c.in_ok-text-in-Last.ensures.ok.0
+    let b = begins-last g.R.Read c.args.input.now c.loop-turn.input c.line.new.self i.0 _ _ i.1 i.2 i.4 t.1.0 t.1.3 (t.1.1, t.1.2) c.in_ok-text-in-Last.ensures.ok.0 c.in_ok-text-in-Last.ensures.ok.1
     (range-some c.line.new.self.held c.in-Last.line.from c.in-Last.line.to (grind (arith, c.if-is_empty.ensures)) t.0.1) in
     handed-on c.from_residual-in_err-last-in-Last.result why _ c.from_residual-in_err-last-in-Last.ensures.1
-    (rejects-first g.R.Read (IsUnseen g.R.Read c.args.input.now c.line.new.self) c.args.input.now c.line.new.self (g.W.Write.contents c.args.writer.now) (g.W.Write.contents c.line.new.writer) c.args.output.now.page c.line.new.output.page c.read_first-in-Last.new.output.page b.0 _ p.0 why b.1 b.2 (prints-nothing-then (g.W.Write.contents c.args.writer.now) (g.W.Write.contents c.loop-turn.writer) (g.W.Write.contents c.line.new.writer) c.args.output.now.page c.loop-turn.output.page [] c.line.new.output.page i.3 c.in_ok-line.ensures.printed) p.1 p.2)
+    (rejects-first g.R.Read (IsUnseen g.R.Read g.R.Source.may_fail c.args.input.now c.line.new.self) c.args.input.now c.line.new.self (g.W.Write.contents c.args.writer.now) (g.W.Write.contents c.line.new.writer) c.args.output.now.page c.line.new.output.page c.read_first-in-Last.new.output.page b.0 _ p.0 why b.1 b.2 (prints-nothing-then (g.W.Write.contents c.args.writer.now) (g.W.Write.contents c.loop-turn.writer) (g.W.Write.contents c.line.new.writer) c.args.output.now.page c.loop-turn.output.page [] c.line.new.output.page i.3 c.in_ok-line.ensures.printed) p.1 p.2)
 
 pub returns-then-is_empty-clause-err : goal.returns-then-is_empty-clause-err
 returns-then-is_empty-clause-err g c =
     let i = c.loop-turn.invariant in
     let t = rw c.in-Last.is at c.in_ok-line.ensures.line in
-    rejects-none g.R.Read (IsUnseen g.R.Read c.args.input.now c.line.new.self) c.args.input.now c.loop-turn.input c.line.new.self (g.W.Write.contents c.args.writer.now) (g.W.Write.contents c.loop-turn.writer) (g.W.Write.contents c.line.new.writer) c.args.output.now.page c.loop-turn.output.page c.line.new.output.page i.0 _ i.1
+    rejects-none g.R.Read (IsUnseen g.R.Read g.R.Source.may_fail c.args.input.now c.line.new.self) c.args.input.now c.loop-turn.input c.line.new.self (g.W.Write.contents c.args.writer.now) (g.W.Write.contents c.loop-turn.writer) (g.W.Write.contents c.line.new.writer) c.args.output.now.page c.loop-turn.output.page c.line.new.output.page i.0 _ i.1
     i.2 i.3 i.4 (range-empty c.line.new.self.held c.in-Last.line.from c.in-Last.line.to (grind (arith, c.if-is_empty.ensures))) t.1.3 c.in_ok-line.ensures.printed (t.1.1, t.1.2)
 
 pub returns-clause-err : goal.returns-clause-err

@@ -1,9 +1,9 @@
-use Rattle.std.proofs.Common.{[], refl, arith}
+use Rattle.std.proofs.Common.{[], ◌∷◌, ◌++◌, refl, arith}
 use Rattle.far_script.specs.declared.fault.ShellFault.TheVariants as fault
 use Rattle.far_script.specs.Flow.{IsUnseen}
 use Rattle.far_script.proofs.StopLaws.{handed-on, if-unseen}
-use Rattle.far_shell.proofs.BreakLaws.{breaks-between, breaks-last, breaks-line}
-use Rattle.far_script.proofs.FlowLaws.{reads-none, prints-none, prints-then-nothing, few-bytes}
+use Rattle.far_shell.proofs.BreakLaws.{breaks-between, breaks-last, breaks-line, if-short}
+use Rattle.far_script.proofs.FlowLaws.{reads-none, reads-then, prints-none, prints-then-nothing, few-bytes}
 use Rattle.far_shell.proofs.ScriptLaws.{answers-none, goes-on, comes-to-end, next-number}
 use Rattle.far_shell.proofs.script.serve_lines.Goals as goal
 
@@ -43,8 +43,8 @@ returns-in_err-line-clause-err g c =
     let i = c.loop-turn.invariant in
     let printed = prints-then-nothing (g.W.Write.contents c.args.writer.now) (g.W.Write.contents c.loop-turn.writer) (g.W.Write.contents c.line.new.writer) c.args.output.now.page i.1 c.loop-turn.output.page c.line.new.output.page i.3 c.in_err-line.ensures.printed in
     handed-on c.from_residual.result c.in_err-line.field-0.0 _ c.from_residual.ensures.1
-    (breaks-between g.R.Read g.S.FarTickets (IsUnseen g.R.Read c.args.input.now c.line.new.self) c.args.input.now c.loop-turn.input c.line.new.self (g.W.Write.contents c.args.writer.now) (g.W.Write.contents c.line.new.writer) c.args.output.now.page c.line.new.output.page c.args.progress.now c.loop-turn.progress i.0 i.1 c.in_err-line.field-0.0 c.in_err-line.ensures.fault c.in_err-line.ensures.turns i.2 printed i.4
-    (if-unseen g.R.Read c.in_err-line.field-0.0 c.args.input.now c.loop-turn.input c.line.new.self i.7 c.in_err-line.ensures.unseen) c.in_err-line.ensures.stopped)
+    (breaks-between g.R.Read g.S.FarTickets (IsUnseen g.R.Read g.R.Source.may_fail c.args.input.now c.line.new.self) c.args.input.now c.loop-turn.input c.line.new.self (g.W.Write.contents c.args.writer.now) (g.W.Write.contents c.line.new.writer) c.args.output.now.page c.line.new.output.page c.args.progress.now c.loop-turn.progress i.0 i.1 c.in_err-line.field-0.0 c.in_err-line.ensures.fault c.in_err-line.ensures.turns i.2 printed i.4
+    (if-unseen g.R.Read g.R.Source.may_fail c.in_err-line.field-0.0 c.args.input.now c.loop-turn.input c.line.new.self i.0 i.2 i.7 c.in_err-line.ensures.unseen) c.in_err-line.ensures.stopped)
 
 pub returns-in_err-answer_line-in-Whole-clause-err : goal.returns-in_err-answer_line-in-Whole-clause-err
 returns-in_err-answer_line-in-Whole-clause-err g c =
@@ -52,8 +52,9 @@ returns-in_err-answer_line-in-Whole-clause-err g c =
     let t = rw c.in-Whole.is at c.in_ok-line.ensures.line in
     let why = c.in_err-answer_line-in-Whole.field-0.0 in
     handed-on c.from_residual-in_err-answer_line-in-Whole.result why _ c.from_residual-in_err-answer_line-in-Whole.ensures.1
-    (breaks-line g.R.Read g.S.FarTickets (IsUnseen g.R.Read c.args.input.now c.answer_line.new.input) c.args.input.now c.loop-turn.input c.line.new.self c.answer_line.new.input (g.W.Write.contents c.args.writer.now) (g.W.Write.contents c.loop-turn.writer) (g.W.Write.contents c.line.new.writer) (g.W.Write.contents c.answer_line.new.writer) c.args.output.now.page c.loop-turn.output.page c.line.new.output.page c.answer_line.new.output.page
-    c.args.progress.now c.loop-turn.progress _ t.1.0 i.0 i.1 why i.2 i.3 i.4 t.1.1 t.1.2 t.1.3 c.in_ok-line.ensures.printed c.in_err-answer_line-in-Whole.ensures.err c.in_err-answer_line-in-Whole.ensures.stopped)
+    (breaks-line g.R.Read g.S.FarTickets (IsUnseen g.R.Read g.R.Source.may_fail c.args.input.now c.answer_line.new.input) c.args.input.now c.loop-turn.input c.line.new.self c.answer_line.new.input (g.W.Write.contents c.args.writer.now) (g.W.Write.contents c.loop-turn.writer) (g.W.Write.contents c.line.new.writer) (g.W.Write.contents c.answer_line.new.writer) c.args.output.now.page c.loop-turn.output.page c.line.new.output.page c.answer_line.new.output.page
+    c.args.progress.now c.loop-turn.progress _ t.1.0 i.0 i.1 why i.2 i.3 i.4 t.1.1 t.1.2 t.1.3 c.in_ok-line.ensures.printed c.in_err-answer_line-in-Whole.ensures.err
+    (if-short g.R.Read g.R.Source.may_fail why c.args.input.now c.line.new.self c.answer_line.new.input (i.0 ++ (t.1.0 ++ 10 ∷ [])) (reads-then g.R.Read c.args.input.now c.loop-turn.input c.line.new.self i.0 (t.1.0 ++ 10 ∷ []) i.2 t.1.3) (omega (arith, c.line.ensures.asked, i.7)) c.loop-turn.progress.world.state.table.schema _ c.in_err-answer_line-in-Whole.ensures.stopped))
 
 pub returns-in_err-answer_line-in-Last-clause-err : goal.returns-in_err-answer_line-in-Last-clause-err
 returns-in_err-answer_line-in-Last-clause-err g c =
@@ -61,8 +62,9 @@ returns-in_err-answer_line-in-Last-clause-err g c =
     let t = rw c.in-Last.is at c.in_ok-line.ensures.line in
     let why = c.in_err-answer_line-in-Last.field-0.0 in
     handed-on c.from_residual-in_err-answer_line-in-Last.result why _ c.from_residual-in_err-answer_line-in-Last.ensures.1
-    (breaks-last g.R.Read g.S.FarTickets (IsUnseen g.R.Read c.args.input.now c.answer_line-in-Last.new.input) c.args.input.now c.loop-turn.input c.line.new.self c.answer_line-in-Last.new.input (g.W.Write.contents c.args.writer.now) (g.W.Write.contents c.loop-turn.writer) (g.W.Write.contents c.line.new.writer) (g.W.Write.contents c.answer_line-in-Last.new.writer) c.args.output.now.page c.loop-turn.output.page c.line.new.output.page c.answer_line-in-Last.new.output.page
-    c.args.progress.now c.loop-turn.progress _ i.0 i.1 why i.2 i.3 i.4 t.1.0 t.1.3 (t.1.1, t.1.2) c.in_ok-line.ensures.printed c.in_err-answer_line-in-Last.ensures.err c.in_err-answer_line-in-Last.ensures.stopped)
+    (breaks-last g.R.Read g.S.FarTickets (IsUnseen g.R.Read g.R.Source.may_fail c.args.input.now c.answer_line-in-Last.new.input) c.args.input.now c.loop-turn.input c.line.new.self c.answer_line-in-Last.new.input (g.W.Write.contents c.args.writer.now) (g.W.Write.contents c.loop-turn.writer) (g.W.Write.contents c.line.new.writer) (g.W.Write.contents c.answer_line-in-Last.new.writer) c.args.output.now.page c.loop-turn.output.page c.line.new.output.page c.answer_line-in-Last.new.output.page
+    c.args.progress.now c.loop-turn.progress _ i.0 i.1 why i.2 i.3 i.4 t.1.0 t.1.3 (t.1.1, t.1.2) c.in_ok-line.ensures.printed c.in_err-answer_line-in-Last.ensures.err
+    (if-short g.R.Read g.R.Source.may_fail why c.args.input.now c.line.new.self c.answer_line-in-Last.new.input _ (reads-then g.R.Read c.args.input.now c.loop-turn.input c.line.new.self i.0 _ i.2 t.1.3) (omega (arith, c.line.ensures.asked, i.7)) c.loop-turn.progress.world.state.table.schema _ c.in_err-answer_line-in-Last.ensures.stopped))
 
 pub returns-in_err-flush_if_full-clause-err : goal.returns-in_err-flush_if_full-clause-err
 returns-in_err-flush_if_full-clause-err g c =
@@ -73,7 +75,7 @@ returns-in_err-flush_if_full-clause-err g c =
     c.args.progress.now c.loop-turn.progress c.answer_line.new.progress _ t.1.0 a.0 a.1 i.0 i.1 c.flush_if_full.new.self.page (g.W.Write.contents c.flush_if_full.new.writer)
     i.2 i.3 i.4 t.1.1 t.1.2 t.1.3 c.in_ok-line.ensures.printed a.2 a.3 a.4 c.in_err-flush_if_full.ensures.printed in
     handed-on c.from_residual-in_err-flush_if_full.result fault.Output _ (rw c.in_err-flush_if_full.ensures.fault at c.from_residual-in_err-flush_if_full.ensures.1)
-    (breaks-between g.R.Read g.S.FarTickets (IsUnseen g.R.Read c.args.input.now c.answer_line.new.input) c.args.input.now c.answer_line.new.input c.answer_line.new.input (g.W.Write.contents c.args.writer.now) (g.W.Write.contents c.flush_if_full.new.writer) c.args.output.now.page c.flush_if_full.new.self.page c.args.progress.now c.answer_line.new.progress m.0 m.1 fault.Output (λ e. cc e) (λ e. cc e) m.2 m.3 m.4 tt tt)
+    (breaks-between g.R.Read g.S.FarTickets (IsUnseen g.R.Read g.R.Source.may_fail c.args.input.now c.answer_line.new.input) c.args.input.now c.answer_line.new.input c.answer_line.new.input (g.W.Write.contents c.args.writer.now) (g.W.Write.contents c.flush_if_full.new.writer) c.args.output.now.page c.flush_if_full.new.self.page c.args.progress.now c.answer_line.new.progress m.0 m.1 fault.Output (λ e. cc e) (λ e. cc e) m.2 m.3 m.4 tt tt)
 
 pub returns-clause-err : goal.returns-clause-err
 returns-clause-err g c =

@@ -5,4 +5,4 @@ use Rattle.far_table.proofs.Tickets.{left}
 use Rattle.far_table.proofs.copies.are_copied.Given as goal
 
 abbrev pub invariant-loop-column : goal.invariant-loop-column
-invariant-loop-column g l = first_of (dirty_from l.rows l.spec l.group 0 l.rows.slots) ≡ left l.rows l.spec l.group l.column
+invariant-loop-column g l = first_of (dirty_from l.rows l.spec l.group 0 l.rows.column_indexes) ≡ left l.rows l.spec l.group l.column

@@ -12,7 +12,7 @@ pub loop-column-preserved : goal.loop-column-preserved
 loop-column-preserved g c =
     let content = g.S.FarTickets.content in
     let is_of = g.S.FarTickets.is_of in
-    let name = g.S.FarTickets.name c.args.store.now in
+    let name = g.S.FarTickets.store_id c.args.store.now in
     let k = c.loop-column.column in
     let tickets = c.loop-column.tickets.items in
     let found = c.needed_copy-copy.result in
@@ -27,6 +27,6 @@ loop-column-preserved g c =
 pub returns-clause-tickets : goal.returns-clause-tickets
 returns-clause-tickets g c =
     let r = c.args.rows.now in
-    let slots = ap length c.slots-column-end.ensures in
-    let past : length r.slots ≤ c.loop-column.column = omega (arith, c.loop-column-test.false, slots) in
+    let slots = ap length c.column_indexes-column-end.ensures in
+    let past : length r.column_indexes ≤ c.loop-column.column = omega (arith, c.loop-column-test.false, slots) in
     all-below _ c.loop-column.column c.loop-column.tickets.items c.loop-column.invariant.tickets (λ n above. no-needed r c.args.spec.now c.args.group n (omega (arith, past, above)))

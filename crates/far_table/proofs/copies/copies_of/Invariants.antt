@@ -10,5 +10,5 @@ abbrev pub invariant-loop-column : goal.invariant-loop-column
 invariant-loop-column g l = record {
   tickets : AreTicketsBelow (λ k. cond (needs l.spec k) (copy_of l.rows k l.group) None) l.column l.tickets.items;
   forms : AreForms g.S.FarTickets.content l.tickets.items;
-  here : AreTicketsOf g.S.FarTickets.is_of (g.S.FarTickets.name l.store) l.tickets.items;
+  here : AreTicketsOf g.S.FarTickets.is_of (g.S.FarTickets.store_id l.store) l.tickets.items;
 }

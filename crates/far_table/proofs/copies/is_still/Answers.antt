@@ -7,7 +7,7 @@ use Rattle.far_table.proofs.copies.is_still.Goals as goal
 pub same-requires-clause-b_here : goal.same-requires-clause-b_here
 same-requires-clause-b_here g c =
     let found = sym c.in-Some-ticket_for.ensures in
-    ticket-among (λ t. g.S.FarTickets.is_of t (g.S.FarTickets.name c.args.store.now)) c.args.tickets.now c.args.column c.in-Some-ticket_for.ticket.now c.requires.tickets_here found
+    ticket-among (λ t. g.S.FarTickets.is_of t (g.S.FarTickets.store_id c.args.store.now)) c.args.tickets.now c.args.column c.in-Some-ticket_for.ticket.now c.requires.tickets_here found
 
 pub returns-clause-copy : goal.returns-clause-copy
 returns-clause-copy g c = λ same.

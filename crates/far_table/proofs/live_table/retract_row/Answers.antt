@@ -11,15 +11,15 @@ pub retract-requires-clause-may : goal.retract-requires-clause-may
 retract-requires-clause-may g c =
     let t = c.args.rows.now in
     let content = g.S.FarTickets.content in
-    let lent = lent-is t c.group.result c.row_group.result (c.args.place / t.limits.group) (c.row_group.ensures ∙ c.requires.goes.at) c.group.ensures in
+    let lent = lent-is t c.group.result c.row_group.result (c.args.place / t.limits.group) (c.row_group.ensures ∙ c.requires.retracts.at) c.group.ensures in
     let here = ap (places_here content) lent ∙ places-here content t c.held-held.ensures.places c.held-held.ensures.size (c.args.place / t.limits.group) in
-    subst (λ (ps : List Place). MayRetractAll ps c.args.aggregates.now c.args.pending) (sym here) c.requires.goes.may
+    subst (λ (ps : List Place). MayRetractAll ps c.args.aggregates.now c.args.pending) (sym here) c.requires.retracts.may
 
 pub retract-requires-clause-served : goal.retract-requires-clause-served
 retract-requires-clause-served g c =
     let t = c.args.rows.now in
     let content = g.S.FarTickets.content in
-    let lent = lent-is t c.group.result c.row_group.result (c.args.place / t.limits.group) (c.row_group.ensures ∙ c.requires.goes.at) c.group.ensures in
+    let lent = lent-is t c.group.result c.row_group.result (c.args.place / t.limits.group) (c.row_group.ensures ∙ c.requires.retracts.at) c.group.ensures in
     subst (λ (rows : GroupRows g.row.S-Ticket.Denot). AreServed (has_column rows) (registered_of c.args.aggregates.now)) (sym lent)
     (served-here content t c.held-held.ensures.places c.held-held.ensures.size c.an_aggregate_is_served_by_the_columns_of_its_schema.ensures c.held-held.ensures.rows c.held-held.ensures.kinds c.args.place c.requires.inside c.requires.here (registered_of c.args.aggregates.now) c.requires.checked)
 
@@ -27,13 +27,13 @@ pub returns-clause-kept : goal.returns-clause-kept
 returns-clause-kept g c =
     let t = c.args.rows.now in
     let content = g.S.FarTickets.content in
-    let lent = lent-is t c.group.result c.row_group.result (c.args.place / t.limits.group) (c.row_group.ensures ∙ c.requires.goes.at) c.group.ensures in
+    let lent = lent-is t c.group.result c.row_group.result (c.args.place / t.limits.group) (c.row_group.ensures ∙ c.requires.retracts.at) c.group.ensures in
     let here = ap (places_here content) lent ∙ places-here content t c.held-held.ensures.places c.held-held.ensures.size (c.args.place / t.limits.group) in
     let gone = c.retract.ensures.retracted ∙ ap (λ (ps : List Place). all_retracted ps c.args.aggregates.now c.args.pending) here in
-    subst (λ (slots : List Slot). Keeps t.limits.group t.places slots) (sym gone) c.requires.goes.kept
+    subst (λ (slots : List Slot). Keeps t.limits.group t.places slots) (sym gone) c.requires.retracts.kept
 
 pub returns-then-not-needs_rows-clause-kept : goal.returns-then-not-needs_rows-clause-kept
 returns-then-not-needs_rows-clause-kept g c =
     let t = c.args.rows.now in
     let here = in_group t.limits.group (c.args.place / t.limits.group) t.places in
-    subst (λ (slots : List Slot). Keeps t.limits.group t.places slots) (sym (c.retract_totals.ensures.retracted here)) c.requires.goes.kept
+    subst (λ (slots : List Slot). Keeps t.limits.group t.places slots) (sym (c.retract_totals.ensures.retracted here)) c.requires.retracts.kept

@@ -1,7 +1,7 @@
 use Rattle.std.proofs.Common.{◌-◌, sym, ap, subst, ◌∙◌}
 use Rattle.std.proofs.lemmas.Result.{on_ok_weaker}
 use Rattle.far_types.specs.Answers.{totals}
-use Rattle.far_types.specs.Changes.{joined_totals}
+use Rattle.far_types.specs.Effects.{joined_totals}
 use Rattle.far_groups.specs.Live.{CanJoin}
 use Rattle.far_aggregates.specs.Accumulators.{pairs_here}
 use Rattle.far_table.specs.MixedGroups.{MixedRows, places_mixed}

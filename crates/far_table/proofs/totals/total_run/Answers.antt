@@ -1,6 +1,6 @@
 use Rattle.std.proofs.Common.{◌≡◌, ◌+◌, ◌-◌, ◌≤◌, ◌^◌, List, [], ◌∷◌, ◌++◌, length, refl, sym, ap, subst, ◌∙◌, arith}
 use Rattle.far_types.specs.Answers.{Totals, totals}
-use Rattle.far_types.specs.Changes.{joined_totals}
+use Rattle.far_types.specs.Effects.{joined_totals}
 use Rattle.far_types.specs.Table.{Place}
 use Rattle.far_groups.specs.Live.{Live, CanJoin}
 use Rattle.far_offload.specs.declared.partial.PartialDone.{PartialDone}

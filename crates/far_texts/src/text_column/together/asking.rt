@@ -4,7 +4,7 @@ ghost use Rattle.std.specs.List.{list_any};
 ghost use Rattle.far_types.specs.FirstOf.{first_of};
 ghost use Rattle.far_scopes.specs.Refusing.{refusal_in, write_refusal, written_out};
 ghost use Rattle.far_texts.specs.Texts.{lists_of, IsTextColumn};
-ghost use Rattle.far_texts.specs.Changes.{begins_group, last_object};
+ghost use Rattle.far_texts.specs.Effects.{begins_group, last_object};
 ghost use Rattle.far_texts.specs.Refusing.{next_length_refusal};
 ghost use Rattle.far_texts.specs.Together.{AreColumns, next_forms};
 ghost use Rattle.far_texts.specs.RefusingTogether.{any_full, last_tests, push_texts_refusal};
@@ -22,7 +22,7 @@ fn next_lens<S: FarTickets>(
     texts: &[Option<Text>],
 ) -> Result<[usize; 16], Refusal>
     requires each { All (IsTextColumn (lists_of S.content objects.now)) columns.now }
-    requires even { length texts.now ≡ length columns.now }
+    requires same_length { length texts.now ≡ length columns.now }
     requires few { length columns.now ≤ 16 }
     requires here { All (λ c. next_length_refusal S.content objects.now c ≡ None) columns.now }
     ensures lens { IfOk result (λ lens. (n : ℕ) → take (length columns.now) lens ≡ map (λ form. length form.1) (next_forms (lists_of S.content objects.now) n columns.now texts.now)) }
@@ -76,7 +76,7 @@ fn may_place_forms<S: FarTickets>(
     texts: &[Option<Text>],
 ) -> Result<(), Refusal>
     requires are { AreColumns (lists_of S.content objects.now) columns.now }
-    requires even { length texts.now ≡ length columns.now }
+    requires same_length { length texts.now ≡ length columns.now }
     requires few { length columns.now ≤ 16 }
     requires here { All (λ c. next_length_refusal S.content objects.now c ≡ None) columns.now }
     ensures { refusal_in result ≡ first_of (any_full (lists_of S.content objects.now) columns.now texts.now ∷ last_tests S.content objects.now columns.now texts.now) }
@@ -92,13 +92,13 @@ fn may_place_forms<S: FarTickets>(
     all_writable(objects, columns)
 }
 
-/// Whether each of several columns, of which a table has at most 16, may get a text more. Takes no memory.
+/// Whether each of several columns, of which a table has at most 16, may get a text more. Allocates nothing.
 ///
-/// Refused as `push_texts` is, but never for want of memory: with `TextTooLong` (7) exactly where some text has more than
-/// 4,096 bytes, else with `Absent` (16) exactly where the row groups are begun and some column's last object is away,
-/// naming the first such; else with `ChunkFull` (11) exactly where some new form would be longer than its column's may be;
-/// else with `RegionFull` (17) exactly where the new forms, placed one after the other, do not find room beside all that is
-/// there; else with `EditsUsedUp` (24) exactly where the row groups are begun and some last object was written as often as
+/// Refused as `push_texts` is, but never for lack of memory: with `TextTooLong` (7) exactly if some text has more than
+/// 4,096 bytes, else with `Absent` (16) exactly if the row groups are begun and some column's last object is away,
+/// naming the first such; else with `ChunkFull` (11) exactly if some new form would be longer than its column's may be;
+/// else with `RegionFull` (17) exactly if the new forms, placed one after the other, do not find room beside all that is
+/// there; else with `EditsUsedUp` (24) exactly if the row groups are begun and some last object was written as often as
 /// objects may be. Where it is not refused, `push_texts` and `fill_texts` can be refused with `NoMemory` (1) alone.
 pub fn may_push_texts<S: FarTickets>(
     objects: &Objects<u8, S>,
@@ -106,10 +106,13 @@ pub fn may_push_texts<S: FarTickets>(
     texts: &[Option<Text>],
 ) -> Result<(), Refusal>
     requires are { AreColumns (lists_of S.content objects.now) columns.now }
-    requires even { length texts.now ≡ length columns.now }
+    requires same_length { length texts.now ≡ length columns.now }
     requires few { length columns.now ≤ 16 }
     ensures { refusal_in result ≡ push_texts_refusal S.content objects.now columns.now texts.now }
 {
+    if columns.len() == 1 {
+        return columns[0].may_push(objects, &texts[0]);
+    }
     may_measure_forms(objects, columns, texts)?;
     may_place_forms(objects, columns, texts)
 }

@@ -3,7 +3,7 @@ ghost use Rattle.std.specs.Prelude.{◌≡◌, if◌then◌else◌, ◌∷◌, [
 ghost use Rattle.far_types.specs.FirstOf.{first_of};
 ghost use Rattle.far_scopes.specs.Refusing.{refusal_in};
 ghost use Rattle.far_texts.specs.Texts.{lists_of, HasGroups, IsTextColumn};
-ghost use Rattle.far_texts.specs.Changes.{begins_group};
+ghost use Rattle.far_texts.specs.Effects.{begins_group};
 ghost use Rattle.far_texts.specs.Refusing.{next_length_refusal};
 ghost use Rattle.far_texts.specs.Together.{AreColumns, all_begin};
 ghost use Rattle.far_texts.specs.RefusingTogether.{any_too_long, any_full, absents, first_tests};
@@ -66,7 +66,7 @@ fn none_full<S: FarTickets>(
     texts: &[Option<Text>],
 ) -> Result<(), Refusal>
     requires each { All (IsTextColumn (lists_of S.content objects.now)) columns.now }
-    requires even { length texts.now ≡ length columns.now }
+    requires same_length { length texts.now ≡ length columns.now }
     requires here { All (λ c. next_length_refusal S.content objects.now c ≡ None) columns.now }
     ensures { refusal_in result ≡ first_of (any_full (lists_of S.content objects.now) columns.now texts.now ∷ []) }
 {
@@ -106,7 +106,7 @@ pub(super) fn may_make_forms<S: FarTickets>(
     texts: &[Option<Text>],
 ) -> Result<(), Refusal>
     requires are { AreColumns (lists_of S.content objects.now) columns.now }
-    requires even { length texts.now ≡ length columns.now }
+    requires same_length { length texts.now ≡ length columns.now }
     ensures { refusal_in result ≡ first_of (first_tests S.content objects.now columns.now texts.now) }
 {
     may_measure_forms(objects, columns, texts)?;

@@ -2,7 +2,7 @@
 ghost use Rattle.std.specs.Prelude.{◌≡◌, ◌<◌, ◌≤◌, ◌+◌, ◌^◌, ◌∷◌, ℕ, [], length, true, None, All, IfOk, IfErr};
 ghost use Rattle.far_types.specs.FirstOf.{first_of};
 ghost use Rattle.far_texts.specs.Texts.{lists_of, HasGroups, IsTextColumn};
-ghost use Rattle.far_texts.specs.Changes.{begins_group};
+ghost use Rattle.far_texts.specs.Effects.{begins_group};
 ghost use Rattle.far_texts.specs.Refusing.{next_length_refusal};
 ghost use Rattle.far_texts.specs.Together.{object_for, next_forms, given_forms, AreNextForms};
 ghost use Rattle.far_texts.specs.RefusingTogether.{any_full};
@@ -40,15 +40,15 @@ impl TextColumn {
     }
 }
 
-// The form for the next text of the one column, beside its object.
+// The form for the next text of the one column, beside its object, in the memory of a form that is needed no more.
 pub(super) fn next_form<S: FarTickets>(
-    alloc: Global,
+    spare: Vec<u8>,
     objects: &Objects<u8, S>,
     columns: &[TextColumn],
     texts: &[Option<Text>],
 ) -> Result<Replacement<u8>, Refusal>
     requires each { All (IsTextColumn (lists_of S.content objects.now)) columns.now }
-    requires even { length texts.now ≡ length columns.now }
+    requires same_length { length texts.now ≡ length columns.now }
     requires one { length columns.now ≡ 1 }
     requires few { All (λ c. begins_group c ≡ true → length objects.now.entries + length columns.now ≤ 2 ^ 28) columns.now }
     requires here { All (λ c. next_length_refusal S.content objects.now c ≡ None) columns.now }
@@ -58,7 +58,7 @@ pub(super) fn next_form<S: FarTickets>(
     ensures memory { IfErr result (λ e. e ≡ Refusal.NoMemory) }
 {
     let column = &columns[0];
-    let list = column.form_pushed(alloc, objects, &texts[0])?;
+    let list = column.form_pushed(spare, objects, &texts[0])?;
     let object = column.object_for(objects.count(), 0);
     Ok(Replacement { object, list })
 }
@@ -71,7 +71,7 @@ pub(super) fn next_forms<S: FarTickets>(
     texts: &[Option<Text>],
 ) -> Result<Vec<Replacement<u8>>, Refusal>
     requires each { All (IsTextColumn (lists_of S.content objects.now)) columns.now }
-    requires even { length texts.now ≡ length columns.now }
+    requires same_length { length texts.now ≡ length columns.now }
     requires few { All (λ c. begins_group c ≡ true → length objects.now.entries + length columns.now ≤ 2 ^ 28) columns.now }
     requires here { All (λ c. next_length_refusal S.content objects.now c ≡ None) columns.now }
     requires short { first_of (any_full (lists_of S.content objects.now) columns.now texts.now ∷ []) ≡ None }
@@ -83,7 +83,7 @@ pub(super) fn next_forms<S: FarTickets>(
     let mut forms = Vec::with_capacity(alloc, columns.len())?;
     for k in 0..columns.len() {
         let column = &columns[k];
-        let list = column.form_pushed(alloc, objects, &texts[k])?;
+        let list = column.form_pushed(Vec::new(alloc), objects, &texts[k])?;
         let object = column.object_for(count, k);
         forms.push_reserved(Replacement { object, list });
     }

@@ -2,7 +2,7 @@
 ghost use Rattle.std.specs.Prelude.{◌≡◌, if◌then◌else◌, ◌⊎◌, ◌<◌, ◌≤◌, ◌+◌, ◌^◌, ◌∷◌, ℕ, List, [], length, map, true, false, None, Some, All, OnOk, IfErr, OnErr};
 ghost use Rattle.far_types.specs.FirstOf.{first_of};
 ghost use Rattle.far_scopes.specs.Movement.{AreClean, AreHere};
-ghost use Rattle.far_texts.specs.Texts.{Texts, HasGroups, IsTextColumn, AreApart, lists_of, texts_in};
+ghost use Rattle.far_texts.specs.Texts.{Texts, HasGroups, IsTextColumn, AreDisjoint, lists_of, texts_in};
 ghost use Rattle.far_texts.specs.Refusing.{next_length_refusal};
 ghost use Rattle.far_texts.specs.Together.{AreColumns, AreNextForms, all_begin, next_forms, given_forms, all_pushed, all_texts_with, ChangesTo, KeepsColumns, all_created, AreReplaced};
 ghost use Rattle.far_texts.specs.RefusingTogether.{first_tests, push_texts_refusal};
@@ -15,6 +15,7 @@ use far_scopes::{Objects, Replacement};
 use far_store::FarTickets;
 use far_types::{Refusal, Text};
 use std::alloc::Global;
+use std::mem;
 use std::slice::from_ref;
 
 // Each column gets the form of its next text, which may be made: all of them, or none.
@@ -25,7 +26,7 @@ pub(super) fn give_forms<S: FarTickets>(
     forms: &[Replacement<u8>],
 ) -> Result<(), Refusal>
     requires are { AreColumns (lists_of S.content objects.old) columns.old }
-    requires even { length texts.now ≡ length columns.old }
+    requires same_length { length texts.now ≡ length columns.old }
     requires few { all_begin columns.old ≡ true → length objects.old.entries + length columns.old ≤ 2 ^ 28 }
     requires objects { All (λ c. length c.objects ≤ length objects.old.entries) columns.old }
     requires groups { All HasGroups columns.old }
@@ -42,7 +43,7 @@ pub(super) fn give_forms<S: FarTickets>(
     ensures are { AreColumns (lists_of S.content objects.new) columns.new }
     ensures texts { OnOk result (map (texts_in (lists_of S.content objects.new)) columns.new ≡ all_texts_with (lists_of S.content objects.old) columns.old texts.now) }
     ensures others { KeepsColumns (lists_of S.content objects.old) (lists_of S.content objects.new) columns.old }
-    ensures apart { (d : Texts) → IsTextColumn (lists_of S.content objects.old) d → All (λ c. AreApart c d) columns.old → All (λ c. AreApart c d) columns.new }
+    ensures disjoint { (d : Texts) → IsTextColumn (lists_of S.content objects.old) d → All (λ c. AreDisjoint c d) columns.old → All (λ c. AreDisjoint c d) columns.new }
     ensures clean { AreClean (λ bytes. bytes) S.content objects.old → AreClean (λ bytes. bytes) S.content objects.new }
     ensures store { (name : List ℕ) → AreHere S.is_of name objects.old → AreHere S.is_of name objects.new }
     ensures free { OnOk result (push_texts_refusal S.content objects.old columns.old texts.now ≡ None) }
@@ -57,15 +58,16 @@ pub(super) fn give_forms<S: FarTickets>(
 }
 
 // Makes the form for each column's next text, where no first test refuses one, and gives them to the columns: all of them, or
-// none.
+// none. The form of a single column is made in the memory of `spare`, a form that is needed no more, and is left there.
 pub(super) fn make_forms<S: FarTickets>(
     alloc: Global,
+    spare: &mut Vec<u8>,
     objects: &mut Objects<u8, S>,
     columns: &mut [TextColumn],
     texts: &[Option<Text>],
 ) -> Result<(), Refusal>
     requires are { AreColumns (lists_of S.content objects.old) columns.old }
-    requires even { length texts.now ≡ length columns.old }
+    requires same_length { length texts.now ≡ length columns.old }
     requires few { all_begin columns.old ≡ true → length objects.old.entries + length columns.old ≤ 2 ^ 28 }
     requires first { first_of (first_tests S.content objects.old columns.old texts.now) ≡ None }
     ensures pushed { OnOk result (columns.new ≡ all_pushed (length objects.old.entries) columns.old) }
@@ -76,7 +78,7 @@ pub(super) fn make_forms<S: FarTickets>(
     ensures are { AreColumns (lists_of S.content objects.new) columns.new }
     ensures texts { OnOk result (map (texts_in (lists_of S.content objects.new)) columns.new ≡ all_texts_with (lists_of S.content objects.old) columns.old texts.now) }
     ensures others { KeepsColumns (lists_of S.content objects.old) (lists_of S.content objects.new) columns.old }
-    ensures apart { (d : Texts) → IsTextColumn (lists_of S.content objects.old) d → All (λ c. AreApart c d) columns.old → All (λ c. AreApart c d) columns.new }
+    ensures disjoint { (d : Texts) → IsTextColumn (lists_of S.content objects.old) d → All (λ c. AreDisjoint c d) columns.old → All (λ c. AreDisjoint c d) columns.new }
     ensures clean { AreClean (λ bytes. bytes) S.content objects.old → AreClean (λ bytes. bytes) S.content objects.new }
     ensures store { (name : List ℕ) → AreHere S.is_of name objects.old → AreHere S.is_of name objects.new }
     ensures free { OnOk result (push_texts_refusal S.content objects.old columns.old texts.now ≡ None) }
@@ -85,9 +87,12 @@ pub(super) fn make_forms<S: FarTickets>(
 {
     known_together(objects, columns);
     if columns.len() == 1 {
-        // The one form needs no list of forms, which would be memory of its own.
-        let form = next_form(alloc, objects, columns, texts)?;
-        return give_forms(objects, columns, texts, from_ref(&form));
+        // The one form needs no list of forms, which would be memory of its own. It takes the memory of the form before.
+        let old = mem::replace(spare, Vec::new(alloc));
+        let form = next_form(old, objects, columns, texts)?;
+        let given = give_forms(objects, columns, texts, from_ref(&form));
+        *spare = form.list;
+        return given;
     }
     let forms = next_forms(alloc, objects, columns, texts)?;
     give_forms(objects, columns, texts, &forms)

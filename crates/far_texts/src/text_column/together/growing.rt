@@ -1,14 +1,14 @@
 // Several columns of texts grow by a text each, whose forms are made.
 ghost use Rattle.std.specs.Prelude.{◌≡◌, ◌⊎◌, ◌<◌, ◌≤◌, ◌+◌, ◌^◌, ℕ, List, length, map, true, false, None, Some, All, OnOk, OnErr, IfErr};
 ghost use Rattle.std.specs.List.{slice_index_or};
-ghost use Rattle.far_log.specs.Room.{spaces_of, fit_in_order};
+ghost use Rattle.far_log.specs.RegionState.{spaces_of, fit_in_order};
 ghost use Rattle.far_scopes.specs.declared.replacement.Replacement.{Replacement as Given};
 ghost use Rattle.far_scopes.specs.Movement.{AreClean, AreHere};
 ghost use Rattle.far_scopes.specs.Refusing.{replace_all_refusal, first_absent};
 ghost use Rattle.far_scopes.specs.Replacing.{AreListedOnce, ChangesLists};
-ghost use Rattle.far_scopes.specs.Effects.{replaced_all};
+ghost use Rattle.far_scopes.specs.Effects.{after_replace_all};
 ghost use Rattle.far_texts.specs.Texts.{lists_of};
-ghost use Rattle.far_texts.specs.Changes.{begins_group};
+ghost use Rattle.far_texts.specs.Effects.{begins_group};
 ghost use Rattle.far_texts.specs.Together.{all_pushed, ChangesTo, given_forms, all_created};
 
 use crate::text_column::TextColumn;
@@ -25,7 +25,7 @@ pub(super) fn begin_groups<S: FarTickets>(
     requires begin { All (λ c. begins_group c ≡ true) columns.old }
     requires few { length objects.old.entries + length columns.old ≤ 2 ^ 28 }
     requires groups { All (λ c. length c.objects ≤ length objects.old.entries) columns.old }
-    requires even { length forms.now ≡ length columns.old }
+    requires same_length { length forms.now ≡ length columns.old }
     requires some { All (λ r. 0 < length r.list.items) forms.now }
     requires numbered { (k : ℕ) (d : Given ℕ) → k < length forms.now → (slice_index_or forms.now k d).object ≡ length objects.old.entries + k }
     ensures pushed { OnOk result (columns.new ≡ all_pushed (length objects.old.entries) columns.old) }
@@ -34,8 +34,8 @@ pub(super) fn begin_groups<S: FarTickets>(
     ensures lists { OnOk result (ChangesTo (lists_of S.content objects.old) (lists_of S.content objects.new) (given_forms forms.now)) }
     ensures clean { AreClean (λ bytes. bytes) S.content objects.old → AreClean (λ bytes. bytes) S.content objects.new }
     ensures store { (name : List ℕ) → AreHere S.is_of name objects.old → AreHere S.is_of name objects.new }
-    ensures room { OnOk result (fit_in_order (spaces_of objects.old.memory.room) (map (λ r. length r.list.items) forms.now) ≡ true) }
-    ensures refused { IfErr result (λ e. ((e ≡ Refusal.RegionFull) × (fit_in_order (spaces_of objects.old.memory.room) (map (λ r. length r.list.items) forms.now) ≡ false)) ⊎ (e ≡ Refusal.NoMemory)) }
+    ensures space { OnOk result (fit_in_order (spaces_of objects.old.memory.state) (map (λ r. length r.list.items) forms.now) ≡ true) }
+    ensures refused { IfErr result (λ e. ((e ≡ Refusal.RegionFull) × (fit_in_order (spaces_of objects.old.memory.state) (map (λ r. length r.list.items) forms.now) ≡ false)) ⊎ (e ≡ Refusal.NoMemory)) }
     ensures err { OnErr result (objects.new ≡ objects.old) }
     ensures kept { OnErr result (columns.new ≡ columns.old) }
 {
@@ -81,7 +81,7 @@ fn replace_forms<S: FarTickets>(
     requires some { All (λ r. 0 < length r.list.items) forms.now }
     requires within { All (λ r. r.object < length objects.old.entries) forms.now }
     requires once { AreListedOnce forms.now }
-    ensures replaced { OnOk result (objects.new ≡ replaced_all objects.old forms.now) }
+    ensures replaced { OnOk result (objects.new ≡ after_replace_all objects.old forms.now) }
     ensures lists { OnOk result (ChangesLists (lists_of S.content objects.old) (lists_of S.content objects.new) forms.now) }
     ensures clean { AreClean (λ bytes. bytes) S.content objects.old → AreClean (λ bytes. bytes) S.content objects.new }
     ensures store { (name : List ℕ) → AreHere S.is_of name objects.old → AreHere S.is_of name objects.new }
@@ -107,7 +107,7 @@ pub(super) fn extend_groups<S: FarTickets>(
     requires within { All (λ r. r.object < length objects.old.entries) forms.now }
     requires once { AreListedOnce forms.now }
     ensures pushed { OnOk result ((n : ℕ) → columns.new ≡ all_pushed n columns.old) }
-    ensures replaced { OnOk result (objects.new ≡ replaced_all objects.old forms.now) }
+    ensures replaced { OnOk result (objects.new ≡ after_replace_all objects.old forms.now) }
     ensures count { OnOk result (length objects.new.entries ≡ length objects.old.entries) }
     ensures lists { OnOk result (ChangesLists (lists_of S.content objects.old) (lists_of S.content objects.new) forms.now) }
     ensures clean { AreClean (λ bytes. bytes) S.content objects.old → AreClean (λ bytes. bytes) S.content objects.new }

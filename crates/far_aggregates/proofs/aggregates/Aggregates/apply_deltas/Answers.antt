@@ -1,10 +1,11 @@
 use Rattle.std.proofs.Common.{◌≡◌, ◌/◌, List, refl, ap, sym, ◌∙◌, subst, arith, length, map}
-use Rattle.far_extrema.proofs.RoomLaws.{err_any}
+use Rattle.far_extrema.proofs.ReserveLaws.{err_any}
+use Rattle.far_aggregates.specs.Reserve.{AreReserved}
 use Rattle.far_aggregates.specs.declared.pending.Pending.{Pending}
 use Rattle.far_aggregates.specs.Accumulators.{Slot, Keeps, registered_in, registered_of}
 use Rattle.far_aggregates.specs.Pending.{KeepsAsBefore, UndoesAll}
 use Rattle.far_aggregates.proofs.EditLaws.{each-folds, all-added_registered}
-use Rattle.far_aggregates.proofs.PendingLaws.{written, shown-alike, insert-applied, goes-undo}
+use Rattle.far_aggregates.proofs.PendingLaws.{written, shown-alike, insert-applied, retracts-undo}
 use Rattle.far_aggregates.proofs.aggregates.Aggregates.apply_deltas.Goals as goal
 
 pub apply_deltas-requires-clause-folds : goal.apply_deltas-requires-clause-folds
@@ -29,7 +30,7 @@ returns-clause-applied g c = λ places cells count is h.
     let many : length c.apply_deltas.new.slots ≡ c.self.inside.slots.len = omega arith in
     let whole = written c.self.inside.slots.len c.apply_deltas.new.slots c.self.inside.slots.items many in
     subst (Keeps c.args.size _) (sym whole)
-    (insert-applied c.args.size c.args.place (g.R.LendCells.cells c.args.row.now) c.args.self.now c.reserve_all.new.slots c.apply_deltas.new.slots c.requires.size c.reserve_all.ensures.room before c.in_ok-applied.ensures.ok places cells count is h)
+    (insert-applied c.args.size c.args.place (g.R.LendCells.cells c.args.row.now) c.args.self.now c.reserve_all.new.slots c.apply_deltas.new.slots c.requires.size (subst (λ n. AreReserved n c.reserve_all.new.slots) c.group_of-group.ensures c.reserve_all.ensures.reserved) before c.in_ok-applied.ensures.ok places cells count is h)
 
 pub returns-clause-undo : goal.returns-clause-undo
 returns-clause-undo g c =
@@ -37,10 +38,10 @@ returns-clause-undo g c =
     let before : KeepsAsBefore c.args.self.now c.reserve_all.new.slots = λ size places h. c.reserve_all.ensures.kept size places (subst (Keeps size places) (sym same) h) in
     let many : length c.apply_deltas.new.slots ≡ c.self.inside.slots.len = omega arith in
     let whole = written c.self.inside.slots.len c.apply_deltas.new.slots c.self.inside.slots.items many in
-    let pending : Pending = record { group = c.args.place / c.args.size; applied = c.in_ok-applied.applied; to_retract = c.clear.new.self } in
+    let pending : Pending = record { group = c.group_of-group.result; applied = c.in_ok-applied.applied; to_retract = c.clear.new.self } in
     let ensured = c.in_ok-applied.ensures in
     subst (λ (slots : List Slot). UndoesAll c.args.self.now slots pending) (sym whole)
-    (goes-undo (c.args.place / c.args.size) c.args.self.now c.reserve_all.new.slots c.apply_deltas.new.slots pending before refl ensured.len ensured.may_undo ensured.undo)
+    (retracts-undo (c.args.place / c.args.size) c.args.self.now c.reserve_all.new.slots c.apply_deltas.new.slots pending before c.group_of-group.ensures ensured.len ensured.may_undo ensured.undo)
 
 pub returns-clause-registered : goal.returns-clause-registered
 returns-clause-registered g c =
@@ -49,3 +50,6 @@ returns-clause-registered g c =
     let whole = written c.self.inside.slots.len c.apply_deltas.new.slots c.self.inside.slots.items many in
     ap registered_of whole
     ∙ shown-alike c.args.self.now c.apply_deltas.new.slots (ap (map registered_in) c.in_ok-applied.ensures.ok ∙ all-added_registered _ _ _ ∙ c.reserve_all.ensures.registered ∙ ap (map registered_in) same)
+
+pub apply_deltas-requires-clause-reserved : goal.apply_deltas-requires-clause-reserved
+apply_deltas-requires-clause-reserved g c = subst (λ n. AreReserved n c.reserve_all.new.slots) c.group_of-group.ensures c.reserve_all.ensures.reserved

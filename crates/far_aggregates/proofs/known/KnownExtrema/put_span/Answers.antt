@@ -11,9 +11,9 @@ invariant_of-self c =
     let groups = c.self.inside.live.groups in
     let m = group_at groups c.args.group in
     let key = c.args.key.now in
-    let room : c.args.group < length groups = subst (λ (live : Live). c.args.group < length live.groups) (sym c.self.view_is) c.requires.room in
+    let reserved : c.args.group < length groups = subst (λ (live : Live). c.args.group < length live.groups) (sym c.self.view_is) c.requires.reserved in
     let is = ap (λ (live : Live). live.groups) c.put_span.ensures in
-    subst (AreKnown c.note.new.plain.items) (sym is) (known-noted plain c.note.new.plain.items groups c.args.group (put_span m key c.args.span) c.args.span room (put-plain m key c.args.span c.if-is_none.ensures) c.self.invariant c.note.ensures)
+    subst (AreKnown c.note.new.plain.items) (sym is) (known-noted plain c.note.new.plain.items groups c.args.group (put_span m key c.args.span) c.args.span reserved (put-plain m key c.args.span c.if-is_none.ensures) c.self.invariant c.note.ensures)
 
 pub invariant_of-self-else-is_none : goal.invariant_of-self-else-is_none
 invariant_of-self-else-is_none c =
@@ -21,6 +21,6 @@ invariant_of-self-else-is_none c =
     let groups = c.self.inside.live.groups in
     let m = group_at groups c.args.group in
     let key = c.args.key.now in
-    let room : c.args.group < length groups = subst (λ (live : Live). c.args.group < length live.groups) (sym c.self.view_is) c.requires.room in
+    let reserved : c.args.group < length groups = subst (λ (live : Live). c.args.group < length live.groups) (sym c.self.view_is) c.requires.reserved in
     let is = ap (λ (live : Live). live.groups) c.put_span.ensures in
-    subst (AreKnown plain) (sym is) (known-beside plain groups c.args.group (put_span m key c.args.span) room (put-beside m key c.args.span c.if-is_none.ensures) c.self.invariant)
+    subst (AreKnown plain) (sym is) (known-beside plain groups c.args.group (put_span m key c.args.span) reserved (put-beside m key c.args.span c.if-is_none.ensures) c.self.invariant)

@@ -13,7 +13,7 @@ invariant_of-self g c =
     let m = group_at groups c.args.group in
     let key = c.args.key.now in
     let o = g.R.RowsLeft.extremes c.args.rows.now in
-    let room : c.args.group < length groups = subst (λ (live : Live). c.args.group < length live.groups) (sym c.self.view_is) c.requires.room in
+    let reserved : c.args.group < length groups = subst (λ (live : Live). c.args.group < length live.groups) (sym c.self.view_is) c.requires.reserved in
     let keyed : is_some key ≡ true = ap is_some c.in-Some.is in
     let is = ap (λ (live : Live). live.groups) c.shrink.ensures.shrunk in
-    subst (AreKnown plain) (sym is) (known-beside plain groups c.args.group (put_span m key o) room (put-beside m key o keyed) c.self.invariant)
+    subst (AreKnown plain) (sym is) (known-beside plain groups c.args.group (put_span m key o) reserved (put-beside m key o keyed) c.self.invariant)

@@ -22,7 +22,7 @@ invariant_of-self g c =
     let groups = c.self.inside.live.groups in
     let m = group_at groups c.args.group in
     let o = g.R.RowsLeft.extremes c.args.rows.now in
-    let room : c.args.group < length groups = subst (λ (live : Live). c.args.group < length live.groups) (sym c.self.view_is) c.requires.room in
+    let reserved : c.args.group < length groups = subst (λ (live : Live). c.args.group < length live.groups) (sym c.self.view_is) c.requires.reserved in
     let is = ap (λ (live : Live). live.groups) c.shrink-left.ensures.shrunk in
     let left = c.shrink-left.ensures.left ∙ put-plain m None o refl in
-    subst (AreKnown c.note.new.plain.items) (sym is) (known-noted plain c.note.new.plain.items groups c.args.group (put_span m None o) c.shrink-left.result room left c.self.invariant c.note.ensures)
+    subst (AreKnown c.note.new.plain.items) (sym is) (known-noted plain c.note.new.plain.items groups c.args.group (put_span m None o) c.shrink-left.result reserved left c.self.invariant c.note.ensures)

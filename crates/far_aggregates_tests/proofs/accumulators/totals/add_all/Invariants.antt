@@ -1,7 +1,7 @@
 use Rattle.std.proofs.Common.{◌≡◌, ◌≤◌, Option}
 use Rattle.std.specs.FinMap as fin
 use Rattle.far_types.specs.declared.key.Key.{Key}
-use Rattle.far_types.specs.Changes.{count_in}
+use Rattle.far_types.specs.Effects.{count_in}
 use Rattle.far_aggregates_tests.proofs.accumulators.totals.add_all.Given as goal
 
 abbrev pub invariant-loop-name : goal.invariant-loop-name

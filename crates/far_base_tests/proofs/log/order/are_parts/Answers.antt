@@ -2,7 +2,7 @@ use Rattle.std.proofs.Common.{ℕ, IsSome, subst}
 use Rattle.std.specs.Prelude.{All}
 use Rattle.std.proofs.lemmas.List.{take_all}
 use Rattle.std.proofs.lemmas.List.Elements.{All-more}
-use Rattle.far_log.specs.Room.{segment_of, list_at}
+use Rattle.far_log.specs.RegionState.{segment_of, list_at}
 use Rattle.far_base_tests.proofs.log.order.are_parts.Goals as goal
 
 pub loop-offset-preserved : goal.loop-offset-preserved

@@ -1,7 +1,7 @@
 use Rattle.far_columns.proofs.int_column.IntColumn.push.Goals as goal
 
-pub returns-clause-apart : goal.returns-clause-apart
-returns-clause-apart g c = rw (← c.self.view_is) c.push.ensures.apart
+pub returns-clause-disjoint : goal.returns-clause-disjoint
+returns-clause-disjoint g c = rw (← c.self.view_is) c.push.ensures.disjoint
 
 pub returns-clause-lists : goal.returns-clause-lists
 returns-clause-lists g c = rw (← c.self.view_is) c.push.ensures.lists

@@ -1,7 +1,7 @@
 use Rattle.std.proofs.Common.{◌≡◌, length, sym, subst}
 use Rattle.std.specs.Prelude.{AllPairs}
 use Rattle.far_columns.specs.Numbers.{number_lists}
-use Rattle.far_columns.proofs.NumbersTogether.{none-begin, even-pushed, all-free}
+use Rattle.far_columns.proofs.NumbersTogether.{none-begin, same_length-pushed, all-free}
 use Rattle.far_columns.proofs.int_column.together.fill_numbers.Goals as goal
 
 pub fill_places-requires-clause-begun : goal.fill_places-requires-clause-begun
@@ -14,6 +14,6 @@ fill_places-requires-clause-free g c κs within =
 
 pub returns-clause-are : goal.returns-clause-are
 returns-clause-are g c = record {
-  beside = c.fill_places.ensures.beside;
-  even = subst (AllPairs (λ c d. (c.size ≡ d.size) × (c.len ≡ d.len))) (sym (c.fill_places.ensures.pushed 0)) (even-pushed 0 c.args.columns.now c.requires.are.even);
+  all_disjoint = c.fill_places.ensures.all_disjoint;
+  same_length = subst (AllPairs (λ c d. (c.size ≡ d.size) × (c.len ≡ d.len))) (sym (c.fill_places.ensures.pushed 0)) (same_length-pushed 0 c.args.columns.now c.requires.are.same_length);
 }

@@ -6,15 +6,15 @@ use Rattle.far_types.specs.FirstOf.{first_of}
 use Rattle.far_columns.specs.Numbers.{number_lists}
 use Rattle.far_columns.specs.NumbersTogether.{some_written_out}
 use Rattle.far_scopes.proofs.Outcomes.{by-outcomes}
-use Rattle.far_columns.proofs.NumbersTogether.{none-begin, even-pushed, due-begun}
+use Rattle.far_columns.proofs.NumbersTogether.{none-begin, same_length-pushed, due-begun}
 use Rattle.far_columns.proofs.int_column.together.push_numbers.Goals as goal
 
 pub returns-then-all_begin-clause-are : goal.returns-then-all_begin-clause-are
 returns-then-all_begin-clause-are g c =
-    by-outcomes c.begin_groups.result c.begin_groups.ensures.beside c.begin_groups.ensures.pushed c.begin_groups.ensures.err c.begin_groups.ensures.err
-    (λ beside pushed. record {
-      beside = beside;
-      even = subst (AllPairs (λ c d. (c.size ≡ d.size) × (c.len ≡ d.len))) (sym pushed) (even-pushed (length c.args.objects.now.entries) c.args.columns.now c.requires.are.even);
+    by-outcomes c.begin_groups.result c.begin_groups.ensures.all_disjoint c.begin_groups.ensures.pushed c.begin_groups.ensures.err c.begin_groups.ensures.err
+    (λ all_disjoint pushed. record {
+      all_disjoint = all_disjoint;
+      same_length = subst (AllPairs (λ c d. (c.size ≡ d.size) × (c.len ≡ d.len))) (sym pushed) (same_length-pushed (length c.args.objects.now.entries) c.args.columns.now c.requires.are.same_length);
     })
     (λ same _. rw (same.0, same.1) c.requires.are)
 

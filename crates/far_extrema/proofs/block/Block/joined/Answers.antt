@@ -1,6 +1,6 @@
 use Rattle.std.proofs.Common.{◌≡◌, ◌<◌, length, take, sym, ap, subst, ◌∙◌, arith, None, get_or}
 use Rattle.std.proofs.Math.Seq.{take-length}
-use Rattle.far_types.specs.Changes.{join_spans, together}
+use Rattle.far_types.specs.Effects.{join_spans, merge_two}
 use Rattle.far_extrema.specs.Blocks.{Slots, slotted}
 use Rattle.far_extrema.specs.Spreads.{IsTopOf}
 use Rattle.far_extrema.proofs.SlotLaws.{all_slots, top-slotted, more_slots}
@@ -10,7 +10,7 @@ pub loop-slot-preserved : goal.loop-slot-preserved
 loop-slot-preserved c =
     let within : c.loop-slot.slot-index < length c.self.inside.slots = omega (arith, c.loop-slot-test.true, c.self.invariant.1) in
     c.either-top.ensures
-    ∙ ap (λ o. together join_spans o (get_or c.self.inside.slots c.loop-slot.slot-index None)) c.loop-slot.invariant
+    ∙ ap (λ o. merge_two join_spans o (get_or c.self.inside.slots c.loop-slot.slot-index None)) c.loop-slot.invariant
     ∙ sym (more_slots c.self.inside.slots c.loop-slot.slot-index within)
 
 pub returns : goal.returns

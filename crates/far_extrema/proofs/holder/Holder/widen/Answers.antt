@@ -1,7 +1,7 @@
 use Rattle.std.proofs.Common.{◌≡◌, refl, sym, subst, Some}
 use Rattle.std.specs.Prelude.{ℤ, ◌≤ℤ◌}
 use Rattle.std.proofs.lemmas.Int.{to_z-of_z}
-use Rattle.far_types.specs.Changes.{widened}
+use Rattle.far_types.specs.Effects.{widened}
 use Rattle.far_extrema.specs.Spreads.{IsSet}
 use Rattle.far_extrema.proofs.HolderLaws.{widened_within}
 use Rattle.far_extrema.proofs.SpreadLaws.{put-again}
@@ -17,5 +17,5 @@ returns-then-is_within-clause-spans c =
 pub returns-clause-spans : goal.returns-clause-spans
 returns-clause-spans c =
     let fits = c.ranges.value in
-    let joined : c.together-wide.result ≡ widened c.args.value (Some c.args.previous) = simp to_z-of_z at c.together-wide.ensures in
+    let joined : c.merge_two-wide.result ≡ widened c.args.value (Some c.args.previous) = simp to_z-of_z at c.merge_two-wide.ensures in
     subst (λ (x : ℤ × ℤ). IsSet c.args.self.now.spans c.args.group (Some x) c.put.new.self.spans) joined c.put.ensures.spans

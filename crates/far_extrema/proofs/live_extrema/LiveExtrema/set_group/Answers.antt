@@ -5,12 +5,12 @@ use Rattle.far_types.specs.Keys.{line_cmp}
 use Rattle.far_extrema.specs.Live.{Live}
 use Rattle.far_extrema.specs.Holders.{holders_of, span_at, IsGroup}
 use Rattle.far_extrema.proofs.HolderLaws.{get-reserved, length-groups_in, put-group}
-use Rattle.far_extrema.proofs.RoomLaws.{room-group, group-twice, own_test}
+use Rattle.far_extrema.proofs.ReserveLaws.{reserved-group, group-twice, own_test}
 use Rattle.far_extrema.proofs.live_extrema.LiveExtrema.set_group.Goals as goal
 
-pub fill_all-requires-clause-room : goal.fill_all-requires-clause-room
-fill_all-requires-clause-room c = λ q there none. c.requires.keys q (λ n. there (ap (λ e. fin.get e q) c.spans.ensures ∙ n))
-    (ap (λ (live : Live). fin.get live.reserved q) (sym c.self.view_is) ∙ get-reserved (holders_of c.self.inside.holders.entries) q ∙ sym (c.clear_in.ensures.room q) ∙ none)
+pub fill_all-requires-clause-reserved : goal.fill_all-requires-clause-reserved
+fill_all-requires-clause-reserved c = λ q there none. c.requires.keys q (λ n. there (ap (λ e. fin.get e q) c.spans.ensures ∙ n))
+    (ap (λ (live : Live). fin.get live.reserved q) (sym c.self.view_is) ∙ get-reserved (holders_of c.self.inside.holders.entries) q ∙ sym (c.clear_in.ensures.reserved q) ∙ none)
 
 pub fill_all-requires-clause-new : goal.fill_all-requires-clause-new
 fill_all-requires-clause-new c = λ q.
@@ -21,15 +21,15 @@ pub invariant_of-self : goal.invariant_of-self
 invariant_of-self c =
     let m = holders_of c.self.inside.holders.entries in
     let n = holders_of c.fill_all.new.holders.entries in
-    let less : c.args.group < c.self.inside.room = omega (arith, ap (λ (live : Live). length live.groups) c.self.view_is, length-groups_in m c.self.inside.room, c.requires.room) in
-    room-group m n c.self.inside.room c.args.group c.args.extrema c.self.invariant less
+    let less : c.args.group < c.self.inside.reserved_groups = omega (arith, ap (λ (live : Live). length live.groups) c.self.view_is, length-groups_in m c.self.inside.reserved_groups, c.requires.reserved) in
+    reserved-group m n c.self.inside.reserved_groups c.args.group c.args.extrema c.self.invariant less
     (group-twice m (holders_of c.clear_in.new.holders.entries) n c.args.group fin.empty c.args.extrema c.clear_in.ensures.spans (subst (λ e. IsGroup (holders_of c.clear_in.new.holders.entries) c.args.group e n) c.spans.ensures c.fill_all.ensures))
 
 pub returns-clause-groups : goal.returns-clause-groups
 returns-clause-groups c =
     let m = holders_of c.self.inside.holders.entries in
     let n = holders_of c.fill_all.new.holders.entries in
-    let less : c.args.group < c.self.inside.room = omega (arith, ap (λ (live : Live). length live.groups) c.self.view_is, length-groups_in m c.self.inside.room, c.requires.room) in
-    put-group m n c.self.inside.room c.args.group c.args.extrema less
+    let less : c.args.group < c.self.inside.reserved_groups = omega (arith, ap (λ (live : Live). length live.groups) c.self.view_is, length-groups_in m c.self.inside.reserved_groups, c.requires.reserved) in
+    put-group m n c.self.inside.reserved_groups c.args.group c.args.extrema less
     (group-twice m (holders_of c.clear_in.new.holders.entries) n c.args.group fin.empty c.args.extrema c.clear_in.ensures.spans (subst (λ e. IsGroup (holders_of c.clear_in.new.holders.entries) c.args.group e n) c.spans.ensures c.fill_all.ensures))
     ∙ ap (λ (live : Live). slice_set live.groups c.args.group c.args.extrema) c.self.view_is

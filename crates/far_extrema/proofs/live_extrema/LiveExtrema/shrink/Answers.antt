@@ -5,7 +5,7 @@ use Rattle.std.proofs.lemmas.Int.{to_z-of_z}
 use Rattle.far_extrema.specs.Live.{Live, group_at}
 use Rattle.far_extrema.specs.Spans.{put_span}
 use Rattle.far_extrema.specs.Holders.{holders_of}
-use Rattle.far_extrema.proofs.HolderLaws.{get-group_at, length-groups_in, put-in, room-put, same-reserved}
+use Rattle.far_extrema.proofs.HolderLaws.{get-group_at, length-groups_in, put-in, reserved-put, same-reserved}
 use Rattle.far_extrema.proofs.live_extrema.LiveExtrema.shrink.Goals as goal
 
 pub shrink_in-requires-clause-previous : goal.shrink_in-requires-clause-previous
@@ -13,7 +13,7 @@ shrink_in-requires-clause-previous g c =
     let fits = c.ranges.value in
     let m = holders_of c.self.inside.holders.entries in
     let previous =
-    sym (ap (λ (live : Live). fin.get (group_at live.groups c.args.group) c.args.key.now) (sym c.self.view_is) ∙ get-group_at m c.self.inside.room c.args.group c.args.key.now c.self.invariant)
+    sym (ap (λ (live : Live). fin.get (group_at live.groups c.args.group) c.args.key.now) (sym c.self.view_is) ∙ get-group_at m c.self.inside.reserved_groups c.args.group c.args.key.now c.self.invariant)
     ∙ c.requires.previous in
     grind (arith, to_z-of_z, previous)
 
@@ -21,8 +21,8 @@ pub invariant_of-self : goal.invariant_of-self
 invariant_of-self g c =
     let m = holders_of c.self.inside.holders.entries in
     let long = ap (λ (live : Live). length live.groups) c.self.view_is in
-    room-put m (holders_of c.shrink_in.new.holders.entries) c.self.inside.room c.args.group c.args.key.now (g.R.RowsLeft.extremes c.args.rows.now) c.self.invariant
-    (omega (arith, long, length-groups_in m c.self.inside.room, c.requires.room)) c.shrink_in.ensures.spans
+    reserved-put m (holders_of c.shrink_in.new.holders.entries) c.self.inside.reserved_groups c.args.group c.args.key.now (g.R.RowsLeft.extremes c.args.rows.now) c.self.invariant
+    (omega (arith, long, length-groups_in m c.self.inside.reserved_groups, c.requires.reserved)) c.shrink_in.ensures.spans
 
 pub returns-clause-shrunk : goal.returns-clause-shrunk
 returns-clause-shrunk g c =
@@ -30,9 +30,9 @@ returns-clause-shrunk g c =
     let o = g.R.RowsLeft.extremes c.args.rows.now in
     let left = ap (λ (live : Live). live.left) c.self.view_is in
     let groups = ap (λ (live : Live). live.groups) c.self.view_is in
-    let less : c.args.group < c.self.inside.room = omega (arith, ap length groups, length-groups_in m c.self.inside.room, c.requires.room) in
+    let less : c.args.group < c.self.inside.reserved_groups = omega (arith, ap length groups, length-groups_in m c.self.inside.reserved_groups, c.requires.reserved) in
     let new =
-    put-in m (holders_of c.shrink_in.new.holders.entries) c.self.inside.room c.args.group c.args.key.now o less c.shrink_in.ensures.spans
+    put-in m (holders_of c.shrink_in.new.holders.entries) c.self.inside.reserved_groups c.args.group c.args.key.now o less c.shrink_in.ensures.spans
     ∙ ap (λ gs. slice_set gs c.args.group (put_span (group_at gs c.args.group) c.args.key.now o)) groups in
-    let reserved = same-reserved m (holders_of c.shrink_in.new.holders.entries) c.shrink_in.ensures.room ∙ ap (λ (live : Live). live.reserved) c.self.view_is in
+    let reserved = same-reserved m (holders_of c.shrink_in.new.holders.entries) c.shrink_in.ensures.reserved ∙ ap (λ (live : Live). live.reserved) c.self.view_is in
     λ i. record { left = left i; groups = new i; reserved = reserved i }

@@ -17,7 +17,7 @@ returns-in_ok-_lents-in-Some-Int-clause-given g c =
     let some : 0 < table.limits.group = omega (arith, c.size-size.ensures.some, c.size-size.ensures.limit, ap (λ s. s.table.limits.group) same) in
     let due = sym c.in_ok-_lents-in-Some-Int.ensures.refused in
     let is = c.in-Some-Int.is ∙ ap Some c.in-Some-Int.field-0-is in
-    let low : from ≤ to = lends-low view.rows column from to (sym (lends-ints view.rows column from to (sym c.kind.ensures.slot ∙ is)) ∙ due) in
+    let low : from ≤ to = lends-low view.rows column from to (sym (lends-ints view.rows column from to (sym c.kind.ensures.column_index ∙ is)) ∙ due) in
     ints-given table some column from to low c.ranges.to.fits c.in_ok-_lents-in-Some-Int._lents (c.in_ok-_lents-in-Some-Int.ensures.lent ∙ ap (λ s. lent_part s.table column from to) same)
     (sym (ap (λ s. slice_get s.table.schema column) same) ∙ sym c.kind.ensures.schema ∙ is)
 
@@ -32,6 +32,6 @@ returns-in_ok-_texts-in-Some-Text-clause-given g c =
     let some : 0 < table.limits.group = omega (arith, c.size-size.ensures.some, c.size-size.ensures.limit, ap (λ s. s.table.limits.group) same) in
     let due = sym c.in_ok-_texts-in-Some-Text.ensures.refused in
     let is = c.in-Some-Text.is ∙ ap Some c.in-Some-Text.field-0-is in
-    let low : from ≤ to = lends-low view.rows column from to (sym (lends-texts view.rows column from to (sym c.kind.ensures.slot ∙ is)) ∙ due) in
+    let low : from ≤ to = lends-low view.rows column from to (sym (lends-texts view.rows column from to (sym c.kind.ensures.column_index ∙ is)) ∙ due) in
     texts-given table some column from to low c.ranges.to.fits c.in_ok-_texts-in-Some-Text._texts (c.in_ok-_texts-in-Some-Text.ensures.cells ∙ ap (λ s. part column from to s.table.places) same)
     (sym (ap (λ s. slice_get s.table.schema column) same) ∙ sym c.kind.ensures.schema ∙ is)

@@ -1,7 +1,7 @@
 use Rattle.std.proofs.Common.{ℕ, List, OnOk, IfErr, refl, subst}
 use Rattle.far_types.specs.declared.edit.Edit.TheVariants as edit
 use Rattle.far_rows.specs.Jobs.{AreAt}
-use Rattle.far_frame.specs.Changes.{Accepts, Refuses}
+use Rattle.far_frame.specs.Effects.{Accepts, Refuses}
 use Rattle.far_frame.specs.State.{State}
 use Rattle.far_frame.specs.declared.step.Step.TheVariants as step
 use Rattle.far_frame.specs.declared.step.Reply.TheVariants as reply

@@ -1,5 +1,5 @@
 use Rattle.std.proofs.Common.{IfErr, subst}
-use Rattle.far_frame.specs.Changes.{Refuses}
+use Rattle.far_frame.specs.Effects.{Refuses}
 use Rattle.far_frame.specs.State.{State}
 use Rattle.far_frame.specs.declared.step.Step.TheVariants as step
 use Rattle.far_frame.proofs.FrameLaws.{refused, remembering}

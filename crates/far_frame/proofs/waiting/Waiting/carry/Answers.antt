@@ -10,10 +10,10 @@ returns-in_default-clause-err g c = c.take.ensures.after ∙ set-same (is_number
 pub returns-in_default-clause-here : goal.returns-in_default-clause-here
 returns-in_default-clause-here g c =
     let same : c.take.new.self ≡ c.args.self.now = c.take.ensures.after ∙ set-same (is_number c.args.n) c.args.self.now None (sym c.take.ensures.value ∙ c.in_default.is) in
-    subst (AreJobsAt g.S.FarTickets.is_of (g.S.FarTickets.name c.args.store.now)) (sym same) c.requires.here
+    subst (AreJobsAt g.S.FarTickets.is_of (g.S.FarTickets.store_id c.args.store.now)) (sym same) c.requires.here
 
 pub carry-requires-clause-here : goal.carry-requires-clause-here
-carry-requires-clause-here g c κs within = job-here g.S.FarTickets.is_of (g.S.FarTickets.name c.args.store.now) c.args.self.now c.args.n c.in-Some.job c.requires.here (sym c.take.ensures.value ∙ c.in-Some.is)
+carry-requires-clause-here g c κs within = job-here g.S.FarTickets.is_of (g.S.FarTickets.store_id c.args.store.now) c.args.self.now c.args.n c.in-Some.job c.requires.here (sym c.take.ensures.value ∙ c.in-Some.is)
 
 pub returns-in-Ok-clause-carried : goal.returns-in-Ok-clause-carried
 returns-in-Ok-clause-carried g c =
@@ -29,7 +29,7 @@ returns-in-Ok-clause-carried g c =
 pub returns-in-Ok-clause-here : goal.returns-in-Ok-clause-here
 returns-in-Ok-clause-here g c =
     let is_of = g.S.FarTickets.is_of in
-    let name = g.S.FarTickets.name c.args.store.now in
+    let name = g.S.FarTickets.store_id c.args.store.now in
     let old = c.args.self.now in
     let put : c.put.new.self ≡ with_job old c.args.n (Some c.in-Ok.done) =
     c.put.ensures ∙ ap (λ w. with_job w c.args.n (Some c.in-Ok.done)) c.take.ensures.after ∙ set-twice (is_number c.args.n) old None (Some c.in-Ok.done) in
@@ -49,4 +49,4 @@ returns-in-Err-clause-here g c =
     let job : job_at old c.args.n ≡ Some c.in-Err.job = sym c.take.ensures.value ∙ c.in-Some.is ∙ ap Some (sym c.in-Err.ensures.back) in
     let same : c.put-in-Err.new.self ≡ old =
     c.put-in-Err.ensures ∙ ap (λ w. with_job w c.args.n (Some c.in-Err.job)) c.take.ensures.after ∙ set-twice t old None (Some c.in-Err.job) ∙ set-same t old (Some c.in-Err.job) job in
-    subst (AreJobsAt g.S.FarTickets.is_of (g.S.FarTickets.name c.args.store.now)) (sym same) c.requires.here
+    subst (AreJobsAt g.S.FarTickets.is_of (g.S.FarTickets.store_id c.args.store.now)) (sym same) c.requires.here

@@ -9,7 +9,7 @@ pub invariant_of-self-2 : goal.invariant_of-self-2
 invariant_of-self-2 g c =
     let is_of = g.S.FarTickets.is_of in
     let inside = c.self.inside in
-    let name = g.S.FarTickets.name inside.store in
+    let name = g.S.FarTickets.store_id inside.store in
     let here : IsJobAt is_of name c.args.job = subst (λ (w : World g.row.S-Ticket.Denot). IsJobAt is_of w.store c.args.job) (sym c.self.view_is) c.requires.here in
     record {
       rows_at = c.self.invariant.rows_at;

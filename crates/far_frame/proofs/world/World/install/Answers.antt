@@ -1,6 +1,6 @@
 use Rattle.std.proofs.Common.{ap, sym, subst}
 use Rattle.far_frame.specs.declared.step.Reply.{Reply}
-use Rattle.far_frame.specs.Changes.{Replies}
+use Rattle.far_frame.specs.Effects.{Replies}
 use Rattle.far_frame.specs.Jobs.{Installs, InstallRefusal}
 use Rattle.far_frame.specs.Waiting.{Waiting, AreJobsAt, spends}
 use Rattle.far_frame.specs.Worlds.{World, IsEnded, IsNotEnded}
@@ -10,7 +10,7 @@ use Rattle.far_frame.proofs.world.World.install.Goals as goal
 pub invariant_of-self : goal.invariant_of-self
 invariant_of-self g c =
     let is_of = g.S.FarTickets.is_of in
-    let name = g.S.FarTickets.name c.self.inside.store in
+    let name = g.S.FarTickets.store_id c.self.inside.store in
     record {
       rows_at = c.end_fetch-ended.ensures.here;
       jobs_at = subst (AreJobsAt is_of name) (sym c.end.ensures) (ended-here is_of name (spends c.end_fetch-ended.result) c.self.inside.jobs c.args.n c.self.invariant.jobs_at);
@@ -19,7 +19,7 @@ invariant_of-self g c =
 pub returns : goal.returns
 returns g c =
     let inside = c.self.inside in
-    let old : World g.row.S-Ticket.Denot = record { state = inside.frame; store = g.S.FarTickets.name inside.store; begun = inside.begun; jobs = inside.jobs; faults = inside.meter } in
+    let old : World g.row.S-Ticket.Denot = record { state = inside.frame; store = g.S.FarTickets.store_id inside.store; begun = inside.begun; jobs = inside.jobs; faults = inside.meter } in
     let new : World g.row.S-Ticket.Denot = record old { state = c.end_fetch-ended.new.frame; jobs = c.end.new.self } in
     let done = ended-step (Installs g.S.FarTickets.number_of old.state g.S.FarTickets.content) (InstallRefusal g.S.FarTickets.number_of old.state g.S.FarTickets.content) c.args.n old new c.end_fetch-ended.result c.end_fetch-ended.ensures.ended c.end_fetch-ended.ensures.refused c.end_fetch-ended.ensures.err
     (ap (λ (jobs : Waiting g.row.S-Ticket.Denot). record old { state = c.end_fetch-ended.new.frame; jobs = jobs }) c.end.ensures) in

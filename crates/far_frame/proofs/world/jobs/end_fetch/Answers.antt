@@ -4,4 +4,4 @@ use Rattle.far_frame.proofs.WorldLaws.{job-here}
 use Rattle.far_frame.proofs.world.jobs.end_fetch.Goals as goal
 
 pub install-requires-clause-job_here : goal.install-requires-clause-job_here
-install-requires-clause-job_here g c κs within = job-here g.S.FarTickets.is_of (g.S.FarTickets.name c.args.store.now) c.args.jobs.now c.args.n c.in-Some.job.now c.requires.jobs_here (sym c.get.ensures ∙ ap option_copied c.in-Some.is)
+install-requires-clause-job_here g c κs within = job-here g.S.FarTickets.is_of (g.S.FarTickets.store_id c.args.store.now) c.args.jobs.now c.args.n c.in-Some.job.now c.requires.jobs_here (sym c.get.ensures ∙ ap option_copied c.in-Some.is)

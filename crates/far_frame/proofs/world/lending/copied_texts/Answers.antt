@@ -19,9 +19,9 @@ returns-in_err-texts-2-clause-refused g c =
     let more : start < to = omega (arith, c.loop-start-test.true) in
     let same = c.scope-view.ensures in
     let is : c.min-end.result ≡ end = c.min-end.ensures in
-    let even : size ≡ s.rows.size = c.size-size.ensures.rows ∙ ap (λ (t : LiveState g.row.S-Ticket.Denot). t.rows.size) same in
+    let same_length : size ≡ s.rows.size = c.size-size.ensures.rows ∙ ap (λ (t : LiveState g.row.S-Ticket.Denot). t.rows.size) same in
     let on : start ≤ end = (let far = next-further c.args.column s.table.places size c.size-size.ensures.some start to more (lent_part s.table c.args.column c.args.from to) in omega (arith, far)) in
-    let may : texts_refusal s.rows c.args.column start end ≡ None = texts-part s.rows c.args.column c.args.from to (omega (arith, even, c.size-size.ensures.some)) start end c.loop-start.invariant.low on (omega arith) c.loop-start.invariant.due in
+    let may : texts_refusal s.rows c.args.column start end ≡ None = texts-part s.rows c.args.column c.args.from to (omega (arith, same_length, c.size-size.ensures.some)) start end c.loop-start.invariant.low on (omega arith) c.loop-start.invariant.due in
     absurd (none-some c.in_err-texts-2.field-0.0 (sym (c.in_err-texts-2.ensures.refused ∙ (λ i. texts_refusal (same i).rows c.args.column start (is i)) ∙ may)))
 
 pub loop-start-preserved : goal.loop-start-preserved

@@ -3,7 +3,7 @@ use Rattle.far_log.proofs.Puts.{put-within, put-behind}
 use Rattle.far_log.proofs.block.Block.write_at.Goals as goal
 
 pub unreachable-requires : goal.unreachable-requires
-unreachable-requires g c = omega (arith, c.requires.room, c.in_default.ensures.full)
+unreachable-requires g c = omega (arith, c.requires.enough, c.in_default.ensures.full)
 
 pub returns-then-end-len-clause-put : goal.returns-then-end-len-clause-put
 returns-then-end-len-clause-put g c =

@@ -1,7 +1,7 @@
 use Rattle.std.proofs.Common.{◌≡◌, ◌≤◌, ◌++◌, ◌∷◌, [], length, take, refl, ap, ◌∙◌, arith}
 use Rattle.far_log.specs.Chunking.{joined, start_at}
 use Rattle.far_log.proofs.Chunks.{next-chunk, all-full}
-use Rattle.far_log.proofs.ChunkedVecs.{chunk-is, has-room, kept-reused, shown-reused, kept-pushed, shown-pushed, length-shown}
+use Rattle.far_log.proofs.ChunkedVecs.{chunk-is, has-size, kept-reused, shown-reused, kept-pushed, shown-pushed, length-shown}
 use Rattle.far_log.proofs.chunked_vec.ChunkedVec.push.Goals as goal
 use Rattle.far_log.proofs.chunked_vec.ChunkedVec.push.Goals.{then-at-len, else-at-len}
 
@@ -17,8 +17,8 @@ push_reserved-requires g c =
     let here = chunk-is c.make_chunk.new.chunks.items c.self.inside.len c.self.inside.len _ _ c.place_of-chunk.ensures.place c.index_mut-chunk.result.now c.index_mut-chunk.ensures.value c.in_ok-make_chunk.ensures.there in
     let within : c.self.inside.len ≤ length (joined c.make_chunk.new.chunks.items) = omega (arith, ap length c.in_ok-make_chunk.ensures.same, c.self.invariant.within) in
     let few = length-shown c.self.inside.chunks.items c.self.inside.len c.self.invariant in
-    let room = has-room c.make_chunk.new.chunks.items c.self.inside.len c.self.inside.len _ _ c.place_of-chunk.ensures.place c.index_mut-chunk.result.now c.index_mut-chunk.result.now c.args.value c.in_ok-make_chunk.ensures.kept refl within (omega (arith, c.requires, few, ap length c.self.view_is)) here (omega (arith, c.if-at-len.false, c.len.ensures, c.index_mut-chunk.result.now.ok.0)) in
-    omega (arith, room, c.index_mut-chunk.result.now.ok.0)
+    let size = has-size c.make_chunk.new.chunks.items c.self.inside.len c.self.inside.len _ _ c.place_of-chunk.ensures.place c.index_mut-chunk.result.now c.index_mut-chunk.result.now c.args.value c.in_ok-make_chunk.ensures.kept refl within (omega (arith, c.requires, few, ap length c.self.view_is)) here (omega (arith, c.if-at-len.false, c.len.ensures, c.index_mut-chunk.result.now.ok.0)) in
+    omega (arith, size, c.index_mut-chunk.result.now.ok.0)
 
 pub invariant_of-self-2 : goal.invariant_of-self-2
 invariant_of-self-2 g c =

@@ -1,13 +1,13 @@
 use Rattle.std.proofs.Common.{◌≡◌, ◌<◌, length, map, ap, subst, ◌∙◌, arith}
-use Rattle.far_log.specs.Room.{Room, IsRegion, segment_of}
-use Rattle.far_log.specs.Changes.{compacted, gathered, IsEmptyOther}
+use Rattle.far_log.specs.RegionState.{RegionState, IsRegion, segment_of}
+use Rattle.far_log.specs.Effects.{compacted, gathered, IsEmptyOther}
 use Rattle.far_log.specs.Skipping.{IsSkip, IsSpaced}
 use Rattle.far_log.proofs.Compactions.{compacted-region, compacted-skip, compacts}
 use Rattle.far_log.proofs.region.Region.compact.Goals as goal
 
 pub invariant_of-self-2 : goal.invariant_of-self-2
 invariant_of-self-2 g c =
-    let old : Room g.row.T.Denot = c.args.self.now in
+    let old : RegionState g.row.T.Denot = c.args.self.now in
     let there : c.args.from < length old = omega (arith, c.if-from-len.false, c.len.ensures, ap length c.self.view_is) in
     let region : IsRegion old = rw (← c.self.view_is) c.self.invariant.region in
     let target : IsEmptyOther old c.args.from c.in-Some.to = c.in-Some.ensures.found in
@@ -20,7 +20,7 @@ invariant_of-self-2 g c =
 
 pub returns-clause-compacted : goal.returns-clause-compacted
 returns-clause-compacted g c =
-    let old : Room g.row.T.Denot = c.args.self.now in
+    let old : RegionState g.row.T.Denot = c.args.self.now in
     let there : c.args.from < length old = omega (arith, c.if-from-len.false, c.len.ensures, ap length c.self.view_is) in
     let region : IsRegion old = rw (← c.self.view_is) c.self.invariant.region in
     let moved : c.compact.new.self ≡ compacted old c.args.from c.in-Some.to c.args.order.now = c.in_ok-offsets.ensures.moved ∙ ap (λ r. compacted r c.args.from c.in-Some.to c.args.order.now) c.self.view_is in
@@ -29,7 +29,7 @@ returns-clause-compacted g c =
 
 pub returns-clause-sound : goal.returns-clause-sound
 returns-clause-sound g c =
-    let old : Room g.row.T.Denot = c.args.self.now in
+    let old : RegionState g.row.T.Denot = c.args.self.now in
     let there : c.args.from < length old = omega (arith, c.if-from-len.false, c.len.ensures, ap length c.self.view_is) in
     let region : IsRegion old = rw (← c.self.view_is) c.self.invariant.region in
     let moved : c.compact.new.self ≡ compacted old c.args.from c.in-Some.to c.args.order.now = c.in_ok-offsets.ensures.moved ∙ ap (λ r. compacted r c.args.from c.in-Some.to c.args.order.now) c.self.view_is in

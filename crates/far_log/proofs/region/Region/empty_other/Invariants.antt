@@ -1,5 +1,5 @@
 use Rattle.std.proofs.Common.{◌≢◌, ℕ, ◌<◌, []}
-use Rattle.far_log.specs.Room.{segment_of}
+use Rattle.far_log.specs.RegionState.{segment_of}
 use Rattle.far_log.proofs.region.Region.empty_other.Given as goal
 
 abbrev pub invariant-loop-number : goal.invariant-loop-number

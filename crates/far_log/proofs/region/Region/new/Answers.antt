@@ -1,5 +1,5 @@
 use Rattle.std.proofs.Common.{arith}
-use Rattle.far_log.proofs.RoomLaws.{region-new}
+use Rattle.far_log.proofs.RegionLaws.{region-new}
 use Rattle.far_log.proofs.Skipped.{skip-nothing}
 use Rattle.far_log.proofs.region.Region.new.Goals as goal
 

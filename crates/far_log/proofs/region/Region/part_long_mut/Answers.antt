@@ -1,8 +1,8 @@
 use Rattle.std.proofs.Common.{◌≡◌, ◌≤◌, ◌+◌, ℕ, List, length, Option, Some, None, refl, sym, ap, subst, ◌∙◌, arith}
 use Rattle.std.specs.Prelude.{IsSome, IsSomeAnd, slice_range}
-use Rattle.far_log.specs.Room.{Room, IsRegion, part_of, list_at}
+use Rattle.far_log.specs.RegionState.{RegionState, IsRegion, part_of, list_at}
 use Rattle.far_log.proofs.Laid.{laid-written, whole-range}
-use Rattle.far_log.proofs.RoomLaws.{region-set, laid-segment, part-there, writes-whole}
+use Rattle.far_log.proofs.RegionLaws.{region-set, laid-segment, part-there, writes-whole}
 use Rattle.far_log.proofs.Skipped.{skip-written}
 use Rattle.far_log.proofs.region.Region.part_long_mut.Goals as goal
 
@@ -23,17 +23,17 @@ range_mut-requires-clause-within g c = rw c.self.view_is (some-within (part_of c
 
 pub invariant_of-self-lent : goal.invariant_of-self-lent
 invariant_of-self-lent g c w =
-    let room : Room g.row.T.Denot = c.self.inside.segments in
-    let lt = part-there room c.args.at (subst (λ r. IsSome (part_of r c.args.at)) (sym c.self.view_is) (some-long _ (part_of c.args.self.now c.args.at) c.requires)) in
+    let state : RegionState g.row.T.Denot = c.self.inside.segments in
+    let lt = part-there state c.args.at (subst (λ r. IsSome (part_of r c.args.at)) (sym c.self.view_is) (some-long _ (part_of c.args.self.now c.args.at) c.requires)) in
     record {
-      region = region-set room c.args.at.segment _ c.self.invariant.region lt refl (laid-written _ (c.args.at.offset + 0) w (laid-segment room c.args.at.segment c.self.invariant.region lt));
-      skipped = skip-written room c.self.inside.skip c.self.invariant.skipped c.args.at.segment (c.args.at.offset + 0) w lt;
+      region = region-set state c.args.at.segment _ c.self.invariant.region lt refl (laid-written _ (c.args.at.offset + 0) w (laid-segment state c.args.at.segment c.self.invariant.region lt));
+      skipped = skip-written state c.self.inside.skip c.self.invariant.skipped c.args.at.segment (c.args.at.offset + 0) w lt;
     }
 
 pub returns : goal.returns
 returns g c =
-    let room : Room g.row.T.Denot = c.args.self.now in
-    let value : IsSomeAnd (part_of room c.args.at) (λ list. c.range_mut.result.now ≡ slice_range list 0 c.args.len) = subst (λ r. IsSomeAnd (part_of r c.args.at) (λ list. c.range_mut.result.now ≡ slice_range list 0 c.args.len)) c.self.view_is c.range_mut.ensures.value in
-    let lent : part_of room c.args.at ≡ Some c.range_mut.result.now = long-is (part_of room c.args.at) c.args.len c.range_mut.result.now c.requires value in
-    let region : IsRegion room = rw (← c.self.view_is) c.self.invariant.region in
-    ((refl, λ w. rw c.self.view_is refl), record { writes_back = tt; lent = lent; alone = λ left long. writes-whole room c.args.at left c.range_mut.result.now region lent long })
+    let state : RegionState g.row.T.Denot = c.args.self.now in
+    let value : IsSomeAnd (part_of state c.args.at) (λ list. c.range_mut.result.now ≡ slice_range list 0 c.args.len) = subst (λ r. IsSomeAnd (part_of r c.args.at) (λ list. c.range_mut.result.now ≡ slice_range list 0 c.args.len)) c.self.view_is c.range_mut.ensures.value in
+    let lent : part_of state c.args.at ≡ Some c.range_mut.result.now = long-is (part_of state c.args.at) c.args.len c.range_mut.result.now c.requires value in
+    let region : IsRegion state = rw (← c.self.view_is) c.self.invariant.region in
+    ((refl, λ w. rw c.self.view_is refl), record { writes_back = tt; lent = lent; alone = λ left long. writes-whole state c.args.at left c.range_mut.result.now region lent long })

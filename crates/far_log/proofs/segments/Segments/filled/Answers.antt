@@ -1,8 +1,8 @@
 use Rattle.std.proofs.Common.{ap, ◌∙◌}
 use Rattle.std.specs.Prelude.{sum_by}
-use Rattle.far_log.specs.Room.{fill_of}
-use Rattle.far_log.proofs.Segmented.{filled-rooms}
+use Rattle.far_log.specs.RegionState.{fill_of}
+use Rattle.far_log.proofs.Segmented.{filled-states}
 use Rattle.far_log.proofs.segments.Segments.filled.Goals as goal
 
 pub returns : goal.returns
-returns g c = c.filled.ensures ∙ filled-rooms _ _ _ c.self.invariant ∙ ap (sum_by fill_of) c.self.view_is
+returns g c = c.filled.ensures ∙ filled-states _ _ _ c.self.invariant ∙ ap (sum_by fill_of) c.self.view_is

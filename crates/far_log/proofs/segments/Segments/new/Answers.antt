@@ -1,5 +1,5 @@
 use Rattle.std.proofs.Common.{◌≡◌, ap, ◌∙◌, arith, replicate}
-use Rattle.far_log.proofs.Segmented.{blank, rooms-none, kept-none}
+use Rattle.far_log.proofs.Segmented.{default_value, states-none, kept-none}
 use Rattle.far_log.proofs.segments.Segments.new.Goals as goal
 
 pub invariant_of-result : goal.invariant_of-result
@@ -10,4 +10,4 @@ invariant_of-result g c =
 pub returns : goal.returns
 returns g c =
     let count : c.loop.counter ≡ c.args.count = omega (arith, c.loop.auto.counter-end) in
-    rw (c.in_ok-stacks.ensures.empty, c.loop.invariant, count) record { empty = rooms-none c.args.size c.args.count; memory = tt }
+    rw (c.in_ok-stacks.ensures.empty, c.loop.invariant, count) record { empty = states-none c.args.size c.args.count; memory = tt }

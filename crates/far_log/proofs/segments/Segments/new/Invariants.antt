@@ -1,6 +1,6 @@
 use Rattle.std.proofs.Common.{◌≡◌, replicate}
-use Rattle.far_log.proofs.Segmented.{blank}
+use Rattle.far_log.proofs.Segmented.{default_value}
 use Rattle.far_log.proofs.segments.Segments.new.Given as goal
 
 abbrev pub invariant-loop : goal.invariant-loop
-invariant-loop g l = l.tables.items ≡ replicate l.counter blank
+invariant-loop g l = l.tables.items ≡ replicate l.counter default_value

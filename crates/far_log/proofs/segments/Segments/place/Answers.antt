@@ -1,16 +1,16 @@
 use Rattle.std.proofs.Common.{◌≡◌, ◌-◌, ◌+◌, ◌++◌, [], true, ◌<◌, length, get_or, refl, sym, ap, subst, ◌∙◌, arith}
-use Rattle.far_log.specs.Room.{SegmentRoom, segment_of, space_in}
-use Rattle.far_log.specs.declared.slots.Slot.{Slot}
-use Rattle.far_log.specs.Storage.{slots_of}
+use Rattle.far_log.specs.RegionState.{SegmentState, segment_of, space_in}
+use Rattle.far_log.specs.declared.extents.Extent.{Extent}
+use Rattle.far_log.specs.Storage.{extents_of}
 use Rattle.far_log.proofs.PartChanges.{stored-push, used-le-end, shown-push}
-use Rattle.far_log.proofs.Segmented.{segment-with, count-rooms, count-tables, rooms-set, kept-set}
+use Rattle.far_log.proofs.Segmented.{segment-with, count-states, count-tables, states-set, kept-set}
 use Rattle.far_log.proofs.segments.Segments.place.Goals as goal
 
 pub len-fill-requires : goal.len-fill-requires
-len-fill-requires g c = omega (arith, c.requires.there, ap length c.self.view_is, count-rooms _ _ _ c.self.invariant, count-tables _ _ _ c.self.invariant)
+len-fill-requires g c = omega (arith, c.requires.there, ap length c.self.view_is, count-states _ _ _ c.self.invariant, count-tables _ _ _ c.self.invariant)
 
 pub index_mut-table-requires : goal.index_mut-table-requires
-index_mut-table-requires g c = omega (arith, c.requires.there, ap length c.self.view_is, count-rooms _ _ _ c.self.invariant, c.self.inside.tables.ok.0)
+index_mut-table-requires g c = omega (arith, c.requires.there, ap length c.self.view_is, count-states _ _ _ c.self.invariant, c.self.inside.tables.ok.0)
 
 pub push-requires-clause-linked : goal.push-requires-clause-linked
 push-requires-clause-linked g c =
@@ -42,7 +42,7 @@ push-requires-clause-small g c =
     let xs = get_or c.self.inside.stacks.stacks c.args.number [] in
     let h = segment-with c.self.inside.stacks.size c.self.inside.stacks.stacks c.self.inside.tables.items c.args.self.now c.args.number t c.self.invariant c.self.view_is c.requires.there c.index_mut-table.ensures.value in
     let left : space_in (segment_of c.args.self.now c.args.number) ≡ c.self.inside.stacks.size - length xs = omega (arith, h.fill, ap (λ s. s.size) h.shows) in
-    omega (arith, c.len-fill.ensures.len, h.kept.stored.room, h.kept.stored.small)
+    omega (arith, c.len-fill.ensures.len, h.kept.stored.enough, h.kept.stored.small)
 
 pub push-requires-clause-sum : goal.push-requires-clause-sum
 push-requires-clause-sum g c =
@@ -50,19 +50,19 @@ push-requires-clause-sum g c =
     let xs = get_or c.self.inside.stacks.stacks c.args.number [] in
     let h = segment-with c.self.inside.stacks.size c.self.inside.stacks.stacks c.self.inside.tables.items c.args.self.now c.args.number t c.self.invariant c.self.view_is c.requires.there c.index_mut-table.ensures.value in
     let left : space_in (segment_of c.args.self.now c.args.number) ≡ c.self.inside.stacks.size - length xs = omega (arith, h.fill, ap (λ s. s.size) h.shows) in
-    let used = used-le-end xs 0 (slots_of t.entries) h.kept.stored.lined (omega (arith, h.kept.stored.end)) in
-    omega (arith, left, used, h.kept.stored.sum, h.kept.stored.end, h.kept.stored.room, h.kept.stored.small, c.requires.fits)
+    let used = used-le-end xs 0 (extents_of t.entries) h.kept.stored.adjacent (omega (arith, h.kept.stored.end)) in
+    omega (arith, left, used, h.kept.stored.sum, h.kept.stored.end, h.kept.stored.enough, h.kept.stored.small, c.requires.fits)
 
 pub push_slice-requires-clause-there : goal.push_slice-requires-clause-there
-push_slice-requires-clause-there g c = omega (arith, c.requires.there, ap length c.self.view_is, count-rooms _ _ _ c.self.invariant, count-tables _ _ _ c.self.invariant)
+push_slice-requires-clause-there g c = omega (arith, c.requires.there, ap length c.self.view_is, count-states _ _ _ c.self.invariant, count-tables _ _ _ c.self.invariant)
 
-pub push_slice-requires-clause-room : goal.push_slice-requires-clause-room
-push_slice-requires-clause-room g c =
+pub push_slice-requires-clause-enough : goal.push_slice-requires-clause-enough
+push_slice-requires-clause-enough g c =
     let t = c.index_mut-table.result.now in
     let xs = get_or c.self.inside.stacks.stacks c.args.number [] in
     let h = segment-with c.self.inside.stacks.size c.self.inside.stacks.stacks c.self.inside.tables.items c.args.self.now c.args.number t c.self.invariant c.self.view_is c.requires.there c.index_mut-table.ensures.value in
     let left : space_in (segment_of c.args.self.now c.args.number) ≡ c.self.inside.stacks.size - length xs = omega (arith, h.fill, ap (λ s. s.size) h.shows) in
-    omega (arith, left, c.requires.fits, h.kept.stored.room)
+    omega (arith, left, c.requires.fits, h.kept.stored.enough)
 
 pub invariant_of-self-2 : goal.invariant_of-self-2
 invariant_of-self-2 g c =
@@ -72,7 +72,7 @@ invariant_of-self-2 g c =
     let left : space_in (segment_of c.args.self.now c.args.number) ≡ c.self.inside.stacks.size - length xs = omega (arith, h.fill, ap (λ s. s.size) h.shows) in
     rw c.push_slice.ensures (kept-set c.self.inside.stacks.size c.self.inside.stacks.stacks c.self.inside.tables.items c.args.number (xs ++ c.args.items.now) c.push.new.self c.self.invariant record {
       linked = c.in_ok-offset.ensures.linked;
-      stored = rw (c.in_ok-offset.ensures.slots, c.in_ok-offset.ensures.used) (stored-push xs c.args.items.now (slots_of t.entries) _ _ _ h.kept.stored c.requires.some (omega (arith, left, c.requires.fits)) (rw c.len-fill.ensures.len refl));
+      stored = rw (c.in_ok-offset.ensures.extents, c.in_ok-offset.ensures.used) (stored-push xs c.args.items.now (extents_of t.entries) _ _ _ h.kept.stored c.requires.some (omega (arith, left, c.requires.fits)) (rw c.len-fill.ensures.len refl));
     })
 
 pub returns-clause-placed : goal.returns-clause-placed
@@ -81,8 +81,8 @@ returns-clause-placed g c =
     let xs = get_or c.self.inside.stacks.stacks c.args.number [] in
     let h = segment-with c.self.inside.stacks.size c.self.inside.stacks.stacks c.self.inside.tables.items c.args.self.now c.args.number t c.self.invariant c.self.view_is c.requires.there c.index_mut-table.ensures.value in
     let left : space_in (segment_of c.args.self.now c.args.number) ≡ c.self.inside.stacks.size - length xs = omega (arith, h.fill, ap (λ s. s.size) h.shows) in
-    rw (c.push_slice.ensures, rooms-set c.self.inside.stacks.size c.self.inside.stacks.stacks c.self.inside.tables.items c.args.number (xs ++ c.args.items.now) c.push.new.self, c.in_ok-offset.ensures.slots, c.self.view_is, h.shows)
-    (let slot : Slot = record { offset = c.len-fill.result; len = length c.args.items.now; live = true } in rw (shown-push xs c.args.items.now (slots_of t.entries) slot t.used c.self.inside.stacks.size h.kept.stored (rw c.len-fill.ensures.len refl)) refl)
+    rw (c.push_slice.ensures, states-set c.self.inside.stacks.size c.self.inside.stacks.stacks c.self.inside.tables.items c.args.number (xs ++ c.args.items.now) c.push.new.self, c.in_ok-offset.ensures.extents, c.self.view_is, h.shows)
+    (let extent : Extent = record { offset = c.len-fill.result; len = length c.args.items.now; live = true } in rw (shown-push xs c.args.items.now (extents_of t.entries) extent t.used c.self.inside.stacks.size h.kept.stored (rw c.len-fill.ensures.len refl)) refl)
 
 pub returns-clause-offset : goal.returns-clause-offset
 returns-clause-offset g c =

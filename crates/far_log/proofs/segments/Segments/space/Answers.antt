@@ -1,9 +1,9 @@
 use Rattle.std.proofs.Common.{◌<◌, ap, ◌∙◌, sym, arith, length}
-use Rattle.far_log.proofs.Segmented.{segment-is, count-rooms, count-tables}
+use Rattle.far_log.proofs.Segmented.{segment-is, count-states, count-tables}
 use Rattle.far_log.proofs.segments.Segments.space.Goals as goal
 
 pub len-requires : goal.len-requires
-len-requires g c = omega (arith, c.requires, ap length c.self.view_is, count-rooms _ _ _ c.self.invariant, count-tables _ _ _ c.self.invariant)
+len-requires g c = omega (arith, c.requires, ap length c.self.view_is, count-states _ _ _ c.self.invariant, count-tables _ _ _ c.self.invariant)
 
 pub returns-clause-space : goal.returns-clause-space
 returns-clause-space g c =

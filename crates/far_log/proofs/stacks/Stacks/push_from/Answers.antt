@@ -40,14 +40,14 @@ copy_to-requires-clause-within g c =
     let z = stack-is c.args.self.now c.self.inside.block.items.items c.self.inside.block.items.cap c.self.inside.size c.self.inside.lens.items c.args.source c.self.invariant c.self.view_is c.requires.source in
     omega (arith, c.begin_of.ensures.begin, c.requires.some, c.requires.within, z.long, z.ends)
 
-pub copy_to-requires-clause-room : goal.copy_to-requires-clause-room
-copy_to-requires-clause-room g c =
+pub copy_to-requires-clause-enough : goal.copy_to-requires-clause-enough
+copy_to-requires-clause-enough g c =
     let s = stack-is c.args.self.now c.self.inside.block.items.items c.self.inside.block.items.cap c.self.inside.size c.self.inside.lens.items c.args.number c.self.invariant c.self.view_is c.requires.there in
     let n = get_or c.self.inside.lens.items c.args.number 0 in
     let z = stack-is c.args.self.now c.self.inside.block.items.items c.self.inside.block.items.cap c.self.inside.size c.self.inside.lens.items c.args.source c.self.invariant c.self.view_is c.requires.source in
     let read : c.index-old.result.now ≡ n = get_or_read c.self.inside.lens.items c.args.number c.index-old.result.now s.there c.index-old.ensures 0 in
     let begin : 0 + c.args.number * c.self.inside.size + n ≡ c.begin_of-2.result + c.index-old.result.now = omega (arith, read, c.begin_of-2.ensures.begin) in
-    omega (arith, read, c.begin_of-2.ensures.begin, c.requires.room, s.long, s.size_is, s.reach)
+    omega (arith, read, c.begin_of-2.ensures.begin, c.requires.enough, s.long, s.size_is, s.reach)
 
 pub index_mut-requires : goal.index_mut-requires
 index_mut-requires g c =
@@ -63,7 +63,7 @@ overflow_add-old g c =
     let z = stack-is c.args.self.now c.self.inside.block.items.items c.self.inside.block.items.cap c.self.inside.size c.self.inside.lens.items c.args.source c.self.invariant c.self.view_is c.requires.source in
     let read : c.index-old.result.now ≡ n = get_or_read c.self.inside.lens.items c.args.number c.index-old.result.now s.there c.index-old.ensures 0 in
     let begin : 0 + c.args.number * c.self.inside.size + n ≡ c.begin_of-2.result + c.index-old.result.now = omega (arith, read, c.begin_of-2.ensures.begin) in
-    omega (arith, read, c.requires.room, s.long, s.size_is, c.self.invariant.small)
+    omega (arith, read, c.requires.enough, s.long, s.size_is, c.self.invariant.small)
 
 pub invariant_of-self : goal.invariant_of-self
 invariant_of-self g c =
@@ -82,7 +82,7 @@ invariant_of-self g c =
     let long : length (take c.args.len (drop (c.begin_of.result + c.args.from) block)) ≡ c.args.len = omega (arith, c.begin_of.ensures.begin, c.requires.some, c.requires.within, z.long, z.ends, length-take c.args.len (drop (c.begin_of.result + c.args.from) block), length-drop (c.begin_of.result + c.args.from) block) in
     let more = n + c.args.len in
     rw read record {
-      within = within-put c.self.inside.size (length block) (length c.copy_to.new.self.items.items) 0 c.self.inside.lens.items c.args.number more s.there c.self.invariant.within c.copy_to.ensures.put.long (omega (arith, c.requires.room, s.long, s.size_is)) (omega (arith, begin, long, c.copy_to.ensures.put.reach));
+      within = within-put c.self.inside.size (length block) (length c.copy_to.new.self.items.items) 0 c.self.inside.lens.items c.args.number more s.there c.self.invariant.within c.copy_to.ensures.put.long (omega (arith, c.requires.enough, s.long, s.size_is)) (omega (arith, begin, long, c.copy_to.ensures.put.reach));
       reserved = rw (length-set c.self.inside.lens.items c.args.number more) (omega (arith, c.self.invariant.reserved, c.copy_to.ensures.capacity));
       few = omega (arith, c.self.invariant.few, length-set c.self.inside.lens.items c.args.number more);
       small = c.self.invariant.small;
@@ -103,5 +103,5 @@ returns g c =
     let list : take c.args.len (drop (c.begin_of.result + c.args.from) block) ≡ take c.args.len (drop c.args.from (stack_of c.args.self.now c.args.source)) =
     sym (ap (λ l. take c.args.len (drop c.args.from l)) z.list ∙ (rw counts at range) ∙ ap (λ j. take c.args.len (drop (j + c.args.from) block)) (sym c.begin_of.ensures.begin)) in
     let long : length (take c.args.len (drop (c.begin_of.result + c.args.from) block)) ≡ c.args.len = omega (arith, c.begin_of.ensures.begin, c.requires.some, c.requires.within, z.long, z.ends, length-take c.args.len (drop (c.begin_of.result + c.args.from) block), length-drop (c.begin_of.result + c.args.from) block) in
-    let put = stacks-put c.self.inside.size block c.copy_to.new.self.items.items _ _ c.copy_to.ensures.put 0 c.self.inside.lens.items c.args.number n s.there c.self.invariant.within refl begin (omega (arith, c.requires.room, s.long, s.size_is, long)) in
+    let put = stacks-put c.self.inside.size block c.copy_to.new.self.items.items _ _ c.copy_to.ensures.put 0 c.self.inside.lens.items c.args.number n s.there c.self.invariant.within refl begin (omega (arith, c.requires.enough, s.long, s.size_is, long)) in
     rw (read, ← list, ← c.self.view_is) (rw (rw long at put) refl)

@@ -44,8 +44,8 @@ lend-requires-clause-within g c =
     let o = c.args.number * c.self.inside.size in
     omega (arith, c.begin_of.ensures.begin, c.requires.within, c.requires.some, s.long, s.ends, c.self.inside.block.items.ok.0)
 
-pub lend-requires-clause-room : goal.lend-requires-clause-room
-lend-requires-clause-room g c =
+pub lend-requires-clause-enough : goal.lend-requires-clause-enough
+lend-requires-clause-enough g c =
     let s = stack-is c.args.self.now c.self.inside.block.items.items c.self.inside.block.items.cap c.self.inside.size c.self.inside.lens.items c.args.number c.self.invariant c.self.view_is c.requires.there in
     let block = c.self.inside.block.items.items in
     let n = get_or c.self.inside.lens.items c.args.number 0 in

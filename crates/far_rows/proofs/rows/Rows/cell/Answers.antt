@@ -5,7 +5,7 @@ use Rattle.std.proofs.lemmas.Bool.{lt-ltb}
 use Rattle.std.proofs.lemmas.Option.{slice_get_read}
 use Rattle.far_types.specs.declared.refusal.Refusal.TheVariants as refusal
 use Rattle.far_types.specs.FirstOf.{first_of}
-use Rattle.far_rows.specs.declared.slot.Slot.{Slot}
+use Rattle.far_rows.specs.declared.column_index.ColumnIndex.{ColumnIndex}
 use Rattle.far_rows.specs.Rows.{Rows}
 use Rattle.far_rows.specs.Refusing.{absent_at}
 use Rattle.far_rows.proofs.rows.Rows.cell.Goals as goal
@@ -16,10 +16,10 @@ returns-clause-refused g c =
     let column = c.args.column in
     let place = c.args.place in
     let lookup = c.in-Some.ensures.lookup in
-    let slots = c.deref.ensures.value ∙ ap (λ (rows : Rows g.row.S-Ticket.Denot). rows.slots) c.self.view_is in
-    let at : slice_get r.slots column ≡ Some c.in-Some.slot.now =
-    sym (ap (λ (ss : List Slot). slice_get ss column) slots)
-    ∙ slice_get_read c.deref.result.now (length c.deref.result.now) column c.in-Some.slot.now refl lookup.3.0 lookup.1 in
+    let column_indexes = c.deref.ensures.value ∙ ap (λ (rows : Rows g.row.S-Ticket.Denot). rows.column_indexes) c.self.view_is in
+    let at : slice_get r.column_indexes column ≡ Some c.in-Some.column_index.now =
+    sym (ap (λ (ss : List ColumnIndex). slice_get ss column) column_indexes)
+    ∙ slice_get_read c.deref.result.now (length c.deref.result.now) column c.in-Some.column_index.now refl lookup.3.0 lookup.1 in
     let below : place < length r.alive = omega (arith, c.if-place-len.false, c.len.ensures, ap (λ (rows : Rows g.row.S-Ticket.Denot). length rows.alive) c.self.view_is) in
     let there = lt-ltb place (length r.alive) below in
     c.cell_in.ensures.refused

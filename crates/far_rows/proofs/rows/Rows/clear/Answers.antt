@@ -9,7 +9,7 @@ pub returns-clause-places : goal.returns-clause-places
 returns-clause-places g c =
     let content = g.S.FarTickets.content in
     let inside = c.self.inside in
-    let rows : Rows g.row.S-Ticket.Denot = record { slots = inside.slots.items; size = inside.size; numbers = inside.numbers.items; texts = inside.texts.items; number_objects = inside.number_objects; text_objects = inside.text_objects; alive = inside.alive } in
+    let rows : Rows g.row.S-Ticket.Denot = record { column_indexes = inside.column_indexes.items; size = inside.size; numbers = inside.numbers.items; texts = inside.texts.items; number_objects = inside.number_objects; text_objects = inside.text_objects; alive = inside.alive } in
     ap (places_of (cells_of content rows)) c.clear.ensures
     ∙ places-clear (cells_of content rows) inside.alive c.args.place
     ∙ ap (λ r. changed_at removed c.args.place (places_in content r)) c.self.view_is

@@ -4,5 +4,5 @@ use Rattle.far_types.specs.FirstOf.{first_of}
 use Rattle.far_rows.specs.Refusing.{told_at}
 use Rattle.far_rows.proofs.rows.Rows.here.Given as goal
 
-abbrev pub invariant-loop-slot : goal.invariant-loop-slot
-invariant-loop-slot g l = first_of (map (told_at l.self l.group) l.slot-items) ≡ first_of (map (told_at l.self l.group) (drop l.slot-index l.slot-items))
+abbrev pub invariant-loop-column_index : goal.invariant-loop-column_index
+invariant-loop-column_index g l = first_of (map (told_at l.self l.group) l.column_index-items) ≡ first_of (map (told_at l.self l.group) (drop l.column_index-index l.column_index-items))

@@ -1,8 +1,8 @@
 use Rattle.std.proofs.Common.{◌<◌, [], ◌∷◌, length, sym, ap, subst, ◌∙◌}
 use Rattle.far_types.specs.FirstOf.{first_of}
-use Rattle.far_rows.specs.declared.slot.Slot.{Slot}
-use Rattle.far_rows.specs.declared.slot.Slot.TheVariants as slot
-use Rattle.far_rows.specs.Slots.{IsWithin}
+use Rattle.far_rows.specs.declared.column_index.ColumnIndex.{ColumnIndex}
+use Rattle.far_rows.specs.declared.column_index.ColumnIndex.TheVariants as column_index
+use Rattle.far_rows.specs.ColumnIndexes.{IsWithin}
 use Rattle.far_rows.specs.Rows.{Rows}
 use Rattle.far_rows.specs.Refusing.{told_at}
 use Rattle.far_rows.proofs.Reading.{text-column, absent-number, absent-text}
@@ -18,13 +18,13 @@ returns-in-Number g c =
     let there = subst (λ (r : Rows g.row.S-Ticket.Denot). c.in-Number.number < length r.numbers) (sym c.self.view_is) (subst (IsWithin (length c.args.self.now.numbers) (length c.args.self.now.texts)) c.in-Number.is c.requires) in
     c.numbers_are_here.ensures
     ∙ ap (λ case. first_of (case ∷ [])) (sym (absent-number g.S.FarTickets.content _ c.self.invariant c.args.group c.in-Number.number c.index.result.now there c.index.ensures))
-    ∙ ap (λ (r : Rows g.row.S-Ticket.Denot). first_of (told_at r c.args.group (slot.Number c.in-Number.number) ∷ [])) c.self.view_is
-    ∙ ap (λ (s : Slot). first_of (told_at c.args.self.now c.args.group s ∷ [])) (sym c.in-Number.is)
+    ∙ ap (λ (r : Rows g.row.S-Ticket.Denot). first_of (told_at r c.args.group (column_index.Number c.in-Number.number) ∷ [])) c.self.view_is
+    ∙ ap (λ (s : ColumnIndex). first_of (told_at c.args.self.now c.args.group s ∷ [])) (sym c.in-Number.is)
 
 pub returns-in-Text : goal.returns-in-Text
 returns-in-Text g c =
     let there = subst (λ (r : Rows g.row.S-Ticket.Denot). c.in-Text.text < length r.texts) (sym c.self.view_is) (subst (IsWithin (length c.args.self.now.numbers) (length c.args.self.now.texts)) c.in-Text.is c.requires) in
     c.texts_are_here.ensures
     ∙ ap (λ case. first_of (case ∷ [])) (sym (absent-text g.S.FarTickets.content _ c.self.invariant c.args.group c.in-Text.text c.index-in-Text.result.now there c.index-in-Text.ensures))
-    ∙ ap (λ (r : Rows g.row.S-Ticket.Denot). first_of (told_at r c.args.group (slot.Text c.in-Text.text) ∷ [])) c.self.view_is
-    ∙ ap (λ (s : Slot). first_of (told_at c.args.self.now c.args.group s ∷ [])) (sym c.in-Text.is)
+    ∙ ap (λ (r : Rows g.row.S-Ticket.Denot). first_of (told_at r c.args.group (column_index.Text c.in-Text.text) ∷ [])) c.self.view_is
+    ∙ ap (λ (s : ColumnIndex). first_of (told_at c.args.self.now c.args.group s ∷ [])) (sym c.in-Text.is)

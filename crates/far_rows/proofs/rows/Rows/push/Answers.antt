@@ -1,5 +1,5 @@
 use Rattle.std.proofs.Common.{true, ◌∙◌}
-use Rattle.far_rows.specs.Slots.{row_of}
+use Rattle.far_rows.specs.ColumnIndexes.{row_of}
 use Rattle.far_rows.specs.Rows.{cells_of}
 use Rattle.far_rows.specs.Places.{places_of}
 use Rattle.far_rows.proofs.CellsLong.{cells-long, row-wide}
@@ -17,4 +17,4 @@ returns-clause-places g c =
     let rows = c.len-len.ensures.rows in
     let done = c.in_ok-push_row.ensures in
     (λ k. places_of (done.cells k) (done.alive k))
-    ∙ places-push (cells_of content r) (row_of r.slots c.args.row.now) r.alive true (cells-long content r rows) (row-wide content r rows c.args.row.now)
+    ∙ places-push (cells_of content r) (row_of r.column_indexes c.args.row.now) r.alive true (cells-long content r rows) (row-wide content r rows c.args.row.now)

@@ -13,18 +13,18 @@ use Rattle.far_rows.specs.Refusing.{absents}
 use Rattle.far_rows.proofs.Beginning.{are-numbers, are-texts, numbers-begin, numbers-begun, numbers-few, texts-few, none-of-two}
 use Rattle.far_rows.proofs.MoreCells.{all_with, numbers-with, texts-with, columns-with}
 use Rattle.far_rows.proofs.Grown.{as-many-numbers, as-many-texts, all-numbers, all-texts}
-use Rattle.far_rows.proofs.GrownNumbers.{even-grown, count-grown}
-use Rattle.far_rows.proofs.GrownTexts.{even-grown as texts-even-grown, count-grown as texts-count-grown}
+use Rattle.far_rows.proofs.GrownNumbers.{same_length-grown, count-grown}
+use Rattle.far_rows.proofs.GrownTexts.{same_length-grown as texts-same_length-grown, count-grown as texts-count-grown}
 use Rattle.far_rows.proofs.NumbersNamed.{IsNamed, same-numbers, numbers-named}
 use Rattle.far_rows.proofs.TextsNamed.{IsNamed as IsTextNamed, same-numbers as texts-same-numbers, texts-named}
 use Rattle.far_rows.specs.Naming.{names_of, AreNumbered, AreOwned, ArePlaced}
-use Rattle.far_rows.specs.declared.slot.Slot.TheVariants as slot
+use Rattle.far_rows.specs.declared.column_index.ColumnIndex.TheVariants as column_index
 use Rattle.far_scopes.specs.Movement.{version_of}
 use Rattle.far_rows.proofs.Versions.{number-versions, text-versions}
 use Rattle.far_rows.proofs.NumbersOwned.{numbers-owned}
 use Rattle.far_rows.proofs.TextsOwned.{texts-owned}
 use Rattle.far_rows.specs.Rows.{AreRows, cells_of}
-use Rattle.far_rows.specs.Slots.{AreSlots, columns_of, row_of, with_row}
+use Rattle.far_rows.specs.ColumnIndexes.{AreColumnIndexes, columns_of, row_of, with_row}
 use Rattle.std.specs.Vec.{with_items}
 use Rattle.std.specs.Option.{option_or}
 use Rattle.far_rows.proofs.rows.Rows.push_row.Goals as goal
@@ -34,7 +34,7 @@ push_values-pushed-requires-clause-begin g c κs within begins =
     let columns = c.self.inside.numbers.items in
     let size = c.self.inside.size in
     let len = length c.self.inside.alive in
-    let are = are-numbers size len columns c.self.invariant.shaped c.self.invariant.even_numbers in
+    let are = are-numbers size len columns c.self.invariant.shaped c.self.invariant.same_length_numbers in
     let divides : len % size ≡ 0 = ap (λ n. n % size) (sym c.len.ensures) ∙ sym c.remainder-index.ensures ∙ eqb-true c.remainder-index.result 0 begins in
     ap all_begin c.deref_mut.ensures.value ∙ numbers-begin size len columns c.self.invariant.some divides are
 
@@ -43,7 +43,7 @@ push_values-pushed-requires-clause-begun g c κs within begun more =
     let columns = c.self.inside.numbers.items in
     let size = c.self.inside.size in
     let len = length c.self.inside.alive in
-    let are = are-numbers size len columns c.self.invariant.shaped c.self.invariant.even_numbers in
+    let are = are-numbers size len columns c.self.invariant.shaped c.self.invariant.same_length_numbers in
     let not_divides : len % size ≢ 0 = λ divides. eqb-false c.remainder-index.result 0 begun (c.remainder-index.ensures ∙ ap (λ n. n % size) c.len.ensures ∙ divides) in
     ap all_begin c.deref_mut.ensures.value ∙ numbers-begun size len columns c.self.invariant.some not_divides (subst (λ cs. 0 < length cs) c.deref_mut.ensures.value more) are
 
@@ -52,7 +52,7 @@ push_values-pushed-requires-clause-numbers_few g c κs within begin =
     let columns = c.self.inside.numbers.items in
     let size = c.self.inside.size in
     let len = length c.self.inside.alive in
-    let are = are-numbers size len columns c.self.invariant.shaped c.self.invariant.even_numbers in
+    let are = are-numbers size len columns c.self.invariant.shaped c.self.invariant.same_length_numbers in
     let below : len < 2 ^ 24 = subst (λ (flags : List Bool). length flags < 2 ^ 24) (sym (ap (λ r. r.alive) c.self.view_is)) c.requires.few in
     let is = c.deref_mut.ensures.value in
     let sum = numbers-few size len (length c.self.inside.number_objects.entries) c.self.invariant.some below c.number-number.ensures.tracked.few columns (omega (arith, c.self.invariant.few)) are c.self.invariant.number_objects (sym (ap all_begin is) ∙ begin) in
@@ -63,7 +63,7 @@ push_values-pushed-requires-clause-texts_few g c κs within begin =
     let columns = c.self.inside.texts.items in
     let size = c.self.inside.size in
     let len = length c.self.inside.alive in
-    let are = are-texts size len columns c.self.invariant.grouped c.self.invariant.even_texts in
+    let are = are-texts size len columns c.self.invariant.grouped c.self.invariant.same_length_texts in
     let below : len < 2 ^ 24 = subst (λ (flags : List Bool). length flags < 2 ^ 24) (sym (ap (λ r. r.alive) c.self.view_is)) c.requires.few in
     let is = c.deref_mut-2.ensures.value in
     let sum = texts-few size len (length c.self.inside.text_objects.entries) c.self.invariant.some below c.number-number-2.ensures.tracked.few columns (omega (arith, c.self.invariant.few)) are c.self.invariant.text_objects (sym (ap all_texts_begin is) ∙ begin) in
@@ -98,7 +98,7 @@ invariant_of-self-2 g c =
     let pushed : numbers ≡ all_pushed first columns = done.numbers_pushed ∙ ap (all_pushed first) c.deref_mut.ensures.value in
     let many : length numbers ≡ length columns = ap length pushed ∙ as-many-numbers first columns in
     let numbers_is = with_items_is c.self.inside.numbers numbers (many ∙ sym c.self.inside.numbers.ok.0) in
-    let are = are-numbers size len columns c.self.invariant.shaped inv.even_numbers in
+    let are = are-numbers size len columns c.self.invariant.shaped inv.same_length_numbers in
     let count = done.numbers_count ∙ ap (λ cs. first + (if all_begin cs then length cs else 0)) c.deref_mut.ensures.value in
     let texts_before = c.self.inside.texts.items in
     let first_text = length c.self.inside.text_objects.entries in
@@ -106,7 +106,7 @@ invariant_of-self-2 g c =
     let texts_pushed : texts ≡ all_texts_pushed first_text texts_before = done.texts_pushed ∙ ap (all_texts_pushed first_text) c.deref_mut-2.ensures.value in
     let texts_many : length texts ≡ length texts_before = ap length texts_pushed ∙ as-many-texts first_text texts_before in
     let texts_is = with_items_is c.self.inside.texts texts (texts_many ∙ sym c.self.inside.texts.ok.0) in
-    let texts_are = are-texts size len texts_before c.self.invariant.grouped inv.even_texts in
+    let texts_are = are-texts size len texts_before c.self.invariant.grouped inv.same_length_texts in
     let texts_count = done.texts_count ∙ ap (λ cs. first_text + (if all_texts_begin cs then length cs else 0)) c.deref_mut-2.ensures.value in
     let now = length c.push_values-pushed.new.number_objects.entries in
     let texts_now = length c.push_values-pushed.new.text_objects.entries in
@@ -121,7 +121,7 @@ invariant_of-self-2 g c =
     let texts_begun = subst (λ cs. all_texts_begin cs ≡ true → after ≡ all_created before cs (next_forms lists first_text cs values.texts)) c.deref_mut-2.ensures.value done.texts_begun in
     let texts_replaced = subst (λ cs. all_texts_begin cs ≡ false → AreReplaced before (next_forms lists first_text cs values.texts) after) c.deref_mut-2.ensures.value done.texts_replaced in
     let rows : AreRows content record {
-      slots = c.self.inside.slots.items;
+      column_indexes = c.self.inside.column_indexes.items;
       size = size;
       numbers = numbers;
       texts = texts;
@@ -129,7 +129,7 @@ invariant_of-self-2 g c =
       text_objects = c.push_values-pushed.new.text_objects;
       alive = c.push.new.self;
     } = record {
-      slots = subst (λ n. AreSlots c.self.inside.slots.items n (length texts)) (sym many) (subst (AreSlots c.self.inside.slots.items (length columns)) (sym texts_many) inv.slots);
+      column_indexes = subst (λ n. AreColumnIndexes c.self.inside.column_indexes.items n (length texts)) (sym many) (subst (AreColumnIndexes c.self.inside.column_indexes.items (length columns)) (sym texts_many) inv.column_indexes);
       few = omega (arith, inv.few, many, texts_many);
       some = inv.some;
       small = inv.small;
@@ -138,22 +138,22 @@ invariant_of-self-2 g c =
       texts = c.push_values-pushed.ensures.texts_are;
       shaped = subst (All IsShaped) (c.deref.ensures.value ∙ numbers_is) c.known_numbers.ensures;
       grouped = subst (All HasGroups) (c.deref-2.ensures.value ∙ texts_is) c.known_texts.ensures;
-      even_numbers = subst (All (λ v. (v.size ≡ size) × (v.len ≡ length c.push.new.self))) (sym pushed)
-          (all-numbers (λ v. (v.size ≡ size) × (v.len ≡ len)) (λ v. (v.size ≡ size) × (v.len ≡ length c.push.new.self)) (even-grown size len (length c.push.new.self) more) first columns inv.even_numbers);
-      even_texts = subst (All (λ v. (v.size ≡ size) × (v.len ≡ length c.push.new.self))) (sym texts_pushed)
-          (all-texts (λ v. (v.size ≡ size) × (v.len ≡ len)) (λ v. (v.size ≡ size) × (v.len ≡ length c.push.new.self)) (texts-even-grown size len (length c.push.new.self) more) first_text texts_before inv.even_texts);
+      same_length_numbers = subst (All (λ v. (v.size ≡ size) × (v.len ≡ length c.push.new.self))) (sym pushed)
+          (all-numbers (λ v. (v.size ≡ size) × (v.len ≡ len)) (λ v. (v.size ≡ size) × (v.len ≡ length c.push.new.self)) (same_length-grown size len (length c.push.new.self) more) first columns inv.same_length_numbers);
+      same_length_texts = subst (All (λ v. (v.size ≡ size) × (v.len ≡ length c.push.new.self))) (sym texts_pushed)
+          (all-texts (λ v. (v.size ≡ size) × (v.len ≡ len)) (λ v. (v.size ≡ size) × (v.len ≡ length c.push.new.self)) (texts-same_length-grown size len (length c.push.new.self) more) first_text texts_before inv.same_length_texts);
       number_objects = subst (λ n. All (λ v. now ≡ n * length v.objects) numbers) (sym many) (subst (All (λ v. now ≡ length columns * length v.objects)) (sym pushed)
           (count-grown size len inv.some (length columns) first now columns are count inv.number_objects first));
       text_objects = subst (λ n. All (λ v. texts_now ≡ n * length v.objects) texts) (sym texts_many) (subst (All (λ v. texts_now ≡ length texts_before * length v.objects)) (sym texts_pushed)
           (texts-count-grown size len inv.some (length texts_before) first_text texts_now texts_before texts_are texts_count inv.text_objects first_text));
-      numbered = subst (λ cs. AreNumbered c.self.inside.slots.items (map (λ v. v.column) numbers) (map (λ v. v.column) cs)) (sym texts_pushed)
-          (subst (λ cs. AreNumbered c.self.inside.slots.items (map (λ v. v.column) cs) (map (λ v. v.column) (all_texts_pushed first_text texts_before))) (sym pushed)
-          (subst (λ ns. AreNumbered c.self.inside.slots.items ns (map (λ v. v.column) (all_texts_pushed first_text texts_before))) (sym (same-numbers first columns))
-          (subst (AreNumbered c.self.inside.slots.items (map (λ v. v.column) columns)) (sym (texts-same-numbers first_text texts_before)) inv.numbered)));
-      placed_numbers = subst (λ cs. ArePlaced c.self.inside.slots.items (λ i. slot.Number i) (map (λ v. v.column) cs)) (sym pushed)
-          (subst (ArePlaced c.self.inside.slots.items (λ i. slot.Number i)) (sym (same-numbers first columns)) inv.placed_numbers);
-      placed_texts = subst (λ cs. ArePlaced c.self.inside.slots.items (λ i. slot.Text i) (map (λ v. v.column) cs)) (sym texts_pushed)
-          (subst (ArePlaced c.self.inside.slots.items (λ i. slot.Text i)) (sym (texts-same-numbers first_text texts_before)) inv.placed_texts);
+      numbered = subst (λ cs. AreNumbered c.self.inside.column_indexes.items (map (λ v. v.column) numbers) (map (λ v. v.column) cs)) (sym texts_pushed)
+          (subst (λ cs. AreNumbered c.self.inside.column_indexes.items (map (λ v. v.column) cs) (map (λ v. v.column) (all_texts_pushed first_text texts_before))) (sym pushed)
+          (subst (λ ns. AreNumbered c.self.inside.column_indexes.items ns (map (λ v. v.column) (all_texts_pushed first_text texts_before))) (sym (same-numbers first columns))
+          (subst (AreNumbered c.self.inside.column_indexes.items (map (λ v. v.column) columns)) (sym (texts-same-numbers first_text texts_before)) inv.numbered)));
+      placed_numbers = subst (λ cs. ArePlaced c.self.inside.column_indexes.items (λ i. column_index.Number i) (map (λ v. v.column) cs)) (sym pushed)
+          (subst (ArePlaced c.self.inside.column_indexes.items (λ i. column_index.Number i)) (sym (same-numbers first columns)) inv.placed_numbers);
+      placed_texts = subst (λ cs. ArePlaced c.self.inside.column_indexes.items (λ i. column_index.Text i) (map (λ v. v.column) cs)) (sym texts_pushed)
+          (subst (ArePlaced c.self.inside.column_indexes.items (λ i. column_index.Text i)) (sym (texts-same-numbers first_text texts_before)) inv.placed_texts);
       number_names = subst (All (IsNamed (names_of c.push_values-pushed.new.number_objects))) (sym pushed)
           (subst (λ m. All (IsNamed (names_of m)) (all_pushed first columns)) (sym moved)
           (numbers-named size len columns inv.some are c.self.inside.number_objects values.numbers numbers_even inv.number_names));
@@ -172,7 +172,7 @@ invariant_of-self-2 g c =
 pub returns-clause-cells : goal.returns-clause-cells
 returns-clause-cells g c =
     let content = g.S.FarTickets.content in
-    let slots = c.self.inside.slots.items in
+    let column_indexes = c.self.inside.column_indexes.items in
     let values = c.args.row.now in
     let inv = c.self.invariant in
     let done = c.in_default.ensures in
@@ -196,25 +196,25 @@ returns-clause-cells g c =
     done.numbers ∙ ap (λ cs. all_numbers_with number_lists_before cs values.numbers) c.deref_mut.ensures.value ∙ numbers-with number_lists_before columns values.numbers in
     let texts_are : map (texts_in (lists_of content c.push_values-pushed.new.text_objects)) texts ≡ all_with texts_was values.texts =
     done.texts ∙ ap (λ cs. all_texts_with text_lists_before cs values.texts) c.deref_mut-2.ensures.value ∙ texts-with text_lists_before texts_before values.texts in
-    let even : length values.numbers ≡ length was = c.requires.numbers ∙ ap (λ r. length r.numbers) (sym c.self.view_is) ∙ sym (length-map columns (numbers_in content c.self.inside.number_objects)) in
+    let same_length : length values.numbers ≡ length was = c.requires.numbers ∙ ap (λ r. length r.numbers) (sym c.self.view_is) ∙ sym (length-map columns (numbers_in content c.self.inside.number_objects)) in
     let texts_even : length values.texts ≡ length texts_was = c.requires.texts ∙ ap (λ r. length r.texts) (sym c.self.view_is) ∙ sym (length-map texts_before (texts_in text_lists_before)) in
-    ap (λ cs. columns_of slots (map (numbers_in content c.push_values-pushed.new.number_objects) cs) (map (texts_in (lists_of content c.push_values-pushed.new.text_objects)) ((with_items c.self.inside.texts texts).items))) numbers_is
-    ∙ ap (λ cs. columns_of slots (map (numbers_in content c.push_values-pushed.new.number_objects) numbers) (map (texts_in (lists_of content c.push_values-pushed.new.text_objects)) cs)) texts_is
-    ∙ ap (λ ns. columns_of slots ns (map (texts_in (lists_of content c.push_values-pushed.new.text_objects)) texts)) is
-    ∙ ap (columns_of slots (all_with was values.numbers)) texts_are
-    ∙ columns-with was texts_was values (length columns) (length texts_before) even texts_even (sym (length-map columns (numbers_in content c.self.inside.number_objects))) (sym (length-map texts_before (texts_in text_lists_before))) slots inv.slots.within
-    ∙ ap (λ r. with_row (cells_of content r) (row_of r.slots values)) c.self.view_is
+    ap (λ cs. columns_of column_indexes (map (numbers_in content c.push_values-pushed.new.number_objects) cs) (map (texts_in (lists_of content c.push_values-pushed.new.text_objects)) ((with_items c.self.inside.texts texts).items))) numbers_is
+    ∙ ap (λ cs. columns_of column_indexes (map (numbers_in content c.push_values-pushed.new.number_objects) numbers) (map (texts_in (lists_of content c.push_values-pushed.new.text_objects)) cs)) texts_is
+    ∙ ap (λ ns. columns_of column_indexes ns (map (texts_in (lists_of content c.push_values-pushed.new.text_objects)) texts)) is
+    ∙ ap (columns_of column_indexes (all_with was values.numbers)) texts_are
+    ∙ columns-with was texts_was values (length columns) (length texts_before) same_length texts_even (sym (length-map columns (numbers_in content c.self.inside.number_objects))) (sym (length-map texts_before (texts_in text_lists_before))) column_indexes inv.column_indexes.within
+    ∙ ap (λ r. with_row (cells_of content r) (row_of r.column_indexes values)) c.self.view_is
 
 pub returns-clause-number_versions : goal.returns-clause-number_versions
 returns-clause-number_versions g c = λ o.
     let columns = c.self.inside.numbers.items in
     let m = c.self.inside.number_objects in
     let inv = c.self.invariant in
-    let are = are-numbers c.self.inside.size (length c.self.inside.alive) columns inv.shaped inv.even_numbers in
+    let are = are-numbers c.self.inside.size (length c.self.inside.alive) columns inv.shaped inv.same_length_numbers in
     let values = c.args.row.now in
-    let even : length values.numbers ≡ length columns = c.requires.numbers ∙ ap (λ r. length r.numbers) (sym c.self.view_is) in
+    let same_length : length values.numbers ≡ length columns = c.requires.numbers ∙ ap (λ r. length r.numbers) (sym c.self.view_is) in
     let moved : c.push_values-pushed.new.number_objects ≡ all_pushed_in m columns values.numbers = c.in_default.ensures.numbers_moved ∙ ap (λ cs. all_pushed_in m cs values.numbers) c.deref_mut.ensures.value in
-    let most = number-versions g.S.FarTickets.content c.self.inside.size (length c.self.inside.alive) columns inv.some are m inv.numbers values.numbers even o in
+    let most = number-versions g.S.FarTickets.content c.self.inside.size (length c.self.inside.alive) columns inv.some are m inv.numbers values.numbers same_length o in
     subst (λ r. version_of c.push_values-pushed.new.number_objects o ≤ version_of r.number_objects o + 1) c.self.view_is
     (subst (λ now. version_of now o ≤ version_of m o + 1) (sym moved) most)
 
@@ -226,10 +226,10 @@ returns-clause-text_versions g c = λ o.
     let inv = c.self.invariant in
     let first = length m.entries in
     let lists : Lists = lists_of g.S.FarTickets.content m in
-    let are = are-texts c.self.inside.size (length c.self.inside.alive) columns inv.grouped inv.even_texts in
+    let are = are-texts c.self.inside.size (length c.self.inside.alive) columns inv.grouped inv.same_length_texts in
     let values = c.args.row.now in
-    let even : length values.texts ≡ length columns = c.requires.texts ∙ ap (λ r. length r.texts) (sym c.self.view_is) in
+    let same_length : length values.texts ≡ length columns = c.requires.texts ∙ ap (λ r. length r.texts) (sym c.self.view_is) in
     let begun = subst (λ cs. all_texts_begin cs ≡ true → now ≡ all_created m cs (next_forms lists first cs values.texts)) c.deref_mut-2.ensures.value c.in_default.ensures.texts_begun in
     let replaced = subst (λ cs. all_texts_begin cs ≡ false → AreReplaced m (next_forms lists first cs values.texts) now) c.deref_mut-2.ensures.value c.in_default.ensures.texts_replaced in
-    let most = text-versions g.S.FarTickets.content c.self.inside.size (length c.self.inside.alive) columns inv.some are m now inv.texts values.texts even begun replaced o in
+    let most = text-versions g.S.FarTickets.content c.self.inside.size (length c.self.inside.alive) columns inv.some are m now inv.texts values.texts same_length begun replaced o in
     subst (λ r. version_of now o ≤ version_of r.text_objects o + 1) c.self.view_is most

@@ -6,10 +6,10 @@ use Rattle.far_types.specs.declared.refusal.Refusal.{Refusal}
 use Rattle.far_codec.specs.TextForm.{texts_form}
 use Rattle.far_scopes.specs.Movement.{Movement, AreHere, version_of}
 use Rattle.far_texts.specs.Texts.{Texts, Lists, IsTextColumn, lists_of, texts_in, object_at}
-use Rattle.far_texts.specs.Changes.{group_with, set_in as text_set_in}
+use Rattle.far_texts.specs.Effects.{group_with, set_in as text_set_in}
 use Rattle.far_texts.specs.Refusing.{set_refusal}
 use Rattle.far_scopes.proofs.Outcomes.{by-outcome, on-ok}
-use Rattle.far_rows.specs.declared.slot.Slot.TheVariants as slot
+use Rattle.far_rows.specs.declared.column_index.ColumnIndex.TheVariants as column_index
 use Rattle.far_rows.specs.declared.new_cell.NewCell.TheVariants as new
 use Rattle.far_rows.specs.Naming.{names_of, AreNamed, AreOwned}
 use Rattle.far_rows.specs.Rows.{all_texts}
@@ -23,7 +23,7 @@ pub set-requires-after_bounds : goal.set-requires-after_bounds
 set-requires-after_bounds g c κs within =
     let columns : List Texts = c.self.inside.texts.items in
     let below = subst (λ r. c.args.i < length r.texts) (sym c.self.view_is) c.requires.within in
-    subst (IsTextColumn (lists_of g.S.FarTickets.content c.self.inside.text_objects)) (sym c.index.ensures) (c.self.invariant.texts.beside.each c.args.i c.index.result.now below)
+    subst (IsTextColumn (lists_of g.S.FarTickets.content c.self.inside.text_objects)) (sym c.index.ensures) (c.self.invariant.texts.all_disjoint.each c.args.i c.index.result.now below)
 
 pub invariant_of-self : goal.invariant_of-self
 invariant_of-self g c =
@@ -38,7 +38,7 @@ invariant_of-self g c =
     let form : List ℕ = texts_form (group_with (lists_of content m) v c.args.place c.args.text.now) in
     let names : names_of now ≡ names_of m = still-named m now (text_set_in content m v c.args.place c.args.text.now) c.set.result c.set.ensures.set c.set.ensures.err (names-replaced m (object_at v c.args.place) form) in
     record {
-      slots = inv.slots;
+      column_indexes = inv.column_indexes;
       few = inv.few;
       some = inv.some;
       small = inv.small;
@@ -47,8 +47,8 @@ invariant_of-self g c =
       texts = texts-still (lists_of content m) (lists_of content now) columns inv.texts c.args.i v at c.set.ensures.is c.set.ensures.others;
       shaped = inv.shaped;
       grouped = inv.grouped;
-      even_numbers = inv.even_numbers;
-      even_texts = inv.even_texts;
+      same_length_numbers = inv.same_length_numbers;
+      same_length_texts = inv.same_length_texts;
       number_objects = inv.number_objects;
       text_objects = subst (λ n. All (λ (w : Texts). n ≡ length columns * length w.objects) columns) (sym (as-many m now names)) inv.text_objects;
       numbered = inv.numbered;
@@ -74,7 +74,7 @@ returns-clause-moved g c =
     on-ok c.set.result c.set.ensures.set (λ is.
     let written : c.set.new.objects ≡ option_map_or put (slice_get columns c.args.i) m = is ∙ sym (ap (λ o. option_map_or put o m) at) in
     (λ j. record {
-      slots = c.self.inside.slots.items;
+      column_indexes = c.self.inside.column_indexes.items;
       size = c.self.inside.size;
       numbers = c.self.inside.numbers.items;
       texts = columns;
@@ -82,7 +82,7 @@ returns-clause-moved g c =
       text_objects = written j;
       alive = c.self.inside.alive;
     })
-    ∙ ap (λ r. set_in content r (slot.Text c.args.i) c.args.place (new.Text c.args.text.now)) c.self.view_is)
+    ∙ ap (λ r. set_in content r (column_index.Text c.args.i) c.args.place (new.Text c.args.text.now)) c.self.view_is)
 
 pub returns-clause-texts : goal.returns-clause-texts
 returns-clause-texts g c =

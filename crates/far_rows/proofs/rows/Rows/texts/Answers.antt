@@ -4,8 +4,8 @@ use Rattle.std.proofs.lemmas.Bool.{ltb-true}
 use Rattle.std.proofs.lemmas.Option.{slice_get_read}
 use Rattle.std.proofs.lemmas.Result.{IfOk-weaker}
 use Rattle.far_types.specs.declared.cell.Cell.{Cell}
-use Rattle.far_rows.specs.declared.slot.Slot.{Slot}
-use Rattle.far_rows.specs.declared.slot.Slot.TheVariants as slot
+use Rattle.far_rows.specs.declared.column_index.ColumnIndex.{ColumnIndex}
+use Rattle.far_rows.specs.declared.column_index.ColumnIndex.TheVariants as column_index
 use Rattle.far_types.specs.Lent.{text_cell}
 use Rattle.far_rows.specs.Rows.{Rows, AreRows, cells_of}
 use Rattle.far_rows.specs.Lending.{texts_of}
@@ -14,18 +14,18 @@ use Rattle.far_rows.proofs.rows.Rows.texts.Goals as goal
 
 pub returns-clause-cells : goal.returns-clause-cells
 returns-clause-cells g c =
-    let slots = c.deref.ensures.value ∙ ap (λ (r : Rows g.row.S-Ticket.Denot). r.slots) c.self.view_is in
-    let read = slice_get_read c.deref.result.now (length c.deref.result.now) c.args.column c.in-Some.slot.now refl (ltb-true _ _ (sym c.in-Some.ensures.lookup.0)) c.in-Some.ensures.lookup.1 in
-    let lies = sym (ap (λ (ss : List Slot). slice_get ss c.args.column) slots) ∙ read ∙ ap Some c.in-Text.is in
+    let column_indexes = c.deref.ensures.value ∙ ap (λ (r : Rows g.row.S-Ticket.Denot). r.column_indexes) c.self.view_is in
+    let read = slice_get_read c.deref.result.now (length c.deref.result.now) c.args.column c.in-Some.column_index.now refl (ltb-true _ _ (sym c.in-Some.ensures.lookup.0)) c.in-Some.ensures.lookup.1 in
+    let lies = sym (ap (λ (ss : List ColumnIndex). slice_get ss c.args.column) column_indexes) ∙ read ∙ ap Some c.in-Text.is in
     IfOk-weaker c.texts_at.result
-    (λ (lent : List (Option (List ℕ) × Bool)). map (λ t. t.0) lent ≡ slice_range (texts_of g.S.FarTickets.content c.args.self.now (slot.Text c.in-Text.text)) c.args.from c.args.to)
+    (λ (lent : List (Option (List ℕ) × Bool)). map (λ t. t.0) lent ≡ slice_range (texts_of g.S.FarTickets.content c.args.self.now (column_index.Text c.in-Text.text)) c.args.from c.args.to)
     (λ lent. option_map (λ (cells : List Cell). slice_range cells c.args.from c.args.to) (slice_get (cells_of g.S.FarTickets.content c.args.self.now) c.args.column) ≡ Some (map (λ t. text_cell t.0) lent))
     (λ lent is. part-cells g.S.FarTickets.content c.args.self.now c.args.column c.in-Text.text c.args.from c.args.to lies lent is)
     c.texts_at.ensures.texts
 
 pub returns-clause-refused : goal.returns-clause-refused
 returns-clause-refused g c =
-    let slots = c.deref.ensures.value ∙ ap (λ (r : Rows g.row.S-Ticket.Denot). r.slots) c.self.view_is in
-    let read = slice_get_read c.deref.result.now (length c.deref.result.now) c.args.column c.in-Some.slot.now refl (ltb-true _ _ (sym c.in-Some.ensures.lookup.0)) c.in-Some.ensures.lookup.1 in
-    let lies = sym (ap (λ (ss : List Slot). slice_get ss c.args.column) slots) ∙ read ∙ ap Some c.in-Text.is in
+    let column_indexes = c.deref.ensures.value ∙ ap (λ (r : Rows g.row.S-Ticket.Denot). r.column_indexes) c.self.view_is in
+    let read = slice_get_read c.deref.result.now (length c.deref.result.now) c.args.column c.in-Some.column_index.now refl (ltb-true _ _ (sym c.in-Some.ensures.lookup.0)) c.in-Some.ensures.lookup.1 in
+    let lies = sym (ap (λ (ss : List ColumnIndex). slice_get ss c.args.column) column_indexes) ∙ read ∙ ap Some c.in-Text.is in
     c.texts_at.ensures.refused ∙ sym (part-due g.S.FarTickets.content c.args.self.now c.args.column c.in-Text.text c.args.from c.args.to lies (subst (AreRows g.S.FarTickets.content) c.self.view_is c.self.invariant))

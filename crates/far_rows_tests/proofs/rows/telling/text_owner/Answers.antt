@@ -1,7 +1,7 @@
 use Rattle.std.proofs.Common.{◌≡◌, ℕ, Some, subst, ◌∙◌}
 use Rattle.std.specs.Prelude.{slice_get}
 use Rattle.std.proofs.lemmas.Option.{slice_get-map}
-use Rattle.far_scopes.specs.declared.entry.Entry.{Entry}
+use Rattle.far_scopes.specs.declared.object_record.ObjectRecord.{ObjectRecord}
 use Rattle.far_scopes.specs.Movement.{Movement}
 use Rattle.far_rows.specs.Naming.{names_of}
 use Rattle.far_rows_tests.proofs.Found.{text-owner}
@@ -9,6 +9,6 @@ use Rattle.far_rows_tests.proofs.rows.telling.text_owner.Goals as goal
 
 pub returns : goal.returns
 returns g c =
-    let named = slice_get-map (λ (e : Entry g.row.S-Ticket.Denot). e.name) c.text_objects.result.now.entries c.args.o ∙ c.name-name.ensures in
+    let named = slice_get-map (λ (e : ObjectRecord g.row.S-Ticket.Denot). e.name) c.text_objects.result.now.entries c.args.o ∙ c.name-name.ensures in
     let own = subst (λ (m : Movement ℕ g.row.S-Ticket.Denot). slice_get (names_of m) c.args.o ≡ Some c.name-name.result) c.text_objects.ensures.objects named in
     c.kind.ensures ∙ text-owner g.S.FarTickets.content c.args.rows.now c.len-len.ensures.rows c.args.o c.name-name.result own

@@ -2,11 +2,11 @@ use Rattle.std.proofs.Common.{◌≡◌, ◌⊎◌, false, [], ◌∷◌, length
 use Rattle.std.specs.Option.{option_or}
 use Rattle.far_types.specs.declared.refusal.Refusal.TheVariants.{NoMemory}
 use Rattle.far_types.specs.FirstOf.{first_of}
-use Rattle.far_log.specs.Room.{fits_in}
+use Rattle.far_log.specs.RegionState.{fits_in}
 use Rattle.far_scopes.specs.Memory.{list_in, ChangesList}
 use Rattle.far_scopes.specs.Placing.{added}
 use Rattle.far_scopes.specs.Refusing.{refusal_in}
-use Rattle.far_scopes.proofs.FitsAll.{no_room-next}
+use Rattle.far_scopes.proofs.FitsAll.{no_space-next}
 use Rattle.far_scopes.proofs.PlacedFirst.{once-rest, local-rest, first-other, local-first, local-last, replaced-is, lists-replaced}
 use Rattle.far_scopes.proofs.memory.LocalMemory.+replace_all.Goals as goal
 
@@ -23,7 +23,7 @@ replace_all-requires-clause-once g t c κs within =
 pub returns-in-Err-clause-refused : goal.returns-in-Err-clause-refused
 returns-in-Err-clause-refused g t c =
     let placed = c.in_ok-add.ensures.ok ∙ ap (added c.args.self.now) c.deref.ensures.value in
-    let fits = no_room-next c.args.self.now.room c.add.new.self.room c.in-Some.first.now c.in-Some.rest.now c.args.lists.now c.in-Some.ensures.cases.0 (ap (λ m. m.room) placed) (λ none. let never = c.in_ok-add.ensures.full.1 (subst (λ l. fits_in c.args.self.now.room (length l) ≡ false) (sym c.deref.ensures.value) none) in cc) in
+    let fits = no_space-next c.args.self.now.state c.add.new.self.state c.in-Some.first.now c.in-Some.rest.now c.args.lists.now c.in-Some.ensures.cases.0 (ap (λ m. m.state) placed) (λ none. let never = c.in_ok-add.ensures.full.1 (subst (λ l. fits_in c.args.self.now.state (length l) ≡ false) (sym c.deref.ensures.value) none) in cc) in
     subst (λ b. (option_or (first_of (b ∷ [])) (refusal_in c.args.checked) ≡ Some c.in-Err.refusal) ⊎ (c.in-Err.refusal ≡ NoMemory)) (sym fits) c.in-Err.ensures.refused
 
 pub take_over-requires-clause-other : goal.take_over-requires-clause-other
@@ -55,5 +55,5 @@ returns-clause-lists g t c =
 pub returns-clause-free : goal.returns-clause-free
 returns-clause-free g t c =
     let placed = c.in_ok-add.ensures.ok ∙ ap (added c.args.self.now) c.deref.ensures.value in
-    let fits = no_room-next c.args.self.now.room c.add.new.self.room c.in-Some.first.now c.in-Some.rest.now c.args.lists.now c.in-Some.ensures.cases.0 (ap (λ m. m.room) placed) (λ none. let never = c.in_ok-add.ensures.full.1 (subst (λ l. fits_in c.args.self.now.room (length l) ≡ false) (sym c.deref.ensures.value) none) in cc) in
+    let fits = no_space-next c.args.self.now.state c.add.new.self.state c.in-Some.first.now c.in-Some.rest.now c.args.lists.now c.in-Some.ensures.cases.0 (ap (λ m. m.state) placed) (λ none. let never = c.in_ok-add.ensures.full.1 (subst (λ l. fits_in c.args.self.now.state (length l) ≡ false) (sym c.deref.ensures.value) none) in cc) in
     subst (λ b. option_or (first_of (b ∷ [])) (refusal_in c.args.checked) ≡ None) (sym fits) c.in_default-replace_all.ensures.free

@@ -18,5 +18,5 @@ returns-clause-list g c = rw (← c.self.view_is, c.push_reserved.ensures.items,
 pub returns-clause-undone : goal.returns-clause-undone
 returns-clause-undone g c =
     let at = spot-is c.self.inside.region c.place.new.self c.in_ok-at.at c.args.items.now c.in_ok-at.ensures.placed in
-    let room = new-is c.self.inside.region c.place.new.self c.in_ok-at.at c.args.items.now c.in_ok-at.ensures.placed in
-    rw (← c.self.view_is, c.push_reserved.ensures.items, c.reserve.ensures.items, c.local_word.ensures, ← at, ← room) (removed-added record { words = c.self.inside.words.items; room = c.self.inside.region } c.args.items.now c.self.invariant.memory.region)
+    let state = new-is c.self.inside.region c.place.new.self c.in_ok-at.at c.args.items.now c.in_ok-at.ensures.placed in
+    rw (← c.self.view_is, c.push_reserved.ensures.items, c.reserve.ensures.items, c.local_word.ensures, ← at, ← state) (removed-added record { words = c.self.inside.words.items; state = c.self.inside.region } c.args.items.now c.self.invariant.memory.region)

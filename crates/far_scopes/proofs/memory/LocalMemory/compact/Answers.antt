@@ -1,7 +1,7 @@
 use Rattle.std.proofs.Common.{◌≡◌, ◌+◌, ◌++◌, length, map, take, drop, ap, subst, ◌∙◌, arith}
 use Rattle.far_types.specs.declared.refusal.Refusal.TheVariants.{OutOfRange}
 use Rattle.far_log.proofs.Compactions.{whole-back}
-use Rattle.far_log.specs.Changes.{Compacts}
+use Rattle.far_log.specs.Effects.{Compacts}
 use Rattle.far_scopes.specs.declared.memory.compaction.SegmentObject.{SegmentObject}
 use Rattle.far_scopes.specs.SegmentObjects.{AreHotFirst, Settles}
 use Rattle.far_scopes.specs.Cool.{cool_in}

@@ -1,9 +1,15 @@
 use Rattle.std.proofs.Common.{◌<◌, length, true, refl, sym, subst, arith}
 use Rattle.far_pointer.specs.Layout.{with_dirty, with_hot}
 use Rattle.far_scopes.proofs.WordPlaces.{word-read}
-use Rattle.far_scopes.proofs.MemoryLaws.{memory-marked, lists-marked, at-dirty_hot}
+use Rattle.far_scopes.proofs.MemoryLaws.{already-marked, memory-marked, lists-marked, at-dirty_hot}
 use Rattle.far_scopes.proofs.CoolLaws.{none-hot, count-there, count-less}
 use Rattle.far_scopes.proofs.memory.LocalMemory.mark.Goals as goal
+
+pub returns-then-is_marked-clause-marked : goal.returns-then-is_marked-clause-marked
+returns-then-is_marked-clause-marked g c =
+    let within = subst (λ m. c.args.o < length m.words) (sym c.self.view_is) c.requires in
+    let was = word-read c.self.inside.words.items c.args.o c.index-word.result.now within c.index-word.ensures in
+    rw (← c.self.view_is) (already-marked _ c.args.o c.index-word.result.now was (c.is_marked.ensures c.if-is_marked.true))
 
 pub overflow_sub-self : goal.overflow_sub-self
 overflow_sub-self g c =

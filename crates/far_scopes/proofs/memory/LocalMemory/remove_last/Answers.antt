@@ -14,7 +14,7 @@ invariant_of-self g c = rw c.cool_of.ensures record {
 }
 
 pub returns-clause-removed : goal.returns-clause-removed
-returns-clause-removed g c = rw (← c.self.view_is, take-last c.self.inside.words.items c.pop.new.self.items c.in-Some.word c.in-Some.ensures.items, last-of c.self.inside.words.items c.pop.new.self.items c.in-Some.word c.in-Some.ensures.items, place-last c.self.inside.words.items c.self.inside.region c.drop_at.new.self c.self.invariant.memory c.pop.new.self.items c.in-Some.word c.at_of.result c.in-Some.ensures.items c.at_of.ensures c.drop_at.ensures.change, c.drop_at.ensures.room) refl
+returns-clause-removed g c = rw (← c.self.view_is, take-last c.self.inside.words.items c.pop.new.self.items c.in-Some.word c.in-Some.ensures.items, last-of c.self.inside.words.items c.pop.new.self.items c.in-Some.word c.in-Some.ensures.items, place-last c.self.inside.words.items c.self.inside.region c.drop_at.new.self c.self.invariant.memory c.pop.new.self.items c.in-Some.word c.at_of.result c.in-Some.ensures.items c.at_of.ensures c.drop_at.ensures.change, c.drop_at.ensures.state) refl
 
 pub returns-clause-list : goal.returns-clause-list
 returns-clause-list g c = rw (← c.self.view_is, last-of c.self.inside.words.items c.pop.new.self.items c.in-Some.word c.in-Some.ensures.items) (list-removed c.self.inside.words.items c.self.inside.region c.drop_at.new.self c.self.invariant.memory c.pop.new.self.items c.in-Some.word c.at_of.result c.in-Some.ensures.items c.at_of.ensures c.drop_at.ensures.change)

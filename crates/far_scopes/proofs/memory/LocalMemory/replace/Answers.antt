@@ -22,7 +22,7 @@ returns-clause-ok g c =
     let within = subst (λ m. c.args.o < length m.words) (sym c.self.view_is) (place-within c.args.self.now.words c.args.o c.requires.local) in
     let there = word-read c.self.inside.words.items c.args.o c.index-word.result.now within c.index-word.ensures in
     let was = place-read c.self.inside.words.items c.args.o c.index-word.result.now c.at_of.result within c.index-word.ensures c.at_of.ensures in
-    rw (c.with_at.ensures, c.drop_at.ensures.room, ← c.self.view_is, there, c.at_of.ensures, spot-is c.self.inside.region c.place.new.self c.in_ok-at.at c.args.items.now c.in_ok-at.ensures.placed, new-is c.self.inside.region c.place.new.self c.in_ok-at.at c.args.items.now c.in_ok-at.ensures.placed) refl
+    rw (c.with_at.ensures, c.drop_at.ensures.state, ← c.self.view_is, there, c.at_of.ensures, spot-is c.self.inside.region c.place.new.self c.in_ok-at.at c.args.items.now c.in_ok-at.ensures.placed, new-is c.self.inside.region c.place.new.self c.in_ok-at.at c.args.items.now c.in_ok-at.ensures.placed) refl
 
 pub returns-clause-list : goal.returns-clause-list
 returns-clause-list g c =

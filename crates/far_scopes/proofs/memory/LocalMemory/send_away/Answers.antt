@@ -25,7 +25,7 @@ pub returns-clause-away : goal.returns-clause-away
 returns-clause-away g c =
     let within = subst (λ m. c.args.o < length m.words) (sym c.self.view_is) (place-within c.args.self.now.words c.args.o c.requires) in
     let was = place-read c.self.inside.words.items c.args.o c.index-word.result.now c.at_of-at.result within c.index-word.ensures c.at_of-at.ensures in
-    rw (c.remote.ensures, c.drop_at.ensures.room, ← c.self.view_is, was) refl
+    rw (c.remote.ensures, c.drop_at.ensures.state, ← c.self.view_is, was) refl
 
 pub returns-clause-list : goal.returns-clause-list
 returns-clause-list g c =

@@ -26,7 +26,7 @@ pub returns-clause-taken : goal.returns-clause-taken
 returns-clause-taken g c =
     let lt = subst (λ m. c.args.o < length m.words - 1) (sym c.self.view_is) c.requires.other in
     rw (← c.self.view_is, c.with_at.ensures) (taken-is c.pop.new.self.items c.self.inside.words.items c.in-Some.last c.index-word.result.now c.in-Some.ensures.items c.self.inside.region c.drop_at.new.self c.self.invariant.memory
-    c.args.o lt c.at_of.result c.at_of-2.result c.at_of.ensures c.index-word.ensures c.at_of-2.ensures c.drop_at.ensures.room)
+    c.args.o lt c.at_of.result c.at_of-2.result c.at_of.ensures c.index-word.ensures c.at_of-2.ensures c.drop_at.ensures.state)
 
 pub returns-clause-here : goal.returns-clause-here
 returns-clause-here g c =

@@ -11,7 +11,7 @@ returns-then-index-self g c =
     let inside = c.requires c.loop-replacement.replacement-index c.replacement-item.result c.loop-replacement-test.true in
     let within = subst (λ m. c.replacement-item.result.object < length m.entries) (sym c.self.view_is) (subst (λ r. r.object < length c.args.self.now.entries) (sym c.replacement-item.is) inside) in
     let was = ap (λ m. entry_of m c.replacement-item.result.object) (sym c.self.view_is) ∙ word-read c.self.inside.entries.items c.replacement-item.result.object c.index.result.now within c.index.ensures in
-    let all = used-up c.args.self.now c.replacement-item.result.object c.index.result.now was (subst (λ m. m.changes ≤ c.index.result.now.version) c.self.view_is c.if-index-self.true) in
+    let all = used-up c.args.self.now c.replacement-item.result.object c.index.result.now was (subst (λ m. m.max_writes ≤ c.index.result.now.version) c.self.view_is c.if-index-self.true) in
     rw (c.loop-replacement.invariant ∙ ap (λ rs. (any_written_out c.args.self.now rs).0) next, all) refl
 
 pub loop-replacement-preserved : goal.loop-replacement-preserved
@@ -20,5 +20,5 @@ loop-replacement-preserved g c =
     let inside = c.requires c.loop-replacement.replacement-index c.replacement-item.result c.loop-replacement-test.true in
     let within = subst (λ m. c.replacement-item.result.object < length m.entries) (sym c.self.view_is) (subst (λ r. r.object < length c.args.self.now.entries) (sym c.replacement-item.is) inside) in
     let was = ap (λ m. entry_of m c.replacement-item.result.object) (sym c.self.view_is) ∙ word-read c.self.inside.entries.items c.replacement-item.result.object c.index.result.now within c.index.ensures in
-    let all = left-over c.args.self.now c.replacement-item.result.object c.index.result.now was (subst (λ m. c.index.result.now.version < m.changes) c.self.view_is c.if-index-self.false) in
+    let all = left-over c.args.self.now c.replacement-item.result.object c.index.result.now was (subst (λ m. c.index.result.now.version < m.max_writes) c.self.view_is c.if-index-self.false) in
     c.loop-replacement.invariant ∙ ap (λ rs. (any_written_out c.args.self.now rs).0) next ∙ rw all refl

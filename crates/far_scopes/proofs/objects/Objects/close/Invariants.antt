@@ -1,13 +1,13 @@
 use Rattle.std.proofs.Common.{◌≡◌, ◌+◌, ◌≤◌, length}
 use Rattle.std.specs.Prelude.{drop}
 use Rattle.far_scopes.specs.Movement.{AreClean}
-use Rattle.far_scopes.specs.Entering.{closed}
+use Rattle.far_scopes.specs.Entering.{after_close}
 use Rattle.far_scopes.proofs.objects.Objects.close.Given as goal
 
 abbrev pub invariant-loop-o : goal.invariant-loop-o
 invariant-loop-o g l =
     (length l.self.entries ≡ length l.fn.self.entries)
-    × ((closed l.fn.self l.fn.scope).0 ≡ (closed l.self (drop l.o-index l.fn.scope)).0)
-    × ((closed l.fn.self l.fn.scope).1 ≡ l.taken + (closed l.self (drop l.o-index l.fn.scope)).1)
+    × ((after_close l.fn.self l.fn.scope).0 ≡ (after_close l.self (drop l.o-index l.fn.scope)).0)
+    × ((after_close l.fn.self l.fn.scope).1 ≡ l.taken + (after_close l.self (drop l.o-index l.fn.scope)).1)
     × (l.taken ≤ l.o-index)
     × (AreClean g.T.Elem.meaning g.S.FarTickets.content l.fn.self → AreClean g.T.Elem.meaning g.S.FarTickets.content l.self)

@@ -9,7 +9,7 @@ invariant_of-self-2 g c =
 
 pub returns-clause-clean : goal.returns-clause-clean
 returns-clause-clean g c =
-    let old : Movement g.row.T.Denot g.row.S-Ticket.Denot = record { number = c.self.inside.number; changes = c.self.inside.changes; leavings = c.self.inside.leavings; memory = c.self.inside.memory; entries = c.self.inside.entries.items; order = c.self.inside.order } in
+    let old : Movement g.row.T.Denot g.row.S-Ticket.Denot = record { number = c.self.inside.number; max_writes = c.self.inside.max_writes; leavings = c.self.inside.leavings; memory = c.self.inside.memory; entries = c.self.inside.entries.items; order = c.self.inside.order } in
     λ clean. clean-compacted g.T.Elem.meaning g.S.FarTickets.content old c.compact.new.self c.args.segment c.in_ok-compact.ensures.ok c.in_ok-compact.ensures.lists (subst (AreClean g.T.Elem.meaning g.S.FarTickets.content) (sym c.self.view_is) clean)
 
 pub returns-clause-full : goal.returns-clause-full

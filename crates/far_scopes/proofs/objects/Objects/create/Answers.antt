@@ -23,4 +23,4 @@ pub returns-clause-last : goal.returns-clause-last
 returns-clause-last g c = rw (← c.self.view_is, c.push_reserved.ensures.items, c.reserve.ensures.items) (last-made g.T.Elem.meaning g.S.FarTickets.content _ _ c.self.invariant c.add-2.new.self _ c.args.name c.args.items.now (ap (λ m. m.words) c.in_default.ensures.ok) c.in_default.ensures.list)
 
 pub returns-clause-next : goal.returns-clause-next
-returns-clause-next g c = λ lens. rw (← c.self.view_is, c.in_default.ensures.ok) (fits-next c.self.inside.memory.room c.args.items.now lens (sym c.fits.ensures ∙ c.if-not-fits.false))
+returns-clause-next g c = λ lens. rw (← c.self.view_is, c.in_default.ensures.ok) (fits-next c.self.inside.memory.state c.args.items.now lens (sym c.fits.ensures ∙ c.if-not-fits.false))

@@ -13,7 +13,7 @@ invariant_of-self g c =
     let was = word-read c.self.inside.entries.items c.args.o c.index_mut.result.now within c.index_mut.ensures.value in
     let local = subst (λ m. is_local m c.args.o ≡ true) (sym c.self.view_is) (local-written c.args.self.now c.args.o c.requires.free) in
     let version : version_of c.args.self.now c.args.o ≡ c.index_mut.result.now.version = rw (← c.self.view_is, was) refl in
-    let left : c.index_mut.result.now.version < c.self.inside.changes = omega (arith, left-written c.args.self.now c.args.o c.requires.free, version, ap (λ m. m.changes) c.self.view_is) in
+    let left : c.index_mut.result.now.version < c.self.inside.max_writes = omega (arith, left-written c.args.self.now c.args.o c.requires.free, version, ap (λ m. m.max_writes) c.self.view_is) in
     let lists : (p : ℕ) → list_in (marked c.self.inside.memory c.args.o) p ≡ list_in c.self.inside.memory p = subst (λ memory. (p : ℕ) → list_in memory p ≡ list_in c.self.inside.memory p) c.mark.ensures.marked c.mark.ensures.lists in
     rw (c.mark.ensures.marked, c.touch.ensures) (tracked-written g.T.Elem.meaning g.S.FarTickets.content _ _ c.self.invariant c.args.o c.index_mut.result.now was local left lists)
 
@@ -29,7 +29,7 @@ returns-clause-dirty g c =
     let was = word-read c.self.inside.entries.items c.args.o c.index_mut.result.now within c.index_mut.ensures.value in
     let local = subst (λ m. is_local m c.args.o ≡ true) (sym c.self.view_is) (local-written c.args.self.now c.args.o c.requires.free) in
     let version : version_of c.args.self.now c.args.o ≡ c.index_mut.result.now.version = rw (← c.self.view_is, was) refl in
-    let left : c.index_mut.result.now.version < c.self.inside.changes = omega (arith, left-written c.args.self.now c.args.o c.requires.free, version, ap (λ m. m.changes) c.self.view_is) in
+    let left : c.index_mut.result.now.version < c.self.inside.max_writes = omega (arith, left-written c.args.self.now c.args.o c.requires.free, version, ap (λ m. m.max_writes) c.self.view_is) in
     let lists : (p : ℕ) → list_in (marked c.self.inside.memory c.args.o) p ≡ list_in c.self.inside.memory p = subst (λ memory. (p : ℕ) → list_in memory p ≡ list_in c.self.inside.memory p) c.mark.ensures.marked c.mark.ensures.lists in
     rw c.mark.ensures.marked (dirty-written g.T.Elem.meaning g.S.FarTickets.content _ _ c.self.invariant c.args.o c.index_mut.result.now was local left lists)
 
@@ -39,7 +39,7 @@ returns-clause-local g c =
     let was = word-read c.self.inside.entries.items c.args.o c.index_mut.result.now within c.index_mut.ensures.value in
     let local = subst (λ m. is_local m c.args.o ≡ true) (sym c.self.view_is) (local-written c.args.self.now c.args.o c.requires.free) in
     let version : version_of c.args.self.now c.args.o ≡ c.index_mut.result.now.version = rw (← c.self.view_is, was) refl in
-    let left : c.index_mut.result.now.version < c.self.inside.changes = omega (arith, left-written c.args.self.now c.args.o c.requires.free, version, ap (λ m. m.changes) c.self.view_is) in
+    let left : c.index_mut.result.now.version < c.self.inside.max_writes = omega (arith, left-written c.args.self.now c.args.o c.requires.free, version, ap (λ m. m.max_writes) c.self.view_is) in
     let lists : (p : ℕ) → list_in (marked c.self.inside.memory c.args.o) p ≡ list_in c.self.inside.memory p = subst (λ memory. (p : ℕ) → list_in memory p ≡ list_in c.self.inside.memory p) c.mark.ensures.marked c.mark.ensures.lists in
     rw c.mark.ensures.marked (local-still g.T.Elem.meaning g.S.FarTickets.content _ _ c.self.invariant c.args.o c.index_mut.result.now was local left lists)
 
@@ -52,7 +52,7 @@ returns-clause-lists g c =
     let was = word-read c.self.inside.entries.items c.args.o c.index_mut.result.now within c.index_mut.ensures.value in
     let local = subst (λ m. is_local m c.args.o ≡ true) (sym c.self.view_is) (local-written c.args.self.now c.args.o c.requires.free) in
     let version : version_of c.args.self.now c.args.o ≡ c.index_mut.result.now.version = rw (← c.self.view_is, was) refl in
-    let left : c.index_mut.result.now.version < c.self.inside.changes = omega (arith, left-written c.args.self.now c.args.o c.requires.free, version, ap (λ m. m.changes) c.self.view_is) in
+    let left : c.index_mut.result.now.version < c.self.inside.max_writes = omega (arith, left-written c.args.self.now c.args.o c.requires.free, version, ap (λ m. m.max_writes) c.self.view_is) in
     let lists : (p : ℕ) → list_in (marked c.self.inside.memory c.args.o) p ≡ list_in c.self.inside.memory p = subst (λ memory. (p : ℕ) → list_in memory p ≡ list_in c.self.inside.memory p) c.mark.ensures.marked c.mark.ensures.lists in
     rw (c.mark.ensures.marked, ← c.self.view_is) (lists-same g.T.Elem.meaning g.S.FarTickets.content _ _ c.self.invariant c.args.o c.index_mut.result.now was local left lists)
 
@@ -62,6 +62,6 @@ returns-clause-clean g c =
     let was = word-read c.self.inside.entries.items c.args.o c.index_mut.result.now within c.index_mut.ensures.value in
     let local = subst (λ m. is_local m c.args.o ≡ true) (sym c.self.view_is) (local-written c.args.self.now c.args.o c.requires.free) in
     let version : version_of c.args.self.now c.args.o ≡ c.index_mut.result.now.version = rw (← c.self.view_is, was) refl in
-    let left : c.index_mut.result.now.version < c.self.inside.changes = omega (arith, left-written c.args.self.now c.args.o c.requires.free, version, ap (λ m. m.changes) c.self.view_is) in
+    let left : c.index_mut.result.now.version < c.self.inside.max_writes = omega (arith, left-written c.args.self.now c.args.o c.requires.free, version, ap (λ m. m.max_writes) c.self.view_is) in
     let lists : (p : ℕ) → list_in (marked c.self.inside.memory c.args.o) p ≡ list_in c.self.inside.memory p = subst (λ memory. (p : ℕ) → list_in memory p ≡ list_in c.self.inside.memory p) c.mark.ensures.marked c.mark.ensures.lists in
     λ clean. rw c.mark.ensures.marked (clean-written g.T.Elem.meaning g.S.FarTickets.content _ _ c.self.invariant c.args.o c.index_mut.result.now was local left lists (subst (AreClean g.T.Elem.meaning g.S.FarTickets.content) (sym c.self.view_is) clean))

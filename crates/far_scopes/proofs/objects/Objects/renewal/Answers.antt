@@ -7,7 +7,7 @@ use Rattle.far_scopes.proofs.objects.Objects.renewal.Goals as goal
 use Rattle.far_scopes.proofs.objects.Objects.renewal.Goals.{in-Some+in_ok-put_again-in-Some, in-None}
 
 -- the ticket of this object is as it should be, and no fault was met
-one : (g : given.Over) (c : goal.After-push_reserved g) → (option_map g.N.FarTickets.content c.match-away_ticket.ticket ≡ cond (is_local c.args.self.now c.loop-o.o) None (option_map g.S.FarTickets.content (ticket_of c.args.self.now c.loop-o.o))) × IfSome c.match-away_ticket.ticket (λ ticket. g.N.FarTickets.is_of ticket (g.N.FarTickets.name c.args.new_store.now)) × (c.match-away_ticket.meter ≡ c.loop-o.meter)
+one : (g : given.Over) (c : goal.After-push_reserved g) → (option_map g.N.FarTickets.content c.match-away_ticket.ticket ≡ cond (is_local c.args.self.now c.loop-o.o) None (option_map g.S.FarTickets.content (ticket_of c.args.self.now c.loop-o.o))) × IfSome c.match-away_ticket.ticket (λ ticket. g.N.FarTickets.is_of ticket (g.N.FarTickets.store_id c.args.new_store.now)) × (c.match-away_ticket.meter ≡ c.loop-o.meter)
 one g c =
     let local = is_local c.args.self.now c.loop-o.o in
     let ticket = ticket_of c.args.self.now c.loop-o.o in
@@ -31,7 +31,7 @@ loop-o-preserved g c =
     let items = c.push_reserved.ensures.items in (
       ap (λ l. length l) items ∙ omega (arith, inv.0, length-append c.loop-o.tickets.items (c.match-away_ticket.ticket ∷ [])),
       rw items (renewed-push g.S.FarTickets.content g.N.FarTickets.content c.args.self.now c.loop-o.tickets.items c.match-away_ticket.ticket c.loop-o.o inv.0 inv.1 is.0),
-      rw items (here-push g.N.FarTickets.is_of (g.N.FarTickets.name c.args.new_store.now) c.loop-o.tickets.items c.match-away_ticket.ticket inv.2 is.1),
+      rw items (here-push g.N.FarTickets.is_of (g.N.FarTickets.store_id c.args.new_store.now) c.loop-o.tickets.items c.match-away_ticket.ticket inv.2 is.1),
       rw c.push_reserved.ensures.capacity inv.3,
       is.2 ∙ inv.4,
     )

@@ -5,7 +5,7 @@ use Rattle.far_types.specs.declared.refusal.Refusal.TheVariants.{NoMemory}
 use Rattle.far_types.specs.FirstOf.{first_of}
 use Rattle.far_scopes.specs.Movement.{AreClean, AreHere}
 use Rattle.far_scopes.specs.Refusing.{refusal_in, first_absent, any_written_out, replace_all_refusal}
-use Rattle.far_scopes.specs.Replacing.{no_room_for_all, first_fits}
+use Rattle.far_scopes.specs.Replacing.{no_space_for_all, first_fits}
 use Rattle.far_scopes.specs.Effects.{with_lens}
 use Rattle.far_scopes.proofs.Framing.{here-replaced_all}
 use Rattle.far_scopes.proofs.Relisted.{length-lens}
@@ -18,7 +18,7 @@ replace_all-requires-clause-local g c κs within = rw (← c.self.view_is) at (a
 
 pub returns-in_err-all_here-clause-memory : goal.returns-in_err-all_here-clause-memory
 returns-in_err-all_here-clause-memory g c =
-    err-handed c.from_residual.result c.in_err-all_here.field-0.0 (λ e. e ≡ NoMemory → first_fits c.args.self.now.memory.room c.args.lists.now ≡ true)
+    err-handed c.from_residual.result c.in_err-all_here.field-0.0 (λ e. e ≡ NoMemory → first_fits c.args.self.now.memory.state c.args.lists.now ≡ true)
     (λ memory. absurd (absent-no-memory c.args.self.now (map (λ r. r.object) c.args.lists.now) c.in_err-all_here.field-0.0 (sym c.in_err-all_here.ensures) memory))
     c.from_residual.ensures.1
 
@@ -29,11 +29,11 @@ pub returns-in_err-replace_all-clause-refused : goal.returns-in_err-replace_all-
 returns-in_err-replace_all-clause-refused g c =
     let here = sym c.in_ok-all_here.ensures in
     let all = refusal-is c.args.self.now c.args.lists.now (refusal_in c.all_writable-checked.result) here c.all_writable-checked.ensures in
-    let room = ap (λ m. option_or (first_of (no_room_for_all m.memory.room c.args.lists.now ∷ [])) (refusal_in c.all_writable-checked.result)) c.self.view_is in
+    let state = ap (λ m. option_or (first_of (no_space_for_all m.memory.state c.args.lists.now ∷ [])) (refusal_in c.all_writable-checked.result)) c.self.view_is in
     err-handed c.from_residual-in_err-replace_all.result c.in_err-replace_all.field-0.0
     (λ e. (replace_all_refusal c.args.self.now c.args.lists.now ≡ Some e) ⊎ ((first_absent c.args.self.now (map (λ r. r.object) c.args.lists.now) ≡ None) × (e ≡ NoMemory)))
     (elim c.in_err-replace_all.ensures.refused [
-      | inl told ↦ inl (all ∙ sym room ∙ told)
+      | inl told ↦ inl (all ∙ sym state ∙ told)
       | inr memory ↦ inr (here, memory)
     ])
     c.from_residual-in_err-replace_all.ensures.1

@@ -1,54 +1,67 @@
-use Rattle.std.proofs.Common.{◌≡◌, ◌<◌, [], length, refl, sym, ◌∙◌, arith}
-use Rattle.far_script.specs.Flow.{unread}
-use Rattle.far_script.proofs.StopLaws.{handed-on, if-input, stops-still}
-use Rattle.far_script.proofs.FlowLaws.{dropped, front-within, prints-then-nothing, reads-range, reads-then, range-length}
+use Rattle.std.proofs.Common.{◌≡◌, ◌<◌, [], length, inl, inr, refl, sym, ◌∙◌, arith}
+use Rattle.far_script.specs.Flow.{IsShort, unread}
+use Rattle.far_script.proofs.StopLaws.{handed-on, if-input-both, leaves-same, not-found, short-later, stops-still}
+use Rattle.far_script.proofs.FlowLaws.{dropped, fewer, front-within, prints-none, prints-then-nothing, range-length, reads-none, reads-range, reads-then, turns-past}
 use Rattle.far_script.proofs.input.Input.bytes.Goals as goal
 
-pub returns-in_err-flush-clause-printed : goal.returns-in_err-flush-clause-printed
-returns-in_err-flush-clause-printed g c = prints-then-nothing _ _ _ c.args.output.now.page [] c.loop.output.page _ c.loop.invariant.1 c.flush.ensures.printed
+pub loop-turn-init : goal.loop-turn-init
+loop-turn-init g c = (reads-none g.R.Read _ _ refl, prints-none _ _, grind arith)
 
-pub returns-clause-span : goal.returns-clause-span
-returns-clause-span g c =
-    let e = c.take.ensures in
-    let low = c.if-len-self-2.false in
-    let known = c.loop.self.known in (
-      (grind (arith, e.from, e.to), grind (arith, e.to, e.held, low, known, c.len-2.ensures)),
-      rw (e.held, e.to, e.from) (range-length c.loop.self.held c.loop.self.start c.args.count (grind (arith, known)) (grind (arith, low, c.len-2.ensures))),
-      reads-range g.R.Read c.args.self.now c.loop.self c.take.new.self c.take.result.from c.take.result.to c.loop.invariant.0 e.source e.held (e.start ∙ sym e.to) e.from (grind (arith, e.from, e.to)),
+pub loop-turn-preserved : goal.loop-turn-preserved
+loop-turn-preserved g c =
+    let i = c.loop-turn.invariant in
+    let taken = c.in_ok-read_more.ensures.taken c.if-not-branch.false in (
+      reads-then g.R.Read c.args.self.now c.loop-turn.self c.read_more.new.self [] [] i.0 c.in_ok-read_more.ensures.read,
+      prints-then-nothing _ _ _ c.args.output.now.page [] c.loop-turn.output.page _ i.1 c.flush.ensures.printed,
+      omega (arith, taken, i.2),
     )
 
-pub returns-in_err-fill-clause-stopped : goal.returns-in_err-fill-clause-stopped
-returns-in_err-fill-clause-stopped g c =
-    let k = dropped c.loop.self.held c.loop.self.start (front-within c.loop.self.start c.loop.self.plain (length c.loop.self.held) c.loop.self.known) in
-    let low : length (unread g.R.Read c.loop.self) < c.args.count = grind (arith, k, c.if-len-self.false, c.len.ensures) in
-    let why = c.in_err-fill.field-0.0 in
-    handed-on c.from_residual-in_err-fill.result why _ c.from_residual-in_err-fill.ensures.1
-    (if-input why _ _ (λ same. stops-still g.R.Read c.args.self.now c.loop.self c.fill.new.self (λ bytes. length bytes < c.args.count) c.loop.invariant.0 same.0 low) c.in_err-fill.ensures.stopped)
+pub returns-in_err-flush-clause-printed : goal.returns-in_err-flush-clause-printed
+returns-in_err-flush-clause-printed g c = prints-then-nothing _ _ _ c.args.output.now.page [] c.loop-turn.output.page _ c.loop-turn.invariant.1 c.flush.ensures.printed
+
+pub returns-then-len-self-clause-span : goal.returns-then-len-self-clause-span
+returns-then-len-self-clause-span g c =
+    let e = c.take.ensures in
+    let low = c.if-len-self.true in
+    let known = c.loop-turn.self.known in (
+      (grind (arith, e.from, e.to), grind (arith, e.to, e.held, low, known, c.len.ensures)),
+      rw (e.held, e.to, e.from) (range-length c.loop-turn.self.held c.loop-turn.self.start c.args.count (grind (arith, known)) (grind (arith, low, c.len.ensures))),
+      reads-range g.R.Read c.args.self.now c.loop-turn.self c.take.new.self c.take.result.from c.take.result.to c.loop-turn.invariant.0 e.source e.held (e.start ∙ sym e.to) e.from (grind (arith, e.from, e.to)),
+    )
+
+pub returns-in_err-read_more-clause-stopped : goal.returns-in_err-read_more-clause-stopped
+returns-in_err-read_more-clause-stopped g c =
+    let i = c.loop-turn.invariant in
+    let k = dropped c.loop-turn.self.held c.loop-turn.self.start (front-within c.loop-turn.self.start c.loop-turn.self.plain (length c.loop-turn.self.held) c.loop-turn.self.known) in
+    let low : length (unread g.R.Read c.loop-turn.self) < c.args.count = grind (arith, k, c.if-len-self.false, c.len.ensures) in
+    let why = c.in_err-read_more.field-0.0 in
+    handed-on c.from_residual-in_err-read_more.result why _ c.from_residual-in_err-read_more.ensures.1
+    (if-input-both why _ _ _ (λ same unseen. stops-still g.R.Read c.args.self.now c.loop-turn.self c.read_more.new.self (λ bytes rest. (length bytes < c.args.count) × IsShort g.R.Read g.R.Source.may_fail c.args.self.now c.read_more.new.self rest) i.0 same.0 (not-found _ _ unseen.0) same.2
+    (low, short-later g.R.Read g.R.Source.may_fail c.args.self.now c.loop-turn.self c.read_more.new.self [] _ i.0 (fewer _ _ _ i.2) (inr unseen))) c.in_err-read_more.ensures.stopped c.in_err-read_more.ensures.unseen)
 
 pub returns-then-not-branch-clause-stopped : goal.returns-then-not-branch-clause-stopped
 returns-then-not-branch-clause-stopped g c =
-    let k = dropped c.loop.self.held c.loop.self.start (front-within c.loop.self.start c.loop.self.plain (length c.loop.self.held) c.loop.self.known) in
-    let low : length (unread g.R.Read c.loop.self) < c.args.count = grind (arith, k, c.if-len-self.false, c.len.ensures) in
-    let same : unread g.R.Read c.fill.new.self ≡ unread g.R.Read c.loop.self = (c.in_ok-fill.ensures.ended c.if-not-branch.true).1 in
-    stops-still g.R.Read c.args.self.now c.fill.new.self c.fill.new.self (λ bytes. length bytes < c.args.count)
-    (reads-then g.R.Read c.args.self.now c.loop.self c.fill.new.self [] [] c.loop.invariant.0 c.in_ok-fill.ensures.read) refl (rw same low)
+    let k = dropped c.loop-turn.self.held c.loop-turn.self.start (front-within c.loop-turn.self.start c.loop-turn.self.plain (length c.loop-turn.self.held) c.loop-turn.self.known) in
+    let low : length (unread g.R.Read c.loop-turn.self) < c.args.count = grind (arith, k, c.if-len-self.false, c.len.ensures) in
+    let ended = c.in_ok-read_more.ensures.ended c.if-not-branch.true in
+    let same : unread g.R.Read c.read_more.new.self ≡ unread g.R.Read c.loop-turn.self = ended.1 in
+    stops-still g.R.Read c.args.self.now c.read_more.new.self c.read_more.new.self (λ bytes rest. (length bytes < c.args.count) × IsShort g.R.Read g.R.Source.may_fail c.args.self.now c.read_more.new.self rest)
+    (reads-then g.R.Read c.args.self.now c.loop-turn.self c.read_more.new.self [] [] c.loop-turn.invariant.0 c.in_ok-read_more.ensures.read) refl (λ e. e) (leaves-same _ _) (rw same low, inl (ended.0, c.read_more.new.self.source.end ended.0))
 
-pub returns-then-len-self-2-clause-stopped : goal.returns-then-len-self-2-clause-stopped
-returns-then-len-self-2-clause-stopped g c =
-    let k = dropped c.loop.self.held c.loop.self.start (front-within c.loop.self.start c.loop.self.plain (length c.loop.self.held) c.loop.self.known) in
-    stops-still g.R.Read c.args.self.now c.loop.self c.loop.self (λ bytes. length bytes < c.args.count) c.loop.invariant.0 refl (grind (arith, k, c.if-len-self-2.true, c.len-2.ensures))
+pub returns-clause-stopped : goal.returns-clause-stopped
+returns-clause-stopped g c = absurd (turns-past c.loop-turn.self.source.reads c.loop-turn.turn c.args.self.now.source.reads c.loop-turn.invariant.2 c.args.self.now.source.few (grind (arith, c.loop-turn-test.false)))
+
+pub returns-then-len-self-clause-asked : goal.returns-then-len-self-clause-asked
+returns-then-len-self-clause-asked g c = rw c.take.ensures.source (fewer _ _ _ c.loop-turn.invariant.2)
 
 pub returns-in_err-flush-clause-asked : goal.returns-in_err-flush-clause-asked
-returns-in_err-flush-clause-asked g c = c.loop.invariant.2
+returns-in_err-flush-clause-asked g c = fewer _ _ _ c.loop-turn.invariant.2
 
-pub returns-in_err-fill-clause-asked : goal.returns-in_err-fill-clause-asked
-returns-in_err-fill-clause-asked g c = omega (arith, c.fill.ensures.asked, c.loop.invariant.2)
+pub returns-in_err-read_more-clause-asked : goal.returns-in_err-read_more-clause-asked
+returns-in_err-read_more-clause-asked g c = omega (arith, c.read_more.ensures.asked, c.loop-turn.invariant.2)
 
 pub returns-then-not-branch-clause-asked : goal.returns-then-not-branch-clause-asked
-returns-then-not-branch-clause-asked g c = omega (arith, c.fill.ensures.asked, c.loop.invariant.2)
-
-pub returns-then-len-self-2-clause-asked : goal.returns-then-len-self-2-clause-asked
-returns-then-len-self-2-clause-asked g c = c.loop.invariant.2
+returns-then-not-branch-clause-asked g c = omega (arith, c.read_more.ensures.asked, c.loop-turn.invariant.2)
 
 pub returns-clause-asked : goal.returns-clause-asked
-returns-clause-asked g c = rw c.take.ensures.source c.loop.invariant.2
+returns-clause-asked g c = fewer _ _ _ c.loop-turn.invariant.2

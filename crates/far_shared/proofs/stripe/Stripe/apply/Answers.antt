@@ -12,9 +12,9 @@ change-requires-clause-few g c κs inside =
     let legal = subst (IsLegal g.N.Naming.plan) look.whole look.seen.legal in
     subst (λ (r : Reading). r.edits < 2 ^ 63) (sym look.reading) (few g.N.Naming.plan s.keeper s.frame.table c.self.invariant.0 legal)
 
-pub change-requires-clause-slots : goal.change-requires-clause-slots
-change-requires-clause-slots g c κs inside =
-    c.self.invariant.2.slots ∙ sym (ap length c.self.invariant.0.schema)
+pub change-requires-clause-column_indexes : goal.change-requires-clause-column_indexes
+change-requires-clause-column_indexes g c κs inside =
+    c.self.invariant.2.column_indexes ∙ sym (ap length c.self.invariant.0.schema)
 
 pub add-requires : goal.add-requires
 add-requires g c =

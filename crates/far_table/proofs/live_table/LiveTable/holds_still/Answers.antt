@@ -33,8 +33,8 @@ returns-then-eq-clause-exact g c =
     let same = sym c.spec-2.ensures ∙ c.is_same.ensures.0 c.if-not-is_same.false in
     let alive = sym c.alive.ensures ∙ flags.0 c.if-eq.true ∙ c.flags.ensures ∙ ap (λ (r : Rows g.row.S-Ticket.Denot). in_group r.size b.group r.alive) held in
     let build : Build g.row.S-Ticket.Denot = record { number = b.number; aggregate = b.aggregate; registration = b.registration; group = b.group; job = b.job } in
-    let exact = subst (λ (tickets : List (ℕ × g.row.S-Ticket.Denot)). IsTrue c.are_still.result ↔ AllNeeded (length t.held.slots) spec (λ column. HaveOneNumber g.S.FarTickets.number_of (copy_of t.held column b.group) (ticket_for tickets column))) c.tickets.ensures
-    (subst (λ (r : Rows g.row.S-Ticket.Denot). IsTrue c.are_still.result ↔ AllNeeded (length r.slots) spec (λ column. HaveOneNumber g.S.FarTickets.number_of (copy_of r column b.group) (ticket_for c.tickets.result.now column))) held c.are_still.ensures.exact) in
+    let exact = subst (λ (tickets : List (ℕ × g.row.S-Ticket.Denot)). IsTrue c.are_still.result ↔ AllNeeded (length t.held.column_indexes) spec (λ column. HaveOneNumber g.S.FarTickets.number_of (copy_of t.held column b.group) (ticket_for tickets column))) c.tickets.ensures
+    (subst (λ (r : Rows g.row.S-Ticket.Denot). IsTrue c.are_still.result ↔ AllNeeded (length r.column_indexes) spec (λ column. HaveOneNumber g.S.FarTickets.number_of (copy_of r column b.group) (ticket_for c.tickets.result.now column))) held c.are_still.ensures.exact) in
     rw (← c.self.view_is, ← c.build.view_is) (tickets-decide g.S.FarTickets.number_of (state_of t c.self.inside.registrations slots) build spec c.in-Some-registration.registration c.are_still.result number c.if-build-registration.false same alive below exact c.in-Some.ensures c.in-Some-registration.ensures (sym c.is_left.ensures ∙ c.if-not-is_left.false))
 
 pub returns-then-eq-clause-copies : goal.returns-then-eq-clause-copies
@@ -52,8 +52,8 @@ returns-then-eq-clause-copies g c = λ yes.
     let same = sym c.spec-2.ensures ∙ c.is_same.ensures.0 c.if-not-is_same.false in
     let alive = sym c.alive.ensures ∙ flags.0 c.if-eq.true ∙ c.flags.ensures ∙ ap (λ (r : Rows g.row.S-Ticket.Denot). in_group r.size b.group r.alive) held in
     let build : Build g.row.S-Ticket.Denot = record { number = b.number; aggregate = b.aggregate; registration = b.registration; group = b.group; job = b.job } in
-    let copies = subst (λ (tickets : List (ℕ × g.row.S-Ticket.Denot)). AllNeeded (length t.held.slots) spec (λ column. IsSomeAnd (ticket_for tickets column) (IsCopy g.S.FarTickets.content t.held b.group column))) c.tickets.ensures
-    (subst (λ (r : Rows g.row.S-Ticket.Denot). AllNeeded (length r.slots) spec (λ column. IsSomeAnd (ticket_for c.tickets.result.now column) (IsCopy g.S.FarTickets.content r b.group column))) held (c.are_still.ensures.copies yes)) in
+    let copies = subst (λ (tickets : List (ℕ × g.row.S-Ticket.Denot)). AllNeeded (length t.held.column_indexes) spec (λ column. IsSomeAnd (ticket_for tickets column) (IsCopy g.S.FarTickets.content t.held b.group column))) c.tickets.ensures
+    (subst (λ (r : Rows g.row.S-Ticket.Denot). AllNeeded (length r.column_indexes) spec (λ column. IsSomeAnd (ticket_for c.tickets.result.now column) (IsCopy g.S.FarTickets.content r b.group column))) held (c.are_still.ensures.copies yes)) in
     rw (← c.self.view_is, ← c.build.view_is) (still-copies g.S.FarTickets.content t.held build spec same alive below copies)
 
 pub returns-else-eq-clause-exact : goal.returns-else-eq-clause-exact

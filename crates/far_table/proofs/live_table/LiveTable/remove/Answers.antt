@@ -3,7 +3,7 @@ use Rattle.far_types.specs.declared.edit.Edit.TheVariants as edit
 use Rattle.far_types.specs.declared.limits.Limits.{Limits}
 use Rattle.far_types.specs.FirstOf.{first_of}
 use Rattle.far_rows.specs.Refusing.{absents}
-use Rattle.far_table.proofs.LiveEdits.{kept-fit, same-live, made-checked, made-live, goes-after, remove-here, remove-row, remove-inside}
+use Rattle.far_table.proofs.LiveEdits.{kept-fit, same-live, made-checked, made-live, retracts-after, remove-here, remove-row, remove-inside}
 use Rattle.far_table.proofs.LiveTaking.{absents-cleared}
 use Rattle.far_table.proofs.live_table.LiveTable.remove.Goals as goal
 
@@ -29,14 +29,14 @@ retract_row-requires-clause-here g c κs within =
 pub retract_row-requires-clause-checked : goal.retract_row-requires-clause-checked
 retract_row-requires-clause-checked g c κs within = made-checked c.self.inside.rows c.remove.new.self (edit.Remove c.args.place) c.self.inside.registrations c.self.inside.aggregates c.leave.new.self c.remove.ensures.made c.in_ok-pending.ensures.registered c.self.invariant
 
-pub retract_row-requires-clause-goes : goal.retract_row-requires-clause-goes
-retract_row-requires-clause-goes g c κs within =
+pub retract_row-requires-clause-retracts : goal.retract_row-requires-clause-retracts
+retract_row-requires-clause-retracts g c κs within =
     let old = c.self.inside.rows in
     let e = c.in_ok-pending.ensures in
     let row = remove-row old c.args.place c.in_ok-row.ensures.refused c.in_ok-row.row c.in_ok-row.ensures.row in
     let kept = kept-fit old c.self.inside.registrations c.self.inside.aggregates c.limits.result.now c.limits.ensures.same c.limits.ensures.bounds c.len-len.ensures.few c.len-len.ensures.fit c.self.invariant in
-    goes-after old c.remove.new.self (edit.Remove c.args.place) c.args.place c.limits.result.now c.leave.new.self c.in_ok-pending.pending c.limits.ensures.same c.remove.ensures.made
-    (e.goes old.places (c.in_ok-row.row, refl, row) kept)
+    retracts-after old c.remove.new.self (edit.Remove c.args.place) c.args.place c.limits.result.now c.leave.new.self c.in_ok-pending.pending c.limits.ensures.same c.remove.ensures.made
+    (e.retracts old.places (c.in_ok-row.row, refl, row) kept)
 
 pub invariant_of-self-2 : goal.invariant_of-self-2
 invariant_of-self-2 g c =

@@ -9,10 +9,10 @@ use Rattle.far_types.specs.declared.refusal.Refusal.TheVariants as refusal
 use Rattle.far_types.specs.Cells.{RowFits}
 use Rattle.far_types.specs.Edits.{edit_faults, kinds_fit}
 use Rattle.far_types.specs.FirstOf.{first_of}
-use Rattle.far_rows.specs.declared.slot.Slot.{Slot}
+use Rattle.far_rows.specs.declared.column_index.ColumnIndex.{ColumnIndex}
 use Rattle.far_rows.specs.Places.{places_in}
 use Rattle.far_rows.specs.Rows.{cells_of}
-use Rattle.far_rows.specs.Slots.{kind_of, row_of}
+use Rattle.far_rows.specs.ColumnIndexes.{kind_of, row_of}
 use Rattle.far_table.specs.Edits.{edit_due, obstacles}
 use Rattle.far_table.specs.TableRows.{TableRows, asked, rows_in}
 use Rattle.far_table.proofs.Due.{insert-due}
@@ -35,8 +35,8 @@ returns-in_err-row_faults-clause-refused g c =
     let told = refused-first (edit_faults inside.schema inside.limits places e) (obstacles (asked table) e) c.in_err-row_faults.field-0.0 (sym (c.in_err-row_faults.ensures places count)) in
     rw (p.1, p.2) (sym told ∙ ap (λ (t : TableRows g.row.S-Ticket.Denot). edit_due (asked t) e) c.self.view_is)
 
-pub fill-requires-clause-width : goal.fill-requires-clause-width
-fill-requires-clause-width g c =
+pub load-requires-clause-width : goal.load-requires-clause-width
+load-requires-clause-width g c =
     let content = g.S.FarTickets.content in
     let inside = c.self.inside in
     let places = places_in content inside.rows in
@@ -44,24 +44,24 @@ fill-requires-clause-width g c =
     let free = sym (c.in_ok-row_faults.ensures places count) in
     let right = row-right inside.schema inside.limits places c.args.row free in
     let kinds = ap length c.self.invariant.kinds in
-    let slots = ap length c.slots.ensures in
-    let mapped = length-map inside.rows.slots kind_of in
-    omega (arith, right.width, kinds, slots, mapped)
+    let column_indexes = ap length c.column_indexes.ensures in
+    let mapped = length-map inside.rows.column_indexes kind_of in
+    omega (arith, right.width, kinds, column_indexes, mapped)
 
-pub fill-requires-clause-of_kinds : goal.fill-requires-clause-of_kinds
-fill-requires-clause-of_kinds g c =
+pub load-requires-clause-of_kinds : goal.load-requires-clause-of_kinds
+load-requires-clause-of_kinds g c =
     let content = g.S.FarTickets.content in
     let inside = c.self.inside in
     let places = places_in content inside.rows in
     let count = length-places (cells_of content inside.rows) inside.rows.alive ∙ sym c.len-len.ensures.len in
     let free = sym (c.in_ok-row_faults.ensures places count) in
     let right = row-right inside.schema inside.limits places c.args.row free in
-    ap (λ (slots : List Slot). kinds_fit (map kind_of slots) c.args.row) c.slots.ensures
+    ap (λ (column_indexes : List ColumnIndex). kinds_fit (map kind_of column_indexes) c.args.row) c.column_indexes.ensures
     ∙ ap (λ (kinds : List Kind). kinds_fit kinds c.args.row) c.self.invariant.kinds
     ∙ right.of_kinds
 
-pub fill-requires-clause-short : goal.fill-requires-clause-short
-fill-requires-clause-short g c =
+pub load-requires-clause-short : goal.load-requires-clause-short
+load-requires-clause-short g c =
     let content = g.S.FarTickets.content in
     let inside = c.self.inside in
     let places = places_in content inside.rows in
@@ -78,9 +78,9 @@ returns-in_err-may_push-clause-refused g c =
     let places = places_in content inside.rows in
     let count = length-places (cells_of content inside.rows) inside.rows.alive ∙ sym c.len-len.ensures.len in
     let free = sym (c.in_ok-row_faults.ensures places count) in
-    let new_row = c.fill.new.self in
-    let row : row_of inside.rows.slots new_row ≡ c.args.row = ap (λ (slots : List Slot). row_of slots new_row) (sym c.slots.ensures) ∙ c.fill.ensures.row in
-    let kept = taken-kept content g.S.FarTickets.is_of inside.schema inside.limits inside.rows inside.new_row inside.edits c.self.invariant new_row c.fill.ensures.numbers c.fill.ensures.texts (subst RowFits (sym row) c.as_slice-cells.ensures.fit) in
+    let new_row = c.load.new.self in
+    let row : row_of inside.rows.column_indexes new_row ≡ c.args.row = ap (λ (column_indexes : List ColumnIndex). row_of column_indexes new_row) (sym c.column_indexes.ensures) ∙ c.load.ensures.row in
+    let kept = taken-kept content g.S.FarTickets.is_of inside.schema inside.limits inside.rows inside.new_row inside.edits c.self.invariant new_row c.load.ensures.numbers c.load.ensures.texts (subst RowFits (sym row) c.as_slice-cells.ensures.fit) in
     let due = insert-due content inside.schema inside.limits inside.rows new_row inside.edits kept c.args.row row free in
     let last = first_of ((inside.edits == inside.limits.edits, refusal.EditsUsedUp) ∷ []) in
     let seen = ap (λ (t : TableRows g.row.S-Ticket.Denot). edit_due (asked t) (edit.Insert c.args.row)) c.self.view_is in
@@ -93,9 +93,9 @@ returns-clause-refused g c =
     let places = places_in content inside.rows in
     let count = length-places (cells_of content inside.rows) inside.rows.alive ∙ sym c.len-len.ensures.len in
     let free = sym (c.in_ok-row_faults.ensures places count) in
-    let new_row = c.fill.new.self in
-    let row : row_of inside.rows.slots new_row ≡ c.args.row = ap (λ (slots : List Slot). row_of slots new_row) (sym c.slots.ensures) ∙ c.fill.ensures.row in
-    let kept = taken-kept content g.S.FarTickets.is_of inside.schema inside.limits inside.rows inside.new_row inside.edits c.self.invariant new_row c.fill.ensures.numbers c.fill.ensures.texts (subst RowFits (sym row) c.as_slice-cells.ensures.fit) in
+    let new_row = c.load.new.self in
+    let row : row_of inside.rows.column_indexes new_row ≡ c.args.row = ap (λ (column_indexes : List ColumnIndex). row_of column_indexes new_row) (sym c.column_indexes.ensures) ∙ c.load.ensures.row in
+    let kept = taken-kept content g.S.FarTickets.is_of inside.schema inside.limits inside.rows inside.new_row inside.edits c.self.invariant new_row c.load.ensures.numbers c.load.ensures.texts (subst RowFits (sym row) c.as_slice-cells.ensures.fit) in
     let due = insert-due content inside.schema inside.limits inside.rows new_row inside.edits kept c.args.row row free in
     let last = first_of ((inside.edits == inside.limits.edits, refusal.EditsUsedUp) ∷ []) in
     let seen = ap (λ (t : TableRows g.row.S-Ticket.Denot). edit_due (asked t) (edit.Insert c.args.row)) c.self.view_is in
@@ -108,9 +108,9 @@ returns-clause-free g c =
     let places = places_in content inside.rows in
     let count = length-places (cells_of content inside.rows) inside.rows.alive ∙ sym c.len-len.ensures.len in
     let free = sym (c.in_ok-row_faults.ensures places count) in
-    let new_row = c.fill.new.self in
-    let row : row_of inside.rows.slots new_row ≡ c.args.row = ap (λ (slots : List Slot). row_of slots new_row) (sym c.slots.ensures) ∙ c.fill.ensures.row in
-    let kept = taken-kept content g.S.FarTickets.is_of inside.schema inside.limits inside.rows inside.new_row inside.edits c.self.invariant new_row c.fill.ensures.numbers c.fill.ensures.texts (subst RowFits (sym row) c.as_slice-cells.ensures.fit) in
+    let new_row = c.load.new.self in
+    let row : row_of inside.rows.column_indexes new_row ≡ c.args.row = ap (λ (column_indexes : List ColumnIndex). row_of column_indexes new_row) (sym c.column_indexes.ensures) ∙ c.load.ensures.row in
+    let kept = taken-kept content g.S.FarTickets.is_of inside.schema inside.limits inside.rows inside.new_row inside.edits c.self.invariant new_row c.load.ensures.numbers c.load.ensures.texts (subst RowFits (sym row) c.as_slice-cells.ensures.fit) in
     let due = insert-due content inside.schema inside.limits inside.rows new_row inside.edits kept c.args.row row free in
     let last = first_of ((inside.edits == inside.limits.edits, refusal.EditsUsedUp) ∷ []) in
     let table = rows_in content inside.schema inside.limits inside.rows new_row inside.edits in

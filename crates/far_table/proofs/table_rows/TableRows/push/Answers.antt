@@ -3,7 +3,7 @@ use Rattle.std.proofs.lemmas.Result.{err_from_is_err_and}
 use Rattle.far_types.specs.declared.edit.Edit.TheVariants as edit
 use Rattle.far_rows.specs.Refusing.{push_refusal}
 use Rattle.far_rows.specs.Rows.{Rows, cells_of}
-use Rattle.far_rows.specs.Slots.{row_of}
+use Rattle.far_rows.specs.ColumnIndexes.{row_of}
 use Rattle.far_table.specs.Edits.{MayPush}
 use Rattle.far_table.specs.TableRows.{TableRows, asked, rows_in}
 use Rattle.far_table.proofs.Faultless.{faultless, edits-left, row-right}
@@ -21,7 +21,7 @@ push-requires-clause-few g c κs within =
     let rows = c.self.inside.rows in
     let inside = c.self.inside in
     let table = rows_in content inside.schema inside.limits rows inside.new_row inside.edits in
-    let row = row_of rows.slots inside.new_row in
+    let row = row_of rows.column_indexes inside.new_row in
     let may : MayPush content table = subst (MayPush content) (sym c.self.view_is) c.requires in
     let right = row-right inside.schema inside.limits table.places row (faultless (asked table) (edit.Insert row) may.due) in
     let count = length-places (cells_of content rows) rows.alive in
@@ -40,7 +40,7 @@ invariant_of-self-2 g c =
     let inside = c.self.inside in
     let old = inside.rows in
     let table = rows_in content inside.schema inside.limits old inside.new_row inside.edits in
-    let row = row_of old.slots inside.new_row in
+    let row = row_of old.column_indexes inside.new_row in
     let may : MayPush content table = subst (MayPush content) (sym c.self.view_is) c.requires in
     let right = row-right inside.schema inside.limits table.places row (faultless (asked table) (edit.Insert row) may.due) in
     let count = length-places (cells_of content old) old.alive in

@@ -1,5 +1,5 @@
 use Rattle.std.proofs.Common.{◌≡◌, ◌<◌, ◌^◌, true, length, sym, subst, arith}
-use Rattle.far_texts.specs.Changes.{begins_group}
+use Rattle.far_texts.specs.Effects.{begins_group}
 use Rattle.far_texts.proofs.Pushing.{has-more}
 use Rattle.far_texts.proofs.text_column.TextColumn.begin_group.Goals as goal
 

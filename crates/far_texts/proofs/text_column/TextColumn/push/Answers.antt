@@ -1,10 +1,10 @@
 use Rattle.std.proofs.Common.{◌≤◌, length, Some, sym, ap, subst, ◌∙◌}
 use Rattle.far_scopes.specs.Memory.{ChangesList}
-use Rattle.far_texts.specs.Texts.{Lists, lists_of, texts_in, IsTextColumn, AreApart, KeepsOthers}
-use Rattle.far_texts.specs.Changes.{last_object}
+use Rattle.far_texts.specs.Texts.{Lists, lists_of, texts_in, IsTextColumn, AreDisjoint, KeepsOthers}
+use Rattle.far_texts.specs.Effects.{last_object}
 use Rattle.far_texts.proofs.Changed.{keeps-others-new, keeps-same}
 use Rattle.far_scopes.proofs.Outcomes.{by-outcome, on-ok, by-outcomes, on-both}
-use Rattle.far_texts.proofs.Beside.{pushed-apart}
+use Rattle.far_texts.proofs.Beside.{pushed-disjoint}
 use Rattle.far_texts.proofs.Pushing.{form-is, pushed-begun, pushed-longer, next-alone, next-behind, begun-is, begun-texts, longer-is, longer-texts, longer-others, push-short, moved-begun, moved-longer}
 use Rattle.far_texts.proofs.text_column.TextColumn.push.Goals as goal
 
@@ -74,11 +74,11 @@ returns-then-begins_group-clause-others g c =
     (λ changes. keeps-others-new old new o (Some bytes) (subst (λ b. ChangesList old new o (Some b)) c.deref.ensures.value changes) column fresh)
     (λ err. subst (λ w. KeepsOthers old (lists_of content w) column) (sym err) (keeps-same old column))
 
-pub returns-then-begins_group-clause-apart : goal.returns-then-begins_group-clause-apart
-returns-then-begins_group-clause-apart g c =
+pub returns-then-begins_group-clause-disjoint : goal.returns-then-begins_group-clause-disjoint
+returns-then-begins_group-clause-disjoint g c =
     by-outcome c.begin_group.result c.begin_group.ensures.pushed c.begin_group.ensures.kept
-    (λ now. λ d is apart. subst (λ w. AreApart w d) (sym now) (pushed-apart (lists_of g.S.FarTickets.content c.args.objects.now) c.args.self.now d (length c.args.objects.now.entries) c.known_before_push.ensures.fresh is apart))
-    (λ kept. λ d is apart. subst (λ w. AreApart w d) (sym kept) apart)
+    (λ now. λ d is disjoint. subst (λ w. AreDisjoint w d) (sym now) (pushed-disjoint (lists_of g.S.FarTickets.content c.args.objects.now) c.args.self.now d (length c.args.objects.now.entries) c.known_before_push.ensures.fresh is disjoint))
+    (λ kept. λ d is disjoint. subst (λ w. AreDisjoint w d) (sym kept) disjoint)
 
 pub returns-clause-moved : goal.returns-clause-moved
 returns-clause-moved g c =
@@ -140,8 +140,8 @@ returns-clause-others g c =
     (λ changes. longer-others old new column c.requires.is has begins bytes (subst (λ b. ChangesList old new (last_object column) (Some b)) c.deref-else-begins_group.ensures.value changes))
     (λ err. subst (λ w. KeepsOthers old (lists_of content w) column) (sym err) (keeps-same old column))
 
-pub returns-clause-apart : goal.returns-clause-apart
-returns-clause-apart g c =
+pub returns-clause-disjoint : goal.returns-clause-disjoint
+returns-clause-disjoint g c =
     by-outcome c.extend_group.result c.extend_group.ensures.pushed c.extend_group.ensures.kept
-    (λ now. λ d is apart. subst (λ w. AreApart w d) (sym now) (pushed-apart (lists_of g.S.FarTickets.content c.args.objects.now) c.args.self.now d (length c.args.objects.now.entries) c.known_before_push.ensures.fresh is apart))
-    (λ kept. λ d is apart. subst (λ w. AreApart w d) (sym kept) apart)
+    (λ now. λ d is disjoint. subst (λ w. AreDisjoint w d) (sym now) (pushed-disjoint (lists_of g.S.FarTickets.content c.args.objects.now) c.args.self.now d (length c.args.objects.now.entries) c.known_before_push.ensures.fresh is disjoint))
+    (λ kept. λ d is disjoint. subst (λ w. AreDisjoint w d) (sym kept) disjoint)

@@ -15,7 +15,7 @@ new-requires-after_bounds g c κs outlives =
     let to = c.args.to in
     let has = subst HasGroups c.self.view_is c.self.invariant in
     let within : to ≤ column.len = subst (λ t. to ≤ t.len) c.self.view_is c.if-to-self.false in
-    let long : length (slice_range c.args.alive.now from to) ≡ to - from = omega (arith, c.if-from-to.false, within, c.requires.even, length-take (to - from) (drop from c.args.alive.now), length-drop from c.args.alive.now) in
+    let long : length (slice_range c.args.alive.now from to) ≡ to - from = omega (arith, c.if-from-to.false, within, c.requires.same_length, length-take (to - from) (drop from c.args.alive.now), length-drop from c.args.alive.now) in
     record {
       is = c.requires.is;
       groups = has;

@@ -1,7 +1,7 @@
 use Rattle.std.proofs.Common.{◌≡◌, ◌+◌, ◌*◌, ◌<◌, ◌/◌, false, [], ◌∷◌, length, sym, ap, subst, ◌∙◌, arith}
 use Rattle.std.proofs.lemmas.Bool.{eqb-false}
 use Rattle.far_scopes.specs.Movement.{list_of}
-use Rattle.far_vector.specs.Vector.{Vector, IsVector, WritesPlaces, AreApart, KeepsOthers, object_at}
+use Rattle.far_vector.specs.Vector.{Vector, IsVector, WritesPlaces, AreDisjoint, KeepsOthers, object_at}
 use Rattle.far_vector.specs.Effects.{is_full}
 use Rattle.far_vector.proofs.VectorLaws.{object-there}
 use Rattle.far_vector.proofs.WritingLaws.{elements-filled, vector-filled}
@@ -11,7 +11,7 @@ use Rattle.far_vector.proofs.vector.FarVector.fill_place.Goals as goal
 
 module _ (g : Over) (c : goal.After-self-1 g) where
   abbrev view : Vector g.row.T.Denot
-  view = record { column = c.self.inside.column; size = c.self.inside.size; objects = c.self.inside.objects.items; len = c.self.inside.len; blank = c.self.inside.blank }
+  view = record { column = c.self.inside.column; size = c.self.inside.size; objects = c.self.inside.objects.items; len = c.self.inside.len; default_value = c.self.inside.default_value }
 
   room : c.self.inside.len < length c.self.inside.objects.items * c.self.inside.size
   room =
@@ -40,8 +40,8 @@ returns-clause-is g c =
     let places = subst (λ (v : Vector g.row.T.Denot). WritesPlaces (list_of g.T.Elem.meaning g.S.FarTickets.content c.args.objects.now) (list_of g.T.Elem.meaning g.S.FarTickets.content c.write.new.objects) v c.self.inside.len (c.args.x ∷ [])) (sym c.self.view_is) (placed g c) in
     vector-filled (list_of g.T.Elem.meaning g.S.FarTickets.content c.args.objects.now) (list_of g.T.Elem.meaning g.S.FarTickets.content c.write.new.objects) _ c.self.invariant.shaped is c.args.x places (room g c)
 
-pub returns-clause-apart : goal.returns-clause-apart
-returns-clause-apart g c = λ w is apart.
-    let apart' = subst (λ (v : Vector g.row.T.Denot). AreApart v w) (sym c.self.view_is) apart in
+pub returns-clause-disjoint : goal.returns-clause-disjoint
+returns-clause-disjoint g c = λ w is disjoint.
+    let disjoint' = subst (λ (v : Vector g.row.T.Denot). AreDisjoint v w) (sym c.self.view_is) disjoint in
     let lists = subst (λ (v : Vector g.row.T.Denot). KeepsOthers (list_of g.T.Elem.meaning g.S.FarTickets.content c.args.objects.now) (list_of g.T.Elem.meaning g.S.FarTickets.content c.write.new.objects) (object_at v c.self.inside.len)) (sym c.self.view_is) (others g c) in
-    untouched (list_of g.T.Elem.meaning g.S.FarTickets.content c.args.objects.now) (list_of g.T.Elem.meaning g.S.FarTickets.content c.write.new.objects) (view g c) w is apart' (object_at (view g c) c.self.inside.len) lists (c.self.inside.len / c.self.inside.size) (object-there (view g c) c.self.invariant.shaped c.self.inside.len (room g c)) record (view g c) { len = c.self.inside.len + 1 } apart'
+    untouched (list_of g.T.Elem.meaning g.S.FarTickets.content c.args.objects.now) (list_of g.T.Elem.meaning g.S.FarTickets.content c.write.new.objects) (view g c) w is disjoint' (object_at (view g c) c.self.inside.len) lists (c.self.inside.len / c.self.inside.size) (object-there (view g c) c.self.invariant.shaped c.self.inside.len (room g c)) record (view g c) { len = c.self.inside.len + 1 } disjoint'

@@ -19,8 +19,8 @@ returns-clause-is g c =
     let len : c.self.inside.len ≡ c.args.self.now.len = ap (λ (v : Vector g.row.T.Denot). v.len) c.self.view_is in
     vector-written (list_of g.T.Elem.meaning g.S.FarTickets.content c.args.objects.now) (list_of g.T.Elem.meaning g.S.FarTickets.content c.write.new.objects) c.args.self.now shaped c.requires c.args.i (c.args.x ∷ []) (subst (λ i. WritesPlaces (list_of g.T.Elem.meaning g.S.FarTickets.content c.args.objects.now) (list_of g.T.Elem.meaning g.S.FarTickets.content c.write.new.objects) c.args.self.now i (c.args.x ∷ [])) c.position-at.ensures.place c.write.ensures.places) (omega (arith, len, c.if-i-self.false))
 
-pub returns-clause-apart : goal.returns-clause-apart
-returns-clause-apart g c = λ w is apart.
+pub returns-clause-disjoint : goal.returns-clause-disjoint
+returns-clause-disjoint g c = λ w is disjoint.
     let shaped = subst (λ (v : Vector g.row.T.Denot). IsShaped v) c.self.view_is c.self.invariant.shaped in
     let len : c.self.inside.len ≡ c.args.self.now.len = ap (λ (v : Vector g.row.T.Denot). v.len) c.self.view_is in
-    untouched (list_of g.T.Elem.meaning g.S.FarTickets.content c.args.objects.now) (list_of g.T.Elem.meaning g.S.FarTickets.content c.write.new.objects) c.args.self.now w is apart (object_at c.args.self.now c.args.i) (subst (λ i. KeepsOthers (list_of g.T.Elem.meaning g.S.FarTickets.content c.args.objects.now) (list_of g.T.Elem.meaning g.S.FarTickets.content c.write.new.objects) (object_at c.args.self.now i)) c.position-at.ensures.place c.write.ensures.lists) (c.args.i / c.args.self.now.size) (object-there c.args.self.now shaped c.args.i (omega (arith, len, c.if-i-self.false, shaped.enough))) c.args.self.now apart
+    untouched (list_of g.T.Elem.meaning g.S.FarTickets.content c.args.objects.now) (list_of g.T.Elem.meaning g.S.FarTickets.content c.write.new.objects) c.args.self.now w is disjoint (object_at c.args.self.now c.args.i) (subst (λ i. KeepsOthers (list_of g.T.Elem.meaning g.S.FarTickets.content c.args.objects.now) (list_of g.T.Elem.meaning g.S.FarTickets.content c.write.new.objects) (object_at c.args.self.now i)) c.position-at.ensures.place c.write.ensures.lists) (c.args.i / c.args.self.now.size) (object-there c.args.self.now shaped c.args.i (omega (arith, len, c.if-i-self.false, shaped.enough))) c.args.self.now disjoint

@@ -2,7 +2,7 @@ use Rattle.std.proofs.Common.{◌≡◌, ◌+◌, ◌-◌, ◌*◌, length, take
 use Rattle.std.specs.Prelude.{slice_get}
 use Rattle.std.proofs.lemmas.Option.{slice_get_within}
 use Rattle.far_scopes.specs.Movement.{list_of}
-use Rattle.far_vector.specs.Vector.{Vector, IsVector, AreApart}
+use Rattle.far_vector.specs.Vector.{Vector, IsVector, AreDisjoint}
 use Rattle.far_vector.proofs.GroupLaws.{shaped-unpushed, elements-unpushed, vector-unpushed, untouched-unpushed}
 use Rattle.far_vector.proofs.vector.FarVector.unpush.Given.{Over}
 use Rattle.far_vector.proofs.vector.FarVector.unpush.Goals as goal
@@ -16,7 +16,7 @@ invariant_of-self g c =
     rw objs record {
       shaped = shaped-unpushed _ c.self.invariant.shaped (omega (arith, within)) alone;
       long = c.self.invariant.long;
-      blank = c.self.invariant.blank;
+      default_value = c.self.invariant.default_value;
     }
 
 module _ (g : Over) (c : goal.After-uncreate g) where
@@ -39,8 +39,8 @@ returns-clause-is g c =
     let is = subst (λ (v : Vector g.row.T.Denot). IsVector (list_of g.T.Elem.meaning g.S.FarTickets.content c.args.objects.now) v) (sym c.self.view_is) c.requires.is in
     rw (objects-are g c) (vector-unpushed (list_of g.T.Elem.meaning g.S.FarTickets.content c.args.objects.now) (list_of g.T.Elem.meaning g.S.FarTickets.content c.uncreate.new.self) _ c.self.invariant.shaped is (alone g c) (length c.args.objects.now.entries - 1) (last g c) c.uncreate.ensures.list.others)
 
-pub returns-clause-apart : goal.returns-clause-apart
-returns-clause-apart g c = λ w is-w apart.
+pub returns-clause-disjoint : goal.returns-clause-disjoint
+returns-clause-disjoint g c = λ w is-w disjoint.
     let is = subst (λ (v : Vector g.row.T.Denot). IsVector (list_of g.T.Elem.meaning g.S.FarTickets.content c.args.objects.now) v) (sym c.self.view_is) c.requires.is in
-    let apart' = subst (λ (v : Vector g.row.T.Denot). AreApart v w) (sym c.self.view_is) apart in
-    rw (objects-are g c) (untouched-unpushed (list_of g.T.Elem.meaning g.S.FarTickets.content c.args.objects.now) (list_of g.T.Elem.meaning g.S.FarTickets.content c.uncreate.new.self) _ c.self.invariant.shaped is (alone g c) (length c.args.objects.now.entries - 1) (last g c) c.uncreate.ensures.list.others w is-w apart')
+    let disjoint' = subst (λ (v : Vector g.row.T.Denot). AreDisjoint v w) (sym c.self.view_is) disjoint in
+    rw (objects-are g c) (untouched-unpushed (list_of g.T.Elem.meaning g.S.FarTickets.content c.args.objects.now) (list_of g.T.Elem.meaning g.S.FarTickets.content c.uncreate.new.self) _ c.self.invariant.shaped is (alone g c) (length c.args.objects.now.entries - 1) (last g c) c.uncreate.ensures.list.others w is-w disjoint')

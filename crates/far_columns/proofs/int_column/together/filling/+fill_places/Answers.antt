@@ -8,7 +8,7 @@ use Rattle.far_vector.specs.Effects.{is_full}
 use Rattle.far_vector.specs.Refusing.{push_refusal}
 use Rattle.far_columns.specs.Numbers.{number_lists}
 use Rattle.far_columns.proofs.NumbersTogether.{none-refused, begun-same, begun-object, pushed-first, count-same}
-use Rattle.far_columns.proofs.NumbersPushed.{beside-rest, beside-all, keeps-all, numbers-all, free-rest}
+use Rattle.far_columns.proofs.NumbersPushed.{all_disjoint-rest, all_disjoint-all, keeps-all, numbers-all, free-rest}
 use Rattle.far_columns.proofs.int_column.together.filling.+fill_places.Goals as goal
 
 pub unreachable-requires-in_default-push : goal.unreachable-requires-in_default-push
@@ -25,10 +25,10 @@ pub fill_places-requires-clause-shaped : goal.fill_places-requires-clause-shaped
 fill_places-requires-clause-shaped g t c κs within =
     All-tail IsShaped c.in-Some.column.now c.in-Some.columns.now (subst (λ l. All IsShaped l) c.in-Some.ensures.cases.0 c.requires.shaped)
 
-pub fill_places-requires-clause-beside : goal.fill_places-requires-clause-beside
-fill_places-requires-clause-beside g t c κs within =
-    beside-rest (number_lists g.S.FarTickets.content c.args.objects.now) (number_lists g.S.FarTickets.content c.push.new.objects) c.in-Some.column.now c.push.new.self c.in-Some.columns.now
-    (subst (λ l. AreVectors (number_lists g.S.FarTickets.content c.args.objects.now) l) c.in-Some.ensures.cases.0 c.requires.beside) record { is = c.push.ensures.is; others = c.push.ensures.apart }
+pub fill_places-requires-clause-all_disjoint : goal.fill_places-requires-clause-all_disjoint
+fill_places-requires-clause-all_disjoint g t c κs within =
+    all_disjoint-rest (number_lists g.S.FarTickets.content c.args.objects.now) (number_lists g.S.FarTickets.content c.push.new.objects) c.in-Some.column.now c.push.new.self c.in-Some.columns.now
+    (subst (λ l. AreVectors (number_lists g.S.FarTickets.content c.args.objects.now) l) c.in-Some.ensures.cases.0 c.requires.all_disjoint) record { is = c.push.ensures.is; others = c.push.ensures.disjoint }
 
 pub fill_places-requires-clause-free : goal.fill_places-requires-clause-free
 fill_places-requires-clause-free g t c κs within =
@@ -37,7 +37,7 @@ fill_places-requires-clause-free g t c κs within =
     (begun-object c.in-Some.column.now c.push.new.self _ (All-head (λ (v : Vector (Option ℤ)). is_full v ≡ false) c.in-Some.column.now c.in-Some.columns.now (subst (λ l. All (λ (v : Vector (Option ℤ)). is_full v ≡ false) l) c.in-Some.ensures.cases.0 c.requires.begun)) c.in-Ok.ensures.pushed)
     c.in-Ok.ensures.others)
     (number_lists g.S.FarTickets.content c.args.objects.now)
-    (subst (λ l. AreVectors (number_lists g.S.FarTickets.content c.args.objects.now) l) c.in-Some.ensures.cases.0 c.requires.beside)
+    (subst (λ l. AreVectors (number_lists g.S.FarTickets.content c.args.objects.now) l) c.in-Some.ensures.cases.0 c.requires.all_disjoint)
     (subst (λ l. All IsShaped l) c.in-Some.ensures.cases.0 c.requires.shaped)
     (subst (λ l. All (λ (v : Vector (Option ℤ)). is_full v ≡ false) l) c.in-Some.ensures.cases.0 c.requires.begun)
     (subst (λ l. All (λ v. push_refusal c.args.objects.now v ≡ None) l) c.in-Some.ensures.cases.0 c.requires.free)
@@ -53,22 +53,22 @@ returns-clause-numbers g t c =
     let old = number_lists g.S.FarTickets.content c.args.objects.now in
     let mid = number_lists g.S.FarTickets.content c.push.new.objects in
     let new = number_lists g.S.FarTickets.content c.fill_places.new.objects in
-    let beside = subst (λ l. AreVectors old l) c.in-Some.ensures.cases.0 c.requires.beside in
-    let all = numbers-all old mid c.in-Some.column.now c.push.new.self c.in-Some.columns.now beside record { is = c.push.ensures.is; others = c.push.ensures.apart } new c.fill_places.new.columns c.fill_places.ensures.beside c.fill_places.ensures.others
+    let all_disjoint = subst (λ l. AreVectors old l) c.in-Some.ensures.cases.0 c.requires.all_disjoint in
+    let all = numbers-all old mid c.in-Some.column.now c.push.new.self c.in-Some.columns.now all_disjoint record { is = c.push.ensures.is; others = c.push.ensures.disjoint } new c.fill_places.new.columns c.fill_places.ensures.all_disjoint c.fill_places.ensures.others
     c.in-Some-split_first.number.now c.in-Some-split_first.numbers.now c.in-Ok.ensures.numbers c.fill_places.ensures.numbers in
     rw (c.in-Some.ensures.cases.0, c.in-Some-split_first.ensures.cases.0) all
 
-pub returns-clause-beside : goal.returns-clause-beside
-returns-clause-beside g t c =
+pub returns-clause-all_disjoint : goal.returns-clause-all_disjoint
+returns-clause-all_disjoint g t c =
     let old = number_lists g.S.FarTickets.content c.args.objects.now in
-    beside-all old (number_lists g.S.FarTickets.content c.push.new.objects) c.in-Some.column.now c.push.new.self c.in-Some.columns.now (subst (λ l. AreVectors old l) c.in-Some.ensures.cases.0 c.requires.beside) record { is = c.push.ensures.is; others = c.push.ensures.apart }
-    (number_lists g.S.FarTickets.content c.fill_places.new.objects) c.fill_places.new.columns c.fill_places.ensures.beside c.fill_places.ensures.others
+    all_disjoint-all old (number_lists g.S.FarTickets.content c.push.new.objects) c.in-Some.column.now c.push.new.self c.in-Some.columns.now (subst (λ l. AreVectors old l) c.in-Some.ensures.cases.0 c.requires.all_disjoint) record { is = c.push.ensures.is; others = c.push.ensures.disjoint }
+    (number_lists g.S.FarTickets.content c.fill_places.new.objects) c.fill_places.new.columns c.fill_places.ensures.all_disjoint c.fill_places.ensures.others
 
 pub returns-clause-others : goal.returns-clause-others
 returns-clause-others g t c =
     let old = number_lists g.S.FarTickets.content c.args.objects.now in
-    rw c.in-Some.ensures.cases.0 (keeps-all old (number_lists g.S.FarTickets.content c.push.new.objects) c.in-Some.column.now c.push.new.self c.in-Some.columns.now (subst (λ l. AreVectors old l) c.in-Some.ensures.cases.0 c.requires.beside) record { is = c.push.ensures.is; others = c.push.ensures.apart }
-    (number_lists g.S.FarTickets.content c.fill_places.new.objects) c.fill_places.new.columns c.fill_places.ensures.beside c.fill_places.ensures.others)
+    rw c.in-Some.ensures.cases.0 (keeps-all old (number_lists g.S.FarTickets.content c.push.new.objects) c.in-Some.column.now c.push.new.self c.in-Some.columns.now (subst (λ l. AreVectors old l) c.in-Some.ensures.cases.0 c.requires.all_disjoint) record { is = c.push.ensures.is; others = c.push.ensures.disjoint }
+    (number_lists g.S.FarTickets.content c.fill_places.new.objects) c.fill_places.new.columns c.fill_places.ensures.all_disjoint c.fill_places.ensures.others)
 
 pub returns-clause-clean : goal.returns-clause-clean
 returns-clause-clean g t c = λ clean. c.fill_places.ensures.clean (c.push.ensures.clean clean)

@@ -3,7 +3,7 @@ use Rattle.std.specs.Prelude.{All}
 use Rattle.std.proofs.lemmas.Result.{err_from_is_err_and}
 use Rattle.std.proofs.lemmas.List.Elements.{All-tail}
 use Rattle.far_scopes.specs.Movement.{is_local, pins_of}
-use Rattle.far_scopes.specs.Effects.{uncreated}
+use Rattle.far_scopes.specs.Effects.{after_uncreate}
 use Rattle.far_vector.specs.Vector.{Vector, IsVector}
 use Rattle.far_vector.specs.Vectors.{AreVectors}
 use Rattle.far_vector.specs.Effects.{is_full}
@@ -11,7 +11,7 @@ use Rattle.far_columns.specs.Numbers.{number_lists}
 use Rattle.far_columns.proofs.NumbersTogether.{pushed-first}
 use Rattle.far_columns.proofs.NumbersBegun.{one-more, alone, last, first-refused, others-refused}
 use Rattle.far_columns.proofs.NumbersBack.{begun-all, below-all, undone-all}
-use Rattle.far_columns.proofs.NumbersPushed.{first-has, beside-rest, beside-all, keeps-all, numbers-all}
+use Rattle.far_columns.proofs.NumbersPushed.{first-has, all_disjoint-rest, all_disjoint-all, keeps-all, numbers-all}
 use Rattle.far_columns.proofs.int_column.together.groups.+begin_groups.Goals as goal
 
 pub returns-in_err-push-clause-refused : goal.returns-in_err-push-clause-refused
@@ -24,10 +24,10 @@ pub begin_groups-requires-clause-begin : goal.begin_groups-requires-clause-begin
 begin_groups-requires-clause-begin g t c κs within =
     All-tail (λ (v : Vector (Option ℤ)). is_full v ≡ true) c.in-Some.column.now c.in-Some.columns.now (subst (λ l. All (λ (v : Vector (Option ℤ)). is_full v ≡ true) l) c.in-Some.ensures.cases.0 c.requires.begin)
 
-pub begin_groups-requires-clause-beside : goal.begin_groups-requires-clause-beside
-begin_groups-requires-clause-beside g t c κs within =
-    beside-rest (number_lists g.S.FarTickets.content c.args.objects.now) (number_lists g.S.FarTickets.content c.push.new.objects) c.in-Some.column.now c.push.new.self c.in-Some.columns.now
-    (subst (λ l. AreVectors (number_lists g.S.FarTickets.content c.args.objects.now) l) c.in-Some.ensures.cases.0 c.requires.beside) record { is = c.push.ensures.is; others = c.push.ensures.apart }
+pub begin_groups-requires-clause-all_disjoint : goal.begin_groups-requires-clause-all_disjoint
+begin_groups-requires-clause-all_disjoint g t c κs within =
+    all_disjoint-rest (number_lists g.S.FarTickets.content c.args.objects.now) (number_lists g.S.FarTickets.content c.push.new.objects) c.in-Some.column.now c.push.new.self c.in-Some.columns.now
+    (subst (λ l. AreVectors (number_lists g.S.FarTickets.content c.args.objects.now) l) c.in-Some.ensures.cases.0 c.requires.all_disjoint) record { is = c.push.ensures.is; others = c.push.ensures.disjoint }
 
 pub begin_groups-requires-clause-few : goal.begin_groups-requires-clause-few
 begin_groups-requires-clause-few g t c κs within =
@@ -75,7 +75,7 @@ returns-in-Err-clause-err g t c =
     let full = first-has (λ (v : Vector (Option ℤ)). is_full v ≡ true) c.in-Some.column.now c.in-Some.columns.now c.args.columns.now c.in-Some.ensures.cases.0 c.requires.begin in
     let undone = c.in_ok-push.ensures.undone full in (
       ap (λ d. d ∷ c.begin_groups.new.columns) (c.unpush.ensures.unpushed ∙ undone.0) ∙ ap (λ l. c.in-Some.column.now ∷ l) c.in-Err.ensures.err.0 ∙ sym c.in-Some.ensures.cases.0,
-      c.unpush.ensures.uncreated ∙ ap uncreated c.in-Err.ensures.err.1 ∙ undone.1,
+      c.unpush.ensures.uncreated ∙ ap after_uncreate c.in-Err.ensures.err.1 ∙ undone.1,
     )
 
 pub returns-clause-pushed : goal.returns-clause-pushed
@@ -90,35 +90,35 @@ returns-clause-numbers g t c =
     let old = number_lists g.S.FarTickets.content c.args.objects.now in
     let mid = number_lists g.S.FarTickets.content c.push.new.objects in
     let new = number_lists g.S.FarTickets.content c.begin_groups.new.objects in
-    let beside = subst (λ l. AreVectors old l) c.in-Some.ensures.cases.0 c.requires.beside in
-    rw (c.in-Some.ensures.cases.0, c.in-Some-split_first.ensures.cases.0) (numbers-all old mid c.in-Some.column.now c.push.new.self c.in-Some.columns.now beside record { is = c.push.ensures.is; others = c.push.ensures.apart } new c.begin_groups.new.columns c.in_default-begin_groups.ensures.beside c.in_default-begin_groups.ensures.others
+    let all_disjoint = subst (λ l. AreVectors old l) c.in-Some.ensures.cases.0 c.requires.all_disjoint in
+    rw (c.in-Some.ensures.cases.0, c.in-Some-split_first.ensures.cases.0) (numbers-all old mid c.in-Some.column.now c.push.new.self c.in-Some.columns.now all_disjoint record { is = c.push.ensures.is; others = c.push.ensures.disjoint } new c.begin_groups.new.columns c.in_default-begin_groups.ensures.all_disjoint c.in_default-begin_groups.ensures.others
     c.in-Some-split_first.number.now c.in-Some-split_first.numbers.now c.in_ok-push.ensures.numbers c.in_default-begin_groups.ensures.numbers)
 
-pub returns-clause-beside : goal.returns-clause-beside
-returns-clause-beside g t c =
+pub returns-clause-all_disjoint : goal.returns-clause-all_disjoint
+returns-clause-all_disjoint g t c =
     let old = number_lists g.S.FarTickets.content c.args.objects.now in
     let mid = number_lists g.S.FarTickets.content c.push.new.objects in
     let new = number_lists g.S.FarTickets.content c.begin_groups.new.objects in
-    let beside = subst (λ l. AreVectors old l) c.in-Some.ensures.cases.0 c.requires.beside in
-    beside-all old mid c.in-Some.column.now c.push.new.self c.in-Some.columns.now beside record { is = c.push.ensures.is; others = c.push.ensures.apart } new c.begin_groups.new.columns c.in_default-begin_groups.ensures.beside c.in_default-begin_groups.ensures.others
+    let all_disjoint = subst (λ l. AreVectors old l) c.in-Some.ensures.cases.0 c.requires.all_disjoint in
+    all_disjoint-all old mid c.in-Some.column.now c.push.new.self c.in-Some.columns.now all_disjoint record { is = c.push.ensures.is; others = c.push.ensures.disjoint } new c.begin_groups.new.columns c.in_default-begin_groups.ensures.all_disjoint c.in_default-begin_groups.ensures.others
 
 pub returns-clause-others : goal.returns-clause-others
 returns-clause-others g t c =
     let old = number_lists g.S.FarTickets.content c.args.objects.now in
     let mid = number_lists g.S.FarTickets.content c.push.new.objects in
     let new = number_lists g.S.FarTickets.content c.begin_groups.new.objects in
-    let beside = subst (λ l. AreVectors old l) c.in-Some.ensures.cases.0 c.requires.beside in
-    rw c.in-Some.ensures.cases.0 (keeps-all old mid c.in-Some.column.now c.push.new.self c.in-Some.columns.now beside record { is = c.push.ensures.is; others = c.push.ensures.apart } new c.begin_groups.new.columns c.in_default-begin_groups.ensures.beside c.in_default-begin_groups.ensures.others)
+    let all_disjoint = subst (λ l. AreVectors old l) c.in-Some.ensures.cases.0 c.requires.all_disjoint in
+    rw c.in-Some.ensures.cases.0 (keeps-all old mid c.in-Some.column.now c.push.new.self c.in-Some.columns.now all_disjoint record { is = c.push.ensures.is; others = c.push.ensures.disjoint } new c.begin_groups.new.columns c.in_default-begin_groups.ensures.all_disjoint c.in_default-begin_groups.ensures.others)
 
 pub returns-clause-clean : goal.returns-clause-clean
 returns-clause-clean g t c =
     λ clean. c.in_default-begin_groups.ensures.clean (c.push.ensures.clean clean)
 
-pub returns-clause-room : goal.returns-clause-room
-returns-clause-room g t c =
+pub returns-clause-space : goal.returns-clause-space
+returns-clause-space g t c =
     let full = first-has (λ (v : Vector (Option ℤ)). is_full v ≡ true) c.in-Some.column.now c.in-Some.columns.now c.args.columns.now c.in-Some.ensures.cases.0 c.requires.begin in
     let next = c.in_ok-push.ensures.next full (map (λ (v : Vector (Option ℤ)). v.size) c.in-Some.columns.now) in
-    rw c.in-Some.ensures.cases.0 (next ∙ c.in_default-begin_groups.ensures.room)
+    rw c.in-Some.ensures.cases.0 (next ∙ c.in_default-begin_groups.ensures.space)
 
 pub returns-clause-begun : goal.returns-clause-begun
 returns-clause-begun g t c =

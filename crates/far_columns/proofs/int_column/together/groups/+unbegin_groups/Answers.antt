@@ -2,13 +2,13 @@ use Rattle.std.proofs.Common.{subst}
 use Rattle.far_vector.specs.Vectors.{AreVectors}
 use Rattle.far_columns.specs.Numbers.{number_lists}
 use Rattle.far_columns.specs.NumbersBack.{AreBegunLast}
-use Rattle.far_columns.proofs.NumbersBack.{beside-tail, first-stays, beside-back, numbers-back, keeps-back, rest-last, first-last}
+use Rattle.far_columns.proofs.NumbersBack.{all_disjoint-tail, first-stays, all_disjoint-back, numbers-back, keeps-back, rest-last, first-last}
 use Rattle.far_columns.proofs.int_column.together.groups.+unbegin_groups.Goals as goal
 
-pub unbegin_groups-requires-clause-beside : goal.unbegin_groups-requires-clause-beside
-unbegin_groups-requires-clause-beside g t c κs within =
+pub unbegin_groups-requires-clause-all_disjoint : goal.unbegin_groups-requires-clause-all_disjoint
+unbegin_groups-requires-clause-all_disjoint g t c κs within =
     let old = number_lists g.S.FarTickets.content c.args.objects.now in
-    beside-tail old c.in-Some.first.now c.in-Some.others.now (subst (AreVectors old) c.in-Some.ensures.cases.0 c.requires.beside)
+    all_disjoint-tail old c.in-Some.first.now c.in-Some.others.now (subst (AreVectors old) c.in-Some.ensures.cases.0 c.requires.all_disjoint)
 
 pub unbegin_groups-requires-clause-begun : goal.unbegin_groups-requires-clause-begun
 unbegin_groups-requires-clause-begun g t c κs within = rest-last c.args.objects.now c.in-Some.first.now c.in-Some.others.now (subst (AreBegunLast c.args.objects.now) c.in-Some.ensures.cases.0 c.requires.begun)
@@ -16,7 +16,7 @@ unbegin_groups-requires-clause-begun g t c κs within = rest-last c.args.objects
 pub unpush-requires-clause-is : goal.unpush-requires-clause-is
 unpush-requires-clause-is g t c κs within =
     let old = number_lists g.S.FarTickets.content c.args.objects.now in
-    first-stays old (number_lists g.S.FarTickets.content c.unbegin_groups.new.objects) old c.in-Some.first.now c.in-Some.first.now c.in-Some.others.now c.unbegin_groups.new.columns (subst (AreVectors old) c.in-Some.ensures.cases.0 c.requires.beside) c.unbegin_groups.ensures.beside c.unbegin_groups.ensures.others
+    first-stays old (number_lists g.S.FarTickets.content c.unbegin_groups.new.objects) old c.in-Some.first.now c.in-Some.first.now c.in-Some.others.now c.unbegin_groups.new.columns (subst (AreVectors old) c.in-Some.ensures.cases.0 c.requires.all_disjoint) c.unbegin_groups.ensures.all_disjoint c.unbegin_groups.ensures.others
 
 pub unpush-requires-clause-last : goal.unpush-requires-clause-last
 unpush-requires-clause-last g t c κs within = (first-last c.args.objects.now c.in-Some.first.now c.in-Some.others.now (subst (AreBegunLast c.args.objects.now) c.in-Some.ensures.cases.0 c.requires.begun) c.unbegin_groups.new.objects c.unbegin_groups.ensures.uncreated c.unbegin_groups.ensures.below).last
@@ -27,18 +27,18 @@ unpush-requires-clause-local g t c κs within = (first-last c.args.objects.now c
 pub unpush-requires-clause-unpinned : goal.unpush-requires-clause-unpinned
 unpush-requires-clause-unpinned g t c κs within = (first-last c.args.objects.now c.in-Some.first.now c.in-Some.others.now (subst (AreBegunLast c.args.objects.now) c.in-Some.ensures.cases.0 c.requires.begun) c.unbegin_groups.new.objects c.unbegin_groups.ensures.uncreated c.unbegin_groups.ensures.below).unpinned
 
-pub returns-clause-beside : goal.returns-clause-beside
-returns-clause-beside g t c =
+pub returns-clause-all_disjoint : goal.returns-clause-all_disjoint
+returns-clause-all_disjoint g t c =
     let old = number_lists g.S.FarTickets.content c.args.objects.now in
-    beside-back old (number_lists g.S.FarTickets.content c.unbegin_groups.new.objects) (number_lists g.S.FarTickets.content c.unpush.new.objects) c.in-Some.first.now c.unpush.new.self c.in-Some.others.now c.unbegin_groups.new.columns (subst (AreVectors old) c.in-Some.ensures.cases.0 c.requires.beside) c.unbegin_groups.ensures.beside c.unbegin_groups.ensures.others record { is = c.unpush.ensures.is; others = c.unpush.ensures.apart }
+    all_disjoint-back old (number_lists g.S.FarTickets.content c.unbegin_groups.new.objects) (number_lists g.S.FarTickets.content c.unpush.new.objects) c.in-Some.first.now c.unpush.new.self c.in-Some.others.now c.unbegin_groups.new.columns (subst (AreVectors old) c.in-Some.ensures.cases.0 c.requires.all_disjoint) c.unbegin_groups.ensures.all_disjoint c.unbegin_groups.ensures.others record { is = c.unpush.ensures.is; others = c.unpush.ensures.disjoint }
 
 pub returns-clause-numbers : goal.returns-clause-numbers
 returns-clause-numbers g t c =
     let old = number_lists g.S.FarTickets.content c.args.objects.now in
-    rw c.in-Some.ensures.cases.0 (numbers-back old (number_lists g.S.FarTickets.content c.unbegin_groups.new.objects) (number_lists g.S.FarTickets.content c.unpush.new.objects) c.in-Some.first.now c.unpush.new.self c.in-Some.others.now c.unbegin_groups.new.columns (subst (AreVectors old) c.in-Some.ensures.cases.0 c.requires.beside) c.unbegin_groups.ensures.beside c.unbegin_groups.ensures.others record { is = c.unpush.ensures.is; others = c.unpush.ensures.apart }
+    rw c.in-Some.ensures.cases.0 (numbers-back old (number_lists g.S.FarTickets.content c.unbegin_groups.new.objects) (number_lists g.S.FarTickets.content c.unpush.new.objects) c.in-Some.first.now c.unpush.new.self c.in-Some.others.now c.unbegin_groups.new.columns (subst (AreVectors old) c.in-Some.ensures.cases.0 c.requires.all_disjoint) c.unbegin_groups.ensures.all_disjoint c.unbegin_groups.ensures.others record { is = c.unpush.ensures.is; others = c.unpush.ensures.disjoint }
     c.unpush.ensures.numbers c.unbegin_groups.ensures.numbers)
 
 pub returns-clause-others : goal.returns-clause-others
 returns-clause-others g t c =
     let old = number_lists g.S.FarTickets.content c.args.objects.now in
-    rw c.in-Some.ensures.cases.0 (keeps-back old (number_lists g.S.FarTickets.content c.unbegin_groups.new.objects) (number_lists g.S.FarTickets.content c.unpush.new.objects) c.in-Some.first.now c.unpush.new.self c.in-Some.others.now c.unbegin_groups.new.columns (subst (AreVectors old) c.in-Some.ensures.cases.0 c.requires.beside) c.unbegin_groups.ensures.beside c.unbegin_groups.ensures.others record { is = c.unpush.ensures.is; others = c.unpush.ensures.apart })
+    rw c.in-Some.ensures.cases.0 (keeps-back old (number_lists g.S.FarTickets.content c.unbegin_groups.new.objects) (number_lists g.S.FarTickets.content c.unpush.new.objects) c.in-Some.first.now c.unpush.new.self c.in-Some.others.now c.unbegin_groups.new.columns (subst (AreVectors old) c.in-Some.ensures.cases.0 c.requires.all_disjoint) c.unbegin_groups.ensures.all_disjoint c.unbegin_groups.ensures.others record { is = c.unpush.ensures.is; others = c.unpush.ensures.disjoint })

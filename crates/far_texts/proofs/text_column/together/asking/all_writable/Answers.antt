@@ -5,7 +5,7 @@ use Rattle.std.proofs.lemmas.List.{drop_all}
 use Rattle.far_types.specs.declared.refusal.Refusal.TheVariants as refusal
 use Rattle.far_scopes.specs.Refusing.{absent, written_out}
 use Rattle.far_texts.specs.Texts.{Texts, lists_of, IsTextColumn}
-use Rattle.far_texts.specs.Changes.{begins_group, last_object}
+use Rattle.far_texts.specs.Effects.{begins_group, last_object}
 use Rattle.far_texts.specs.Refusing.{next_length_refusal}
 use Rattle.far_scopes.proofs.FirstCases.{any-later, any-here, written-free, written-due}
 use Rattle.far_texts.proofs.Asking.{last-here}

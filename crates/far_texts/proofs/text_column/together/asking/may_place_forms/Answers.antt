@@ -3,7 +3,7 @@ use Rattle.std.specs.Prelude.{All, not}
 use Rattle.std.proofs.lemmas.Result.{err_from_is_err_and}
 use Rattle.far_types.specs.FirstOf.{first_of}
 use Rattle.far_types.specs.declared.refusal.Refusal.TheVariants as refusal
-use Rattle.far_log.specs.Room.{spaces_of, fit_in_order}
+use Rattle.far_log.specs.RegionState.{spaces_of, fit_in_order}
 use Rattle.far_texts.specs.Texts.{Lists, lists_of}
 use Rattle.far_texts.specs.Together.{all_begin, next_forms}
 use Rattle.far_scopes.proofs.FirstCases.{first-append, first-none}
@@ -27,12 +27,12 @@ returns g c =
     let columns = c.args.columns.now in
     let n = length m.entries in
     let forms = next_forms lists n columns c.args.texts.now in
-    let fits : fit_in_order (spaces_of m.memory.room) (lens-from lists n columns c.args.texts.now) ≡ true = ap (fit_in_order (spaces_of m.memory.room)) (sym (c.in_ok-lens.ensures.lens n)) ∙ sym c.if-not-fits_in_order.ensures in
+    let fits : fit_in_order (spaces_of m.memory.state) (lens-from lists n columns c.args.texts.now) ≡ true = ap (fit_in_order (spaces_of m.memory.state)) (sym (c.in_ok-lens.ensures.lens n)) ∙ sym c.if-not-fits_in_order.ensures in
     let begins : all_begin columns ≡ false = sym c.all_begin.ensures ∙ c.if-all_begin.false in
     let begun = none-begin lists columns c.requires.are c.known_groups.ensures begins in
     c.all_writable.ensures
-    ∙ ap (λ (b : Bool). first_of ((b, refusal.EditsUsedUp) ∷ [])) (any-out m lists n columns c.args.texts.now c.requires.even begun)
-    ∙ room-longer (some_written_out m forms) (fit_in_order (spaces_of m.memory.room) (lens-from lists n columns c.args.texts.now)) (all_begin columns) fits begins
+    ∙ ap (λ (b : Bool). first_of ((b, refusal.EditsUsedUp) ∷ [])) (any-out m lists n columns c.args.texts.now c.requires.same_length begun)
+    ∙ room-longer (some_written_out m forms) (fit_in_order (spaces_of m.memory.state) (lens-from lists n columns c.args.texts.now)) (all_begin columns) fits begins
     ∙ sym (first-none (any_full lists columns c.args.texts.now) (last_tests g.S.FarTickets.content m columns c.args.texts.now) c.in_ok-lens.ensures.refused)
 
 pub returns-in_err-lens : goal.returns-in_err-lens
@@ -55,7 +55,7 @@ returns-then-not-fits_in_order g c =
     let texts = c.args.texts.now in
     let n = length m.entries in
     let used = some_written_out m (next_forms lists n columns texts) in
-    let out : fit_in_order (spaces_of m.memory.room) (lens-from lists n columns texts) ≡ false = ap (fit_in_order (spaces_of m.memory.room)) (sym (c.in_ok-lens.ensures.lens n)) ∙ sym c.if-not-fits_in_order.ensures in
+    let out : fit_in_order (spaces_of m.memory.state) (lens-from lists n columns texts) ≡ false = ap (fit_in_order (spaces_of m.memory.state)) (sym (c.in_ok-lens.ensures.lens n)) ∙ sym c.if-not-fits_in_order.ensures in
     sym (first-none (any_full lists columns texts) (last_tests content m columns texts) c.in_ok-lens.ensures.refused
     ∙ ap (λ (b : Bool). first_of ((not b, refusal.RegionFull) ∷ cond (all_begin columns) [] (used ∷ []))) out)
 
@@ -68,7 +68,7 @@ returns-then-all_begin g c =
     let texts = c.args.texts.now in
     let n = length m.entries in
     let used = some_written_out m (next_forms lists n columns texts) in
-    let fits : fit_in_order (spaces_of m.memory.room) (lens-from lists n columns texts) ≡ true = ap (fit_in_order (spaces_of m.memory.room)) (sym (c.in_ok-lens.ensures.lens n)) ∙ sym c.if-not-fits_in_order.ensures in
+    let fits : fit_in_order (spaces_of m.memory.state) (lens-from lists n columns texts) ≡ true = ap (fit_in_order (spaces_of m.memory.state)) (sym (c.in_ok-lens.ensures.lens n)) ∙ sym c.if-not-fits_in_order.ensures in
     let begins : all_begin columns ≡ true = sym c.all_begin.ensures ∙ c.if-all_begin.true in
     sym (first-none (any_full lists columns texts) (last_tests content m columns texts) c.in_ok-lens.ensures.refused
     ∙ ap (λ (b : Bool). first_of ((not b, refusal.RegionFull) ∷ cond (all_begin columns) [] (used ∷ []))) fits

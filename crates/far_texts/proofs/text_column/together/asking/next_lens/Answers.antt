@@ -16,7 +16,7 @@ loop-k-preserved g c =
     let lens = c.loop-k.lens in
     let column = c.index-columns-k.result in
     let limit : c.column.inside.limit ≡ column.limit = ap (λ (t : Texts). t.limit) c.column.view_is in
-    let inside : k < length c.args.texts.now = omega (arith, c.requires.even, c.loop-k-test.true) in
+    let inside : k < length c.args.texts.now = omega (arith, c.requires.same_length, c.loop-k-test.true) in
     let count : length lens ≡ 16 = c.loop-k.invariant.1 in
     let place : k < length lens = omega (arith, count, c.requires.few, c.loop-k-test.true) in (
       λ n. lens-more lists c.args.columns.now c.args.texts.now k column c.index-texts-k.result c.loop-k-test.true inside c.index-columns-k.is c.index-texts-k.is

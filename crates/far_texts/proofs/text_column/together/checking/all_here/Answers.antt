@@ -1,7 +1,7 @@
 use Rattle.std.proofs.Common.{◌≡◌, false, sym, subst, ◌∙◌}
 use Rattle.std.proofs.lemmas.Result.{err_from_is_err_and}
 use Rattle.far_texts.specs.Texts.{Texts, lists_of, IsTextColumn}
-use Rattle.far_texts.specs.Changes.{begins_group, last_object}
+use Rattle.far_texts.specs.Effects.{begins_group, last_object}
 use Rattle.far_scopes.specs.Refusing.{absent}
 use Rattle.far_scopes.proofs.FirstCases.{next-free, next-due}
 use Rattle.far_texts.proofs.text_column.together.checking.all_here.Goals as goal

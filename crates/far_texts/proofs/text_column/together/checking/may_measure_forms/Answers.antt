@@ -6,7 +6,7 @@ use Rattle.far_types.specs.FirstOf.{first_of}
 use Rattle.far_scopes.specs.Refusing.{absent}
 use Rattle.far_scopes.proofs.FirstCases.{none-due}
 use Rattle.far_texts.specs.Texts.{Texts, lists_of}
-use Rattle.far_texts.specs.Changes.{begins_group, last_object}
+use Rattle.far_texts.specs.Effects.{begins_group, last_object}
 use Rattle.far_texts.specs.Refusing.{next_length_refusal}
 use Rattle.far_texts.specs.Together.{all_begin}
 use Rattle.far_texts.specs.RefusingTogether.{any_too_long, absents}

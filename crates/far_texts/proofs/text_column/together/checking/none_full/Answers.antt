@@ -12,5 +12,5 @@ loop-k-preserved g c =
     let lists : Lists = lists_of g.S.FarTickets.content c.args.objects.now in
     let column = c.index-columns-k.result in
     let limit : c.column.inside.limit ≡ column.limit = ap (λ (t : Texts). t.limit) c.column.view_is in
-    c.loop-k.invariant ∙ full-later lists c.args.columns.now c.args.texts.now c.loop-k.k column c.index-texts-k.result c.loop-k-test.true (omega (arith, c.requires.even, c.loop-k-test.true)) c.index-columns-k.is c.index-texts-k.is
+    c.loop-k.invariant ∙ full-later lists c.args.columns.now c.args.texts.now c.loop-k.k column c.index-texts-k.result c.loop-k-test.true (omega (arith, c.requires.same_length, c.loop-k-test.true)) c.index-columns-k.is c.index-texts-k.is
     (omega (arith, limit, c.in_ok-len.ensures.length, c.if-len-column.false))

@@ -3,7 +3,7 @@ use Rattle.std.proofs.lemmas.List.{append-nil, drop_all}
 use Rattle.std.proofs.lemmas.Option.{slice_get_within, slice_get_read}
 use Rattle.far_scopes.specs.declared.replacement.Replacement.{Replacement}
 use Rattle.far_texts.specs.Texts.{Lists, lists_of, IsTextColumn}
-use Rattle.far_texts.specs.Changes.{group_with_next}
+use Rattle.far_texts.specs.Effects.{group_with_next}
 use Rattle.far_texts.specs.Together.{object_for, next_forms, given_forms}
 use Rattle.far_texts.proofs.Pushing.{form-is}
 use Rattle.far_texts.proofs.Fullness.{none-full-at}
@@ -14,7 +14,7 @@ pub bounds-columns-0 : goal.bounds-columns-0
 bounds-columns-0 g c = omega (arith, c.requires.one)
 
 pub bounds-texts-0 : goal.bounds-texts-0
-bounds-texts-0 g c = omega (arith, c.requires.one, c.requires.even)
+bounds-texts-0 g c = omega (arith, c.requires.one, c.requires.same_length)
 
 pub form_pushed-requires-clause-is : goal.form_pushed-requires-clause-is
 form_pushed-requires-clause-is g c κs within =
@@ -26,7 +26,7 @@ form_pushed-requires-clause-short g c κs within =
     let texts = c.args.texts.now in
     none-full-at (lists_of g.S.FarTickets.content c.args.objects.now) columns texts c.requires.short 0 c.index-columns-0.result c.index-texts-0.result
     (slice_get_read columns (length columns) 0 c.index-columns-0.result refl (omega (arith, c.requires.one)) c.index-columns-0.is)
-    (slice_get_read texts (length texts) 0 c.index-texts-0.result refl (omega (arith, c.requires.even, c.requires.one)) c.index-texts-0.is)
+    (slice_get_read texts (length texts) 0 c.index-texts-0.result refl (omega (arith, c.requires.same_length, c.requires.one)) c.index-texts-0.is)
 
 pub returns-clause-form : goal.returns-clause-form
 returns-clause-form g c =
@@ -37,7 +37,7 @@ returns-clause-form g c =
     let text = c.index-texts-0.result in
     let n = length c.args.objects.now.entries in
     let one : 0 < length columns = omega (arith, c.requires.one) in
-    let inside : 0 < length texts = omega (arith, c.requires.even, c.requires.one) in
+    let inside : 0 < length texts = omega (arith, c.requires.same_length, c.requires.one) in
     let is = form-is c.in_ok-list.list.items (group_with_next lists column text) c.in_ok-list.ensures.form c.in_ok-list.ensures.texts in
     let place : n + 0 ≡ n = omega arith in
     let whole : next_forms lists (n + 0) columns texts ≡ next_forms lists n columns texts = ap (λ i. next_forms lists i columns texts) place in
@@ -54,7 +54,7 @@ returns-clause-valid g c = λ k column text here there.
     let first = c.index-columns-0.result in
     let given = c.index-texts-0.result in
     let one : 0 < length columns = omega (arith, c.requires.one) in
-    let inside : 0 < length texts = omega (arith, c.requires.even, c.requires.one) in
+    let inside : 0 < length texts = omega (arith, c.requires.same_length, c.requires.one) in
     let short = none-full-at lists columns texts c.requires.short 0 first given (slice_get_read columns (length columns) 0 first refl one c.index-columns-0.is) (slice_get_read texts (length texts) 0 given refl inside c.index-texts-0.is) in
     let valid = is-next lists first given c.in_ok-list.list.items c.in_ok-list.ensures.form c.in_ok-list.ensures.texts c.in_ok-list.ensures.length short in
     valid-more lists c.args.objects.now.number columns texts 0 first given one inside c.index-columns-0.is c.index-texts-0.is valid (λ j d t below at is. absurd (omega (arith, below))) k column text (let within = slice_get_within columns k column here in omega (arith, within, c.requires.one)) here there

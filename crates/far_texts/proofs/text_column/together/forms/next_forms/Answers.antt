@@ -2,7 +2,7 @@ use Rattle.std.proofs.Common.{◌<◌, ◌+◌, length, refl, sym, ap, subst, �
 use Rattle.std.proofs.lemmas.List.{length_push}
 use Rattle.std.proofs.lemmas.Option.{slice_get_within, slice_get_read}
 use Rattle.far_texts.specs.Texts.{Lists, lists_of, IsTextColumn}
-use Rattle.far_texts.specs.Changes.{group_with_next}
+use Rattle.far_texts.specs.Effects.{group_with_next}
 use Rattle.far_texts.specs.Together.{object_for}
 use Rattle.far_texts.proofs.Pushing.{form-is}
 use Rattle.far_texts.proofs.Fullness.{none-full-at}
@@ -20,7 +20,7 @@ form_pushed-requires-clause-short g c κs within =
     let k = c.loop-k.k in
     none-full-at (lists_of g.S.FarTickets.content c.args.objects.now) columns texts c.requires.short k c.index-columns-k.result c.index-texts-k.result
     (slice_get_read columns (length columns) k c.index-columns-k.result refl c.loop-k-test.true c.index-columns-k.is)
-    (slice_get_read texts (length texts) k c.index-texts-k.result refl (omega (arith, c.requires.even, c.loop-k-test.true)) c.index-texts-k.is)
+    (slice_get_read texts (length texts) k c.index-texts-k.result refl (omega (arith, c.requires.same_length, c.loop-k-test.true)) c.index-texts-k.is)
 
 pub loop-k-preserved : goal.loop-k-preserved
 loop-k-preserved g c =
@@ -31,7 +31,7 @@ loop-k-preserved g c =
     let column = c.index-columns-k.result in
     let text = c.index-texts-k.result in
     let n = length c.args.objects.now.entries in
-    let inside : k < length texts = omega (arith, c.requires.even, c.loop-k-test.true) in
+    let inside : k < length texts = omega (arith, c.requires.same_length, c.loop-k-test.true) in
     let short = none-full-at lists columns texts c.requires.short k column text
     (slice_get_read columns (length columns) k column refl c.loop-k-test.true c.index-columns-k.is)
     (slice_get_read texts (length texts) k text refl inside c.index-texts-k.is) in

@@ -1,7 +1,7 @@
 use Rattle.std.proofs.Common.{ap, ◌∙◌}
 use Rattle.std.proofs.lemmas.List.Sums.{list_all-from_AllPass}
 use Rattle.far_texts.specs.Texts.{Lists, lists_of}
-use Rattle.far_texts.specs.Changes.{begins_group}
+use Rattle.far_texts.specs.Effects.{begins_group}
 use Rattle.far_texts.specs.Together.{given_forms}
 use Rattle.far_texts.proofs.Checking.{all-begin}
 use Rattle.far_texts.proofs.Free.{none-full, all-here}
@@ -19,11 +19,11 @@ next_form-requires-clause-here g c κs within = all-here g.S.FarTickets.content 
 pub next_form-requires-clause-short : goal.next_form-requires-clause-short
 next_form-requires-clause-short g c κs within = none-full g.S.FarTickets.content c.args.objects.now c.args.columns.now c.args.texts.now c.requires.first
 
-pub give_forms-requires-clause-here : goal.give_forms-requires-clause-here
-give_forms-requires-clause-here g c κs within = all-here g.S.FarTickets.content c.args.objects.now c.args.columns.now c.args.texts.now c.requires.first c.requires.are c.known_together.ensures.groups
+pub give_forms-given-requires-clause-here : goal.give_forms-given-requires-clause-here
+give_forms-given-requires-clause-here g c κs within = all-here g.S.FarTickets.content c.args.objects.now c.args.columns.now c.args.texts.now c.requires.first c.requires.are c.known_together.ensures.groups
 
-pub give_forms-requires-clause-forms : goal.give_forms-requires-clause-forms
-give_forms-requires-clause-forms g c κs within = ap given_forms c.from_ref.ensures.value ∙ c.in_ok-form.ensures.form
+pub give_forms-given-requires-clause-forms : goal.give_forms-given-requires-clause-forms
+give_forms-given-requires-clause-forms g c κs within = ap given_forms c.from_ref.ensures.value ∙ c.in_ok-form.ensures.form
 
 pub next_forms-requires-clause-few : goal.next_forms-requires-clause-few
 next_forms-requires-clause-few g c κs within =
@@ -37,8 +37,8 @@ next_forms-requires-clause-here g c κs within = all-here g.S.FarTickets.content
 pub next_forms-requires-clause-short : goal.next_forms-requires-clause-short
 next_forms-requires-clause-short g c κs within = none-full g.S.FarTickets.content c.args.objects.now c.args.columns.now c.args.texts.now c.requires.first
 
-pub give_forms-requires-2-clause-here : goal.give_forms-requires-2-clause-here
-give_forms-requires-2-clause-here g c κs within = all-here g.S.FarTickets.content c.args.objects.now c.args.columns.now c.args.texts.now c.requires.first c.requires.are c.known_together.ensures.groups
+pub give_forms-requires-clause-here : goal.give_forms-requires-clause-here
+give_forms-requires-clause-here g c κs within = all-here g.S.FarTickets.content c.args.objects.now c.args.columns.now c.args.texts.now c.requires.first c.requires.are c.known_together.ensures.groups
 
-pub give_forms-requires-2-clause-forms : goal.give_forms-requires-2-clause-forms
-give_forms-requires-2-clause-forms g c κs within = ap given_forms c.deref.ensures.value ∙ c.in_ok-forms.ensures.forms
+pub give_forms-requires-clause-forms : goal.give_forms-requires-clause-forms
+give_forms-requires-clause-forms g c κs within = ap given_forms c.deref.ensures.value ∙ c.in_ok-forms.ensures.forms

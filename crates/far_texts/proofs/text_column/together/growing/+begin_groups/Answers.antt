@@ -3,10 +3,10 @@ use Rattle.std.specs.Prelude.{All}
 use Rattle.std.proofs.lemmas.List.Elements.{All-head, All-rest, All-weaker}
 use Rattle.far_scopes.specs.declared.replacement.Replacement.{Replacement}
 use Rattle.far_texts.specs.Texts.{Texts, Lists, lists_of}
-use Rattle.far_texts.specs.Changes.{begins_group}
+use Rattle.far_texts.specs.Effects.{begins_group}
 use Rattle.far_texts.specs.Together.{ChangesTo, given_forms}
 use Rattle.far_texts.proofs.Pushing.{has-more}
-use Rattle.far_texts.proofs.Growing.{count-created, numbered-rest, numbered-first, numbered-apart, changes-more, pushed-more}
+use Rattle.far_texts.proofs.Growing.{count-created, numbered-rest, numbered-first, numbered-disjoint, changes-more, pushed-more}
 use Rattle.far_texts.proofs.text_column.together.growing.+begin_groups.Goals as goal
 
 pub begin_groups-requires-clause-groups : goal.begin_groups-requires-clause-groups
@@ -55,7 +55,7 @@ returns-clause-lists g t c =
     let rest = numbered-rest (length m.entries) c.in-Some-split_first.form.now c.in-Some-split_first.forms.now c.args.forms.now c.in-Some-split_first.ensures.cases.0 c.requires.numbered in
     subst (λ l. ChangesTo lists (lists_of g.S.FarTickets.content c.begin_groups.new.objects) (given_forms l)) (sym c.in-Some-split_first.ensures.cases.0)
     (changes-more lists (lists_of g.S.FarTickets.content c.create.new.self) (lists_of g.S.FarTickets.content c.begin_groups.new.objects) (length m.entries) _ _ _ _ first c.deref.ensures.value
-    (numbered-apart (length m.entries) c.in-Some-split_first.forms.now rest) c.in_ok-o.ensures.list c.in_default-begin_groups.ensures.lists)
+    (numbered-disjoint (length m.entries) c.in-Some-split_first.forms.now rest) c.in_ok-o.ensures.list c.in_default-begin_groups.ensures.lists)
 
 pub returns-clause-clean : goal.returns-clause-clean
 returns-clause-clean g t c = λ clean. c.begin_groups.ensures.clean (c.create.ensures.clean clean)

@@ -1,7 +1,0 @@
-use Rattle.std.proofs.Common.{◌≡◌, ◌<◌, ℕ, false, slice_get}
-use Rattle.far_aggregates.specs.Scans.{has_unbuilt}
-use Rattle.far_aggregates.specs.Aggregates.{joined}
-use Rattle.far_aggregates.proofs.readings.first_unbuilt.Given as goal
-
-abbrev pub invariant-loop-i : goal.invariant-loop-i
-invariant-loop-i l = (k : ℕ) → k < l.i → (g : ℕ) → has_unbuilt g (joined (slice_get l.slots k)) ≡ false

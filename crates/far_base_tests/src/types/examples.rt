@@ -1,0 +1,148 @@
+// The examples in the comments of far_types, and that they come out: a table of breads and how many of each were sold.
+use crate::cases::{all, must_be};
+use far_types::{
+    Answer, Cell, ExtremaLines, Filter, Key, Kind, Limits, Op, Refusal, Row, Schema, Spec, Test,
+    TotalLines,
+};
+use std::alloc::Global;
+
+/// A column of texts and one of numbers.
+fn breads(alloc: Global) -> Result<Schema, Refusal> {
+    let kinds = Vec::from_array(alloc, [Kind::Text, Kind::Int])?;
+    Schema::new(kinds)
+}
+
+/// Whether limits are those of a table that has at most 1,000 rows.
+fn are_small_limits_allowed() -> bool {
+    let limits = Limits {
+        places: 1_000,
+        ..Limits::default()
+    };
+    limits.check() == Ok(())
+}
+
+/// A row of a bread and how many were sold.
+fn sale(alloc: Global, bread: &str, sold: i64) -> Result<Row, Refusal> {
+    let cells = [Cell::of_text(alloc, bread)?, Cell::from(sold)];
+    Ok(Row::from(Vec::from_array(alloc, cells)?))
+}
+
+/// Whether each cell of a row has a value.
+fn is_whole(row: &Row) -> bool {
+    for cell in row {
+        if let Cell::Missing = cell {
+            return false;
+        }
+    }
+    true
+}
+
+/// A text, a number, and a number that nobody knows.
+fn cells(alloc: Global) -> Result<Vec<Cell>, Refusal> {
+    let bread = Cell::of_text(alloc, "bread")?;
+    let sold = Cell::from(5i64);
+    let unknown = Cell::from(None::<i64>);
+    Ok(Vec::from_array(alloc, [bread, sold, unknown])?)
+}
+
+/// Whether texts are in the order of their bytes, and numbers in that of their values.
+fn are_in_order(alloc: Global) -> Result<bool, Refusal> {
+    let bread = Key::of_text(alloc, "bread")?;
+    let rye = Key::of_text(alloc, "rye")?;
+    Ok(bread < rye && Key::from(2i64) < Key::from(10i64))
+}
+
+/// The tests of rows of which more than two ryes were sold.
+fn many_ryes(alloc: Global) -> Result<Filter, Refusal> {
+    let is_rye = Test::text_is(alloc, 0, "rye")?;
+    let are_many = Test::Int {
+        column: 1,
+        op: Op::Gt,
+        value: 2,
+    };
+    Ok(Filter::from(Vec::from_array(alloc, [is_rye, are_many])?))
+}
+
+/// How many were sold of each bread whose name begins with an r.
+fn sold_by_bread(alloc: Global) -> Result<Spec, Refusal> {
+    let begins_with_r = Test::text_begins(alloc, 0, "r")?;
+    Spec::totals(alloc, 1).by(0).only(begins_with_r)
+}
+
+/// How many keys have a sum, or a least value, above 0.
+fn lines_above_zero(answer: &Answer) -> usize {
+    match answer {
+        Answer::Totals(lines) => lines.iter().filter(|line| line.2 > 0).count(),
+        Answer::Extrema(lines) => lines.iter().filter(|line| line.1 > 0).count(),
+    }
+}
+
+/// What is printed of a schema without a column.
+fn told_of_no_column(alloc: Global) -> Result<String, Refusal> {
+    match Schema::new(Vec::new(alloc)) {
+        Ok(_) => Ok(String::new(alloc)),
+        Err(refusal) => Ok(format!(in alloc; "{}: {refusal}", refusal.number())?),
+    }
+}
+
+fn are_rows_right(alloc: Global) -> Result<bool, Refusal> {
+    let row = sale(alloc, "rye", 3)?;
+    let filter = many_ryes(alloc)?;
+    Ok(row.len() == 2 && is_whole(&row) && filter.keeps(&row) && filter.iter().count() == 2)
+}
+
+fn are_cells_right(alloc: Global) -> Result<bool, Refusal> {
+    let row = Row::from(cells(alloc)?);
+    Ok(row.iter().count() == 3 && !is_whole(&row))
+}
+
+fn is_spec_right(alloc: Global) -> Result<bool, Refusal> {
+    let schema = breads(alloc)?;
+    let spec = sold_by_bread(alloc)?;
+    Ok(spec.check(&schema) == Ok(()) && schema.iter().count() == 2)
+}
+
+fn is_sentence_right(alloc: Global) -> Result<bool, Refusal> {
+    let told = told_of_no_column(alloc)?;
+    Ok(told.as_str() == "2: a table may not have this schema or these limits")
+}
+
+/// Whether one of two lines is counted, and a loop comes by both.
+fn are_totals_right(alloc: Global) -> Result<bool, Refusal> {
+    let one = (Some(Key::from(1i64)), 1, 5);
+    let other = (Some(Key::from(2i64)), 1, -5);
+    let lines = TotalLines::new(Vec::from_array(alloc, [one, other])?);
+    let come_by = (&lines).into_iter().count();
+    Ok(come_by == 2 && lines_above_zero(&Answer::Totals(lines)) == 1)
+}
+
+/// The same of extrema.
+fn are_extrema_right(alloc: Global) -> Result<bool, Refusal> {
+    let lines = ExtremaLines::new(Vec::from_array(alloc, [(None, 1, 5)])?);
+    let come_by = (&lines).into_iter().count();
+    Ok(come_by == 1 && lines_above_zero(&Answer::Extrema(lines)) == 1)
+}
+
+/// Whether loops come by two kinds and two tests.
+fn are_loops_right(alloc: Global) -> Result<bool, Refusal> {
+    let schema = breads(alloc)?;
+    let filter = many_ryes(alloc)?;
+    Ok((&schema).into_iter().count() == 2 && (&filter).into_iter().count() == 2)
+}
+
+#[test]
+fn the_examples_of_the_words_come_out(rt: HostRuntime) {
+    let alloc = rt.alloc();
+    let are_right = all(&[
+        Ok(are_small_limits_allowed()),
+        are_rows_right(alloc),
+        are_cells_right(alloc),
+        are_in_order(alloc),
+        is_spec_right(alloc),
+        is_sentence_right(alloc),
+        are_totals_right(alloc),
+        are_extrema_right(alloc),
+        are_loops_right(alloc),
+    ]);
+    must_be(&rt, are_right, Ok(true));
+}

@@ -1,6 +1,0 @@
--- Texts of which one changes.
-use Rattle.std.specs.Prelude.{ℕ, ◌+◌, List, ◌∷◌, ◌++◌, take, drop, Option}
-
--- the texts once text i is this one; where i is their count, it stands behind them
-abbrev pub with_text : List (Option (List ℕ)) → ℕ → Option (List ℕ) → List (Option (List ℕ))
-with_text texts i text = take i texts ++ text ∷ drop (i + 1) texts

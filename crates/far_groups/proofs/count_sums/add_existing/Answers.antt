@@ -1,0 +1,38 @@
+use Rattle.std.proofs.Common.{refl, ◌+◌, ◌^◌, ◌≤◌, IsSome, sym, ap, ◌∙◌, subst}
+use Rattle.std.specs.Prelude.{is_some}
+use Rattle.std.specs.FinMap as fin
+use Rattle.far_types.specs.Effects.{add_count_sums, count_in}
+use Rattle.far_types.proofs.ByKeyMaps.{with_more, get_at, set_inserts}
+use Rattle.far_groups.specs.CountSums.{totals_of, AreCountSums}
+use Rattle.far_groups.proofs.CountSumLaws.{if_found, AreCountSums-insert}
+use Rattle.far_groups.proofs.count_sums.add_existing.Goals as goal
+
+pub merge_two-requires-clause-valid_sums : goal.merge_two-requires-clause-valid_sums
+merge_two-requires-clause-valid_sums c =
+    if_found _ _ (get_at c.args.count_sums.now.entries c.args.key.now ∙ sym c.in-Some.ensures.value) (c.requires.valid_sums c.args.key.now)
+
+pub merge_two-requires-clause-room : goal.merge_two-requires-clause-room
+merge_two-requires-clause-room c =
+    subst (λ o. count_in o + c.args.more.0 ≤ 2 ^ 26) (get_at c.args.count_sums.now.entries c.args.key.now ∙ sym c.in-Some.ensures.value) c.requires.room
+
+pub returns-in-Some-clause-there : goal.returns-in-Some-clause-there
+returns-in-Some-clause-there c =
+    ap is_some (c.in-Some.ensures.value ∙ sym (get_at c.args.count_sums.now.entries c.args.key.now))
+
+pub returns-in-None-clause-there : goal.returns-in-None-clause-there
+returns-in-None-clause-there c =
+    ap is_some (c.in-None.ensures.value ∙ sym (get_at c.args.count_sums.now.entries c.args.key.now))
+
+pub returns-in-Some-clause-valid_sums : goal.returns-in-Some-clause-valid_sums
+returns-in-Some-clause-valid_sums c =
+    let there = subst IsSome c.in-Some.ensures.value refl in
+    let written = c.get_mut.follows.holds c.merge_two.result in
+    subst AreCountSums (sym (set_inserts c.args.count_sums.now.entries (c.get_mut.follows.lender c.merge_two.result).entries c.args.key.now c.merge_two.result (written.3 there).0))
+    (AreCountSums-insert (totals_of c.args.count_sums.now.entries) c.args.key.now c.merge_two.result c.requires.valid_sums c.merge_two.ensures.valid_sums)
+
+pub returns-in-Some-clause-raised : goal.returns-in-Some-clause-raised
+returns-in-Some-clause-raised c _ =
+    let there = subst IsSome c.in-Some.ensures.value refl in
+    let written = c.get_mut.follows.holds c.merge_two.result in
+    set_inserts c.args.count_sums.now.entries (c.get_mut.follows.lender c.merge_two.result).entries c.args.key.now c.merge_two.result (written.3 there).0
+    ∙ ap (fin.insert (totals_of c.args.count_sums.now.entries) c.args.key.now) (c.merge_two.ensures.value ∙ ap (with_more add_count_sums c.args.more) (c.in-Some.ensures.value ∙ sym (get_at c.args.count_sums.now.entries c.args.key.now)))

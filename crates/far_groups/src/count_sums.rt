@@ -1,0 +1,183 @@
+// Counts and sums by key, in a tree map.
+ghost use Rattle.std.specs.Prelude.{◌≡◌, ◌+◌, ◌-◌, ◌-ℤ◌, None, Some, ◌^◌, ◌≤◌, false, IsTrue, is_some, IfOk, IfErr, OnOk, OnErr, map, take, ℕ, ℤ, Option};
+ghost use Rattle.std.specs.BTreeMap.{IsOrdered};
+ghost use Rattle.std.specs.FinMap as fin;
+ghost use Rattle.far_types.specs.declared.key.Key.{Key};
+ghost use Rattle.far_types.specs.Keys.{line_cmp};
+ghost use Rattle.far_types.specs.Effects.{add_count_sums, count_in, joined_totals};
+ghost use Rattle.far_groups.specs.Live.{CanJoin};
+ghost use Rattle.far_groups.specs.CountSums.{totals_of, IsCountSum, AreCountSums, with_count_sum, LeavesCountSum, without_count_sum, CanTakeAll, without_all};
+
+use far_types::{Key, Refusal, clone_key};
+use std::alloc::Global;
+use std::collections::BTreeMap;
+
+/// How many values stand under a key, at least one, and their sum.
+pub type CountSum = (u64, i128);
+
+/// What stands by key. No key has a count of 0.
+pub type CountSums = BTreeMap<Option<Key>, CountSum>;
+
+/// The count and the sum of one value.
+#[inline(always)]
+pub fn count_sum_of(value: i64) -> CountSum
+    ensures value { result ≡ (1, value) }
+    ensures valid_sums { IsCountSum result }
+{
+    (1, i128::from(value))
+}
+
+/// Two counts and sums together.
+#[inline(always)]
+pub fn merge_two(count_sum: CountSum, more: CountSum) -> CountSum
+    requires valid_sums { IsCountSum count_sum }
+    requires more_valid_sums { IsCountSum more }
+    requires room { count_sum.0 + more.0 ≤ 2 ^ 26 }
+    ensures value { result ≡ add_count_sums count_sum more }
+    ensures valid_sums { IsCountSum result }
+{
+    (count_sum.0 + more.0, count_sum.1 + more.1)
+}
+
+/// What is left of a count and a sum when another goes.
+#[inline(always)]
+pub fn subtract(count_sum: CountSum, less: CountSum) -> CountSum
+    requires valid_sums { IsCountSum count_sum }
+    requires there { LeavesCountSum less (Some count_sum) }
+    ensures { result ≡ (count_sum.0 - less.0, count_sum.1 -ℤ less.1) }
+{
+    (count_sum.0 - less.0, count_sum.1 - less.1)
+}
+
+/// A count and a sum more under a key that is there. Says whether it is. Takes no memory.
+pub fn add_existing(count_sums: &mut CountSums, key: &Option<Key>, more: CountSum) -> bool
+    requires valid_sums { AreCountSums (totals_of count_sums.old.entries) }
+    requires more_valid_sums { IsCountSum more }
+    requires room { count_in (fin.get (totals_of count_sums.old.entries) key.now) + more.0 ≤ 2 ^ 26 }
+    ensures valid_sums { AreCountSums (totals_of count_sums.new.entries) }
+    ensures there { result ≡ is_some (fin.get (totals_of count_sums.old.entries) key.now) }
+    ensures raised { IsTrue result → totals_of count_sums.new.entries ≡ with_count_sum (totals_of count_sums.old.entries) key.now more }
+    ensures absent { result ≡ false → count_sums.new.entries ≡ count_sums.old.entries }
+{
+    match count_sums.get_mut(key) {
+        Some(count_sum) => {
+            *count_sum = merge_two(*count_sum, more);
+            true
+        }
+        None => false,
+    }
+}
+
+/// A count and a sum more under a key, which is dropped where it is there already.
+pub fn add(count_sums: &mut CountSums, key: Option<Key>, more: CountSum) -> Result<(), Refusal>
+    requires valid_sums { AreCountSums (totals_of count_sums.old.entries) }
+    requires more_valid_sums { IsCountSum more }
+    requires room { count_in (fin.get (totals_of count_sums.old.entries) key) + more.0 ≤ 2 ^ 26 }
+    ensures valid_sums { AreCountSums (totals_of count_sums.new.entries) }
+    ensures ok { OnOk result (totals_of count_sums.new.entries ≡ with_count_sum (totals_of count_sums.old.entries) key more) }
+    ensures err { OnErr result (count_sums.new.entries ≡ count_sums.old.entries) }
+    ensures only_new { OnErr result (fin.get (totals_of count_sums.old.entries) key ≡ None) }
+    ensures memory { IfErr result (λ e. e ≡ Refusal.NoMemory) }
+{
+    if !add_existing(count_sums, &key, more) {
+        count_sums.insert(key, more)?;
+    }
+    Ok(())
+}
+
+/// A count and a sum more under a key, of which a clone is made where it is new.
+pub fn add_under(
+    count_sums: &mut CountSums,
+    key: &Option<Key>,
+    more: CountSum,
+) -> Result<(), Refusal>
+    requires valid_sums { AreCountSums (totals_of count_sums.old.entries) }
+    requires more_valid_sums { IsCountSum more }
+    requires room { count_in (fin.get (totals_of count_sums.old.entries) key.now) + more.0 ≤ 2 ^ 26 }
+    ensures valid_sums { AreCountSums (totals_of count_sums.new.entries) }
+    ensures ok { OnOk result (totals_of count_sums.new.entries ≡ with_count_sum (totals_of count_sums.old.entries) key.now more) }
+    ensures err { OnErr result (count_sums.new.entries ≡ count_sums.old.entries) }
+    ensures only_new { OnErr result (fin.get (totals_of count_sums.old.entries) key.now ≡ None) }
+    ensures memory { IfErr result (λ e. e ≡ Refusal.NoMemory) }
+{
+    if !add_existing(count_sums, key, more) {
+        count_sums.insert(clone_key(key)?, more)?;
+    }
+    Ok(())
+}
+
+/// A count and a sum less under a key. A key of which nothing is left goes. Takes no memory.
+#[inline(never)]
+pub fn take(count_sums: &mut CountSums, key: &Option<Key>, less: CountSum)
+    requires valid_sums { AreCountSums (totals_of count_sums.old.entries) }
+    requires there { LeavesCountSum less (fin.get (totals_of count_sums.old.entries) key.now) }
+    ensures valid_sums { AreCountSums (totals_of count_sums.new.entries) }
+    ensures less { totals_of count_sums.new.entries ≡ without_count_sum (totals_of count_sums.old.entries) key.now less }
+{
+    match count_sums.get_mut(key) {
+        None => {}
+        Some(count_sum) => {
+            let rest = subtract(*count_sum, less);
+            if rest.0 == 0 {
+                count_sums.remove(key);
+            } else {
+                *count_sum = rest;
+            }
+        }
+    }
+}
+
+/// Takes the first `count` of the counts and sums of another map out of these. Takes no memory.
+fn take_first(count_sums: &mut CountSums, other: &CountSums, count: usize)
+    requires valid_sums { AreCountSums (totals_of count_sums.old.entries) }
+    requires there { CanTakeAll (totals_of count_sums.old.entries) (take count other.now.entries) }
+    ensures { totals_of count_sums.new.entries ≡ without_all (totals_of count_sums.old.entries) (take count other.now.entries) }
+{
+    let mut left = count;
+    for (key, count_sum) in other {
+        if left == 0 {
+            return;
+        }
+        take(count_sums, key, *count_sum);
+        left -= 1;
+    }
+}
+
+/// Joins the counts and sums of another map to these. What a refusal cut short is undone.
+pub fn join(count_sums: &mut CountSums, other: &CountSums) -> Result<(), Refusal>
+    requires valid_sums { AreCountSums (totals_of count_sums.old.entries) }
+    requires other_valid_sums { AreCountSums (totals_of other.now.entries) }
+    requires can_join { CanJoin (totals_of count_sums.old.entries) (totals_of other.now.entries) }
+    ensures valid_sums { AreCountSums (totals_of count_sums.new.entries) }
+    ensures ok { OnOk result (totals_of count_sums.new.entries ≡ joined_totals (totals_of count_sums.old.entries) (totals_of other.now.entries)) }
+    ensures err { OnErr result (totals_of count_sums.new.entries ≡ totals_of count_sums.old.entries) }
+    ensures memory { IfErr result (λ e. e ≡ Refusal.NoMemory) }
+{
+    let mut done = 0;
+    for (key, count_sum) in other {
+        match add_under(count_sums, key, *count_sum) {
+            Ok(()) => done += 1,
+            Err(refusal) => {
+                take_first(count_sums, other, done);
+                return Err(refusal);
+            }
+        }
+    }
+    Ok(())
+}
+
+/// The lines of the counts and sums, by their keys.
+pub fn lines(
+    alloc: Global,
+    count_sums: &CountSums,
+) -> Result<Vec<(Option<Key>, u64, i128)>, Refusal>
+    ensures ok { IfOk result (λ lines. lines.items ≡ map (λ (entry : Option Key × (ℕ × ℤ)). (entry.0, entry.1.0, entry.1.1)) count_sums.now.entries) }
+    ensures ordered { IsOrdered line_cmp count_sums.now }
+    ensures memory { IfErr result (λ e. e ≡ Refusal.NoMemory) }
+{
+    let mut lines = Vec::with_capacity(alloc, count_sums.len())?;
+    for (key, count_sum) in count_sums {
+        lines.push((clone_key(key)?, count_sum.0, count_sum.1))?;
+    }
+    Ok(lines)
+}

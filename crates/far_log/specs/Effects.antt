@@ -1,0 +1,109 @@
+-- How a local region changes.
+use Rattle.std.specs.Prelude.{◌≡◌, ◌≢◌, ℕ, ◌+◌, ◌-◌, ◌<◌, ◌==◌, not, if◌then◌else◌, List, [], ◌∷◌, ◌++◌, length, take, drop, map, filter, unwrap_or, Option, Some, IsSome, slice_set, slice_index, Contains, All, AllPairs}
+use Rattle.far_pointer.specs.declared.pointer.At.{At}
+use Rattle.far_log.specs.RegionState.{Part, SegmentState, RegionState, fill_of, list_at, segment_of, part_of, target_of}
+
+-- new is old, but that `now` lies at this location
+pub record ChangesOnly {X : Type 0} (old new : RegionState X) (at : At) (now : Option (List X)) : Type 0 where
+  pub here : part_of new at ≡ now
+  pub others : (q : At) → q ≢ at → part_of new q ≡ part_of old q
+
+module _ {X : Type 0} where
+  -- a segment with one part more, at its fill
+  abbrev pub with_part : SegmentState X → List X → SegmentState X
+  with_part s list = record s { parts = s.parts ++ record { offset = fill_of s; list = list } ∷ [] }
+
+  -- a segment without the part that begins at an offset
+  abbrev pub without_part : SegmentState X → ℕ → SegmentState X
+  without_part s offset = record s { parts = filter (λ p. not (p.offset == offset)) s.parts }
+
+  -- a part with this list if it begins at this offset, and else as it is
+  abbrev pub replaced : ℕ → List X → Part X → Part X
+  replaced offset list p = if p.offset == offset then record p { list = list } else p
+
+  -- a segment in which the part that begins at an offset has this list
+  abbrev pub with_list : SegmentState X → ℕ → List X → SegmentState X
+  with_list s offset list = record s { parts = map (replaced offset list) s.parts }
+
+  -- xs with ws written over its elements from place i on; its length stays
+  abbrev pub written_over : List X → ℕ → List X → List X
+  written_over xs i ws = take (length xs) (take i xs ++ (ws ++ drop (i + length ws) xs))
+
+  -- a part once ws is written over the elements of its segment from place `from` on
+  abbrev pub overwritten : ℕ → List X → Part X → Part X
+  overwritten from ws p =
+      record p { list = written_over p.list (from - p.offset) (drop (p.offset - from) ws) }
+
+  -- a segment with ws written over its elements from place `from` on
+  abbrev pub written : SegmentState X → ℕ → List X → SegmentState X
+  written s from ws = record s { parts = map (overwritten from ws) s.parts }
+
+  -- the region with another segment under this number
+  abbrev pub with_segment : RegionState X → ℕ → SegmentState X → RegionState X
+  with_segment state number s = slice_set state number s
+
+  -- the region with ws written over its elements from the i-th behind a location on
+  abbrev pub written_at : RegionState X → At → ℕ → List X → RegionState X
+  written_at state at i ws =
+      with_segment state at.segment (written (segment_of state at.segment) (at.offset + i) ws)
+
+  -- the region in which this list lies at a location
+  abbrev pub with_list_at : RegionState X → At → List X → RegionState X
+  with_list_at state at list =
+      with_segment state at.segment (with_list (segment_of state at.segment) at.offset list)
+
+  -- new is old with another list in the part at this location
+  pub record WritesPart (old new : RegionState X) (at : At) (list : List X) : Type 0 where
+    pub state : new ≡ with_list_at old at list
+    pub change : ChangesOnly old new at (Some list)
+
+  -- lists as parts, one behind the other
+  abbrev pub laid_from : ℕ → List (List X) → List (Part X)
+  laid_from from [] = []
+  laid_from from (xs ∷ xss) = record { offset = from; list = xs } ∷ laid_from (from + length xs) xss
+
+  -- the list that begins at an offset, and the empty one where none does
+  abbrev pub list_or_none : List (Part X) → ℕ → List X
+  list_or_none parts offset = unwrap_or (list_at parts offset) []
+
+  -- the parts that begin at these offsets, laid in this order from the segment's beginning on
+  abbrev pub gathered : List (Part X) → List ℕ → List (Part X)
+  gathered parts order = laid_from 0 (map (list_or_none parts) order)
+
+  -- the region once the parts of segment `from` lie in segment `to` in this order
+  abbrev pub compacted : RegionState X → ℕ → ℕ → List ℕ → RegionState X
+  compacted state from to order =
+      with_segment (with_segment state to (record (segment_of state to) { parts = gathered (segment_of state from).parts order })) from (record (segment_of state from) { parts = [] })
+
+  -- these are the offsets of the parts of a segment, each once
+  pub record IsOrder (parts : List (Part X)) (order : List ℕ) : Type 0 where
+    pub listed : All (λ offset. IsSome (list_at parts offset)) order
+    pub whole : (offset : ℕ) → IsSome (list_at parts offset) → Contains order offset
+    pub once : AllPairs (λ offset other. offset ≢ other) order
+
+  -- new is old with this list as a new part at this location: in the lowest segment that takes it, at its fill
+  pub record IsPlaced (old new : RegionState X) (at : At) (list : List X) : Type 0 where
+    pub segment : target_of old (length list) ≡ Some at.segment
+    pub offset : at.offset ≡ fill_of (segment_of old at.segment)
+    pub state : new ≡ with_segment old at.segment (with_part (segment_of old at.segment) list)
+
+  -- segment `to` is the lowest without parts, other than `from`
+  pub record IsEmptyOther (state : RegionState X) (from to : ℕ) : Type 0 where
+    pub within : to < length state
+    pub other : to ≢ from
+    pub empty : (segment_of state to).parts ≡ []
+    pub lowest : (k : ℕ) → k < to → k ≢ from → (segment_of state k).parts ≢ []
+
+  -- no segment other than `from` is without parts
+  abbrev pub HasNoEmptyOther : RegionState X → ℕ → Type 0
+  HasNoEmptyOther state from = (k : ℕ) → k < length state → k ≢ from → (segment_of state k).parts ≢ []
+
+  -- the parts of segment `from`, in this order, lie in segment `to` from its beginning on, at these offsets
+  pub record Compacts (old new : RegionState X) (from to : ℕ) (order offsets : List ℕ) : Type 0 where
+    pub target : IsEmptyOther old from to
+    pub state : new ≡ compacted old from to order
+    pub offsets_are : offsets ≡ map (λ p. p.offset) (gathered (segment_of old from).parts order)
+    pub moved : (k : ℕ) → k < length order → list_at (segment_of new to).parts (slice_index offsets k) ≡ list_at (segment_of old from).parts (slice_index order k)
+    pub only : (offset : ℕ) → IsSome (list_at (segment_of new to).parts offset) → Contains offsets offset
+    pub emptied : (segment_of new from).parts ≡ []
+    pub others : (number : ℕ) → number ≢ from → number ≢ to → segment_of new number ≡ segment_of old number

@@ -1,0 +1,10 @@
+// An entry of a segment's table.
+use super::extents::Extent;
+use super::links::Link;
+
+/// An extent, and its link to the live extents around it.
+#[derive(Clone, Copy)]
+pub struct PartEntry {
+    pub extent: Extent,
+    pub link: Link,
+}

@@ -1,0 +1,171 @@
+// Objects with their store, and the last job of each kind.
+ghost use Rattle.std.specs.Prelude.{◌≡◌, ◌<◌, ℕ, List, length, false, Some, IfOk, IsTrue};
+ghost use Rattle.far_scopes.specs.Memory.{list_in};
+ghost use Rattle.far_scopes.specs.Movement.{AreClean, AreHere, dirty};
+
+mod changing;
+mod moving;
+
+use crate::evacuator::call::{Call, done};
+use changing::change;
+use far_evacuator::{Carried, EvacJob, FetchJob, Fetched};
+use far_fixtures::{Element, digest_of};
+use far_scopes::laws::clean_objects_have_copies;
+use far_scopes::{ObjectLimits, Objects};
+use far_store::{FarStore, Meter};
+use far_types::Refusal;
+use std::alloc::Global;
+use std::marker::Model;
+
+/// Objects with their store, and the last job of each kind that was begun and that was carried.
+#[derive(Drop)]
+pub struct Fixture<'a, T: Element, S: FarStore> {
+    store: &'a S,
+    objects: Objects<T, S>,
+    evac: Option<EvacJob<T, S>>,
+    carried: Option<Carried<T, S>>,
+    fetch: Option<FetchJob<S>>,
+    fetched: Option<Fetched<S>>,
+}
+
+impl<'a, T: Element, S: FarStore> Model for Fixture<'a, T, S> {
+    ghost use Rattle.std.specs.Prelude.{IfSome};
+    ghost use Rattle.far_scopes.specs.Movement.{Movement, AreClean, AreHere};
+    ghost use Rattle.far_evacuator.specs.Jobs.{IsFormOf};
+
+    ghost Value = { Movement T S.Ticket };
+
+    ghost view = { λ fixture. fixture.objects };
+
+    ghost invariant = { λ fixture. AreHere S.is_of (S.store_id fixture.store.now) fixture.objects × AreClean T.meaning S.content fixture.objects × IfSome fixture.evac (λ job. IsFormOf S.is_of (S.store_id fixture.store.now) job.form) × IfSome fixture.carried (λ carried. S.is_of carried.ticket (S.store_id fixture.store.now)) × IfSome fixture.fetch (λ job. S.is_of job.ticket (S.store_id fixture.store.now)) × IfSome fixture.fetched (λ fetched. S.is_of fetched.job.ticket (S.store_id fixture.store.now)) };
+}
+
+impl<'a, T: Element, S: FarStore> Fixture<'a, T, S> {
+    /// No object and no job.
+    pub fn new(
+        alloc: Global,
+        store: &'a S,
+        number: u32,
+        limits: ObjectLimits,
+    ) -> Result<Fixture<'a, T, S>, Refusal> {
+        let objects = no_objects(alloc, number, limits)?;
+        Ok(Fixture::over(store, objects))
+    }
+
+    // Objects with their store, and no job.
+    fn over(store: &'a S, objects: Objects<T, S>) -> Fixture<'a, T, S>
+        requires here { AreHere S.is_of (S.store_id store.now) objects }
+        requires clean { AreClean T.meaning S.content objects }
+    {
+        Fixture {
+            store,
+            objects,
+            evac: None,
+            carried: None,
+            fetch: None,
+            fetched: None,
+        }
+    }
+
+    /// No object once more, under another number; the jobs stay.
+    pub fn clear(
+        &mut self,
+        alloc: Global,
+        number: u32,
+        limits: ObjectLimits,
+    ) -> Result<(), Refusal> {
+        self.objects = no_objects(alloc, number, limits)?;
+        Ok(())
+    }
+
+    /// Makes a call, once more where it is refused for want of memory and left the objects as they were. Answers the number
+    /// that it gives, and 0 where it gives none. An object number that is not in use is refused.
+    pub fn make(&mut self, alloc: Global, call: &Call<&[T]>) -> Result<u32, Refusal> {
+        let before = digest_of(&self.objects);
+        match self.make_once(alloc, call) {
+            Err(Refusal::NoMemory) if digest_of(&self.objects) == before => {
+                self.make_once(alloc, call)
+            }
+            reply => reply,
+        }
+    }
+
+    fn make_once(&mut self, alloc: Global, call: &Call<&[T]>) -> Result<u32, Refusal> {
+        match call {
+            Call::Move(phase) => done(self.move_object(alloc, phase)),
+            call => change(&mut self.objects, call),
+        }
+    }
+
+    /// The list of an object.
+    pub fn list(&self, o: u32) -> Result<&[T], Refusal> {
+        if o >= self.objects.count() {
+            return Err(Refusal::NoRow);
+        }
+        self.objects.lend(o)
+    }
+
+    /// Whether an object may be written.
+    pub fn may_write(&self, o: u32) -> Result<(), Refusal> {
+        if o >= self.objects.count() {
+            return Err(Refusal::NoRow);
+        }
+        self.objects.may_write(o)
+    }
+
+    /// Whether the store has the far form of the list of an object that is local and clean.
+    pub fn has_copy(&self, alloc: Global, o: u32) -> Result<bool, Refusal> {
+        if o >= self.objects.count() {
+            return Err(Refusal::NoRow);
+        }
+        if self.objects.word(o).dirty() {
+            return Ok(false);
+        }
+        let list = self.objects.lend(o)?;
+        reads_copy(alloc, &self.objects, self.store, o, list)
+    }
+}
+
+fn no_objects<T: Element, S: FarStore>(
+    alloc: Global,
+    number: u32,
+    limits: ObjectLimits,
+) -> Result<Objects<T, S>, Refusal>
+    ensures here { IfOk result (λ m. (name : List ℕ) → AreHere S.is_of name m) }
+    ensures clean { IfOk result (AreClean T.meaning S.content) }
+{
+    if limits.segments > 8 {
+        return Err(Refusal::BadSpec);
+    }
+    match Objects::new(alloc, number, limits) {
+        Err(Refusal::NoMemory) => Objects::new(alloc, number, limits),
+        reply => reply,
+    }
+}
+
+// Whether the far copy of a local object that is clean is the far form of its list. It always is.
+fn reads_copy<T: Element, S: FarStore>(
+    alloc: Global,
+    objects: &Objects<T, S>,
+    store: &S,
+    o: u32,
+    list: &[T],
+) -> Result<bool, Refusal>
+    requires within { o < length objects.now.entries }
+    requires here { AreHere S.is_of (S.store_id store.now) objects.now }
+    requires clean { AreClean T.meaning S.content objects.now }
+    requires unwritten { dirty objects.now o ≡ false }
+    requires lent { list_in objects.now.memory o ≡ Some list.now }
+    ensures { IfOk result IsTrue }
+{
+    let _ = objects.number();
+    clean_objects_have_copies::<T, S>();
+    let Some(ticket) = objects.ticket(o) else {
+        unreachable!()
+    };
+    let mut bytes = Vec::new(alloc);
+    match store.get(alloc, &mut Meter::new(), ticket, &mut bytes) {
+        Ok(()) => Ok(T::spells(&bytes, list)),
+        Err(refusal) => Err(refusal),
+    }
+}

@@ -1,0 +1,41 @@
+-- How a column of texts changes, and the objects with it.
+use Rattle.std.specs.Prelude.{ℕ, ◌+◌, ◌-◌, ◌*◌, ◌%◌, ◌==◌, if◌then◌else◌, Bool, List, [], ◌∷◌, ◌++◌, length, Option, slice_index, slice_set}
+use Rattle.far_codec.specs.TextForm.{texts_form}
+use Rattle.far_scopes.specs.Movement.{Movement}
+use Rattle.far_scopes.specs.Effects.{after_create, after_replace}
+use Rattle.far_texts.specs.Texts.{Texts, Lists, lists_of, texts_at, object_at}
+
+-- whether the next place begins a row group
+abbrev pub begins_group : Texts → Bool
+begins_group c = c.len == length c.objects * c.size
+
+-- the object of the last row group
+abbrev pub last_object : Texts → ℕ
+last_object c = slice_index c.objects (length c.objects - 1)
+
+-- the texts of the row group of a place, once that place has this one
+abbrev pub group_with : Lists → Texts → ℕ → Option (List ℕ) → List (Option (List ℕ))
+group_with lists c place text = slice_set (texts_at lists (object_at c place)) (place % c.size) text
+
+-- the texts of the row group of the next place, once it has this one
+abbrev pub group_with_next : Lists → Texts → Option (List ℕ) → List (Option (List ℕ))
+group_with_next lists c text = (if begins_group c then [] else texts_at lists (last_object c)) ++ text ∷ []
+
+-- a column with a text more; o is the number of a new object, which is made where a row group begins
+abbrev pub pushed : Texts → ℕ → Texts
+pushed c o = record c { objects = if begins_group c then c.objects ++ o ∷ [] else c.objects; len = c.len + 1 }
+
+module _ {K : Type 0} (content : K → List ℕ) (m : Movement ℕ K) (c : Texts) where
+  -- the object of the next place: the next that is made, where the place begins a row group
+  abbrev pub next_object : ℕ
+  next_object = if begins_group c then length m.entries else last_object c
+
+  -- the objects once the text of a place is another
+  abbrev pub set_in : ℕ → Option (List ℕ) → Movement ℕ K
+  set_in place text = after_replace m (object_at c place) (texts_form (group_with (lists_of content m) c place text))
+
+  -- the objects once there is a text more
+  abbrev pub pushed_in : Option (List ℕ) → Movement ℕ K
+  pushed_in text =
+      let form : List ℕ = texts_form (group_with_next (lists_of content m) c text)
+      in if begins_group c then after_create m record { column = c.column; group = length c.objects } form else after_replace m (last_object c) form

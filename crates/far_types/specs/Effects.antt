@@ -1,0 +1,71 @@
+-- How what stands by key changes with one pair more, with one pair less, and when two are joined.
+use Rattle.std.specs.Prelude.{ℕ, ◌+◌, ◌-◌, ◌==◌, ℤ, ◌+ℤ◌, ◌-ℤ◌, cond, ◌++◌, Option, None, Some, option_map}
+use Rattle.std.specs.Int.{int_min, int_max}
+use Rattle.std.specs.List.{filter_map}
+use Rattle.std.specs.FinMap as fin
+use Rattle.far_types.specs.declared.key.Key.{Key}
+use Rattle.far_types.specs.Pairs.{Pair}
+use Rattle.far_types.specs.Answers.{ByKey, Totals, Extrema}
+
+-- the count and the sum with one value more
+abbrev pub raised : ℤ → Option (ℕ × ℤ) → ℕ × ℤ
+raised value None = (1, value)
+raised value (Some count_sum) = (count_sum.0 + 1, count_sum.1 +ℤ value)
+
+-- the count and the sum with one value less, of which there is one at least
+abbrev pub lowered : ℤ → ℕ × ℤ → ℕ × ℤ
+lowered value count_sum = (count_sum.0 - 1, count_sum.1 -ℤ value)
+
+-- the span with one value more
+abbrev pub widened : ℤ → Option (ℤ × ℤ) → ℤ × ℤ
+widened value None = (value, value)
+widened value (Some span) = (int_min value span.0, int_max value span.1)
+
+-- totals with one pair more
+abbrev pub with_pair : Totals → Pair → Totals
+with_pair totals pair = fin.insert totals pair.0 (raised pair.1 (fin.get totals pair.0))
+
+-- totals with one value less under a key, where this stands there. A key whose last value goes is listed no more
+abbrev pub without_value : Totals → Option Key → ℤ → Option (ℕ × ℤ) → Totals
+without_value totals key value None = totals
+without_value totals key value (Some count_sum) = cond (count_sum.0 == 1) (fin.remove totals key) (fin.insert totals key (lowered value count_sum))
+
+-- totals with one pair less
+abbrev pub without_pair : Totals → Pair → Totals
+without_pair totals pair = without_value totals pair.0 pair.1 (fin.get totals pair.0)
+
+-- extrema with one pair more
+abbrev pub with_observed : Extrema → Pair → Extrema
+with_observed extrema pair = fin.insert extrema pair.0 (widened pair.1 (fin.get extrema pair.0))
+
+-- what two may give together: both where both give something
+abbrev pub merge_two : {V : Type 0} → (V → V → V) → Option V → Option V → Option V
+merge_two join None other = other
+merge_two join (Some value) None = Some value
+merge_two join (Some value) (Some other) = Some (join value other)
+
+-- the keys of either, each with what both have there together
+abbrev pub joined : {V : Type 0} → (V → V → V) → ByKey V → ByKey V → ByKey V
+joined join one other =
+    fin.from_entries (filter_map (λ key. option_map (λ value. (key, value)) (merge_two join (fin.get one key) (fin.get other key))) (fin.keys one ++ fin.keys other))
+
+-- counts and sums are added
+abbrev pub add_count_sums : ℕ × ℤ → ℕ × ℤ → ℕ × ℤ
+add_count_sums one other = (one.0 + other.0, one.1 +ℤ other.1)
+
+-- the lesser of the least, and the greater of the greatest
+abbrev pub join_spans : ℤ × ℤ → ℤ × ℤ → ℤ × ℤ
+join_spans one other = (int_min one.0 other.0, int_max one.1 other.1)
+
+-- the totals of two together
+abbrev pub joined_totals : Totals → Totals → Totals
+joined_totals one other = joined add_count_sums one other
+
+-- the extrema of two together
+abbrev pub joined_extrema : Extrema → Extrema → Extrema
+joined_extrema one other = joined join_spans one other
+
+-- how many pairs stand under a key
+abbrev pub count_in : Option (ℕ × ℤ) → ℕ
+count_in None = 0
+count_in (Some count_sum) = count_sum.0

@@ -1,0 +1,47 @@
+use Rattle.std.proofs.Common.{◌≡◌, ◌*◌, ◌/◌, ◌<◌, [], ◌∷◌, length, None, sym, subst, ◌∙◌, arith}
+use Rattle.far_scopes.specs.Movement.{list_of}
+use Rattle.far_scopes.specs.Refusing.{write_refusal}
+use Rattle.far_vector.specs.Vector.{Vector, WritesPlaces, KeepsOthers, elements, object_at}
+use Rattle.far_vector.proofs.Checked.{place-set, free-set}
+use Rattle.far_vector.proofs.VectorLaws.{object-there, length-elements}
+use Rattle.far_vector.proofs.WritingLaws.{elements-written, vector-written, one-written}
+use Rattle.far_vector.proofs.Apart.{untouched}
+use Rattle.far_vector.proofs.vector.FarVector.set_in_group.Given.{Over}
+use Rattle.far_vector.proofs.vector.FarVector.set_in_group.Goals as goal
+
+pub position_in-at-requires-clause-within : goal.position_in-at-requires-clause-within
+position_in-at-requires-clause-within g c κs there = omega (arith, place-set c.args.objects.now c.args.self.now c.args.i c.requires.free, c.len-len.ensures.shaped.enough)
+
+pub write-requires-clause-within : goal.write-requires-clause-within
+write-requires-clause-within g c κs there = omega (arith, c.position_in-at.ensures.place, place-set c.args.objects.now c.args.self.now c.args.i c.requires.free, c.len-len.ensures.shaped.enough)
+
+pub write-requires-clause-free : goal.write-requires-clause-free
+write-requires-clause-free g c κs there = subst (λ o. write_refusal c.args.objects.now o ≡ None) (sym c.position_in-at.ensures.object) (free-set c.args.objects.now c.args.self.now c.args.i c.requires.free)
+
+module _ (g : Over) (c : goal.After-write g) where
+  within : c.args.i < c.args.self.now.len
+  within = place-set c.args.objects.now c.args.self.now c.args.i c.requires.free
+
+  placed : WritesPlaces (list_of g.T.Elem.meaning g.S.FarTickets.content c.args.objects.now) (list_of g.T.Elem.meaning g.S.FarTickets.content c.write.new.objects) c.args.self.now c.args.i (c.args.x ∷ [])
+  placed = subst (λ i. WritesPlaces (list_of g.T.Elem.meaning g.S.FarTickets.content c.args.objects.now) (list_of g.T.Elem.meaning g.S.FarTickets.content c.write.new.objects) c.args.self.now i (c.args.x ∷ [])) c.position_in-at.ensures.place c.write.ensures.places
+
+  others : KeepsOthers (list_of g.T.Elem.meaning g.S.FarTickets.content c.args.objects.now) (list_of g.T.Elem.meaning g.S.FarTickets.content c.write.new.objects) (object_at c.args.self.now c.args.i)
+  others = subst (λ i. KeepsOthers (list_of g.T.Elem.meaning g.S.FarTickets.content c.args.objects.now) (list_of g.T.Elem.meaning g.S.FarTickets.content c.write.new.objects) (object_at c.args.self.now i)) c.position_in-at.ensures.place c.write.ensures.lists
+
+pub returns-clause-elements : goal.returns-clause-elements
+returns-clause-elements g c =
+    let shaped = c.len-len.ensures.shaped in
+    let below = within g c in
+    elements-written (list_of g.T.Elem.meaning g.S.FarTickets.content c.args.objects.now) (list_of g.T.Elem.meaning g.S.FarTickets.content c.write.new.objects) c.args.self.now shaped c.requires.is c.args.i (c.args.x ∷ []) (placed g c) (omega (arith, below))
+    ∙ one-written (elements (list_of g.T.Elem.meaning g.S.FarTickets.content c.args.objects.now) c.args.self.now) c.args.i c.args.x (omega (arith, below, length-elements (list_of g.T.Elem.meaning g.S.FarTickets.content c.args.objects.now) c.args.self.now shaped c.requires.is))
+
+pub returns-clause-is : goal.returns-clause-is
+returns-clause-is g c =
+    let below = within g c in
+    vector-written (list_of g.T.Elem.meaning g.S.FarTickets.content c.args.objects.now) (list_of g.T.Elem.meaning g.S.FarTickets.content c.write.new.objects) c.args.self.now c.len-len.ensures.shaped c.requires.is c.args.i (c.args.x ∷ []) (placed g c) (omega (arith, below))
+
+pub returns-clause-disjoint : goal.returns-clause-disjoint
+returns-clause-disjoint g c = λ w is disjoint.
+    let shaped = c.len-len.ensures.shaped in
+    let below = within g c in
+    untouched (list_of g.T.Elem.meaning g.S.FarTickets.content c.args.objects.now) (list_of g.T.Elem.meaning g.S.FarTickets.content c.write.new.objects) c.args.self.now w is disjoint (object_at c.args.self.now c.args.i) (others g c) (c.args.i / c.args.self.now.size) (object-there c.args.self.now shaped c.args.i (omega (arith, below, shaped.enough))) c.args.self.now disjoint
