@@ -12,7 +12,7 @@ use Rattle.far_types.specs.declared.answer.Answer.TheVariants as answer
 use Rattle.far_types.specs.declared.spec.Spec.{Spec}
 use Rattle.far_types.specs.declared.spec.Fold.{Fold}
 use Rattle.far_types.specs.Answers.{Extrema, totals, extrema, or_zero, total_lines, extrema_lines, answer_of, answer_over}
-use Rattle.far_types.specs.Effects.{merge_two, join_spans, joined_extrema}
+use Rattle.far_types.specs.Effects.{merge_two, join_min_maxes, joined_extrema}
 use Rattle.far_types.specs.Keys.{line_cmp}
 use Rattle.far_types.specs.Pairs.{Pair, pairs_of}
 use Rattle.far_types.specs.Table.{Place, rows_of, place_pair, in_group, left}
@@ -23,20 +23,20 @@ use Rattle.far_extrema.specs.Live.{all_groups}
 use Rattle.far_aggregates.specs.declared.aggregate.Aggregate.{Aggregate}
 use Rattle.far_aggregates.specs.declared.aggregate.Accumulator.{Accumulator}
 use Rattle.far_aggregates.specs.declared.aggregate.Accumulator.TheVariants as accumulator
-use Rattle.far_aggregates.specs.Accumulators.{group_pairs, fold_of, left_in, accumulator_answer, IsKept, KeepsSlot}
+use Rattle.far_aggregates.specs.Accumulators.{group_pairs, fold_of, pending_in, accumulator_answer, IsKept, KeepsEntry}
 use Rattle.far_aggregates.proofs.ScannedLaws.{none_left, built-all}
 use Rattle.far_aggregates.proofs.ListLaws.{index-replicate}
 
 abbrev none : Extrema
 none = fin.empty
 
-alone : (o : Option (ℤ × ℤ)) → merge_two join_spans o None ≡ o
+alone : (o : Option (ℤ × ℤ)) → merge_two join_min_maxes o None ≡ o
 alone None = refl
-alone (Some span) = refl
+alone (Some min_max) = refl
 
 -- nothing more leaves extrema as they are
 joined-none : (m : Extrema) → joined_extrema m none ≡ m
-joined-none m = same _ _ (λ q. get-joined join_spans m none q ∙ ap (merge_two join_spans (fin.get m q)) (fin.get-empty line_cmp q) ∙ alone (fin.get m q))
+joined-none m = same _ _ (λ q. get-joined join_min_maxes m none q ∙ ap (merge_two join_min_maxes (fin.get m q)) (fin.get-empty line_cmp q) ∙ alone (fin.get m q))
 
 fold-none : (n : ℕ) (m : Extrema) → fold joined_extrema m (replicate n none) ≡ m
 fold-none zero m = refl
@@ -90,12 +90,12 @@ answers f size places a (accumulator.Extrema live) pos e h z =
     ap (λ m. answer.Extrema (extrema_lines m)) (joined-all a.spec size places live.groups pos (λ k. h.0 k ∙ ap (λ b. cond b fin.empty (extrema (group_pairs a.spec size k places))) (none_left a.pending k z)) ∙ ap extrema (sym (pairs_of-rows a.spec places)))
     ∙ ap (λ x. answer_of x a.spec.key (pairs_of a.spec (rows_of places))) e
 
-pub answers-now : (size : ℕ) (places : List Place) (a : Aggregate) → 0 < size → KeepsSlot size places (Some a) → left a.pending ≡ 0 → accumulator_answer a.spec.key a.accumulator ≡ answer_over a.spec (rows_of places)
+pub answers-now : (size : ℕ) (places : List Place) (a : Aggregate) → 0 < size → KeepsEntry size places (Some a) → left a.pending ≡ 0 → accumulator_answer a.spec.key a.accumulator ≡ answer_over a.spec (rows_of places)
 answers-now size places a pos h z = answers a.spec.fold size places a a.accumulator pos h.0 h.1 z
 
-kept-left : (size : ℕ) (places : List Place) (a : Aggregate) (k : Accumulator) → IsKept size places a k → left_in k ≡ left a.pending
+kept-left : (size : ℕ) (places : List Place) (a : Aggregate) (k : Accumulator) → IsKept size places a k → pending_in k ≡ left a.pending
 kept-left size places a (accumulator.Totals live) h = h.1
 kept-left size places a (accumulator.Extrema live) h = h.1
 
-pub left-now : (size : ℕ) (places : List Place) (a : Aggregate) → KeepsSlot size places (Some a) → left_in a.accumulator ≡ left a.pending
+pub left-now : (size : ℕ) (places : List Place) (a : Aggregate) → KeepsEntry size places (Some a) → pending_in a.accumulator ≡ left a.pending
 left-now size places a h = kept-left size places a a.accumulator h.1

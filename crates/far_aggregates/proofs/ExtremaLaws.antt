@@ -15,7 +15,7 @@ use Rattle.far_types.specs.Table.{Place, place_pair, in_group, is_pending}
 use Rattle.far_types.proofs.ByKeyMaps.{get_inserted}
 use Rattle.far_types.proofs.TotalLaws.{extrema-cons, extrema-among}
 use Rattle.far_extrema.specs.Live.{group_at}
-use Rattle.far_extrema.specs.Spans.{put_span}
+use Rattle.far_extrema.specs.MinMaxes.{put_min_max}
 use Rattle.far_extrema.proofs.GoneLaws.{gone, within, put-same}
 use Rattle.far_extrema.proofs.HolderLaws.{widened_within}
 use Rattle.far_aggregates.specs.Accumulators.{Change, group_pairs, scanned_group}
@@ -28,17 +28,17 @@ same_or_not zero (suc b) = inr (λ e. absurd (omega arith))
 same_or_not (suc a) zero = inr (λ e. absurd (omega arith))
 same_or_not (suc a) (suc b) = elim (same_or_not a b) as (λ o. (suc a ≡ suc b) ⊎ (suc a ≢ suc b)) [ inl e ↦ inl (ap suc e) | inr n ↦ inr (λ e. n (omega arith)) ]
 
-pub seen-more : (o : Change) (ps : List Pair) → extrema (cons_option o ps) ≡ with_observed_change (extrema ps) o
-seen-more None ps = refl
-seen-more (Some pair) ps = extrema-cons pair ps
+pub observed-more : (o : Change) (ps : List Pair) → extrema (cons_option o ps) ≡ with_observed_change (extrema ps) o
+observed-more None ps = refl
+observed-more (Some pair) ps = extrema-cons pair ps
 
-pub seen-swap : (a b : Change) (ps : List Pair) → extrema (cons_option a (cons_option b ps)) ≡ extrema (cons_option b (cons_option a ps))
-seen-swap None b ps = refl
-seen-swap (Some x) None ps = refl
-seen-swap (Some x) (Some y) ps = sym (extrema-among (y ∷ []) x ps)
+pub observed-swap : (a b : Change) (ps : List Pair) → extrema (cons_option a (cons_option b ps)) ≡ extrema (cons_option b (cons_option a ps))
+observed-swap None b ps = refl
+observed-swap (Some x) None ps = refl
+observed-swap (Some x) (Some y) ps = sym (extrema-among (y ∷ []) x ps)
 
-seen-under : (o : Change) (ps qs : List Pair) → extrema ps ≡ extrema qs → extrema (cons_option o ps) ≡ extrema (cons_option o qs)
-seen-under o ps qs h = seen-more o ps ∙ ap (λ m. with_observed_change m o) h ∙ sym (seen-more o qs)
+observed-under : (o : Change) (ps qs : List Pair) → extrema ps ≡ extrema qs → extrema (cons_option o ps) ≡ extrema (cons_option o qs)
+observed-under o ps qs h = observed-more o ps ∙ ap (λ m. with_observed_change m o) h ∙ sym (observed-more o qs)
 
 -- the pairs of all places but one
 module _ (spec : Spec) where
@@ -47,11 +47,11 @@ module _ (spec : Spec) where
   rest (p ∷ ps) zero = filter_map (place_pair spec) ps
   rest (p ∷ ps) (suc j) = cons_option (place_pair spec p) (rest ps j)
 
-  pub rest-apart : (ps : List Place) (j : ℕ) (x : Place) → slice_get ps j ≡ Some x → extrema (filter_map (place_pair spec) ps) ≡ extrema (cons_option (place_pair spec x) (rest ps j))
-  rest-apart [] j x h = cc
-  rest-apart (p ∷ ps) zero x h = let e : p ≡ x = cc in rw e refl
-  rest-apart (p ∷ ps) (suc j) x h =
-      seen-under (place_pair spec p) _ _ (rest-apart ps j x h) ∙ seen-swap (place_pair spec p) (place_pair spec x) (rest ps j)
+  pub rest-separate : (ps : List Place) (j : ℕ) (x : Place) → slice_get ps j ≡ Some x → extrema (filter_map (place_pair spec) ps) ≡ extrema (cons_option (place_pair spec x) (rest ps j))
+  rest-separate [] j x h = cc
+  rest-separate (p ∷ ps) zero x h = let e : p ≡ x = cc in rw e refl
+  rest-separate (p ∷ ps) (suc j) x h =
+      observed-under (place_pair spec p) _ _ (rest-separate ps j x h) ∙ observed-swap (place_pair spec p) (place_pair spec x) (rest ps j)
 
   pub rest-changed : (f : Place → Place) (ps : List Place) (j : ℕ) → rest (changed_at f j ps) j ≡ rest ps j
   rest-changed f [] j = refl
@@ -61,15 +61,15 @@ module _ (spec : Spec) where
 -- a retracted pair leaves the extrema of the others
 abbrev pub without_retracted : Change → Extrema → Extrema → Extrema
 without_retracted None m new = m
-without_retracted (Some pair) m new = put_span m pair.0 (fin.get new pair.0)
+without_retracted (Some pair) m new = put_min_max m pair.0 (fin.get new pair.0)
 
 pub gone-leaves : (a : Change) (qs : List Pair) (m new : Extrema) → m ≡ extrema (cons_option a qs) → new ≡ extrema qs → without_retracted a m new ≡ new
 gone-leaves None qs m new h k = h ∙ sym k
-gone-leaves (Some p) qs m new h k = (λ i. put_span (h i) p.0 (fin.get (k i) p.0)) ∙ gone qs p ∙ sym k
+gone-leaves (Some p) qs m new h k = (λ i. put_min_max (h i) p.0 (fin.get (k i) p.0)) ∙ gone qs p ∙ sym k
 
 -- what stands under its key is that of the others, with its value more
-pub gone-seen : (p : Pair) (qs : List Pair) (m new : Extrema) → m ≡ extrema (p ∷ qs) → new ≡ extrema qs → fin.get m p.0 ≡ Some (widened p.1 (fin.get new p.0))
-gone-seen p qs m new h k =
+pub gone-observed : (p : Pair) (qs : List Pair) (m new : Extrema) → m ≡ extrema (p ∷ qs) → new ≡ extrema qs → fin.get m p.0 ≡ Some (widened p.1 (fin.get new p.0))
+gone-observed p qs m new h k =
     ap (λ n. fin.get n p.0) (h ∙ extrema-cons p qs)
     ∙ get_inserted (extrema qs) p.0 (widened p.1 (fin.get (extrema qs) p.0))
     ∙ ap (λ n. Some (widened p.1 (fin.get n p.0))) (sym k)
@@ -78,25 +78,25 @@ gone-seen p qs m new h k =
 abbrev pub IsWith : ℕ → List Extrema → List Extrema → Extrema → Type 0
 IsWith g gs hs m = (group_at hs g ≡ m) × ((h : ℕ) → h ≢ g → group_at hs h ≡ group_at gs h)
 
-abbrev pub groups_seen : ℕ → List Extrema → Change → List Extrema
-groups_seen g gs None = gs
-groups_seen g gs (Some pair) = slice_set gs g (with_observed (group_at gs g) pair)
+abbrev pub groups_observed : ℕ → List Extrema → Change → List Extrema
+groups_observed g gs None = gs
+groups_observed g gs (Some pair) = slice_set gs g (with_observed (group_at gs g) pair)
 
 abbrev pub groups_left : ℕ → List Extrema → Change → Extrema → List Extrema
 groups_left g gs None new = gs
-groups_left g gs (Some pair) new = slice_set gs g (put_span (group_at gs g) pair.0 (fin.get new pair.0))
+groups_left g gs (Some pair) new = slice_set gs g (put_min_max (group_at gs g) pair.0 (fin.get new pair.0))
 
-pub seen-is : (g : ℕ) (gs : List Extrema) (o : Change) → g < length gs → IsWith g gs (groups_seen g gs o) (with_observed_change (group_at gs g) o)
-seen-is g gs None l = (refl, λ h n. refl)
-seen-is g gs (Some p) l = (get_or-set_same gs g _ fin.empty l, λ h n. get_or-set_other gs g h _ fin.empty n)
+pub observed-is : (g : ℕ) (gs : List Extrema) (o : Change) → g < length gs → IsWith g gs (groups_observed g gs o) (with_observed_change (group_at gs g) o)
+observed-is g gs None l = (refl, λ h n. refl)
+observed-is g gs (Some p) l = (get_or-set_same gs g _ fin.empty l, λ h n. get_or-set_other gs g h _ fin.empty n)
 
 pub left-is : (g : ℕ) (gs : List Extrema) (o : Change) (new : Extrema) → g < length gs → IsWith g gs (groups_left g gs o new) (without_retracted o (group_at gs g) new)
 left-is g gs None new l = (refl, λ h n. refl)
 left-is g gs (Some p) new l = (get_or-set_same gs g _ fin.empty l, λ h n. get_or-set_other gs g h _ fin.empty n)
 
-pub seen-length : (g : ℕ) (gs : List Extrema) (o : Change) → length (groups_seen g gs o) ≡ length gs
-seen-length g gs None = refl
-seen-length g gs (Some p) = length-written gs g _
+pub observed-length : (g : ℕ) (gs : List Extrema) (o : Change) → length (groups_observed g gs o) ≡ length gs
+observed-length g gs None = refl
+observed-length g gs (Some p) = length-written gs g _
 
 -- where all other row groups have the places that they had
 module _ (spec : Spec) (size : ℕ) (pending : List Bool) (g : ℕ) (ps qs : List Place) (others : (h : ℕ) → h ≢ g → in_group size h qs ≡ in_group size h ps) where
@@ -133,19 +133,19 @@ is-reserved g [] k x h = absurd (nothing x (sym (fin.get-empty line_cmp k) ∙ h
 is-reserved zero (m ∷ gs) k x h = omega arith
 is-reserved (suc g) (m ∷ gs) k x h = let rest = is-reserved g gs k x h in omega arith
 
-some_span : (s t : ℤ × ℤ) → Some s ≡ Some t → t ≡ s
-some_span s t e = cc
+some_min_max : (s t : ℤ × ℤ) → Some s ≡ Some t → t ≡ s
+some_min_max s t e = cc
 
 -- if the value to retract is strictly within, the row group stays as it is
 pub left-within : (g : ℕ) (gs : List Extrema) (k : Option Key) (v : ℤ) (o : Option (ℤ × ℤ)) (s : ℤ × ℤ) → fin.get (group_at gs g) k ≡ Some (widened v o) → fin.get (group_at gs g) k ≡ Some s → s.0 <ℤ v → v <ℤ s.1
-    → gs ≡ slice_set gs g (put_span (group_at gs g) k o)
-left-within g gs k v o s seen found low high =
-    let rest = within v o s (some_span _ _ (sym found ∙ seen)) low high in
-    sym (ap (λ p. slice_set gs g (put_span (group_at gs g) k p)) rest ∙ ap (slice_set gs g) (put-same (group_at gs g) k s found) ∙ set-own gs g fin.empty)
+    → gs ≡ slice_set gs g (put_min_max (group_at gs g) k o)
+left-within g gs k v o s observed found low high =
+    let rest = within v o s (some_min_max _ _ (sym found ∙ observed)) low high in
+    sym (ap (λ p. slice_set gs g (put_min_max (group_at gs g) k p)) rest ∙ ap (slice_set gs g) (put-same (group_at gs g) k s found) ∙ set-own gs g fin.empty)
 
 -- if an added value is within, the row group stays as it is
-pub seen-within : (g : ℕ) (gs : List Extrema) (k : Option Key) (v : ℤ) (s : ℤ × ℤ) → fin.get (group_at gs g) k ≡ Some s → s.0 ≤ℤ v → v ≤ℤ s.1 → gs ≡ slice_set gs g (with_observed (group_at gs g) (k, v))
-seen-within g gs k v s found low high =
+pub observed-within : (g : ℕ) (gs : List Extrema) (k : Option Key) (v : ℤ) (s : ℤ × ℤ) → fin.get (group_at gs g) k ≡ Some s → s.0 ≤ℤ v → v ≤ℤ s.1 → gs ≡ slice_set gs g (with_observed (group_at gs g) (k, v))
+observed-within g gs k v s found low high =
     let m = group_at gs g in
     let same : with_observed m (k, v) ≡ m = ap (λ o. fin.insert m k (widened v o)) found ∙ ap (fin.insert m k) (widened_within v s low high) ∙ put-same m k s found in
     sym (ap (slice_set gs g) same ∙ set-own gs g fin.empty)

@@ -43,11 +43,11 @@ take-changed f zero j (p ∷ ps) h = refl
 take-changed f (suc n) zero (p ∷ ps) h = absurd (omega arith)
 take-changed f (suc n) (suc j) (p ∷ ps) h = ap (λ l. p ∷ l) (take-changed f n j ps (omega arith))
 
-apart : (a b : ℕ) → a ≢ b → (a < b) ⊎ (b < a)
-apart zero zero h = absurd (h refl)
-apart zero (suc b) h = inl (omega arith)
-apart (suc a) zero h = inr (omega arith)
-apart (suc a) (suc b) h = elim (apart a b (λ e. h (ap suc e))) as (λ o. (suc a < suc b) ⊎ (suc b < suc a)) [ inl l ↦ inl (omega arith) | inr l ↦ inr (omega arith) ]
+separate : (a b : ℕ) → a ≢ b → (a < b) ⊎ (b < a)
+separate zero zero h = absurd (h refl)
+separate zero (suc b) h = inl (omega arith)
+separate (suc a) zero h = inr (omega arith)
+separate (suc a) (suc b) h = elim (separate a b (λ e. h (ap suc e))) as (λ o. (suc a < suc b) ⊎ (suc b < suc a)) [ inl l ↦ inl (omega arith) | inr l ↦ inr (omega arith) ]
 
 -- a lower row group ends before a place of a higher one
 ends : (size h i : ℕ) → h < i / size → h * size + size ≤ i
@@ -65,7 +65,7 @@ begins size h i g l =
 
 -- a change of one place leaves the other row groups
 pub in_group-changed : (size h : ℕ) (f : Place → Place) (i : ℕ) (ps : List Place) → 0 < size → h ≢ i / size → in_group size h (changed_at f i ps) ≡ in_group size h ps
-in_group-changed size h f i ps g n = elim (apart h (i / size) n) as (λ o. in_group size h (changed_at f i ps) ≡ in_group size h ps) [
+in_group-changed size h f i ps g n = elim (separate h (i / size) n) as (λ o. in_group size h (changed_at f i ps) ≡ in_group size h ps) [
   | inl l ↦
       let far = ends size h i l in
       let j = i - h * size in
@@ -78,7 +78,7 @@ in_group-changed size h f i ps g n = elim (apart h (i / size) n) as (λ o. in_gr
 
 -- and so does a place more
 pub in_group-appended : {X : Type 0} (size h : ℕ) (ps : List X) (p : X) → 0 < size → h ≢ length ps / size → in_group size h (ps ++ p ∷ []) ≡ in_group size h ps
-in_group-appended size h ps p g n = elim (apart h (length ps / size) n) as (λ o. in_group size h (ps ++ p ∷ []) ≡ in_group size h ps) [
+in_group-appended size h ps p g n = elim (separate h (length ps / size) n) as (λ o. in_group size h (ps ++ p ∷ []) ≡ in_group size h ps) [
   | inl l ↦
       let far = ends size h (length ps) l in
       let rest = length-drop (h * size) ps in
@@ -139,7 +139,7 @@ in_group-last size ps p g =
 
 -- an element that is set leaves the other row groups
 pub in_group-set_other : {X : Type 0} (size h i : ℕ) (xs : List X) (y : X) → 0 < size → h ≢ i / size → in_group size h (slice_set xs i y) ≡ in_group size h xs
-in_group-set_other size h i xs y g n = elim (apart h (i / size) n) as (λ o. in_group size h (slice_set xs i y) ≡ in_group size h xs) [
+in_group-set_other size h i xs y g n = elim (separate h (i / size) n) as (λ o. in_group size h (slice_set xs i y) ≡ in_group size h xs) [
   | inl l ↦
       let far = ends size h i l in
       let j = i - h * size in

@@ -16,7 +16,7 @@ use Rattle.far_aggregates.specs.declared.aggregate.Accumulator.{Accumulator}
 use Rattle.far_aggregates.specs.declared.aggregate.Accumulator.TheVariants as accumulator
 use Rattle.far_aggregates.specs.declared.deltas.Delta.{Delta}
 use Rattle.far_aggregates.specs.declared.pending.Pending.{Pending}
-use Rattle.far_aggregates.specs.Accumulators.{Slot, Change, pairs_here, Keeps}
+use Rattle.far_aggregates.specs.Accumulators.{RegistryEntry, Change, pairs_here, Keeps}
 use Rattle.far_aggregates.specs.Pairs.{Gives, change_of}
 use Rattle.far_aggregates.specs.Deltas.{delta_of, row_delta, accumulator_more, added}
 use Rattle.far_aggregates.specs.Retract.{accumulator_less, retracted, AccumulatorMayRetract, MayRetract, EachMayRetract}
@@ -28,8 +28,8 @@ use Rattle.far_aggregates.proofs.ExtremaLaws.{left-within, same_or_not}
 use Rattle.far_aggregates.proofs.PendingLaws.{get-set_other}
 
 -- what stands under the key of a delta
-seen-under_key : (m : Extrema) (p : Pair) (k : Option Key) (span : ℤ × ℤ) → fin.get m p.0 ≡ Some span → p.0 ≡ k → fin.get (with_observed m p) k ≡ Some (widened p.1 (Some span))
-seen-under_key m p k span is same =
+observed-under_key : (m : Extrema) (p : Pair) (k : Option Key) (min_max : ℤ × ℤ) → fin.get m p.0 ≡ Some min_max → p.0 ≡ k → fin.get (with_observed m p) k ≡ Some (widened p.1 (Some min_max))
+observed-under_key m p k min_max is same =
     ap (fin.get (with_observed m p)) (sym same)
     ∙ get_inserted m p.0 (widened p.1 (fin.get m p.0))
     ∙ ap (λ (o : Option (ℤ × ℤ)). Some (widened p.1 o)) is
@@ -37,47 +37,47 @@ seen-under_key m p k span is same =
 same-some : {X : Type 0} (x y : X) → Some x ≡ Some y → x ≡ y
 same-some x y e = cc
 
-none-span : (span : ℤ × ℤ) → None ≡ Some span → ⊥
-none-span span h = cc
+none-min_max : (min_max : ℤ × ℤ) → None ≡ Some min_max → ⊥
+none-min_max min_max h = cc
 
 module _ (g : ℕ) (here : List Place) where
   needless-kept : (spec : Spec) (k : Accumulator) (p pair : Pair) → AccumulatorIsReserved g k → NeedNotRetract (Some (delta_of g k p)) (Some pair) → AccumulatorMayRetract spec g here (accumulator_more g k p) pair
       → accumulator_less spec g here (accumulator_more g k p) pair ≡ accumulator_more g k p
-  needless-kept spec (accumulator.Totals live) p pair reserved s may = absurd (none-span s.0 s.1)
+  needless-kept spec (accumulator.Totals live) p pair reserved s may = absurd (none-min_max s.0 s.1)
   needless-kept spec (accumulator.Extrema live) p pair reserved s may =
       let m = group_at live.groups g in
       let gs = slice_set live.groups g (with_observed m p) in
       let wide = widened p.1 (Some s.0) in
       let found : fin.get (group_at gs g) pair.0 ≡ Some wide =
-      ap (λ (n : Extrema). fin.get n pair.0) (get_or-set_same live.groups g (with_observed m p) fin.empty reserved) ∙ seen-under_key m p pair.0 s.0 s.1 s.2 in
+      ap (λ (n : Extrema). fin.get n pair.0) (get_or-set_same live.groups g (with_observed m p) fin.empty reserved) ∙ observed-under_key m p pair.0 s.0 s.1 s.2 in
       ap (λ (hs : List Extrema). accumulator.Extrema (record live { groups = hs })) (sym (left-within g gs pair.0 pair.1 (fin.get (extrema (pairs_here spec here)) pair.0) wide may found s.3 s.4))
 
-  -- of one slot, which has a delta or none
-  needless-slot : (a : Aggregate) (o c : Change) → AccumulatorIsReserved g a.accumulator → NeedNotRetract (option_map (delta_of g a.accumulator) o) c → MayRetract g here (added g (Some a) (option_map (delta_of g a.accumulator) o)) c
+  -- of one registry entry, which has a delta or none
+  needless-entry : (a : Aggregate) (o c : Change) → AccumulatorIsReserved g a.accumulator → NeedNotRetract (option_map (delta_of g a.accumulator) o) c → MayRetract g here (added g (Some a) (option_map (delta_of g a.accumulator) o)) c
       → retracted g here (added g (Some a) (option_map (delta_of g a.accumulator) o)) c ≡ added g (Some a) (option_map (delta_of g a.accumulator) o)
-  needless-slot a None c reserved s may = absurd s
-  needless-slot a (Some p) None reserved s may = absurd s
-  needless-slot a (Some p) (Some pair) reserved s may = ap (λ (k : Accumulator). Some (record a { accumulator = k })) (needless-kept a.spec a.accumulator p pair reserved s may)
+  needless-entry a None c reserved s may = absurd s
+  needless-entry a (Some p) None reserved s may = absurd s
+  needless-entry a (Some p) (Some pair) reserved s may = ap (λ (k : Accumulator). Some (record a { accumulator = k })) (needless-kept a.spec a.accumulator p pair reserved s may)
 
-  nothing-retracted : (s : Slot) → retracted g here s None ≡ s
+  nothing-retracted : (s : RegistryEntry) → retracted g here s None ≡ s
   nothing-retracted None = refl
   nothing-retracted (Some a) = refl
 
-  nothing-may : (s : Slot) → MayRetract g here s None
+  nothing-may : (s : RegistryEntry) → MayRetract g here s None
   nothing-may None = tt
   nothing-may (Some a) = tt
 
-  left-may : (s : Slot) (delta : Option Delta) (c d : Change) → IsLeftOut delta c d → MayRetract g here s c → MayRetract g here s d
+  left-may : (s : RegistryEntry) (delta : Option Delta) (c d : Change) → IsLeftOut delta c d → MayRetract g here s c → MayRetract g here s d
   left-may s delta c d (inl same) may = subst (MayRetract g here s) (sym same) may
   left-may s delta c d (inr out) may = subst (MayRetract g here s) (sym out.0) (nothing-may s)
 
 module _ (size i : ℕ) (gives : Gives) (here : List Place) where
-  needless : (t : Slot) (c : Change) → IsReserved (i / size) t → NeedNotRetract (row_delta size i gives t) c → MayRetract (i / size) here (added (i / size) t (row_delta size i gives t)) c
+  needless : (t : RegistryEntry) (c : Change) → IsReserved (i / size) t → NeedNotRetract (row_delta size i gives t) c → MayRetract (i / size) here (added (i / size) t (row_delta size i gives t)) c
       → retracted (i / size) here (added (i / size) t (row_delta size i gives t)) c ≡ added (i / size) t (row_delta size i gives t)
   needless None c reserved s may = refl
-  needless (Some a) c reserved s may = needless-slot (i / size) here a (change_of size i gives (Some a)) c reserved s may
+  needless (Some a) c reserved s may = needless-entry (i / size) here a (change_of size i gives (Some a)) c reserved s may
 
-  left-retracted : (t : Slot) (c d : Change) → IsReserved (i / size) t → IsLeftOut (row_delta size i gives t) c d → MayRetract (i / size) here (added (i / size) t (row_delta size i gives t)) c
+  left-retracted : (t : RegistryEntry) (c d : Change) → IsReserved (i / size) t → IsLeftOut (row_delta size i gives t) c d → MayRetract (i / size) here (added (i / size) t (row_delta size i gives t)) c
       → retracted (i / size) here (added (i / size) t (row_delta size i gives t)) d ≡ retracted (i / size) here (added (i / size) t (row_delta size i gives t)) c
   left-retracted t c d reserved (inl same) may = ap (retracted (i / size) here (added (i / size) t (row_delta size i gives t))) same
   left-retracted t c d reserved (inr out) may =
@@ -85,16 +85,16 @@ module _ (size i : ℕ) (gives : Gives) (here : List Place) where
       ∙ nothing-retracted (i / size) here (added (i / size) t (row_delta size i gives t))
       ∙ sym (needless t c reserved out.1 may)
 
-  all-left_retracted : (slots : List Slot) (cs ds : List Change) → length ds ≡ length cs → AreReserved (i / size) slots → EachLeftOut (map (row_delta size i gives) slots) cs ds
-      → EachMayRetract (i / size) here (zip_all (added (i / size)) slots (map (row_delta size i gives) slots)) cs
-      → zip_all (retracted (i / size) here) (zip_all (added (i / size)) slots (map (row_delta size i gives) slots)) ds ≡ zip_all (retracted (i / size) here) (zip_all (added (i / size)) slots (map (row_delta size i gives) slots)) cs
+  all-left_retracted : (registry : List RegistryEntry) (cs ds : List Change) → length ds ≡ length cs → AreReserved (i / size) registry → EachLeftOut (map (row_delta size i gives) registry) cs ds
+      → EachMayRetract (i / size) here (zip_all (added (i / size)) registry (map (row_delta size i gives) registry)) cs
+      → zip_all (retracted (i / size) here) (zip_all (added (i / size)) registry (map (row_delta size i gives) registry)) ds ≡ zip_all (retracted (i / size) here) (zip_all (added (i / size)) registry (map (row_delta size i gives) registry)) cs
   all-left_retracted [] cs ds many reserved out may = refl
-  all-left_retracted (t ∷ slots) [] [] many reserved out may = refl
-  all-left_retracted (t ∷ slots) [] (d ∷ ds) many reserved out may = absurd (omega arith)
-  all-left_retracted (t ∷ slots) (c ∷ cs) [] many reserved out may = absurd (omega arith)
-  all-left_retracted (t ∷ slots) (c ∷ cs) (d ∷ ds) many reserved out may = λ j.
+  all-left_retracted (t ∷ registry) [] [] many reserved out may = refl
+  all-left_retracted (t ∷ registry) [] (d ∷ ds) many reserved out may = absurd (omega arith)
+  all-left_retracted (t ∷ registry) (c ∷ cs) [] many reserved out may = absurd (omega arith)
+  all-left_retracted (t ∷ registry) (c ∷ cs) (d ∷ ds) many reserved out may = λ j.
       left-retracted t c d reserved.0 (out 0 _ c d refl refl refl) (may 0 _ c refl refl) j
-      ∷ all-left_retracted slots cs ds (omega arith) reserved.1 (λ k. out (suc k)) (λ k. may (suc k)) j
+      ∷ all-left_retracted registry cs ds (omega arith) reserved.1 (λ k. out (suc k)) (λ k. may (suc k)) j
 
 get-there : {X : Type 0} (xs : List X) (k : ℕ) → k < length xs → (x : X) × (slice_get xs k ≡ Some x)
 get-there [] k h = absurd (omega arith)
@@ -106,15 +106,15 @@ get-below [] k x h = cc
 get-below (y ∷ xs) zero x h = omega arith
 get-below (y ∷ xs) (suc k) x h = let rest = get-below xs k x h in omega arith
 
-each-left_may : (g : ℕ) (here : List Place) (deltas : List (Option Delta)) (slots : List Slot) (cs ds : List Change) → length ds ≡ length cs → length cs ≡ length deltas → EachLeftOut deltas cs ds → EachMayRetract g here slots cs → EachMayRetract g here slots ds
-each-left_may g here deltas slots cs ds many as_many out may k s d at is =
+each-left_may : (g : ℕ) (here : List Place) (deltas : List (Option Delta)) (registry : List RegistryEntry) (cs ds : List Change) → length ds ≡ length cs → length cs ≡ length deltas → EachLeftOut deltas cs ds → EachMayRetract g here registry cs → EachMayRetract g here registry ds
+each-left_may g here deltas registry cs ds many as_many out may k s d at is =
     let below = get-below ds k d is in
     let c = get-there cs k (omega arith) in
     let delta = get-there deltas k (omega arith) in
     left-may g here s delta.0 c.0 d (out k delta.0 c.0 d delta.1 c.1 is) (may k s c.0 at c.1)
 
 -- so the pairs may be retracted without them, and then what is kept is the same
-pub left_out-retracts : (size place : ℕ) (gives : Gives) (places : List Place) (mid new : List Slot) (deltas : List (Option Delta)) (old left : Pending) → AreReserved (place / size) mid
+pub left_out-retracts : (size place : ℕ) (gives : Gives) (places : List Place) (mid new : List RegistryEntry) (deltas : List (Option Delta)) (old left : Pending) → AreReserved (place / size) mid
     → old.group ≡ place / size → left.group ≡ place / size → deltas ≡ map (row_delta size place gives) mid → new ≡ zip_all (added (place / size)) mid (map (row_delta size place gives) mid)
     → length left.to_retract.items ≡ length old.to_retract.items → length old.to_retract.items ≡ length mid → length left.to_retract.items ≤ length new → EachLeftOut deltas old.to_retract.items left.to_retract.items
     → RetractsAll size (place / size) places new old → RetractsAll size (place / size) places new left

@@ -10,7 +10,7 @@ use Rattle.far_types.specs.Cells.{Cells, cells_of}
 use Rattle.far_types.specs.Edits.{changed_at, with_cell, removed}
 use Rattle.far_types.specs.Table.{Place, in_group}
 use Rattle.far_aggregates.specs.declared.pending.Pending.{Pending}
-use Rattle.far_aggregates.specs.Accumulators.{Slot, PlacesFit, Keeps, registered_in, registered_of}
+use Rattle.far_aggregates.specs.Accumulators.{RegistryEntry, PlacesFit, Keeps, registered_in, registered_of}
 use Rattle.far_aggregates.specs.Changed.{with_cell_at}
 use Rattle.far_aggregates.specs.Pairs.{row_gives, place_gives, alive_with, change_of}
 use Rattle.far_aggregates.specs.Deltas.{row_delta, added, undo, EachMayUndo}
@@ -44,12 +44,12 @@ changed-cell row column cell k h = elim (eqb_tells k column) as (λ o. cond (k =
 changed-cells : (row : List Cell) (column : ℕ) (cell : Cell) → IsSome (slice_get row column) → with_cell_at column cell (cells_of row) ≡ cells_of (slice_set row column cell)
 changed-cells row column cell h = λ i k. changed-cell row column cell k h i
 
--- the slots that were lent to be changed are all that there are
+-- the entries of the registry that were lent to be changed are all that there are
 pub written : {X : Type 0} (n : ℕ) (new old : List X) → length new ≡ n → take n (new ++ drop (length new) old) ≡ new
 written n new old h = ap (λ k. take k (new ++ drop (length new) old)) (sym h) ∙ take-append_seam new (drop (length new) old)
 
--- what the table shows depends on what it shows of each slot alone
-pub shown-alike : (old new : List Slot) → map registered_in new ≡ map registered_in old → registered_of new ≡ registered_of old
+-- what the table shows depends on what it shows of each registry entry alone
+pub shown-alike : (old new : List RegistryEntry) → map registered_in new ≡ map registered_in old → registered_of new ≡ registered_of old
 shown-alike old new h =
     let many : length new ≡ length old = sym (length-map new registered_in) ∙ ap length h ∙ length-map old registered_in in
     ap (λ n. map registered_in new ++ replicate (32 - n) None) many ∙ ap (λ l. l ++ replicate (32 - length old) None) h
@@ -61,7 +61,7 @@ fit-removed zero (p ∷ ps) h = h
 fit-removed (suc i) (p ∷ ps) h = (h.0, fit-removed i ps h.1)
 
 -- an insert
-pub insert-applied : (size place : ℕ) (cells : Cells) (old mid new : List Slot) → 0 < size → AreReserved (place / size) mid → KeepsAsBefore old mid
+pub insert-applied : (size place : ℕ) (cells : Cells) (old mid new : List RegistryEntry) → 0 < size → AreReserved (place / size) mid → KeepsAsBefore old mid
     → new ≡ zip_all (added (place / size)) mid (map (row_delta size place (row_gives cells)) mid)
     → (places : List Place) (row : List Cell) → length places ≡ place → cells ≡ cells_of row → Keeps size places old → Keeps size (places ++ alive_with row ∷ []) new
 insert-applied size place cells old mid new positive reserved before is places row count same kept =
@@ -69,7 +69,7 @@ insert-applied size place cells old mid new positive reserved before is places r
     (is ∙ ap (λ f. zip_all (added (place / size)) mid (map (row_delta size place (row_gives f)) mid)) same)
 
 -- the deltas can be undone
-pub retracts-undo : (g : ℕ) (old mid new : List Slot) (pending : Pending) → KeepsAsBefore old mid → pending.group ≡ g → length pending.applied.items ≡ length new
+pub retracts-undo : (g : ℕ) (old mid new : List RegistryEntry) (pending : Pending) → KeepsAsBefore old mid → pending.group ≡ g → length pending.applied.items ≡ length new
     → EachMayUndo g (length new) new pending.applied.items → zip_all (undo g) new pending.applied.items ≡ mid → UndoesAll old new pending
 retracts-undo g old mid new pending before at len may is = record {
   may = record { len = omega arith; may = subst (λ n. EachMayUndo n (length new) new pending.applied.items) (sym at) may };
@@ -77,17 +77,17 @@ retracts-undo g old mid new pending before at len may is = record {
 }
 
 -- if there is no delta, nothing is undone
-pub nothing-retracts-undo : (slots : List Slot) (pending : Pending) → slots ≡ [] → pending.applied.items ≡ [] → UndoesAll slots slots pending
-nothing-retracts-undo slots pending empty none = record {
+pub nothing-retracts-undo : (registry : List RegistryEntry) (pending : Pending) → registry ≡ [] → pending.applied.items ≡ [] → UndoesAll registry registry pending
+nothing-retracts-undo registry pending empty none = record {
   may = record {
     len = omega (arith, ap length none);
     may = λ k s c within at there. absurd (none-some c (sym (ap (λ l. slice_get l k) none) ∙ there));
   };
-  kept = λ size places h. subst (λ (s : List Slot). Keeps size places (zip_all (undo pending.group) s pending.applied.items)) (sym empty) tt;
+  kept = λ size places h. subst (λ (s : List RegistryEntry). Keeps size places (zip_all (undo pending.group) s pending.applied.items)) (sym empty) tt;
 }
 
 -- the pairs can be retracted if a place x becomes f x
-retracts-on : (size place : ℕ) (f : Place → Place) (x : Place) (old mid new : List Slot) (pending : Pending) (places : List Place) → 0 < size → AreReserved (place / size) mid → KeepsAsBefore old mid
+retracts-on : (size place : ℕ) (f : Place → Place) (x : Place) (old mid new : List RegistryEntry) (pending : Pending) (places : List Place) → 0 < size → AreReserved (place / size) mid → KeepsAsBefore old mid
     → pending.group ≡ place / size → pending.to_retract.items ≡ map (change_of size place (place_gives x)) mid
     → new ≡ zip_all (added (place / size)) mid (map (row_delta size place (place_gives (f x))) mid)
     → slice_get places place ≡ Some x → AreKept size places old → PlacesFit (changed_at f place places)
@@ -110,7 +110,7 @@ retracts-on size place f x old mid new pending places positive reserved before a
     }
 
 -- a set
-pub set-retracts : (size place column : ℕ) (cell : Cell) (cells : Cells) (old mid new : List Slot) (pending : Pending) → 0 < size → IsSome (cells column) → AreReserved (place / size) mid → KeepsAsBefore old mid
+pub set-retracts : (size place column : ℕ) (cell : Cell) (cells : Cells) (old mid new : List RegistryEntry) (pending : Pending) → 0 < size → IsSome (cells column) → AreReserved (place / size) mid → KeepsAsBefore old mid
     → pending.group ≡ place / size → pending.to_retract.items ≡ map (change_of size place (row_gives cells)) mid
     → new ≡ zip_all (added (place / size)) mid (map (row_delta size place (row_gives (with_cell_at column cell cells))) mid)
     → (places : List Place) → IsAliveAt cells place places → AreKept size places old → PlacesFit (changed_at (with_cell column cell) place places)
@@ -122,7 +122,7 @@ set-retracts size place column cell cells old mid new pending positive has reser
     there.2 kept fit
 
 -- a removal
-pub remove-retracts : (size place : ℕ) (cells : Cells) (old mid : List Slot) (pending : Pending) → 0 < size → AreReserved (place / size) mid → KeepsAsBefore old mid
+pub remove-retracts : (size place : ℕ) (cells : Cells) (old mid : List RegistryEntry) (pending : Pending) → 0 < size → AreReserved (place / size) mid → KeepsAsBefore old mid
     → pending.group ≡ place / size → pending.to_retract.items ≡ map (change_of size place (row_gives cells)) mid
     → (places : List Place) → IsAliveAt cells place places → AreKept size places old
     → RetractsAll size (place / size) (changed_at removed place places) mid pending

@@ -5,7 +5,7 @@ use Rattle.far_types.specs.Pairs.{Pair}
 use Rattle.far_types.specs.Table.{Place}
 use Rattle.far_aggregates.specs.declared.aggregate.Accumulator.{Accumulator}
 use Rattle.far_aggregates.specs.declared.aggregate.Accumulator.TheVariants as accumulator
-use Rattle.far_aggregates.specs.Accumulators.{Slot, Change}
+use Rattle.far_aggregates.specs.Accumulators.{RegistryEntry, Change}
 use Rattle.far_aggregates.specs.Retract.{AccumulatorMayRetract, MayRetract, EachMayRetract, accumulator_less, retracted, AccumulatorIsPlain, IsPlain, EachIsPlain}
 use Rattle.far_aggregates.specs.Until.{zip_all}
 
@@ -14,24 +14,24 @@ module _ (g h : ℕ) (here there : List Place) where
   kept-plain_may spec (accumulator.Totals live) pair plain may = may
   kept-plain_may spec (accumulator.Extrema live) pair plain may = absurd plain
 
-  plain_may : (s : Slot) (c : Change) → IsPlain s c → MayRetract g here s c → MayRetract h there s c
+  plain_may : (s : RegistryEntry) (c : Change) → IsPlain s c → MayRetract g here s c → MayRetract h there s c
   plain_may None c plain may = tt
   plain_may (Some a) None plain may = tt
   plain_may (Some a) (Some pair) plain may = kept-plain_may a.spec a.accumulator pair plain may
 
-  pub each-plain_may : (slots : List Slot) (cs : List Change) → EachIsPlain slots cs → EachMayRetract g here slots cs → EachMayRetract h there slots cs
-  each-plain_may slots cs plain may k s c at is = plain_may s c (plain k s c at is) (may k s c at is)
+  pub each-plain_may : (registry : List RegistryEntry) (cs : List Change) → EachIsPlain registry cs → EachMayRetract g here registry cs → EachMayRetract h there registry cs
+  each-plain_may registry cs plain may k s c at is = plain_may s c (plain k s c at is) (may k s c at is)
 
   kept-plain_less : (spec : Spec) (k : Accumulator) (pair : Pair) → AccumulatorIsPlain k → accumulator_less spec g here k pair ≡ accumulator_less spec h there k pair
   kept-plain_less spec (accumulator.Totals live) pair plain = refl
   kept-plain_less spec (accumulator.Extrema live) pair plain = absurd plain
 
-  plain_retracted : (s : Slot) (c : Change) → IsPlain s c → retracted g here s c ≡ retracted h there s c
+  plain_retracted : (s : RegistryEntry) (c : Change) → IsPlain s c → retracted g here s c ≡ retracted h there s c
   plain_retracted None c plain = refl
   plain_retracted (Some a) None plain = refl
   plain_retracted (Some a) (Some pair) plain = ap (λ (k : Accumulator). Some (record a { accumulator = k })) (kept-plain_less a.spec a.accumulator pair plain)
 
-  pub all-plain_retracted : (slots : List Slot) (cs : List Change) → EachIsPlain slots cs → zip_all (retracted g here) slots cs ≡ zip_all (retracted h there) slots cs
+  pub all-plain_retracted : (registry : List RegistryEntry) (cs : List Change) → EachIsPlain registry cs → zip_all (retracted g here) registry cs ≡ zip_all (retracted h there) registry cs
   all-plain_retracted [] cs plain = refl
-  all-plain_retracted (s ∷ slots) [] plain = refl
-  all-plain_retracted (s ∷ slots) (c ∷ cs) plain = λ i. plain_retracted s c (plain 0 s c refl refl) i ∷ all-plain_retracted slots cs (λ k. plain (suc k)) i
+  all-plain_retracted (s ∷ registry) [] plain = refl
+  all-plain_retracted (s ∷ registry) (c ∷ cs) plain = λ i. plain_retracted s c (plain 0 s c refl refl) i ∷ all-plain_retracted registry cs (λ k. plain (suc k)) i

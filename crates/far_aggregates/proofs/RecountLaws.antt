@@ -15,7 +15,7 @@ use Rattle.far_aggregates.specs.declared.aggregate.Aggregate.{Aggregate}
 use Rattle.far_aggregates.specs.declared.aggregate.Accumulator.{Accumulator}
 use Rattle.far_aggregates.specs.declared.aggregate.Accumulator.TheVariants as accumulator
 use Rattle.far_aggregates.specs.Aggregates.{ask_refusal}
-use Rattle.far_aggregates.specs.Accumulators.{KeepsSlot, fold_of, pairs_here, registered_in}
+use Rattle.far_aggregates.specs.Accumulators.{KeepsEntry, fold_of, pairs_here, registered_in}
 use Rattle.far_aggregates.specs.Recounting.{partial_at, partials_from, AccumulatorMayMerge, IsMerged}
 use Rattle.far_aggregates.specs.Scans.{IsScanned, AccumulatorMayScan}
 use Rattle.far_aggregates.proofs.ScanLaws.{cleared-other, left-cleared}
@@ -70,14 +70,14 @@ module _ (spec : Spec) (size count : ℕ) (partials : List PartialDone) where
     pub some : left aggregate.pending + number ≡ groups size count
     pub flags : (k : ℕ) → number ≤ k → k < groups size count → is_pending aggregate.pending k ≡ true
     pub others : (all : List Place) → AreThose all → rest ≡ partials_from spec size all number (length rest)
-    pub kept : (all : List Place) → length all ≡ count → AreThose all → KeepsSlot size all (Some aggregate)
+    pub kept : (all : List Place) → length all ≡ count → AreThose all → KeepsEntry size all (Some aggregate)
 
   -- nothing is merged yet
-  pub none-merged : (cloned : Spec) → cloned ≡ spec → (a : Aggregate) → registered_in (Some a) ≡ Some (record { spec = cloned; registration = 0; unbuilt = replicate (groups size count) true })
-      → ((all : List Place) → length all ≡ count → KeepsSlot size all (Some a)) → length partials ≡ groups size count → AreMerged a 0 partials
+  pub none-merged : (cloned : Spec) → cloned ≡ spec → (a : Aggregate) → registered_in (Some a) ≡ Some (record { spec = cloned; registration = 0; pending = replicate (groups size count) true })
+      → ((all : List Place) → length all ≡ count → KeepsEntry size all (Some a)) → length partials ≡ groups size count → AreMerged a 0 partials
   none-merged cloned equal a registered kept long =
-      let told = same_Some (record { spec = a.spec; registration = a.registration; unbuilt = a.pending }) (record { spec = cloned; registration = 0; unbuilt = replicate (groups size count) true }) registered in
-      let flags : a.pending ≡ replicate (groups size count) true = ap (λ (r : Registered). r.unbuilt) told in
+      let told = same_Some (record { spec = a.spec; registration = a.registration; pending = a.pending }) (record { spec = cloned; registration = 0; pending = replicate (groups size count) true }) registered in
+      let flags : a.pending ≡ replicate (groups size count) true = ap (λ (r : Registered). r.pending) told in
       record {
         same_spec = ap (λ (r : Registered). r.spec) told ∙ equal;
         all = omega (arith, long);
@@ -97,7 +97,7 @@ module _ (spec : Spec) (size count : ℕ) (partials : List PartialDone) where
 
     -- and one row group more is merged
     pub one-merged : b.spec ≡ a.spec → b.pending ≡ slice_set a.pending number false
-        → ((all : List Place) → partial ≡ partial_at a.spec size all number → KeepsSlot size all (Some a) → KeepsSlot size all (Some b)) → AreMerged b (number + 1) rest
+        → ((all : List Place) → partial ≡ partial_at a.spec size all number → KeepsEntry size all (Some a) → KeepsEntry size all (Some b)) → AreMerged b (number + 1) rest
     one-merged same cleared kept = record {
       same_spec = same ∙ are.same_spec;
       all = (let e = are.all in omega arith);

@@ -12,7 +12,7 @@ use Rattle.far_types.specs.Answers.{totals, extrema}
 use Rattle.far_types.specs.Table.{Place, Registered, groups, all_pending, is_pending, left, in_group, place_pair}
 use Rattle.far_aggregates.specs.declared.aggregate.Accumulator.{Accumulator}
 use Rattle.far_aggregates.specs.declared.aggregate.Accumulator.TheVariants as accumulator
-use Rattle.far_aggregates.specs.Accumulators.{Slot, registered_in, registered_of, group_pairs, scanned_group, fold_of, KeepsNothing, KeepsSlot}
+use Rattle.far_aggregates.specs.Accumulators.{RegistryEntry, registered_in, registered_of, group_pairs, scanned_group, fold_of, KeepsNothing, KeepsEntry}
 use Rattle.far_aggregates.proofs.ScannedLaws.{built-none}
 use Rattle.far_aggregates.proofs.ListLaws.{map-set_like}
 
@@ -25,50 +25,50 @@ set-seam : {X : Type 0} (xs ys : List X) (x y : X) → slice_set (xs ++ x ∷ ys
 set-seam [] ys x y = refl
 set-seam (z ∷ xs) ys x y = ap (λ l. z ∷ l) (set-seam xs ys x y)
 
-map-set_at : (slots : List Slot) (a : ℕ) (s : Slot) → map registered_in (slice_set slots a s) ≡ slice_set (map registered_in slots) a (registered_in s)
+map-set_at : (registry : List RegistryEntry) (a : ℕ) (s : RegistryEntry) → map registered_in (slice_set registry a s) ≡ slice_set (map registered_in registry) a (registered_in s)
 map-set_at [] a s = refl
-map-set_at (t ∷ slots) zero s = refl
-map-set_at (t ∷ slots) (suc a) s = ap (λ l. registered_in t ∷ l) (map-set_at slots a s)
+map-set_at (t ∷ registry) zero s = refl
+map-set_at (t ∷ registry) (suc a) s = ap (λ l. registered_in t ∷ l) (map-set_at registry a s)
 
--- a slot that is there is replaced
-pub registered-set : (slots : List Slot) (a : ℕ) (s : Slot) → a < length slots → registered_of (slice_set slots a s) ≡ slice_set (registered_of slots) a (registered_in s)
-registered-set slots a s h =
-    let r : List (Option Registered) = replicate (32 - length slots) None in
-    ap (λ n. map registered_in (slice_set slots a s) ++ replicate (32 - n) None) (length-set slots a s)
-    ∙ ap (λ l. l ++ r) (map-set_at slots a s)
-    ∙ sym (set-before (map registered_in slots) r a (registered_in s) (let m = length-map slots registered_in in omega arith))
+-- a registry entry that is there is replaced
+pub registered-set : (registry : List RegistryEntry) (a : ℕ) (s : RegistryEntry) → a < length registry → registered_of (slice_set registry a s) ≡ slice_set (registered_of registry) a (registered_in s)
+registered-set registry a s h =
+    let r : List (Option Registered) = replicate (32 - length registry) None in
+    ap (λ n. map registered_in (slice_set registry a s) ++ replicate (32 - n) None) (length-set registry a s)
+    ∙ ap (λ l. l ++ r) (map-set_at registry a s)
+    ∙ sym (set-before (map registered_in registry) r a (registered_in s) (let m = length-map registry registered_in in omega arith))
 
 -- or by one that the table shows alike
-pub registered-like : (slots : List Slot) (a : ℕ) (old new : Slot) → slice_get slots a ≡ Some old → registered_in new ≡ registered_in old → registered_of (slice_set slots a new) ≡ registered_of slots
-registered-like slots a old new here alike =
-    ap (λ n. map registered_in (slice_set slots a new) ++ replicate (32 - n) None) (length-set slots a new)
-    ∙ ap (λ l. l ++ replicate (32 - length slots) None) (map-set_like registered_in slots a old new here alike)
+pub registered-like : (registry : List RegistryEntry) (a : ℕ) (old new : RegistryEntry) → slice_get registry a ≡ Some old → registered_in new ≡ registered_in old → registered_of (slice_set registry a new) ≡ registered_of registry
+registered-like registry a old new here alike =
+    ap (λ n. map registered_in (slice_set registry a new) ++ replicate (32 - n) None) (length-set registry a new)
+    ∙ ap (λ l. l ++ replicate (32 - length registry) None) (map-set_like registered_in registry a old new here alike)
 
-map-last : (slots : List Slot) (s : Slot) → map registered_in (slots ++ s ∷ []) ≡ map registered_in slots ++ registered_in s ∷ []
+map-last : (registry : List RegistryEntry) (s : RegistryEntry) → map registered_in (registry ++ s ∷ []) ≡ map registered_in registry ++ registered_in s ∷ []
 map-last [] s = refl
-map-last (t ∷ slots) s = ap (λ l. registered_in t ∷ l) (map-last slots s)
+map-last (t ∷ registry) s = ap (λ l. registered_in t ∷ l) (map-last registry s)
 
 append-last : {X : Type 0} (xs ys : List X) (x : X) → (xs ++ x ∷ []) ++ ys ≡ xs ++ x ∷ ys
 append-last [] ys x = refl
 append-last (z ∷ xs) ys x = ap (λ l. z ∷ l) (append-last xs ys x)
 
-length-last : (slots : List Slot) (s : Slot) → length (slots ++ s ∷ []) ≡ suc (length slots)
+length-last : (registry : List RegistryEntry) (s : RegistryEntry) → length (registry ++ s ∷ []) ≡ suc (length registry)
 length-last [] s = refl
-length-last (t ∷ slots) s = ap suc (length-last slots s)
+length-last (t ∷ registry) s = ap suc (length-last registry s)
 
--- a slot more takes the place of a number that was never used
-pub registered-push : (slots : List Slot) (s : Slot) → length slots < 32 → registered_of (slots ++ s ∷ []) ≡ slice_set (registered_of slots) (length slots) (registered_in s)
-registered-push slots s h =
-    let n = 32 - suc (length slots) in
+-- a registry entry more takes the place of a number that was never used
+pub registered-push : (registry : List RegistryEntry) (s : RegistryEntry) → length registry < 32 → registered_of (registry ++ s ∷ []) ≡ slice_set (registered_of registry) (length registry) (registered_in s)
+registered-push registry s h =
+    let n = 32 - suc (length registry) in
     let rest : List (Option Registered) = replicate n None in
-    let count : 32 - length slots ≡ suc n = omega arith in
-    let at : length (map registered_in slots) ≡ length slots = length-map slots registered_in in
-    ap (λ m. map registered_in (slots ++ s ∷ []) ++ replicate (32 - m) None) (length-last slots s)
-    ∙ ap (λ l. l ++ rest) (map-last slots s)
-    ∙ append-last (map registered_in slots) rest (registered_in s)
-    ∙ sym (ap (λ m. slice_set (map registered_in slots ++ replicate m None) (length slots) (registered_in s)) count
-    ∙ ap (λ m. slice_set (map registered_in slots ++ None ∷ rest) m (registered_in s)) (sym at)
-    ∙ set-seam (map registered_in slots) rest None (registered_in s))
+    let count : 32 - length registry ≡ suc n = omega arith in
+    let at : length (map registered_in registry) ≡ length registry = length-map registry registered_in in
+    ap (λ m. map registered_in (registry ++ s ∷ []) ++ replicate (32 - m) None) (length-last registry s)
+    ∙ ap (λ l. l ++ rest) (map-last registry s)
+    ∙ append-last (map registered_in registry) rest (registered_in s)
+    ∙ sym (ap (λ m. slice_set (map registered_in registry ++ replicate m None) (length registry) (registered_in s)) count
+    ∙ ap (λ m. slice_set (map registered_in registry ++ None ∷ rest) m (registered_in s)) (sym at)
+    ∙ set-seam (map registered_in registry) rest None (registered_in s))
 
 pub all-last : {X : Type 0} (P : X → Type 0) (xs : List X) (x : X) → AllByRecursion P xs → P x → AllByRecursion P (xs ++ x ∷ [])
 all-last P [] x h k = (k, tt)
@@ -113,7 +113,7 @@ nothing_scanned spec size ps g pos = elim (above_or_not g (groups size (length p
 
 -- an aggregate that is registered now keeps what it is to keep
 new-kept : (size : ℕ) (ps : List Place) (spec : Spec) (registration : ℕ) (k : Accumulator) → 0 < size → fold_of k ≡ spec.fold → KeepsNothing (groups size (length ps)) k
-    → KeepsSlot size ps (Some (record { spec = spec; registration = registration; pending = all_pending size ps; accumulator = k }))
+    → KeepsEntry size ps (Some (record { spec = spec; registration = registration; pending = all_pending size ps; accumulator = k }))
 new-kept size ps spec registration (accumulator.Totals live) g f h = (
   f,
   (
@@ -127,7 +127,7 @@ new-kept size ps spec registration (accumulator.Extrema live) g f h = (
 )
 
 pub new-keeps : (size : ℕ) (ps : List Place) (spec : Spec) (registration count : ℕ) (pending : List Bool) (k : Accumulator) → 0 < size → count ≡ groups size (length ps) → fold_of k ≡ spec.fold → pending ≡ replicate count true → KeepsNothing count k
-    → KeepsSlot size ps (Some (record { spec = spec; registration = registration; pending = pending; accumulator = k }))
+    → KeepsEntry size ps (Some (record { spec = spec; registration = registration; pending = pending; accumulator = k }))
 new-keeps size ps spec registration count pending k g n f flags h =
-    subst (λ u. KeepsSlot size ps (Some (record { spec = spec; registration = registration; pending = u; accumulator = k }))) (sym (flags ∙ ap (λ m. replicate m true) n))
+    subst (λ u. KeepsEntry size ps (Some (record { spec = spec; registration = registration; pending = u; accumulator = k }))) (sym (flags ∙ ap (λ m. replicate m true) n))
     (new-kept size ps spec registration k g f (subst (λ m. KeepsNothing m k) n h))

@@ -7,11 +7,11 @@ use Rattle.far_types.specs.Table.{Place}
 use Rattle.far_aggregates.specs.declared.aggregate.Aggregate.{Aggregate}
 use Rattle.far_aggregates.specs.declared.aggregate.Accumulator.{Accumulator}
 use Rattle.far_aggregates.specs.declared.aggregate.Accumulator.TheVariants as accumulator
-use Rattle.far_aggregates.specs.Accumulators.{Slot, registered_in, fold_of, IsKept, KeepsSlot}
+use Rattle.far_aggregates.specs.Accumulators.{RegistryEntry, registered_in, fold_of, IsKept, KeepsEntry}
 use Rattle.far_aggregates.specs.Reserve.{accumulator_reserved, reserved, AccumulatorIsReserved, IsReserved}
 use Rattle.far_aggregates.proofs.ListLaws.{index-replicate}
 
-pub reserved-registered : (g : ℕ) (s : Slot) → registered_in (reserved g s) ≡ registered_in s
+pub reserved-registered : (g : ℕ) (s : RegistryEntry) → registered_in (reserved g s) ≡ registered_in s
 reserved-registered g None = refl
 reserved-registered g (Some a) = refl
 
@@ -23,7 +23,7 @@ is_reserved g (accumulator.Extrema live) =
     let many = length-replicate (g + 1 - length live.groups) e in
     omega arith
 
-pub reserved-is : (g : ℕ) (s : Slot) → IsReserved g (reserved g s)
+pub reserved-is : (g : ℕ) (s : RegistryEntry) → IsReserved g (reserved g s)
 reserved-is g None = tt
 reserved-is g (Some a) = is_reserved g a.accumulator
 
@@ -39,6 +39,6 @@ pub same-kept : (size : ℕ) (ps : List Place) (a b : Aggregate) (k : Accumulato
 same-kept size ps a b (accumulator.Totals live) e f h = rw (← e, ← f) h
 same-kept size ps a b (accumulator.Extrema live) e f h = rw (← e, ← f) h
 
-pub reserved-keeps : (g size : ℕ) (ps : List Place) (s : Slot) → KeepsSlot size ps s → KeepsSlot size ps (reserved g s)
+pub reserved-keeps : (g size : ℕ) (ps : List Place) (s : RegistryEntry) → KeepsEntry size ps s → KeepsEntry size ps (reserved g s)
 reserved-keeps g size ps None h = tt
 reserved-keeps g size ps (Some a) h = (reserved-fold g a.accumulator ∙ h.0, same-kept size ps a (record a { accumulator = accumulator_reserved g a.accumulator }) (accumulator_reserved g a.accumulator) refl refl (reserved-kept g size ps a a.accumulator h.1))

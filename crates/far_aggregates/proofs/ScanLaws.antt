@@ -28,7 +28,7 @@ use Rattle.far_groups.proofs.PairLaws.{can_join}
 use Rattle.far_aggregates.specs.declared.aggregate.Aggregate.{Aggregate}
 use Rattle.far_aggregates.specs.declared.aggregate.Accumulator.{Accumulator}
 use Rattle.far_aggregates.specs.declared.aggregate.Accumulator.TheVariants as accumulator
-use Rattle.far_aggregates.specs.Accumulators.{Slot, Change, scanned_pairs, pairs_here, group_pairs, scanned_group, fold_of, IsKept, KeepsSlot}
+use Rattle.far_aggregates.specs.Accumulators.{RegistryEntry, Change, scanned_pairs, pairs_here, group_pairs, scanned_group, fold_of, IsKept, KeepsEntry}
 use Rattle.far_aggregates.proofs.ReserveLaws.{same-kept}
 use Rattle.far_aggregates.specs.Scans.{has_pending, IsScanned, IsSame, AccumulatorMayScan}
 use Rattle.far_aggregates.specs.Aggregates.{joined}
@@ -188,8 +188,8 @@ same-fold (accumulator.Totals live) k' s = ap fold_of s
 same-fold (accumulator.Extrema live) (accumulator.Totals new) s = absurd s
 same-fold (accumulator.Extrema live) (accumulator.Extrema new) s = refl
 
-pub slot-same : (size : ℕ) (ps : List Place) (a : Aggregate) (k : Accumulator) → IsSame a.accumulator k → KeepsSlot size ps (Some a) → KeepsSlot size ps (Some (record a { accumulator = k }))
-slot-same size ps a k s h = (same-fold a.accumulator k s ∙ h.0, same-kept size ps a (record a { accumulator = k }) k refl refl (same-in size ps a a.accumulator k s h.1))
+pub entry-same : (size : ℕ) (ps : List Place) (a : Aggregate) (k : Accumulator) → IsSame a.accumulator k → KeepsEntry size ps (Some a) → KeepsEntry size ps (Some (record a { accumulator = k }))
+entry-same size ps a k s h = (same-fold a.accumulator k s ∙ h.0, same-kept size ps a (record a { accumulator = k }) k refl refl (same-in size ps a a.accumulator k s h.1))
 
 -- a row group has no more places than there are
 pub group-length : (size g : ℕ) (ps : List Place) → length (in_group size g ps) ≤ length ps
@@ -217,16 +217,16 @@ may_scan size ps a (accumulator.Extrema live) g there few h = (
   h.0 g ∙ ap (λ b. cond b fin.empty (extrema (group_pairs a.spec size g ps))) there,
 )
 
-pub slot-scanned : (size : ℕ) (ps : List Place) (a : Aggregate) (g : ℕ) (flags : List Bool) (k : Accumulator) → is_pending a.pending g ≡ true → 0 < size → KeepsSlot size ps (Some a) → flags ≡ slice_set a.pending g false → IsScanned a.spec g (in_group size g ps) a.accumulator k
-    → KeepsSlot size ps (Some (record a { pending = flags; accumulator = k }))
-slot-scanned size ps a g flags k there pos h e s =
-    subst (λ u. KeepsSlot size ps (Some (record a { pending = u; accumulator = k }))) (sym e)
+pub entry-scanned : (size : ℕ) (ps : List Place) (a : Aggregate) (g : ℕ) (flags : List Bool) (k : Accumulator) → is_pending a.pending g ≡ true → 0 < size → KeepsEntry size ps (Some a) → flags ≡ slice_set a.pending g false → IsScanned a.spec g (in_group size g ps) a.accumulator k
+    → KeepsEntry size ps (Some (record a { pending = flags; accumulator = k }))
+entry-scanned size ps a g flags k there pos h e s =
+    subst (λ u. KeepsEntry size ps (Some (record a { pending = u; accumulator = k }))) (sym e)
     (fold-scanned a.spec size g ps a.accumulator k s ∙ h.0, same-kept size ps (record a { pending = slice_set a.pending g false }) (record a { pending = slice_set a.pending g false; accumulator = k }) k refl refl (kept-scanned size ps a a.accumulator k g there pos h.1 s))
 
-pub has-below : (slots : List Slot) (g a : ℕ) → has_pending g (joined (slice_get slots a)) ≡ true → a < length slots
+pub has-below : (registry : List RegistryEntry) (g a : ℕ) → has_pending g (joined (slice_get registry a)) ≡ true → a < length registry
 has-below [] g a h = cc
-has-below (s ∷ slots) g zero h = omega arith
-has-below (s ∷ slots) g (suc a) h = let l = has-below slots g a h in omega arith
+has-below (s ∷ registry) g zero h = omega arith
+has-below (s ∷ registry) g (suc a) h = let l = has-below registry g a h in omega arith
 
 -- what a fold of the columns that a row group lends comes to
 
@@ -237,13 +237,13 @@ totals-of : (f : Fold) (live : groups.Live) (pairs : List Pair) → partial.Tota
 totals-of fold.Totals live pairs h = let e : live ≡ record { left = 0; totals = totals pairs } = cc in ap (λ (l : groups.Live). l.totals) e
 totals-of fold.Extrema live pairs h = cc
 
-extrema-of : (f : Fold) (seen : Extrema) (pairs : List Pair) → partial.Extrema seen ≡ partial_of f pairs → seen ≡ extrema pairs
-extrema-of fold.Totals seen pairs h = cc
-extrema-of fold.Extrema seen pairs h = cc
+extrema-of : (f : Fold) (observed : Extrema) (pairs : List Pair) → partial.Extrema observed ≡ partial_of f pairs → observed ≡ extrema pairs
+extrema-of fold.Totals observed pairs h = cc
+extrema-of fold.Extrema observed pairs h = cc
 
 module _ (spec : Spec) (here : List Place) (columns : Columns) (flags : List Bool) (at_hand : AreAtHand spec columns here) (is : flags ≡ map (λ (place : Place). place.alive) here) (done : PartialDone) (folded : done ≡ partial_of spec.fold (pairs_over spec columns flags)) where
   pub totals-lent : (live : groups.Live) → done ≡ partial.Totals live → live.totals ≡ totals (pairs_here spec here)
   totals-lent live h = totals-of spec.fold live (pairs_over spec columns flags) (sym h ∙ folded) ∙ ap totals (pairs-lent spec here columns flags at_hand is)
 
-  pub extrema-lent : (seen : Extrema) → done ≡ partial.Extrema seen → seen ≡ extrema (pairs_here spec here)
-  extrema-lent seen h = extrema-of spec.fold seen (pairs_over spec columns flags) (sym h ∙ folded) ∙ ap extrema (pairs-lent spec here columns flags at_hand is)
+  pub extrema-lent : (observed : Extrema) → done ≡ partial.Extrema observed → observed ≡ extrema (pairs_here spec here)
+  extrema-lent observed h = extrema-of spec.fold observed (pairs_over spec columns flags) (sym h ∙ folded) ∙ ap extrema (pairs-lent spec here columns flags at_hand is)

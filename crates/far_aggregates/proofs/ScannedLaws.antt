@@ -41,14 +41,14 @@ module _ (spec : Spec) (size : ℕ) (pending : List Bool) where
   others i (x ∷ ps) zero = scanned_pairs spec size pending (i + 1) ps
   others i (x ∷ ps) (suc p) = cons_option (scanned_pair spec size pending i x) (others (i + 1) ps p)
 
-  pub built-apart : (i : ℕ) (ps : List Place) (p : ℕ) (x : Place) → slice_get ps p ≡ Some x → totals (scanned_pairs spec size pending i ps) ≡ totals (cons_option (scanned_pair spec size pending (i + p) x) (others i ps p))
-  built-apart i [] p x h = cc
-  built-apart i (y ∷ ps) zero x h =
+  pub built-separate : (i : ℕ) (ps : List Place) (p : ℕ) (x : Place) → slice_get ps p ≡ Some x → totals (scanned_pairs spec size pending i ps) ≡ totals (cons_option (scanned_pair spec size pending (i + p) x) (others i ps p))
+  built-separate i [] p x h = cc
+  built-separate i (y ∷ ps) zero x h =
       let e : y ≡ x = cc in
       rw (add-zero, e) refl
-  built-apart i (y ∷ ps) (suc p) x h =
+  built-separate i (y ∷ ps) (suc p) x h =
       let e : i + suc p ≡ i + 1 + p = omega arith in
-      totals-under (scanned_pair spec size pending i y) _ _ (built-apart (i + 1) ps p x h)
+      totals-under (scanned_pair spec size pending i y) _ _ (built-separate (i + 1) ps p x h)
       ∙ totals-swap (scanned_pair spec size pending i y) (scanned_pair spec size pending (i + 1 + p) x) (others (i + 1) ps p)
       ∙ rw e refl
 
@@ -64,9 +64,9 @@ module _ (spec : Spec) (size : ℕ) (pending : List Bool) where
       let a = scanned_pair spec size pending p x in
       let b = scanned_pair spec size pending p y in
       let r = others 0 ps p in
-      let was : totals (scanned_pairs spec size pending 0 ps) ≡ totals (cons_option a r) = built-apart 0 ps p x here ∙ rw zero-add refl in
+      let was : totals (scanned_pairs spec size pending 0 ps) ≡ totals (cons_option a r) = built-separate 0 ps p x here ∙ rw zero-add refl in
       let is : totals (scanned_pairs spec size pending 0 (changed_at f p ps)) ≡ totals (cons_option b r) =
-      built-apart 0 (changed_at f p ps) p y there ∙ rw (zero-add, others-changed f 0 ps p) refl in
+      built-separate 0 (changed_at f p ps) p y there ∙ rw (zero-add, others-changed f 0 ps p) refl in
       ap (λ m. without_change (with_change m b) a) was
       ∙ ap (λ m. without_change m a) (sym (totals-more b (cons_option a r)) ∙ totals-swap b a r)
       ∙ totals-less a (cons_option b r) ∙ sym is

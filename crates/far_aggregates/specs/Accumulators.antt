@@ -17,21 +17,21 @@ use Rattle.far_aggregates.specs.declared.aggregate.Accumulator.{Accumulator}
 use Rattle.far_aggregates.specs.declared.aggregate.Accumulator.TheVariants as accumulator
 
 -- what stands under a number
-abbrev pub Slot : Type 0
-Slot = Option Aggregate
+abbrev pub RegistryEntry : Type 0
+RegistryEntry = Option Aggregate
 
 -- the pair that totals get from a place or give back, if there is one
 abbrev pub Change : Type 0
 Change = Option Pair
 
--- what the table shows of a slot
-abbrev pub registered_in : Slot → Option Registered
+-- what the table shows of a registry entry
+abbrev pub registered_in : RegistryEntry → Option Registered
 registered_in None = None
-registered_in (Some aggregate) = Some (record { spec = aggregate.spec; registration = aggregate.registration; unbuilt = aggregate.pending })
+registered_in (Some aggregate) = Some (record { spec = aggregate.spec; registration = aggregate.registration; pending = aggregate.pending })
 
--- the aggregates by number, of which there are 32. The slots end with the last number that was ever used
-abbrev pub registered_of : List Slot → List (Option Registered)
-registered_of slots = map registered_in slots ++ replicate (32 - length slots) None
+-- the aggregates by number, of which there are 32. The entries of the registry end with the last number that was ever used
+abbrev pub registered_of : List RegistryEntry → List (Option Registered)
+registered_of registry = map registered_in registry ++ replicate (32 - length registry) None
 
 -- the numbers of all places are those of 64 bits
 abbrev pub PlacesFit : List Place → Type 0
@@ -63,9 +63,9 @@ fold_of (accumulator.Totals live) = fold.Totals
 fold_of (accumulator.Extrema live) = fold.Extrema
 
 -- how many row groups are pending
-abbrev pub left_in : Accumulator → ℕ
-left_in (accumulator.Totals live) = live.left
-left_in (accumulator.Extrema live) = live.left
+abbrev pub pending_in : Accumulator → ℕ
+pending_in (accumulator.Totals live) = live.left
+pending_in (accumulator.Extrema live) = live.left
 
 -- what an accumulator answers
 abbrev pub accumulator_answer : Option ℕ → Accumulator → Answer
@@ -82,9 +82,9 @@ abbrev pub IsKept : ℕ → List Place → Aggregate → Accumulator → Type 0
 IsKept size places a (accumulator.Totals live) = (live.totals ≡ totals (scanned_pairs a.spec size a.pending 0 places)) × (live.left ≡ left a.pending)
 IsKept size places a (accumulator.Extrema live) = ((g : ℕ) → group_at live.groups g ≡ scanned_group a.spec size a.pending places g) × (live.left ≡ left a.pending)
 
-abbrev pub KeepsSlot : ℕ → List Place → Slot → Type 0
-KeepsSlot size places None = Unit {0}
-KeepsSlot size places (Some a) = (fold_of a.accumulator ≡ a.spec.fold) × IsKept size places a a.accumulator
+abbrev pub KeepsEntry : ℕ → List Place → RegistryEntry → Type 0
+KeepsEntry size places None = Unit {0}
+KeepsEntry size places (Some a) = (fold_of a.accumulator ≡ a.spec.fold) × IsKept size places a a.accumulator
 
-abbrev pub Keeps : ℕ → List Place → List Slot → Type 0
-Keeps size places slots = AllByRecursion (KeepsSlot size places) slots
+abbrev pub Keeps : ℕ → List Place → List RegistryEntry → Type 0
+Keeps size places registry = AllByRecursion (KeepsEntry size places) registry

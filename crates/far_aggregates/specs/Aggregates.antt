@@ -6,7 +6,7 @@ use Rattle.far_types.specs.declared.refusal.Refusal.TheVariants as refusal
 use Rattle.far_types.specs.declared.answer.Answer.{Answer}
 use Rattle.far_types.specs.Answers.{answer_over}
 use Rattle.far_types.specs.Table.{Place, Registered, rows_of, is_pending, left}
-use Rattle.far_aggregates.specs.Accumulators.{Slot, registered_of}
+use Rattle.far_aggregates.specs.Accumulators.{RegistryEntry, registered_of}
 
 abbrev pub joined : {A : Type 0} → Option (Option A) → Option A
 joined None = None
@@ -19,23 +19,23 @@ free_from a (None ∷ rest) = Some a
 free_from a (Some aggregate ∷ rest) = free_from (a + 1) rest
 
 -- the aggregate of a number
-abbrev pub aggregate_in : List Slot → ℕ → Option Registered
-aggregate_in slots a = joined (slice_get (registered_of slots) a)
+abbrev pub aggregate_in : List RegistryEntry → ℕ → Option Registered
+aggregate_in registry a = joined (slice_get (registered_of registry) a)
 
 -- whether a row group is pending in an aggregate
-abbrev pub is_left : Option Registered → ℕ → Bool
-is_left aggregate g = option_map_or (λ r. is_pending r.unbuilt g) aggregate false
+abbrev pub is_pending_in : Option Registered → ℕ → Bool
+is_pending_in aggregate g = option_map_or (λ r. is_pending r.pending g) aggregate false
 
 -- an aggregate answers if no row group is pending
 abbrev pub ask_refusal : Option Registered → Option Refusal
 ask_refusal None = Some refusal.NoAggregate
-ask_refusal (Some aggregate) = cond (left aggregate.unbuilt == 0) None (Some (refusal.Building (left aggregate.unbuilt)))
+ask_refusal (Some aggregate) = cond (left aggregate.pending == 0) None (Some (refusal.Building (left aggregate.pending)))
 
 -- a row group less is pending
 abbrev pub scanned_in : ℕ → Registered → Registered
-scanned_in g aggregate = record aggregate { unbuilt = slice_set aggregate.unbuilt g false }
+scanned_in g aggregate = record aggregate { pending = slice_set aggregate.pending g false }
 
 -- this is the answer of an aggregate over the rows of these places, and no row group is pending
 abbrev pub Answers : List Place → Option Registered → Answer → Type 0
 Answers places None answer = ⊥
-Answers places (Some aggregate) answer = (left aggregate.unbuilt ≡ 0) × (answer ≡ answer_over aggregate.spec (rows_of places))
+Answers places (Some aggregate) answer = (left aggregate.pending ≡ 0) × (answer ≡ answer_over aggregate.spec (rows_of places))

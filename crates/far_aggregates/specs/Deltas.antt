@@ -5,12 +5,12 @@ use Rattle.far_types.specs.declared.key.Key.{Key}
 use Rattle.far_types.specs.Effects.{count_in, with_pair, without_pair, with_observed}
 use Rattle.far_types.specs.Pairs.{Pair}
 use Rattle.far_extrema.specs.Live.{group_at}
-use Rattle.far_extrema.specs.Spans.{put_span}
+use Rattle.far_extrema.specs.MinMaxes.{put_min_max}
 use Rattle.far_groups.specs.Live.{CanTake}
 use Rattle.far_aggregates.specs.declared.aggregate.Accumulator.{Accumulator}
 use Rattle.far_aggregates.specs.declared.aggregate.Accumulator.TheVariants as accumulator
 use Rattle.far_aggregates.specs.declared.deltas.Delta.{Delta}
-use Rattle.far_aggregates.specs.Accumulators.{Slot}
+use Rattle.far_aggregates.specs.Accumulators.{RegistryEntry}
 use Rattle.far_aggregates.specs.Pairs.{Gives, change_of, AccumulatorFolds}
 
 -- the least and the greatest under a key of a row group, in extrema, before a delta
@@ -22,13 +22,13 @@ previous_in g key (accumulator.Extrema live) = fin.get (group_at live.groups g) 
 abbrev pub delta_of : ℕ → Accumulator → Pair → Delta
 delta_of g k pair = record { pair = pair; previous = previous_in g pair.0 k }
 
--- the delta of a row of place i to a slot
-abbrev pub row_delta : ℕ → ℕ → Gives → Slot → Option Delta
+-- the delta of a row of place i to a registry entry
+abbrev pub row_delta : ℕ → ℕ → Gives → RegistryEntry → Option Delta
 row_delta size i gives None = None
 row_delta size i gives (Some a) = option_map (delta_of (i / size) a.accumulator) (change_of size i gives (Some a))
 
--- the delta to a slot to which a row gives a pair
-abbrev pub delta_in : ℕ → Slot → Pair → Option Delta
+-- the delta to a registry entry to which a row gives a pair
+abbrev pub delta_in : ℕ → RegistryEntry → Pair → Option Delta
 delta_in g None pair = None
 delta_in g (Some a) pair = Some (delta_of g a.accumulator pair)
 
@@ -37,7 +37,7 @@ abbrev pub accumulator_more : ℕ → Accumulator → Pair → Accumulator
 accumulator_more g (accumulator.Totals live) pair = accumulator.Totals (record live { totals = with_pair live.totals pair })
 accumulator_more g (accumulator.Extrema live) pair = accumulator.Extrema (record live { groups = slice_set live.groups g (with_observed (group_at live.groups g) pair) })
 
-abbrev pub added : ℕ → Slot → Option Delta → Slot
+abbrev pub added : ℕ → RegistryEntry → Option Delta → RegistryEntry
 added g None delta = None
 added g (Some a) None = Some a
 added g (Some a) (Some delta) = Some (record a { accumulator = accumulator_more g a.accumulator delta.pair })
@@ -45,9 +45,9 @@ added g (Some a) (Some delta) = Some (record a { accumulator = accumulator_more 
 -- the last delta is undone
 abbrev pub accumulator_undo : ℕ → Accumulator → Delta → Accumulator
 accumulator_undo g (accumulator.Totals live) delta = accumulator.Totals (record live { totals = without_pair live.totals delta.pair })
-accumulator_undo g (accumulator.Extrema live) delta = accumulator.Extrema (record live { groups = slice_set live.groups g (put_span (group_at live.groups g) delta.pair.0 delta.previous) })
+accumulator_undo g (accumulator.Extrema live) delta = accumulator.Extrema (record live { groups = slice_set live.groups g (put_min_max (group_at live.groups g) delta.pair.0 delta.previous) })
 
-abbrev pub undo : ℕ → Slot → Option Delta → Slot
+abbrev pub undo : ℕ → RegistryEntry → Option Delta → RegistryEntry
 undo g None delta = None
 undo g (Some a) None = Some a
 undo g (Some a) (Some delta) = Some (record a { accumulator = accumulator_undo g a.accumulator delta })
@@ -62,23 +62,23 @@ abbrev pub AccumulatorMayUndo : ℕ → Accumulator → Pair → Type 0
 AccumulatorMayUndo g (accumulator.Totals live) pair = CanTake pair.1 (fin.get live.totals pair.0)
 AccumulatorMayUndo g (accumulator.Extrema live) pair = (g < length live.groups) × (fin.get (group_at live.groups g) pair.0 ≢ None)
 
-abbrev pub MayUndo : ℕ → Slot → Option Delta → Type 0
+abbrev pub MayUndo : ℕ → RegistryEntry → Option Delta → Type 0
 MayUndo g None delta = Unit {0}
 MayUndo g (Some a) None = Unit {0}
 MayUndo g (Some a) (Some delta) = AccumulatorMayUndo g a.accumulator delta.pair
 
-abbrev pub EachMayUndo : ℕ → ℕ → List Slot → List (Option Delta) → Type 0
-EachMayUndo g n slots deltas = (k : ℕ) (s : Slot) (c : Option Delta) → k < n → slice_get slots k ≡ Some s → slice_get deltas k ≡ Some c → MayUndo g s c
+abbrev pub EachMayUndo : ℕ → ℕ → List RegistryEntry → List (Option Delta) → Type 0
+EachMayUndo g n registry deltas = (k : ℕ) (s : RegistryEntry) (c : Option Delta) → k < n → slice_get registry k ≡ Some s → slice_get deltas k ≡ Some c → MayUndo g s c
 
 -- a delta fits an accumulator: its pair may be added, and what it says was there before is there
 abbrev pub AccumulatorFits : ℕ → Accumulator → Delta → Type 0
 AccumulatorFits g (accumulator.Totals live) delta = AccumulatorFolds (accumulator.Totals live)
 AccumulatorFits g (accumulator.Extrema live) delta = (g < length live.groups) × (delta.previous ≡ fin.get (group_at live.groups g) delta.pair.0)
 
-abbrev pub Fits : ℕ → Slot → Option Delta → Type 0
+abbrev pub Fits : ℕ → RegistryEntry → Option Delta → Type 0
 Fits g None delta = Unit {0}
 Fits g (Some a) None = Unit {0}
 Fits g (Some a) (Some delta) = AccumulatorFits g a.accumulator delta
 
-abbrev pub EachFits : ℕ → List Slot → List (Option Delta) → Type 0
-EachFits g slots deltas = (k : ℕ) (s : Slot) (c : Option Delta) → slice_get slots k ≡ Some s → slice_get deltas k ≡ Some c → Fits g s c
+abbrev pub EachFits : ℕ → List RegistryEntry → List (Option Delta) → Type 0
+EachFits g registry deltas = (k : ℕ) (s : RegistryEntry) (c : Option Delta) → slice_get registry k ≡ Some s → slice_get deltas k ≡ Some c → Fits g s c

@@ -9,7 +9,7 @@ use Rattle.far_aggregates.specs.Accumulators.{Change}
 abbrev pub NeedNotRetract : Option Delta → Change → Type 0
 NeedNotRetract None change = ⊥
 NeedNotRetract (Some delta) None = ⊥
-NeedNotRetract (Some delta) (Some pair) = (span : ℤ × ℤ) × (delta.previous ≡ Some span) × (delta.pair.0 ≡ pair.0) × ((widened delta.pair.1 (Some span)).0 <ℤ pair.1) × (pair.1 <ℤ (widened delta.pair.1 (Some span)).1)
+NeedNotRetract (Some delta) (Some pair) = (min_max : ℤ × ℤ) × (delta.previous ≡ Some min_max) × (delta.pair.0 ≡ pair.0) × ((widened delta.pair.1 (Some min_max)).0 <ℤ pair.1) × (pair.1 <ℤ (widened delta.pair.1 (Some min_max)).1)
 
 -- a pair is as it was, or is left out since it need not be retracted
 abbrev pub IsLeftOut : Option Delta → Change → Change → Type 0

@@ -23,10 +23,10 @@ pub record IsServed (has : ℕ → Bool) (spec : Spec) : Type 0 where
   pub at_hand : (c : ℕ) → needs spec c ≡ true → has c ≡ true
 
 -- likewise what stands under a number, if anything does
-abbrev pub SlotIsServed : (ℕ → Bool) → Option Registered → Type 0
-SlotIsServed has None = Unit {0}
-SlotIsServed has (Some aggregate) = IsServed has aggregate.spec
+abbrev pub EntryIsServed : (ℕ → Bool) → Option Registered → Type 0
+EntryIsServed has None = Unit {0}
+EntryIsServed has (Some aggregate) = IsServed has aggregate.spec
 
 -- and what stands under each
 abbrev pub AreServed : (ℕ → Bool) → List (Option Registered) → Type 0
-AreServed has aggregates = AllByRecursion (SlotIsServed has) aggregates
+AreServed has aggregates = AllByRecursion (EntryIsServed has) aggregates

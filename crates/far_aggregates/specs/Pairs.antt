@@ -9,7 +9,7 @@ use Rattle.far_types.specs.Pairs.{Pair, PairsFit, pair_of}
 use Rattle.far_types.specs.Table.{Place, place_pair, is_pending}
 use Rattle.far_aggregates.specs.declared.aggregate.Accumulator.{Accumulator}
 use Rattle.far_aggregates.specs.declared.aggregate.Accumulator.TheVariants as accumulator
-use Rattle.far_aggregates.specs.Accumulators.{Slot, Change}
+use Rattle.far_aggregates.specs.Accumulators.{RegistryEntry, Change}
 
 -- what a row gives, by the specification of the aggregate
 abbrev pub Gives : Type 0
@@ -27,8 +27,8 @@ place_gives place spec = place_pair spec place
 abbrev pub alive_with : List Cell → Place
 alive_with row = record { cells = row; alive = true }
 
--- what a row of place i gives to a slot, unless its row group is pending there
-abbrev pub change_of : ℕ → ℕ → Gives → Slot → Change
+-- what a row of place i gives to a registry entry, unless its row group is pending there
+abbrev pub change_of : ℕ → ℕ → Gives → RegistryEntry → Change
 change_of size i gives None = None
 change_of size i gives (Some a) = cond (is_pending a.pending (i / size)) None (gives a.spec)
 
@@ -50,9 +50,9 @@ abbrev pub AccumulatorFolds : Accumulator → Type 0
 AccumulatorFolds (accumulator.Totals live) = (pairs : List Pair) × (live.totals ≡ totals pairs) × PairsFit pairs × (length pairs ≤ 2 ^ 24)
 AccumulatorFolds (accumulator.Extrema live) = Unit {0}
 
-abbrev pub Folds : Slot → Type 0
+abbrev pub Folds : RegistryEntry → Type 0
 Folds None = Unit {0}
 Folds (Some a) = AccumulatorFolds a.accumulator
 
-abbrev pub EachFolds : List Slot → Type 0
-EachFolds slots = (k : ℕ) (s : Slot) → slice_get slots k ≡ Some s → Folds s
+abbrev pub EachFolds : List RegistryEntry → Type 0
+EachFolds registry = (k : ℕ) (s : RegistryEntry) → slice_get registry k ≡ Some s → Folds s

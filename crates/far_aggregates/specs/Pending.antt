@@ -4,20 +4,20 @@ use Rattle.far_types.specs.declared.cell.Cell.{Cell}
 use Rattle.far_types.specs.Cells.{Cells, cells_of}
 use Rattle.far_types.specs.Table.{Place, in_group}
 use Rattle.far_aggregates.specs.declared.pending.Pending.{Pending}
-use Rattle.far_aggregates.specs.Accumulators.{Slot, PlacesFit, Keeps}
+use Rattle.far_aggregates.specs.Accumulators.{RegistryEntry, PlacesFit, Keeps}
 use Rattle.far_aggregates.specs.Pairs.{alive_with}
 use Rattle.far_aggregates.specs.Deltas.{undo, EachMayUndo}
 use Rattle.far_aggregates.specs.Retract.{retracted, EachMayRetract}
 use Rattle.far_aggregates.specs.Until.{zip_all}
 
 -- what is kept is that of these places, which are few, and whose numbers are those of 64 bits
-pub record AreKept (size : ℕ) (places : List Place) (slots : List Slot) : Type 0 where
-  pub kept : Keeps size places slots
+pub record AreKept (size : ℕ) (places : List Place) (registry : List RegistryEntry) : Type 0 where
+  pub kept : Keeps size places registry
   pub few : length places ≤ 2 ^ 24
   pub fit : PlacesFit places
 
 -- what is kept stays that of the places, whatever they are
-abbrev pub KeepsAsBefore : List Slot → List Slot → Type 0
+abbrev pub KeepsAsBefore : List RegistryEntry → List RegistryEntry → Type 0
 KeepsAsBefore old new = (size : ℕ) (places : List Place) → Keeps size places old → Keeps size places new
 
 -- a place is alive, and its row has these cells
@@ -25,30 +25,30 @@ abbrev pub IsAliveAt : Cells → ℕ → List Place → Type 0
 IsAliveAt cells place places = (row : List Cell) × (cells ≡ cells_of row) × (slice_get places place ≡ Some (alive_with row))
 
 -- the deltas can be undone
-pub record MayUndoAll (slots : List Slot) (pending : Pending) : Type 0 where
-  pub len : length pending.applied.items ≤ length slots
-  pub may : EachMayUndo pending.group (length slots) slots pending.applied.items
+pub record MayUndoAll (registry : List RegistryEntry) (pending : Pending) : Type 0 where
+  pub len : length pending.applied.items ≤ length registry
+  pub may : EachMayUndo pending.group (length registry) registry pending.applied.items
 
 -- the aggregates without the deltas
-abbrev pub all_undone : List Slot → Pending → List Slot
-all_undone slots pending = zip_all (undo pending.group) slots pending.applied.items
+abbrev pub all_undone : List RegistryEntry → Pending → List RegistryEntry
+all_undone registry pending = zip_all (undo pending.group) registry pending.applied.items
 
 -- if the rows stay as they are, the deltas can be undone, and then what is kept is as before
-pub record UndoesAll (old new : List Slot) (pending : Pending) : Type 0 where
+pub record UndoesAll (old new : List RegistryEntry) (pending : Pending) : Type 0 where
   pub may : MayUndoAll new pending
   pub kept : KeepsAsBefore old (all_undone new pending)
 
 -- the pairs can be retracted, if these are the places of the row group
-pub record MayRetractAll (here : List Place) (slots : List Slot) (pending : Pending) : Type 0 where
-  pub len : length pending.to_retract.items ≤ length slots
-  pub may : EachMayRetract pending.group here slots pending.to_retract.items
+pub record MayRetractAll (here : List Place) (registry : List RegistryEntry) (pending : Pending) : Type 0 where
+  pub len : length pending.to_retract.items ≤ length registry
+  pub may : EachMayRetract pending.group here registry pending.to_retract.items
 
 -- the aggregates without the pairs to retract
-abbrev pub all_retracted : List Place → List Slot → Pending → List Slot
-all_retracted here slots pending = zip_all (retracted pending.group here) slots pending.to_retract.items
+abbrev pub all_retracted : List Place → List RegistryEntry → Pending → List RegistryEntry
+all_retracted here registry pending = zip_all (retracted pending.group here) registry pending.to_retract.items
 
 -- if these are the places after the edit of a row group, the pairs can be retracted, and then what is kept is that of these places
-pub record RetractsAll (size g : ℕ) (places : List Place) (slots : List Slot) (pending : Pending) : Type 0 where
+pub record RetractsAll (size g : ℕ) (places : List Place) (registry : List RegistryEntry) (pending : Pending) : Type 0 where
   pub at : pending.group ≡ g
-  pub may : MayRetractAll (in_group size g places) slots pending
-  pub kept : Keeps size places (all_retracted (in_group size g places) slots pending)
+  pub may : MayRetractAll (in_group size g places) registry pending
+  pub kept : Keeps size places (all_retracted (in_group size g places) registry pending)

@@ -26,13 +26,13 @@ partials_from spec size places g (suc n) = partial_at spec size places g ∷ par
 abbrev pub AccumulatorMayMerge : ℕ → PartialDone → Accumulator → Type 0
 AccumulatorMayMerge g (partial.Totals done) (accumulator.Totals live) = (live.left ≡ 0 → ⊥) × CanJoin live.totals done.totals
 AccumulatorMayMerge g (partial.Totals done) (accumulator.Extrema live) = ⊥
-AccumulatorMayMerge g (partial.Extrema seen) (accumulator.Totals live) = ⊥
-AccumulatorMayMerge g (partial.Extrema seen) (accumulator.Extrema live) = (live.left ≡ 0 → ⊥) × (group_at live.groups g ≡ fin.empty)
+AccumulatorMayMerge g (partial.Extrema observed) (accumulator.Totals live) = ⊥
+AccumulatorMayMerge g (partial.Extrema observed) (accumulator.Extrema live) = (live.left ≡ 0 → ⊥) × (group_at live.groups g ≡ fin.empty)
 
 -- the rows that a partial stands for are in what is kept. Which keys are reserved is left open
 abbrev pub IsMerged : ℕ → PartialDone → Accumulator → Accumulator → Type 0
 IsMerged g (partial.Totals done) (accumulator.Totals live) new = new ≡ accumulator.Totals (record { left = live.left - 1; totals = joined_totals live.totals done.totals })
 IsMerged g (partial.Totals done) (accumulator.Extrema live) new = ⊥
-IsMerged g (partial.Extrema seen) (accumulator.Totals live) new = ⊥
-IsMerged g (partial.Extrema seen) (accumulator.Extrema live) (accumulator.Totals new) = ⊥
-IsMerged g (partial.Extrema seen) (accumulator.Extrema live) (accumulator.Extrema new) = (new.left ≡ live.left - 1) × (new.groups ≡ slice_set (with_reserved g live.groups) g seen)
+IsMerged g (partial.Extrema observed) (accumulator.Totals live) new = ⊥
+IsMerged g (partial.Extrema observed) (accumulator.Extrema live) (accumulator.Totals new) = ⊥
+IsMerged g (partial.Extrema observed) (accumulator.Extrema live) (accumulator.Extrema new) = (new.left ≡ live.left - 1) × (new.groups ≡ slice_set (with_reserved g live.groups) g observed)

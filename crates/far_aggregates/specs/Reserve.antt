@@ -5,25 +5,25 @@ use Rattle.std.specs.List.{AllByRecursion}
 use Rattle.far_extrema.specs.Live.{with_reserved}
 use Rattle.far_aggregates.specs.declared.aggregate.Accumulator.{Accumulator}
 use Rattle.far_aggregates.specs.declared.aggregate.Accumulator.TheVariants as accumulator
-use Rattle.far_aggregates.specs.Accumulators.{Slot}
+use Rattle.far_aggregates.specs.Accumulators.{RegistryEntry}
 
 -- extrema are reserved for a row group
 abbrev pub AccumulatorIsReserved : ℕ → Accumulator → Type 0
 AccumulatorIsReserved g (accumulator.Totals live) = Unit {0}
 AccumulatorIsReserved g (accumulator.Extrema live) = g < length live.groups
 
-abbrev pub IsReserved : ℕ → Slot → Type 0
+abbrev pub IsReserved : ℕ → RegistryEntry → Type 0
 IsReserved g None = Unit {0}
 IsReserved g (Some a) = AccumulatorIsReserved g a.accumulator
 
-abbrev pub AreReserved : ℕ → List Slot → Type 0
-AreReserved g slots = AllByRecursion (IsReserved g) slots
+abbrev pub AreReserved : ℕ → List RegistryEntry → Type 0
+AreReserved g registry = AllByRecursion (IsReserved g) registry
 
 -- an accumulator that is reserved for a row group
 abbrev pub accumulator_reserved : ℕ → Accumulator → Accumulator
 accumulator_reserved g (accumulator.Totals live) = accumulator.Totals live
 accumulator_reserved g (accumulator.Extrema live) = accumulator.Extrema (record live { groups = with_reserved g live.groups })
 
-abbrev pub reserved : ℕ → Slot → Slot
+abbrev pub reserved : ℕ → RegistryEntry → RegistryEntry
 reserved g None = None
 reserved g (Some a) = Some (record a { accumulator = accumulator_reserved g a.accumulator })

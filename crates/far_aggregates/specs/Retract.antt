@@ -7,18 +7,18 @@ use Rattle.far_types.specs.Effects.{without_pair, widened}
 use Rattle.far_types.specs.Pairs.{Pair}
 use Rattle.far_types.specs.Table.{Place}
 use Rattle.far_extrema.specs.Live.{group_at}
-use Rattle.far_extrema.specs.Spans.{put_span}
+use Rattle.far_extrema.specs.MinMaxes.{put_min_max}
 use Rattle.far_groups.specs.Live.{CanTake}
 use Rattle.far_aggregates.specs.declared.aggregate.Accumulator.{Accumulator}
 use Rattle.far_aggregates.specs.declared.aggregate.Accumulator.TheVariants as accumulator
-use Rattle.far_aggregates.specs.Accumulators.{Slot, Change, pairs_here}
+use Rattle.far_aggregates.specs.Accumulators.{RegistryEntry, Change, pairs_here}
 
--- one pair less: totals give it back, extrema get the span of the rows that are left under its key
+-- one pair less: totals give it back, extrema get the min-max of the rows that are left under its key
 abbrev pub accumulator_less : Spec → ℕ → List Place → Accumulator → Pair → Accumulator
 accumulator_less spec g here (accumulator.Totals live) pair = accumulator.Totals (record live { totals = without_pair live.totals pair })
-accumulator_less spec g here (accumulator.Extrema live) pair = accumulator.Extrema (record live { groups = slice_set live.groups g (put_span (group_at live.groups g) pair.0 (fin.get (extrema (pairs_here spec here)) pair.0)) })
+accumulator_less spec g here (accumulator.Extrema live) pair = accumulator.Extrema (record live { groups = slice_set live.groups g (put_min_max (group_at live.groups g) pair.0 (fin.get (extrema (pairs_here spec here)) pair.0)) })
 
-abbrev pub retracted : ℕ → List Place → Slot → Change → Slot
+abbrev pub retracted : ℕ → List Place → RegistryEntry → Change → RegistryEntry
 retracted g here None change = None
 retracted g here (Some a) None = Some a
 retracted g here (Some a) (Some pair) = Some (record a { accumulator = accumulator_less a.spec g here a.accumulator pair })
@@ -28,23 +28,23 @@ abbrev pub AccumulatorMayRetract : Spec → ℕ → List Place → Accumulator �
 AccumulatorMayRetract spec g here (accumulator.Totals live) pair = CanTake pair.1 (fin.get live.totals pair.0)
 AccumulatorMayRetract spec g here (accumulator.Extrema live) pair = fin.get (group_at live.groups g) pair.0 ≡ Some (widened pair.1 (fin.get (extrema (pairs_here spec here)) pair.0))
 
-abbrev pub MayRetract : ℕ → List Place → Slot → Change → Type 0
+abbrev pub MayRetract : ℕ → List Place → RegistryEntry → Change → Type 0
 MayRetract g here None change = Unit {0}
 MayRetract g here (Some a) None = Unit {0}
 MayRetract g here (Some a) (Some pair) = AccumulatorMayRetract a.spec g here a.accumulator pair
 
-abbrev pub EachMayRetract : ℕ → List Place → List Slot → List Change → Type 0
-EachMayRetract g here slots pairs = (k : ℕ) (s : Slot) (c : Change) → slice_get slots k ≡ Some s → slice_get pairs k ≡ Some c → MayRetract g here s c
+abbrev pub EachMayRetract : ℕ → List Place → List RegistryEntry → List Change → Type 0
+EachMayRetract g here registry pairs = (k : ℕ) (s : RegistryEntry) (c : Change) → slice_get registry k ≡ Some s → slice_get pairs k ≡ Some c → MayRetract g here s c
 
 -- a pair is retracted without a look at rows: from totals
 abbrev pub AccumulatorIsPlain : Accumulator → Type 0
 AccumulatorIsPlain (accumulator.Totals live) = Unit {0}
 AccumulatorIsPlain (accumulator.Extrema live) = ⊥
 
-abbrev pub IsPlain : Slot → Change → Type 0
+abbrev pub IsPlain : RegistryEntry → Change → Type 0
 IsPlain None change = Unit {0}
 IsPlain (Some a) None = Unit {0}
 IsPlain (Some a) (Some pair) = AccumulatorIsPlain a.accumulator
 
-abbrev pub EachIsPlain : List Slot → List Change → Type 0
-EachIsPlain slots pairs = (k : ℕ) (s : Slot) (c : Change) → slice_get slots k ≡ Some s → slice_get pairs k ≡ Some c → IsPlain s c
+abbrev pub EachIsPlain : List RegistryEntry → List Change → Type 0
+EachIsPlain registry pairs = (k : ℕ) (s : RegistryEntry) (c : Change) → slice_get registry k ≡ Some s → slice_get pairs k ≡ Some c → IsPlain s c

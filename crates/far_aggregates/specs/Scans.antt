@@ -9,17 +9,17 @@ use Rattle.far_extrema.specs.Live.{with_reserved, group_at}
 use Rattle.far_groups.specs.Live.{CanJoin}
 use Rattle.far_aggregates.specs.declared.aggregate.Accumulator.{Accumulator}
 use Rattle.far_aggregates.specs.declared.aggregate.Accumulator.TheVariants as accumulator
-use Rattle.far_aggregates.specs.Accumulators.{Slot, pairs_here, KeepsSlot}
+use Rattle.far_aggregates.specs.Accumulators.{RegistryEntry, pairs_here, KeepsEntry}
 use Rattle.far_aggregates.specs.Aggregates.{scanned_in}
 
--- whether a row group is pending in what stands in a slot
-abbrev pub has_pending : ℕ → Slot → Bool
+-- whether a row group is pending in what stands in a registry entry
+abbrev pub has_pending : ℕ → RegistryEntry → Bool
 has_pending g None = false
 has_pending g (Some a) = is_pending a.pending g
 
-abbrev pub scanned_slot : ℕ → Option Registered → Option Registered
-scanned_slot g None = None
-scanned_slot g (Some aggregate) = Some (scanned_in g aggregate)
+abbrev pub scanned_entry : ℕ → Option Registered → Option Registered
+scanned_entry g None = None
+scanned_entry g (Some aggregate) = Some (scanned_in g aggregate)
 
 -- the rows of one row group more, at these places, are in what is kept. Which keys are reserved is left open
 abbrev pub IsScanned : Spec → ℕ → List Place → Accumulator → Accumulator → Type 0
@@ -39,5 +39,5 @@ AccumulatorMayScan spec g here (accumulator.Totals live) = (live.left ≡ 0 → 
 AccumulatorMayScan spec g here (accumulator.Extrema live) = (live.left ≡ 0 → ⊥) × (group_at live.groups g ≡ fin.empty)
 
 -- what is kept is that of some places, which are few, and those of the row group are these
-abbrev pub SlotMayBuild : ℕ → ℕ → List Place → Slot → Type 0
-SlotMayBuild size g here slot = (places : List Place) × (here ≡ in_group size g places) × (length places ≤ 2 ^ 24) × KeepsSlot size places slot
+abbrev pub EntryMayBuild : ℕ → ℕ → List Place → RegistryEntry → Type 0
+EntryMayBuild size g here entry = (places : List Place) × (here ≡ in_group size g places) × (length places ≤ 2 ^ 24) × KeepsEntry size places entry

@@ -34,7 +34,7 @@ use std::mem;
 /// retracted, which cannot fail. Contracts see what stands under each number that was ever used.
 #[derive(Drop)]
 pub struct Aggregates {
-    slots: Vec<Option<Aggregate>>,
+    registry: Vec<Option<Aggregate>>,
     /// The lists of an edit that has ended, for the next one, so that it makes none.
     lists: Pending,
     spare_keys: SpareKeys,
@@ -47,24 +47,24 @@ impl Model for Aggregates {
     ghost use Rattle.std.specs.Coded.{codes};
     ghost use Rattle.far_groups.specs.Live.{coded_live as coded_totals_live};
     ghost use Rattle.far_extrema.specs.Live.{coded_live as coded_extrema_live};
-    ghost use Rattle.far_aggregates.specs.Accumulators.{Slot};
+    ghost use Rattle.far_aggregates.specs.Accumulators.{RegistryEntry};
 
-    ghost Value = { List Slot };
+    ghost Value = { List RegistryEntry };
 
     ghost coded = { Prim.hlevel (codes, coded_totals_live, coded_extrema_live) };
 
-    ghost view = { λ aggregates. aggregates.slots.items };
+    ghost view = { λ aggregates. aggregates.registry.items };
 
-    ghost invariant = { λ aggregates. length aggregates.slots.items ≤ 32 };
+    ghost invariant = { λ aggregates. length aggregates.registry.items ≤ 32 };
 }
 
 impl Aggregates {
-    ghost use Rattle.far_aggregates.specs.Aggregates.{free_from, aggregate_in, is_left, ask_refusal, Answers};
+    ghost use Rattle.far_aggregates.specs.Aggregates.{free_from, aggregate_in, is_pending_in, ask_refusal, Answers};
     ghost use Rattle.far_aggregates.specs.Retract.{EachIsPlain};
     ghost use Rattle.far_aggregates.specs.Accumulators.{Keeps, PlacesFit, registered_of};
-    ghost use Rattle.far_aggregates.specs.Lending.{SlotIsServed, AreServed};
+    ghost use Rattle.far_aggregates.specs.Lending.{EntryIsServed, AreServed};
     ghost use Rattle.far_aggregates.specs.Readings.{plain_in};
-    ghost use Rattle.far_aggregates.specs.Scans.{scanned_slot};
+    ghost use Rattle.far_aggregates.specs.Scans.{scanned_entry};
     ghost use Rattle.far_aggregates.specs.Pending.{AreKept, KeepsAsBefore, IsAliveAt, MayUndoAll, all_undone, UndoesAll, MayRetractAll, all_retracted, RetractsAll};
 
     /// No aggregate. Allocates nothing.
@@ -73,7 +73,7 @@ impl Aggregates {
         ensures kept { (size : ℕ) → (places : List Place) → Keeps size places result }
     {
         Aggregates {
-            slots: Vec::new(alloc),
+            registry: Vec::new(alloc),
             lists: Pending::nothing(alloc),
             spare_keys: SpareKeys::new(alloc),
             reciprocal: Reciprocal::new(1),
@@ -94,7 +94,7 @@ impl Aggregates {
     pub fn is_empty(&self) -> bool
         ensures { IsTrue result → (size : ℕ) → (places : List Place) → Keeps size places self.now }
     {
-        self.slots.is_empty()
+        self.registry.is_empty()
     }
 
     /// The lowest number under which no aggregate is registered, or `None` if 32 are. Allocates nothing.
@@ -102,7 +102,7 @@ impl Aggregates {
         ensures number { result ≡ free_from 0 (registered_of self.now) }
         ensures within { IfSome result (λ a. a < 32) }
     {
-        free_number(self.slots.as_slice())
+        free_number(self.registry.as_slice())
     }
 
     /// Registers an aggregate under the lowest free number, over so many places: all row groups that hold one are
@@ -119,13 +119,13 @@ impl Aggregates {
         requires size { 0 < size }
         requires few { places ≤ 2 ^ 24 }
         requires free { free_from 0 (registered_of self.old) ≡ Some a }
-        ensures registered { OnOk result (registered_of self.new ≡ slice_set (registered_of self.old) a (Some (record { spec = spec; registration = registration; unbuilt = replicate (groups size places) true }))) }
+        ensures registered { OnOk result (registered_of self.new ≡ slice_set (registered_of self.old) a (Some (record { spec = spec; registration = registration; pending = replicate (groups size places) true }))) }
         ensures kept { (all : List Place) → length all ≡ places → Keeps size all self.old → Keeps size all self.new }
         ensures unchanged { OnErr result (self.new ≡ self.old) }
         ensures memory { IfErr result (λ e. e ≡ Refusal.NoMemory) }
     {
         self.reciprocal = Reciprocal::new(size as usize);
-        register(alloc, &mut self.slots, a, spec, registration, size, places)
+        register(alloc, &mut self.registry, a, spec, registration, size, places)
     }
 
     /// No aggregate is under the number any more; there was one. Allocates nothing.
@@ -134,14 +134,14 @@ impl Aggregates {
         ensures registered { registered_of self.new ≡ slice_set (registered_of self.old) a None }
         ensures kept { KeepsAsBefore self.old self.new }
     {
-        forget(&mut self.slots, a);
+        forget(&mut self.registry, a);
     }
 
     /// What the aggregate of a number computes, or `None` if there is none. Allocates nothing.
     pub fn spec(&self, a: u32) -> Option<&Spec>
         ensures { option_copied result ≡ option_map (λ aggregate. aggregate.spec) (aggregate_in self.now a) }
     {
-        let aggregate = aggregate_at(self.slots.as_slice(), a)?;
+        let aggregate = aggregate_at(self.registry.as_slice(), a)?;
         Some(&aggregate.spec)
     }
 
@@ -149,15 +149,15 @@ impl Aggregates {
     pub fn registration(&self, a: u32) -> Option<u64>
         ensures { result ≡ option_map (λ aggregate. aggregate.registration) (aggregate_in self.now a) }
     {
-        let aggregate = aggregate_at(self.slots.as_slice(), a)?;
+        let aggregate = aggregate_at(self.registry.as_slice(), a)?;
         Some(aggregate.registration)
     }
 
     /// Whether a row group is pending in the aggregate of a number: false if there is none. Allocates nothing.
-    pub fn is_left(&self, a: u32, group: u32) -> bool
-        ensures { result ≡ is_left (aggregate_in self.now a) group }
+    pub fn is_pending_in(&self, a: u32, group: u32) -> bool
+        ensures { result ≡ is_pending_in (aggregate_in self.now a) group }
     {
-        match aggregate_at(self.slots.as_slice(), a) {
+        match aggregate_at(self.registry.as_slice(), a) {
             Some(aggregate) => aggregate.pending.has(group as usize),
             None => false,
         }
@@ -165,10 +165,10 @@ impl Aggregates {
 
     /// An aggregate and a row group that is pending in it, or `None` if there is none. Allocates nothing.
     pub fn first_pending(&self) -> Option<(u32, u32)>
-        ensures some { IfSome result (λ at. is_left (aggregate_in self.now at.0) at.1 ≡ true) }
-        ensures none { IfNone result ((a : ℕ) → (g : ℕ) → is_left (aggregate_in self.now a) g ≡ false) }
+        ensures some { IfSome result (λ at. is_pending_in (aggregate_in self.now at.0) at.1 ≡ true) }
+        ensures none { IfNone result ((a : ℕ) → (g : ℕ) → is_pending_in (aggregate_in self.now a) g ≡ false) }
     {
-        first_pending(self.slots.as_slice())
+        first_pending(self.registry.as_slice())
     }
 
     /// What the aggregate of a number answers over the rows for which all are kept. Refused with `NoAggregate` (12) exactly
@@ -178,7 +178,7 @@ impl Aggregates {
         ensures ok { IfOk result (λ answer. (size : ℕ) → (places : List Place) → 0 < size → Keeps size places self.now → Answers places (aggregate_in self.now a) answer) }
         ensures err { IfErr result (λ e. (size : ℕ) → (places : List Place) → Keeps size places self.now → MayRefuse (ask_refusal (aggregate_in self.now a)) true e) }
     {
-        let Some(aggregate) = aggregate_at(self.slots.as_slice(), a) else {
+        let Some(aggregate) = aggregate_at(self.registry.as_slice(), a) else {
             return Err(Refusal::NoAggregate);
         };
         answer(alloc, aggregate)
@@ -189,7 +189,7 @@ impl Aggregates {
     pub fn plain(&self, a: u32) -> Option<(u64, i128)>
         ensures { (size : ℕ) → (places : List Place) → Keeps size places self.now → result ≡ plain_in places (aggregate_in self.now a) }
     {
-        let aggregate = aggregate_at(self.slots.as_slice(), a)?;
+        let aggregate = aggregate_at(self.registry.as_slice(), a)?;
         plain(aggregate)
     }
 
@@ -204,15 +204,15 @@ impl Aggregates {
         number: u32,
     ) -> Result<(), Refusal>
         requires size { 0 < size }
-        requires pending { is_left (aggregate_in self.old a) number ≡ true }
-        requires served { SlotIsServed (G.has group.now) (aggregate_in self.old a) }
+        requires pending { is_pending_in (aggregate_in self.old a) number ≡ true }
+        requires served { EntryIsServed (G.has group.now) (aggregate_in self.old a) }
         requires kept { (places : List Place) × (G.places group.now ≡ in_group size number places) × AreKept size places self.old }
-        ensures registered { OnOk result (registered_of self.new ≡ slice_set (registered_of self.old) a (scanned_slot number (aggregate_in self.old a))) }
+        ensures registered { OnOk result (registered_of self.new ≡ slice_set (registered_of self.old) a (scanned_entry number (aggregate_in self.old a))) }
         ensures kept { (places : List Place) → G.places group.now ≡ in_group size number places → Keeps size places self.old → Keeps size places self.new }
         ensures unchanged { OnErr result (registered_of self.new ≡ registered_of self.old) }
         ensures memory { IfErr result (λ e. e ≡ Refusal.NoMemory) }
     {
-        build_at(alloc, &mut self.slots, a, group, size, number)
+        build_at(alloc, &mut self.registry, a, group, size, number)
     }
 
     /// Applies the deltas of a row that is to be appended at a place, the first that is not there yet. Once the rows have
@@ -235,7 +235,7 @@ impl Aggregates {
         ensures memory { IfErr result (λ e. e ≡ Refusal.NoMemory) }
     {
         // Rows of a table without aggregates are not asked for what they give.
-        if self.slots.is_empty() {
+        if self.registry.is_empty() {
             return Ok(Pending::nothing(alloc));
         }
         let group = self.group_of(place, size);
@@ -244,12 +244,12 @@ impl Aggregates {
             mut to_retract,
             ..
         } = mem::replace(&mut self.lists, Pending::nothing(alloc));
-        let slots = self.slots.as_mut_slice();
-        reserve_all(slots, group);
+        let registry = self.registry.as_mut_slice();
+        reserve_all(registry, group);
         let applied = apply_deltas(
             &mut self.spare_keys,
             applied,
-            slots,
+            registry,
             row,
             size,
             place,
@@ -291,12 +291,12 @@ impl Aggregates {
             to_retract,
             ..
         } = mem::replace(&mut self.lists, Pending::nothing(alloc));
-        let slots = self.slots.as_mut_slice();
-        reserve_all(slots, group);
+        let registry = self.registry.as_mut_slice();
+        reserve_all(registry, group);
         let to_retract = row_pairs(
             &mut self.spare_keys,
             to_retract,
-            slots,
+            registry,
             row,
             size,
             place,
@@ -306,7 +306,7 @@ impl Aggregates {
         let applied = apply_deltas(
             &mut self.spare_keys,
             applied,
-            slots,
+            registry,
             &changed,
             size,
             place,
@@ -342,12 +342,12 @@ impl Aggregates {
             to_retract,
             ..
         } = mem::replace(&mut self.lists, Pending::nothing(alloc));
-        let slots = self.slots.as_mut_slice();
-        reserve_all(slots, group);
+        let registry = self.registry.as_mut_slice();
+        reserve_all(registry, group);
         let to_retract = row_pairs(
             &mut self.spare_keys,
             to_retract,
-            slots,
+            registry,
             row,
             size,
             place,
@@ -368,7 +368,7 @@ impl Aggregates {
         ensures registered { registered_of self.new ≡ registered_of self.old }
     {
         undo_all(
-            self.slots.as_mut_slice(),
+            self.registry.as_mut_slice(),
             pending.group,
             pending.applied.as_slice(),
         );
@@ -392,7 +392,7 @@ impl Aggregates {
         ensures registered { registered_of self.new ≡ registered_of self.old }
     {
         retract_all(
-            self.slots.as_mut_slice(),
+            self.registry.as_mut_slice(),
             group,
             pending.group,
             pending.to_retract.as_slice(),
@@ -404,7 +404,7 @@ impl Aggregates {
     pub fn needs_rows(&self, pending: &Pending) -> bool
         ensures { result ≡ false → EachIsPlain self.now pending.now.to_retract.items }
     {
-        needs_rows(self.slots.as_slice(), pending.to_retract.as_slice())
+        needs_rows(self.registry.as_slice(), pending.to_retract.as_slice())
     }
 
     /// Does what `retract` does, if `needs_rows` says that no rows are needed: none are lent. Allocates nothing.
@@ -414,7 +414,7 @@ impl Aggregates {
         ensures retracted { (here : List Place) → self.new ≡ all_retracted here self.old pending }
         ensures registered { registered_of self.new ≡ registered_of self.old }
     {
-        retract_totals(self.slots.as_mut_slice(), pending.to_retract.as_slice());
+        retract_totals(self.registry.as_mut_slice(), pending.to_retract.as_slice());
         self.end(pending);
     }
 }

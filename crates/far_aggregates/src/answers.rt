@@ -3,7 +3,7 @@ ghost use Rattle.std.specs.Prelude.{◌≡◌, ◌≢◌, ◌<◌, ℕ, List, So
 ghost use Rattle.far_types.specs.Answers.{total_lines, answer_over};
 ghost use Rattle.far_types.specs.MayRefuse.{MayRefuse};
 ghost use Rattle.far_types.specs.Table.{Place, left, rows_of};
-ghost use Rattle.far_aggregates.specs.Accumulators.{KeepsSlot, registered_in};
+ghost use Rattle.far_aggregates.specs.Accumulators.{KeepsEntry, registered_in};
 ghost use Rattle.far_aggregates.specs.Aggregates.{ask_refusal};
 
 use super::aggregate::{Accumulator, Aggregate};
@@ -28,8 +28,8 @@ fn lines_of(alloc: Global, live: &LiveTotals) -> Result<TotalLines, Refusal>
 /// What an aggregate answers over the rows that it is kept for. Refused with `Building` (15) and how many row groups
 /// are pending exactly if that is not 0, else with `NoMemory` (1) alone.
 pub fn answer(alloc: Global, aggregate: &Aggregate) -> Result<Answer, Refusal>
-    ensures ok { IfOk result (λ answer. (size : ℕ) → (places : List Place) → 0 < size → KeepsSlot size places (Some aggregate.now) → (left aggregate.now.pending ≡ 0) × (answer ≡ answer_over aggregate.now.spec (rows_of places))) }
-    ensures err { IfErr result (λ e. (size : ℕ) → (places : List Place) → KeepsSlot size places (Some aggregate.now) → MayRefuse (ask_refusal (registered_in (Some aggregate.now))) true e) }
+    ensures ok { IfOk result (λ answer. (size : ℕ) → (places : List Place) → 0 < size → KeepsEntry size places (Some aggregate.now) → (left aggregate.now.pending ≡ 0) × (answer ≡ answer_over aggregate.now.spec (rows_of places))) }
+    ensures err { IfErr result (λ e. (size : ℕ) → (places : List Place) → KeepsEntry size places (Some aggregate.now) → MayRefuse (ask_refusal (registered_in (Some aggregate.now))) true e) }
 {
     match &aggregate.accumulator {
         Accumulator::Totals(live) => {

@@ -22,29 +22,29 @@ pub struct Delta {
 }
 
 /// Undoes a delta.
-fn undo_one(slot: &mut Option<Aggregate>, group: u32, delta: &Option<Delta>)
-    requires { MayUndo group slot.old delta.now }
-    ensures { slot.new ≡ undo group slot.old delta.now }
+fn undo_one(entry: &mut Option<Aggregate>, group: u32, delta: &Option<Delta>)
+    requires { MayUndo group entry.old delta.now }
+    ensures { entry.new ≡ undo group entry.old delta.now }
 {
-    if let Some(aggregate) = slot {
+    if let Some(aggregate) = entry {
         if let Some(delta) = delta {
             match &mut aggregate.accumulator {
                 Accumulator::Totals(live) => live.take(&delta.pair.0, delta.pair.1),
-                Accumulator::Extrema(live) => live.put_span(group, &delta.pair.0, delta.previous),
+                Accumulator::Extrema(live) => live.put_min_max(group, &delta.pair.0, delta.previous),
             }
         }
     }
 }
 
 /// Undoes the deltas of the first n aggregates.
-fn undo_first(slots: &mut [Option<Aggregate>], group: u32, deltas: &[Option<Delta>], n: usize)
-    requires slots { n ≤ length slots.old }
+fn undo_first(registry: &mut [Option<Aggregate>], group: u32, deltas: &[Option<Delta>], n: usize)
+    requires registry { n ≤ length registry.old }
     requires deltas { n ≤ length deltas.now }
-    requires may { EachMayUndo group n slots.old deltas.now }
-    ensures { slots.new ≡ zip_until (undo group) n slots.old deltas.now }
+    requires may { EachMayUndo group n registry.old deltas.now }
+    ensures { registry.new ≡ zip_until (undo group) n registry.old deltas.now }
 {
     for i in 0..n {
-        undo_one(&mut slots[i], group, &deltas[i]);
+        undo_one(&mut registry[i], group, &deltas[i]);
     }
 }
 
@@ -77,22 +77,22 @@ fn add_to(
 #[inline(always)]
 fn apply_under(
     deltas: &mut Vec<Option<Delta>>,
-    slot: &mut Option<Aggregate>,
+    entry: &mut Option<Aggregate>,
     group: u32,
     number: Option<i64>,
     value: i64,
 ) -> Result<(), Refusal>
-    requires folds { Folds slot.old }
-    requires reserved { IsReserved group slot.old }
+    requires folds { Folds entry.old }
+    requires reserved { IsReserved group entry.old }
     requires place { vec_len deltas.old < vec_capacity deltas.old }
-    ensures ok { OnOk result (slot.new ≡ added group slot.old (delta_in group slot.old (key_by number, value))) }
-    ensures deltas { OnOk result (deltas.new.items ≡ deltas.old.items ++ delta_in group slot.old (key_by number, value) ∷ []) }
+    ensures ok { OnOk result (entry.new ≡ added group entry.old (delta_in group entry.old (key_by number, value))) }
+    ensures deltas { OnOk result (deltas.new.items ≡ deltas.old.items ++ delta_in group entry.old (key_by number, value) ∷ []) }
     ensures capacity { vec_capacity deltas.new ≡ vec_capacity deltas.old }
-    ensures err { OnErr result (slot.new ≡ slot.old) }
+    ensures err { OnErr result (entry.new ≡ entry.old) }
     ensures before { OnErr result (deltas.new.items ≡ deltas.old.items) }
     ensures memory { IfErr result (λ e. e ≡ Refusal.NoMemory) }
 {
-    match slot {
+    match entry {
         None => {
             deltas.push_reserved(None);
             Ok(())
@@ -116,22 +116,22 @@ fn apply_under(
 fn apply_under_text(
     keys: &mut SpareKeys,
     deltas: &mut Vec<Option<Delta>>,
-    slot: &mut Option<Aggregate>,
+    entry: &mut Option<Aggregate>,
     group: u32,
     text: &str,
     value: i64,
 ) -> Result<(), Refusal>
-    requires folds { Folds slot.old }
-    requires reserved { IsReserved group slot.old }
+    requires folds { Folds entry.old }
+    requires reserved { IsReserved group entry.old }
     requires place { vec_len deltas.old < vec_capacity deltas.old }
-    ensures ok { OnOk result (slot.new ≡ added group slot.old (delta_in group slot.old (Some (variants.Text text.now), value))) }
-    ensures deltas { OnOk result (deltas.new.items ≡ deltas.old.items ++ delta_in group slot.old (Some (variants.Text text.now), value) ∷ []) }
+    ensures ok { OnOk result (entry.new ≡ added group entry.old (delta_in group entry.old (Some (variants.Text text.now), value))) }
+    ensures deltas { OnOk result (deltas.new.items ≡ deltas.old.items ++ delta_in group entry.old (Some (variants.Text text.now), value) ∷ []) }
     ensures capacity { vec_capacity deltas.new ≡ vec_capacity deltas.old }
-    ensures err { OnErr result (slot.new ≡ slot.old) }
+    ensures err { OnErr result (entry.new ≡ entry.old) }
     ensures before { OnErr result (deltas.new.items ≡ deltas.old.items) }
     ensures memory { IfErr result (λ e. e ≡ Refusal.NoMemory) }
 {
-    match slot {
+    match entry {
         None => {
             deltas.push_reserved(None);
             Ok(())
@@ -152,7 +152,7 @@ fn apply_under_text(
 fn apply_next<R: LendCells>(
     keys: &mut SpareKeys,
     deltas: &mut Vec<Option<Delta>>,
-    slot: &mut Option<Aggregate>,
+    entry: &mut Option<Aggregate>,
     row: &R,
     size: u32,
     place: usize,
@@ -161,24 +161,24 @@ fn apply_next<R: LendCells>(
     requires size { 0 < size }
     requires few { place ≤ 2 ^ 24 }
     requires group { group ≡ place / size }
-    requires folds { Folds slot.old }
-    requires reserved { IsReserved (place / size) slot.old }
+    requires folds { Folds entry.old }
+    requires reserved { IsReserved (place / size) entry.old }
     requires place { vec_len deltas.old < vec_capacity deltas.old }
-    ensures ok { OnOk result (slot.new ≡ added (place / size) slot.old (row_delta size place (row_gives (R.cells row.now)) slot.old)) }
-    ensures deltas { OnOk result (deltas.new.items ≡ deltas.old.items ++ row_delta size place (row_gives (R.cells row.now)) slot.old ∷ []) }
+    ensures ok { OnOk result (entry.new ≡ added (place / size) entry.old (row_delta size place (row_gives (R.cells row.now)) entry.old)) }
+    ensures deltas { OnOk result (deltas.new.items ≡ deltas.old.items ++ row_delta size place (row_gives (R.cells row.now)) entry.old ∷ []) }
     ensures capacity { vec_capacity deltas.new ≡ vec_capacity deltas.old }
-    ensures err { OnErr result (slot.new ≡ slot.old) }
+    ensures err { OnErr result (entry.new ≡ entry.old) }
     ensures before { OnErr result (deltas.new.items ≡ deltas.old.items) }
     ensures memory { IfErr result (λ e. e ≡ Refusal.NoMemory) }
 {
-    match give(slot, row, size, place, group) {
+    match give(entry, row, size, place, group) {
         PairRef::Nothing => {
             deltas.push_reserved(None);
             Ok(())
         }
-        PairRef::Under { number, value } => apply_under(deltas, slot, group, number, value),
+        PairRef::Under { number, value } => apply_under(deltas, entry, group, number, value),
         PairRef::UnderText { text, value } => {
-            apply_under_text(keys, deltas, slot, group, text, value)
+            apply_under_text(keys, deltas, entry, group, text, value)
         }
     }
 }
@@ -188,7 +188,7 @@ fn apply_next<R: LendCells>(
 pub fn apply_deltas<R: LendCells>(
     keys: &mut SpareKeys,
     list: Vec<Option<Delta>>,
-    slots: &mut [Option<Aggregate>],
+    registry: &mut [Option<Aggregate>],
     row: &R,
     size: u32,
     place: usize,
@@ -197,24 +197,24 @@ pub fn apply_deltas<R: LendCells>(
     requires size { 0 < size }
     requires few { place ≤ 2 ^ 24 }
     requires group { group ≡ place / size }
-    requires folds { EachFolds slots.old }
-    requires reserved { AreReserved (place / size) slots.old }
-    ensures ok { OnOk result (slots.new ≡ zip_all (added (place / size)) slots.old (map (row_delta size place (row_gives (R.cells row.now))) slots.old)) }
-    ensures deltas { IfOk result (λ deltas. deltas.items ≡ map (row_delta size place (row_gives (R.cells row.now))) slots.old) }
-    ensures len { IfOk result (λ deltas. length deltas.items ≡ length slots.new) }
-    ensures may_undo { IfOk result (λ deltas. EachMayUndo (place / size) (length slots.new) slots.new deltas.items) }
-    ensures undo { IfOk result (λ deltas. zip_all (undo (place / size)) slots.new deltas.items ≡ slots.old) }
-    ensures err { OnErr result (slots.new ≡ slots.old) }
+    requires folds { EachFolds registry.old }
+    requires reserved { AreReserved (place / size) registry.old }
+    ensures ok { OnOk result (registry.new ≡ zip_all (added (place / size)) registry.old (map (row_delta size place (row_gives (R.cells row.now))) registry.old)) }
+    ensures deltas { IfOk result (λ deltas. deltas.items ≡ map (row_delta size place (row_gives (R.cells row.now))) registry.old) }
+    ensures len { IfOk result (λ deltas. length deltas.items ≡ length registry.new) }
+    ensures may_undo { IfOk result (λ deltas. EachMayUndo (place / size) (length registry.new) registry.new deltas.items) }
+    ensures undo { IfOk result (λ deltas. zip_all (undo (place / size)) registry.new deltas.items ≡ registry.old) }
+    ensures err { OnErr result (registry.new ≡ registry.old) }
     ensures memory { IfErr result (λ e. e ≡ Refusal.NoMemory) }
 {
     let mut deltas = list;
     deltas.clear();
-    deltas.reserve(slots.len())?;
-    for i in 0..slots.len() {
-        match apply_next(keys, &mut deltas, &mut slots[i], row, size, place, group) {
+    deltas.reserve(registry.len())?;
+    for i in 0..registry.len() {
+        match apply_next(keys, &mut deltas, &mut registry[i], row, size, place, group) {
             Ok(()) => {}
             Err(refusal) => {
-                undo_first(slots, group, deltas.as_slice(), i);
+                undo_first(registry, group, deltas.as_slice(), i);
                 return Err(refusal);
             }
         }
@@ -223,10 +223,10 @@ pub fn apply_deltas<R: LendCells>(
 }
 
 /// Undoes all deltas. Allocates nothing.
-pub fn undo_all(slots: &mut [Option<Aggregate>], group: u32, deltas: &[Option<Delta>])
-    requires len { length deltas.now ≤ length slots.old }
-    requires may { EachMayUndo group (length slots.old) slots.old deltas.now }
-    ensures { slots.new ≡ zip_all (undo group) slots.old deltas.now }
+pub fn undo_all(registry: &mut [Option<Aggregate>], group: u32, deltas: &[Option<Delta>])
+    requires len { length deltas.now ≤ length registry.old }
+    requires may { EachMayUndo group (length registry.old) registry.old deltas.now }
+    ensures { registry.new ≡ zip_all (undo group) registry.old deltas.now }
 {
-    undo_first(slots, group, deltas, deltas.len());
+    undo_first(registry, group, deltas, deltas.len());
 }

@@ -43,21 +43,21 @@ fn make_place(plain: &mut Vec<Option<MinMax>>, group: usize)
 
 /// Notes what stands under no key in a row group, or that it is not known. Where the list has no place for it, and behind
 /// the row group after the last, nothing is noted. Allocates nothing.
-fn note(plain: &mut Vec<Option<MinMax>>, group: usize, span: Option<MinMax>)
-    ensures { IsNoted plain.old.items group span plain.new.items }
+fn note(plain: &mut Vec<Option<MinMax>>, group: usize, min_max: Option<MinMax>)
+    ensures { IsNoted plain.old.items group min_max plain.new.items }
 {
     if group < plain.len() {
-        plain[group] = span;
+        plain[group] = min_max;
     } else if group == plain.len() && group < plain.capacity() {
-        plain.push_reserved(span);
+        plain.push_reserved(min_max);
     }
 }
 
-/// What is noted to stand under no key in a row group. The span is taken apart and made anew, so that its numbers are passed
+/// What is noted to stand under no key in a row group. The min-max is taken apart and made anew, so that its numbers are passed
 /// on in registers.
 #[inline(always)]
 fn noted_in(plain: &[Option<MinMax>], group: usize) -> Option<MinMax>
-    ensures { IfSome result (λ span. slice_get plain.now group ≡ Some (Some span)) }
+    ensures { IfSome result (λ min_max. slice_get plain.now group ≡ Some (Some min_max)) }
 {
     match plain.get(group) {
         Some(Some((least, greatest))) => Some((*least, *greatest)),
@@ -65,12 +65,12 @@ fn noted_in(plain: &[Option<MinMax>], group: usize) -> Option<MinMax>
     }
 }
 
-/// Whether a value is within a span, if there is one.
+/// Whether a value is within a min-max, if there is one.
 #[inline(always)]
-fn is_within_noted(value: i64, span: Option<MinMax>) -> bool
-    ensures { IsTrue result → (s : ℤ × ℤ) × (span ≡ Some s) × (s.0 ≤ℤ value) × (value ≤ℤ s.1) }
+fn is_within_noted(value: i64, min_max: Option<MinMax>) -> bool
+    ensures { IsTrue result → (s : ℤ × ℤ) × (min_max ≡ Some s) × (s.0 ≤ℤ value) × (value ≤ℤ s.1) }
 {
-    match span {
+    match min_max {
         Some((least, greatest)) => least <= value && value <= greatest,
         None => false,
     }
@@ -84,7 +84,7 @@ fn observe_noted(
     noted: Option<MinMax>,
 ) -> Result<Option<MinMax>, Refusal>
     requires reserved { group < length live.old.groups }
-    requires noted { IfSome noted (λ span. fin.get (group_at live.old.groups group) None ≡ Some span) }
+    requires noted { IfSome noted (λ min_max. fin.get (group_at live.old.groups group) None ≡ Some min_max) }
     ensures previous { IfOk result (λ previous. previous ≡ fin.get (group_at live.old.groups group) None) }
     ensures ok { OnOk result (live.new ≡ record live.old { groups = slice_set live.old.groups group (with_observed (group_at live.old.groups group) (None, value)) }) }
     ensures err { OnErr result (live.new ≡ live.old) }
@@ -92,9 +92,9 @@ fn observe_noted(
     ensures memory { IfErr result (λ e. e ≡ Refusal.NoMemory) }
 {
     match noted {
-        Some(span) => {
-            live.observe_over(group, &None, value, span);
-            Ok(Some(span))
+        Some(min_max) => {
+            live.observe_over(group, &None, value, min_max);
+            Ok(Some(min_max))
         }
         None => live.observe_under(group, &None, value),
     }
@@ -114,7 +114,7 @@ fn wider(value: i64, previous: Option<MinMax>) -> MinMax
 impl KnownExtrema {
     ghost use Rattle.far_types.specs.Answers.{extrema_lines};
     ghost use Rattle.far_extrema.specs.Live.{with_reserved, IsReservedFor};
-    ghost use Rattle.far_extrema.specs.Spans.{put_span};
+    ghost use Rattle.far_extrema.specs.MinMaxes.{put_min_max};
 
     /// As `LiveExtrema::new`.
     pub fn new(alloc: Global, left: u32) -> KnownExtrema
@@ -127,11 +127,11 @@ impl KnownExtrema {
         }
     }
 
-    /// As `LiveExtrema::reserve`.
+    /// As `LiveExtrema::make_room`.
     pub fn reserve(&mut self, group: u32)
         ensures { self.new ≡ record self.old { groups = with_reserved group self.old.groups } }
     {
-        self.live.reserve(group);
+        self.live.make_room(group);
     }
 
     /// As `LiveExtrema::reserve_for`.
@@ -191,15 +191,15 @@ impl KnownExtrema {
         }
     }
 
-    /// As `LiveExtrema::put_span`.
-    pub fn put_span(&mut self, group: u32, key: &Option<Key>, span: Option<MinMax>)
+    /// As `LiveExtrema::put_min_max`.
+    pub fn put_min_max(&mut self, group: u32, key: &Option<Key>, min_max: Option<MinMax>)
         requires reserved { group < length self.old.groups }
         requires there { fin.get (group_at self.old.groups group) key.now ≢ None }
-        ensures { self.new ≡ record self.old { groups = slice_set self.old.groups group (put_span (group_at self.old.groups group) key.now span) } }
+        ensures { self.new ≡ record self.old { groups = slice_set self.old.groups group (put_min_max (group_at self.old.groups group) key.now min_max) } }
     {
-        self.live.put_span(group, key, span);
+        self.live.put_min_max(group, key, min_max);
         if key.is_none() {
-            note(&mut self.plain, group as usize, span);
+            note(&mut self.plain, group as usize, min_max);
         }
     }
 
@@ -208,10 +208,10 @@ impl KnownExtrema {
         requires reserved { group < length self.old.groups }
         requires at_hand { R.at_hand rows.now }
         requires previous { fin.get (group_at self.old.groups group) None ≡ Some (widened value (R.extremes rows.now)) }
-        ensures { self.new ≡ record self.old { groups = slice_set self.old.groups group (put_span (group_at self.old.groups group) None (R.extremes rows.now)) } }
+        ensures { self.new ≡ record self.old { groups = slice_set self.old.groups group (put_min_max (group_at self.old.groups group) None (R.extremes rows.now)) } }
     {
-        if let Some(span) = noted_in(self.plain.as_slice(), group as usize) {
-            if span.0 < value && value < span.1 {
+        if let Some(min_max) = noted_in(self.plain.as_slice(), group as usize) {
+            if min_max.0 < value && value < min_max.1 {
                 return;
             }
         }
@@ -224,7 +224,7 @@ impl KnownExtrema {
         requires reserved { group < length self.old.groups }
         requires at_hand { R.at_hand rows.now }
         requires previous { fin.get (group_at self.old.groups group) key.now ≡ Some (widened value (R.extremes rows.now)) }
-        ensures { self.new ≡ record self.old { groups = slice_set self.old.groups group (put_span (group_at self.old.groups group) key.now (R.extremes rows.now)) } }
+        ensures { self.new ≡ record self.old { groups = slice_set self.old.groups group (put_min_max (group_at self.old.groups group) key.now (R.extremes rows.now)) } }
     {
         match key {
             None => self.shrink_plain(group, value, rows),
@@ -243,9 +243,9 @@ impl KnownExtrema {
         ensures left { self.new.left ≡ self.old.left - 1 }
         ensures groups { self.new.groups ≡ slice_set self.old.groups group extrema }
     {
-        let span = extrema.span(&None);
+        let min_max = extrema.min_max(&None);
         self.live.merge(group, extrema);
-        note(&mut self.plain, group as usize, span);
+        note(&mut self.plain, group as usize, min_max);
     }
 
     /// As `LiveExtrema::answer`.

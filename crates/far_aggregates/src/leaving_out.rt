@@ -23,10 +23,10 @@ fn are_same(key: &Option<Key>, other: &Option<Key>) -> bool
 }
 
 /// What stands under a key with a value more.
-fn wide(span: MinMax, pair: &Pair) -> MinMax
-    ensures { result ≡ widened pair.now.1 (Some span) }
+fn wide(min_max: MinMax, pair: &Pair) -> MinMax
+    ensures { result ≡ widened pair.now.1 (Some min_max) }
 {
-    (pair.1.min(span.0), pair.1.max(span.1))
+    (pair.1.min(min_max.0), pair.1.max(min_max.1))
 }
 
 /// Whether a pair need not be retracted: its value is strictly within what stands under its key since the delta was applied.
@@ -34,9 +34,9 @@ fn need_not_retract(delta: &Option<Delta>, to_retract: &Option<Pair>) -> bool
     ensures { IsTrue result → NeedNotRetract delta.now to_retract.now }
 {
     if let Some(delta) = delta {
-        if let Some(span) = delta.previous {
+        if let Some(min_max) = delta.previous {
             if let Some(pair) = to_retract {
-                return is_strictly_within(pair.1, wide(span, &delta.pair))
+                return is_strictly_within(pair.1, wide(min_max, &delta.pair))
                     && are_same(&delta.pair.0, &pair.0);
             }
         }

@@ -13,7 +13,7 @@ pub type Pair = (Option<Key>, i64);
 /// The pair that a row that is alive at a place gives to an aggregate, unless its row group is pending.
 #[inline(always)]
 pub fn give<'a, R: LendCells>(
-    slot: &Option<Aggregate>,
+    entry: &Option<Aggregate>,
     row: &'a R,
     size: u32,
     place: usize,
@@ -21,9 +21,9 @@ pub fn give<'a, R: LendCells>(
 ) -> PairRef<'a>
     requires size { 0 < size }
     requires group { group ≡ place / size }
-    ensures { lent_pair result ≡ change_of size place (row_gives (R.cells row.now)) slot.now }
+    ensures { lent_pair result ≡ change_of size place (row_gives (R.cells row.now)) entry.now }
 {
-    match slot {
+    match entry {
         None => PairRef::Nothing,
         Some(aggregate) if aggregate.pending.has(group as usize) => PairRef::Nothing,
         Some(aggregate) => aggregate.spec.lend_pair(row),
@@ -36,7 +36,7 @@ pub fn give<'a, R: LendCells>(
 fn next_pair<R: LendCells>(
     keys: &mut SpareKeys,
     pairs: &mut Vec<Option<Pair>>,
-    slot: &Option<Aggregate>,
+    entry: &Option<Aggregate>,
     row: &R,
     size: u32,
     place: usize,
@@ -46,10 +46,10 @@ fn next_pair<R: LendCells>(
     requires group { group ≡ place / size }
     requires place { vec_len pairs.old < vec_capacity pairs.old }
     ensures capacity { vec_capacity pairs.new ≡ vec_capacity pairs.old }
-    ensures ok { OnOk result (pairs.new.items ≡ pairs.old.items ++ change_of size place (row_gives (R.cells row.now)) slot.now ∷ []) }
+    ensures ok { OnOk result (pairs.new.items ≡ pairs.old.items ++ change_of size place (row_gives (R.cells row.now)) entry.now ∷ []) }
     ensures memory { IfErr result (λ e. e ≡ Refusal.NoMemory) }
 {
-    match give(slot, row, size, place, group) {
+    match give(entry, row, size, place, group) {
         PairRef::Nothing => pairs.push_reserved(None),
         PairRef::Under { number, value } => {
             let pair = (number_key(number), value);
@@ -68,7 +68,7 @@ fn next_pair<R: LendCells>(
 pub fn row_pairs<R: LendCells>(
     keys: &mut SpareKeys,
     list: Vec<Option<Pair>>,
-    slots: &[Option<Aggregate>],
+    registry: &[Option<Aggregate>],
     row: &R,
     size: u32,
     place: usize,
@@ -76,14 +76,14 @@ pub fn row_pairs<R: LendCells>(
 ) -> Result<Vec<Option<Pair>>, Refusal>
     requires size { 0 < size }
     requires group { group ≡ place / size }
-    ensures ok { IfOk result (λ pairs. pairs.items ≡ map (change_of size place (row_gives (R.cells row.now))) slots.now) }
+    ensures ok { IfOk result (λ pairs. pairs.items ≡ map (change_of size place (row_gives (R.cells row.now))) registry.now) }
     ensures memory { IfErr result (λ e. e ≡ Refusal.NoMemory) }
 {
     let mut pairs = list;
     pairs.clear();
-    pairs.reserve(slots.len())?;
-    for slot in slots {
-        next_pair(keys, &mut pairs, slot, row, size, place, group)?;
+    pairs.reserve(registry.len())?;
+    for entry in registry {
+        next_pair(keys, &mut pairs, entry, row, size, place, group)?;
     }
     Ok(pairs)
 }

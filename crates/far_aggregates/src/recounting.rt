@@ -2,7 +2,7 @@
 ghost use Rattle.std.specs.Prelude.{◌≡◌, ◌<◌, ◌≤◌, ◌^◌, ℕ, List, Some, true, false, length, slice_set, OnOk, IfOk, IfErr};
 ghost use Rattle.far_types.specs.Answers.{answer_over};
 ghost use Rattle.far_types.specs.Table.{Place, groups, is_pending, rows_of};
-ghost use Rattle.far_aggregates.specs.Accumulators.{KeepsSlot};
+ghost use Rattle.far_aggregates.specs.Accumulators.{KeepsEntry};
 ghost use Rattle.far_aggregates.specs.Recounting.{partial_at, partials_from};
 
 use super::aggregate::Aggregate;
@@ -22,10 +22,10 @@ fn merge_next(
 ) -> Result<(), Refusal>
     requires size { 0 < size }
     requires pending { is_pending aggregate.old.pending number ≡ true }
-    requires may { (places : List Place) × (length places ≤ 2 ^ 24) × (partial ≡ partial_at aggregate.old.spec size places number) × KeepsSlot size places (Some aggregate.old) }
+    requires may { (places : List Place) × (length places ≤ 2 ^ 24) × (partial ≡ partial_at aggregate.old.spec size places number) × KeepsEntry size places (Some aggregate.old) }
     ensures spec { OnOk result (aggregate.new.spec ≡ aggregate.old.spec) }
     ensures pending { OnOk result (aggregate.new.pending ≡ slice_set aggregate.old.pending number false) }
-    ensures kept { OnOk result ((places : List Place) → partial ≡ partial_at aggregate.old.spec size places number → KeepsSlot size places (Some aggregate.old) → KeepsSlot size places (Some aggregate.new)) }
+    ensures kept { OnOk result ((places : List Place) → partial ≡ partial_at aggregate.old.spec size places number → KeepsEntry size places (Some aggregate.old) → KeepsEntry size places (Some aggregate.new)) }
     ensures memory { IfErr result (λ e. e ≡ Refusal.NoMemory) }
 {
     merge_in(&mut aggregate.accumulator, number, partial)?;

@@ -2,7 +2,7 @@
 ghost use Rattle.std.specs.Prelude.{◌≡◌, ◌<◌, ◌≤◌, ◌+◌, ◌^◌, ℕ, List, Some, None, true, length, replicate, slice_get, slice_set, IfOk, IfErr, IfSome, OnOk, OnErr};
 ghost use Rattle.std.specs.Option.{option_copied};
 ghost use Rattle.far_types.specs.Table.{Place, groups, is_pending};
-ghost use Rattle.far_aggregates.specs.Accumulators.{Keeps, KeepsSlot, KeepsNothing, fold_of, registered_in, registered_of};
+ghost use Rattle.far_aggregates.specs.Accumulators.{Keeps, KeepsEntry, KeepsNothing, fold_of, registered_in, registered_of};
 ghost use Rattle.far_aggregates.specs.Aggregates.{free_from, joined};
 
 use super::aggregate::{Accumulator, Aggregate};
@@ -13,28 +13,28 @@ use far_types::{Fold, Refusal, Spec};
 use std::alloc::Global;
 
 /// The lowest number under which no aggregate is registered.
-pub fn free_number(slots: &[Option<Aggregate>]) -> Option<u32>
-    requires { length slots.now ≤ 32 }
-    ensures value { result ≡ free_from 0 (registered_of slots.now) }
-    ensures within { IfSome result (λ a. a ≤ length slots.now) }
+pub fn free_number(registry: &[Option<Aggregate>]) -> Option<u32>
+    requires { length registry.now ≤ 32 }
+    ensures value { result ≡ free_from 0 (registered_of registry.now) }
+    ensures within { IfSome result (λ a. a ≤ length registry.now) }
     ensures number { IfSome result (λ a. a < 32) }
 {
-    for i in 0..slots.len() {
-        if slots[i].is_none() {
+    for i in 0..registry.len() {
+        if registry[i].is_none() {
             return Some(i as u32);
         }
     }
-    if slots.len() < 32 {
-        return Some(slots.len() as u32);
+    if registry.len() < 32 {
+        return Some(registry.len() as u32);
     }
     None
 }
 
 /// The aggregate of a number, if there is one.
-pub fn aggregate_at(slots: &[Option<Aggregate>], a: u32) -> Option<&Aggregate>
-    ensures { option_copied result ≡ joined (slice_get slots.now a) }
+pub fn aggregate_at(registry: &[Option<Aggregate>], a: u32) -> Option<&Aggregate>
+    ensures { option_copied result ≡ joined (slice_get registry.now a) }
 {
-    match slots.get(a as usize) {
+    match registry.get(a as usize) {
         Some(Some(aggregate)) => Some(aggregate),
         _ => None,
     }
@@ -71,8 +71,8 @@ pub fn new_aggregate(
 ) -> Result<Aggregate, Refusal>
     requires size { 0 < size }
     requires few { places ≤ 2 ^ 24 }
-    ensures registered { IfOk result (λ a. registered_in (Some a) ≡ Some (record { spec = spec; registration = registration; unbuilt = replicate (groups size places) true })) }
-    ensures kept { IfOk result (λ a. (all : List Place) → length all ≡ places → KeepsSlot size all (Some a)) }
+    ensures registered { IfOk result (λ a. registered_in (Some a) ≡ Some (record { spec = spec; registration = registration; pending = replicate (groups size places) true })) }
+    ensures kept { IfOk result (λ a. (all : List Place) → length all ≡ places → KeepsEntry size all (Some a)) }
     ensures memory { IfErr result (λ e. e ≡ Refusal.NoMemory) }
 {
     let groups = group_count(size, places);
@@ -86,20 +86,20 @@ pub fn new_aggregate(
 }
 
 /// Puts an aggregate under a number, which is free.
-pub fn put(slots: &mut Vec<Option<Aggregate>>, a: u32, aggregate: Aggregate) -> Result<(), Refusal>
+pub fn put(registry: &mut Vec<Option<Aggregate>>, a: u32, aggregate: Aggregate) -> Result<(), Refusal>
     requires number { a < 32 }
-    requires within { a ≤ length slots.old.items }
-    requires numbers { length slots.old.items ≤ 32 }
-    ensures registered { OnOk result (registered_of slots.new.items ≡ slice_set (registered_of slots.old.items) a (registered_in (Some aggregate))) }
-    ensures kept { (size : ℕ) → (places : List Place) → Keeps size places slots.old.items → KeepsSlot size places (Some aggregate) → Keeps size places slots.new.items }
-    ensures numbers { length slots.new.items ≤ 32 }
-    ensures unchanged { OnErr result (slots.new.items ≡ slots.old.items) }
+    requires within { a ≤ length registry.old.items }
+    requires numbers { length registry.old.items ≤ 32 }
+    ensures registered { OnOk result (registered_of registry.new.items ≡ slice_set (registered_of registry.old.items) a (registered_in (Some aggregate))) }
+    ensures kept { (size : ℕ) → (places : List Place) → Keeps size places registry.old.items → KeepsEntry size places (Some aggregate) → Keeps size places registry.new.items }
+    ensures numbers { length registry.new.items ≤ 32 }
+    ensures unchanged { OnErr result (registry.new.items ≡ registry.old.items) }
     ensures memory { IfErr result (λ e. e ≡ Refusal.NoMemory) }
 {
-    if a as usize == slots.len() {
-        slots.push(Some(aggregate))?;
+    if a as usize == registry.len() {
+        registry.push(Some(aggregate))?;
     } else {
-        slots[a as usize] = Some(aggregate);
+        registry[a as usize] = Some(aggregate);
     }
     Ok(())
 }
@@ -107,7 +107,7 @@ pub fn put(slots: &mut Vec<Option<Aggregate>>, a: u32, aggregate: Aggregate) -> 
 /// Registers an aggregate over so many places under a number, which is free.
 pub fn register(
     alloc: Global,
-    slots: &mut Vec<Option<Aggregate>>,
+    registry: &mut Vec<Option<Aggregate>>,
     a: u32,
     spec: Spec,
     registration: u64,
@@ -117,24 +117,24 @@ pub fn register(
     requires size { 0 < size }
     requires few { places ≤ 2 ^ 24 }
     requires number { a < 32 }
-    requires within { a ≤ length slots.old.items }
-    requires numbers { length slots.old.items ≤ 32 }
-    ensures registered { OnOk result (registered_of slots.new.items ≡ slice_set (registered_of slots.old.items) a (Some (record { spec = spec; registration = registration; unbuilt = replicate (groups size places) true }))) }
-    ensures kept { (all : List Place) → length all ≡ places → Keeps size all slots.old.items → Keeps size all slots.new.items }
-    ensures numbers { length slots.new.items ≤ 32 }
-    ensures unchanged { OnErr result (slots.new.items ≡ slots.old.items) }
+    requires within { a ≤ length registry.old.items }
+    requires numbers { length registry.old.items ≤ 32 }
+    ensures registered { OnOk result (registered_of registry.new.items ≡ slice_set (registered_of registry.old.items) a (Some (record { spec = spec; registration = registration; pending = replicate (groups size places) true }))) }
+    ensures kept { (all : List Place) → length all ≡ places → Keeps size all registry.old.items → Keeps size all registry.new.items }
+    ensures numbers { length registry.new.items ≤ 32 }
+    ensures unchanged { OnErr result (registry.new.items ≡ registry.old.items) }
     ensures memory { IfErr result (λ e. e ≡ Refusal.NoMemory) }
 {
     let aggregate = new_aggregate(alloc, spec, registration, size, places)?;
-    put(slots, a, aggregate)
+    put(registry, a, aggregate)
 }
 
 /// No aggregate is under the number any more.
-pub fn forget(slots: &mut Vec<Option<Aggregate>>, a: u32)
-    requires { a < length slots.old.items }
-    ensures registered { registered_of slots.new.items ≡ slice_set (registered_of slots.old.items) a None }
-    ensures kept { (size : ℕ) → (places : List Place) → Keeps size places slots.old.items → Keeps size places slots.new.items }
-    ensures numbers { length slots.new.items ≡ length slots.old.items }
+pub fn forget(registry: &mut Vec<Option<Aggregate>>, a: u32)
+    requires { a < length registry.old.items }
+    ensures registered { registered_of registry.new.items ≡ slice_set (registered_of registry.old.items) a None }
+    ensures kept { (size : ℕ) → (places : List Place) → Keeps size places registry.old.items → Keeps size places registry.new.items }
+    ensures numbers { length registry.new.items ≡ length registry.old.items }
 {
-    slots[a as usize] = None;
+    registry[a as usize] = None;
 }

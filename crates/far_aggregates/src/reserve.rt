@@ -7,10 +7,10 @@ ghost use Rattle.far_aggregates.specs.Reserve.{AreReserved, reserved};
 use super::aggregate::{Accumulator, Aggregate};
 
 /// Reserves a row group, if the aggregate is of extrema.
-fn reserve_one(slot: &mut Option<Aggregate>, group: u32)
-    ensures { slot.new ≡ reserved group slot.old }
+fn reserve_one(entry: &mut Option<Aggregate>, group: u32)
+    ensures { entry.new ≡ reserved group entry.old }
 {
-    if let Some(aggregate) = slot {
+    if let Some(aggregate) = entry {
         if let Accumulator::Extrema(live) = &mut aggregate.accumulator {
             live.reserve(group);
         }
@@ -18,12 +18,12 @@ fn reserve_one(slot: &mut Option<Aggregate>, group: u32)
 }
 
 /// Reserves a row group in each aggregate, which stays the same. Allocates nothing.
-pub fn reserve_all(slots: &mut [Option<Aggregate>], group: u32)
-    ensures reserved { AreReserved group slots.new }
-    ensures registered { map registered_in slots.new ≡ map registered_in slots.old }
-    ensures kept { (size : ℕ) → (places : List Place) → Keeps size places slots.old → Keeps size places slots.new }
+pub fn reserve_all(registry: &mut [Option<Aggregate>], group: u32)
+    ensures reserved { AreReserved group registry.new }
+    ensures registered { map registered_in registry.new ≡ map registered_in registry.old }
+    ensures kept { (size : ℕ) → (places : List Place) → Keeps size places registry.old → Keeps size places registry.new }
 {
-    for i in 0..slots.len() {
-        reserve_one(&mut slots[i], group);
+    for i in 0..registry.len() {
+        reserve_one(&mut registry[i], group);
     }
 }

@@ -4,9 +4,9 @@ ghost use Rattle.std.specs.FinMap as fin;
 ghost use Rattle.far_types.specs.Answers.{extrema};
 ghost use Rattle.far_types.specs.Effects.{widened};
 ghost use Rattle.far_extrema.specs.Live.{group_at};
-ghost use Rattle.far_extrema.specs.Spans.{put_span};
+ghost use Rattle.far_extrema.specs.MinMaxes.{put_min_max};
 ghost use Rattle.far_aggregates.specs.Accumulators.{pairs_here, registered_in};
-ghost use Rattle.far_aggregates.specs.Lending.{IsServed, SlotIsServed, AreServed};
+ghost use Rattle.far_aggregates.specs.Lending.{IsServed, EntryIsServed, AreServed};
 ghost use Rattle.far_aggregates.specs.Retract.{retracted, MayRetract, EachMayRetract, IsPlain, EachIsPlain};
 ghost use Rattle.far_aggregates.specs.Until.{zip_all};
 
@@ -16,20 +16,20 @@ use super::lend_group::LendGroup;
 use super::needed::{has_no_test, needed_columns, untested_columns};
 use super::pairs::Pair;
 use far_extrema::{MinMax, RowsLeft};
-use far_offload::span_under;
+use far_offload::min_max_under;
 use far_types::{Key, Spec};
 
 /// The least and the greatest value of the rows of a row group that stand under a key, where there is one. An aggregate without
 /// tests, of which there are many, is lent no columns for them.
 #[inline(always)]
-fn span_left<G: LendGroup>(spec: &Spec, group: &G, key: &Option<Key>) -> Option<MinMax>
+fn min_max_left<G: LendGroup>(spec: &Spec, group: &G, key: &Option<Key>) -> Option<MinMax>
     requires { IsServed (G.has group.now) spec.now }
     ensures { result ≡ fin.get (extrema (pairs_here spec.now (G.places group.now))) key.now }
 {
     if has_no_test(spec) {
-        return span_under(spec, &untested_columns(spec, group), group.alive(), key);
+        return min_max_under(spec, &untested_columns(spec, group), group.alive(), key);
     }
-    span_under(spec, &needed_columns(spec, group), group.alive(), key)
+    min_max_under(spec, &needed_columns(spec, group), group.alive(), key)
 }
 
 /// The rows of a row group that are left under the key of a retracted pair, as an aggregate folds them.
@@ -47,8 +47,8 @@ impl<'a, G: LendGroup> RowsLeft for Left<'a, G> {
 
     /// It is not inlined, so that its callers keep no stack space for columns that mostly are not looked at.
     #[inline(never)]
-    fn span(&self) -> Option<MinMax> {
-        span_left(self.spec, self.group, self.key)
+    fn min_max(&self) -> Option<MinMax> {
+        min_max_left(self.spec, self.group, self.key)
     }
 }
 
@@ -56,8 +56,8 @@ impl<'a, G: LendGroup> RowsLeft for Left<'a, G> {
 /// greatest under its key.
 fn shrink<G: LendGroup>(live: &mut KnownExtrema, spec: &Spec, group: &G, number: u32, pair: &Pair)
     requires served { IsServed (G.has group.now) spec.now }
-    requires seen { fin.get (group_at live.old.groups number) pair.now.0 ≡ Some (widened pair.now.1 (fin.get (extrema (pairs_here spec.now (G.places group.now))) pair.now.0)) }
-    ensures { live.new ≡ record live.old { groups = slice_set live.old.groups number (put_span (group_at live.old.groups number) pair.now.0 (fin.get (extrema (pairs_here spec.now (G.places group.now))) pair.now.0)) } }
+    requires observed { fin.get (group_at live.old.groups number) pair.now.0 ≡ Some (widened pair.now.1 (fin.get (extrema (pairs_here spec.now (G.places group.now))) pair.now.0)) }
+    ensures { live.new ≡ record live.old { groups = slice_set live.old.groups number (put_min_max (group_at live.old.groups number) pair.now.0 (fin.get (extrema (pairs_here spec.now (G.places group.now))) pair.now.0)) } }
 {
     let left = Left {
         spec,
@@ -69,16 +69,16 @@ fn shrink<G: LendGroup>(live: &mut KnownExtrema, spec: &Spec, group: &G, number:
 
 /// Retracts a pair, if there is one.
 fn retract_one<G: LendGroup>(
-    slot: &mut Option<Aggregate>,
+    entry: &mut Option<Aggregate>,
     group: &G,
     number: u32,
     to_retract: &Option<Pair>,
 )
-    requires served { SlotIsServed (G.has group.now) (registered_in slot.old) }
-    requires may { MayRetract number (G.places group.now) slot.old to_retract.now }
-    ensures { slot.new ≡ retracted number (G.places group.now) slot.old to_retract.now }
+    requires served { EntryIsServed (G.has group.now) (registered_in entry.old) }
+    requires may { MayRetract number (G.places group.now) entry.old to_retract.now }
+    ensures { entry.new ≡ retracted number (G.places group.now) entry.old to_retract.now }
 {
-    if let Some(aggregate) = slot {
+    if let Some(aggregate) = entry {
         if let Some(pair) = to_retract {
             match &mut aggregate.accumulator {
                 Accumulator::Totals(live) => live.take(&pair.0, pair.1),
@@ -90,26 +90,26 @@ fn retract_one<G: LendGroup>(
 
 /// Retracts the pairs that a place of a row group gave before its row changed.
 pub fn retract_all<G: LendGroup>(
-    slots: &mut [Option<Aggregate>],
+    registry: &mut [Option<Aggregate>],
     group: &G,
     number: u32,
     to_retract: &[Option<Pair>],
 )
-    requires served { AreServed (G.has group.now) (map registered_in slots.old) }
-    requires len { length to_retract.now ≤ length slots.old }
-    requires may { EachMayRetract number (G.places group.now) slots.old to_retract.now }
-    ensures { slots.new ≡ zip_all (retracted number (G.places group.now)) slots.old to_retract.now }
+    requires served { AreServed (G.has group.now) (map registered_in registry.old) }
+    requires len { length to_retract.now ≤ length registry.old }
+    requires may { EachMayRetract number (G.places group.now) registry.old to_retract.now }
+    ensures { registry.new ≡ zip_all (retracted number (G.places group.now)) registry.old to_retract.now }
 {
     for i in 0..to_retract.len() {
-        retract_one(&mut slots[i], group, number, &to_retract[i]);
+        retract_one(&mut registry[i], group, number, &to_retract[i]);
     }
 }
 
 /// Whether a pair is retracted from extrema, so that rows may have to be read.
-fn needs_rows_at(slot: &Option<Aggregate>, to_retract: &Option<Pair>) -> bool
-    ensures { result ≡ false → IsPlain slot.now to_retract.now }
+fn needs_rows_at(entry: &Option<Aggregate>, to_retract: &Option<Pair>) -> bool
+    ensures { result ≡ false → IsPlain entry.now to_retract.now }
 {
-    if let Some(aggregate) = slot {
+    if let Some(aggregate) = entry {
         if let Some(_) = to_retract {
             if let Accumulator::Extrema(_) = &aggregate.accumulator {
                 return true;
@@ -120,12 +120,12 @@ fn needs_rows_at(slot: &Option<Aggregate>, to_retract: &Option<Pair>) -> bool
 }
 
 /// Whether a pair is retracted from some extrema.
-pub fn needs_rows(slots: &[Option<Aggregate>], to_retract: &[Option<Pair>]) -> bool
-    ensures { result ≡ false → EachIsPlain slots.now to_retract.now }
+pub fn needs_rows(registry: &[Option<Aggregate>], to_retract: &[Option<Pair>]) -> bool
+    ensures { result ≡ false → EachIsPlain registry.now to_retract.now }
 {
-    let n = slots.len().min(to_retract.len());
+    let n = registry.len().min(to_retract.len());
     for i in 0..n {
-        if needs_rows_at(&slots[i], &to_retract[i]) {
+        if needs_rows_at(&registry[i], &to_retract[i]) {
             return true;
         }
     }
@@ -133,12 +133,12 @@ pub fn needs_rows(slots: &[Option<Aggregate>], to_retract: &[Option<Pair>]) -> b
 }
 
 /// Retracts a pair from totals, if there is one.
-fn retract_plain(slot: &mut Option<Aggregate>, to_retract: &Option<Pair>)
-    requires plain { IsPlain slot.old to_retract.now }
-    requires may { MayRetract 0 [] slot.old to_retract.now }
-    ensures { slot.new ≡ retracted 0 [] slot.old to_retract.now }
+fn retract_plain(entry: &mut Option<Aggregate>, to_retract: &Option<Pair>)
+    requires plain { IsPlain entry.old to_retract.now }
+    requires may { MayRetract 0 [] entry.old to_retract.now }
+    ensures { entry.new ≡ retracted 0 [] entry.old to_retract.now }
 {
-    if let Some(aggregate) = slot {
+    if let Some(aggregate) = entry {
         if let Some(pair) = to_retract {
             if let Accumulator::Totals(live) = &mut aggregate.accumulator {
                 live.take(&pair.0, pair.1);
@@ -148,13 +148,13 @@ fn retract_plain(slot: &mut Option<Aggregate>, to_retract: &Option<Pair>)
 }
 
 /// Retracts the pairs that a place gave before its row changed, all of them from totals.
-pub fn retract_totals(slots: &mut [Option<Aggregate>], pairs: &[Option<Pair>])
-    requires len { length pairs.now ≤ length slots.old }
-    requires plain { EachIsPlain slots.old pairs.now }
-    requires may { EachMayRetract 0 [] slots.old pairs.now }
-    ensures { slots.new ≡ zip_all (retracted 0 []) slots.old pairs.now }
+pub fn retract_totals(registry: &mut [Option<Aggregate>], pairs: &[Option<Pair>])
+    requires len { length pairs.now ≤ length registry.old }
+    requires plain { EachIsPlain registry.old pairs.now }
+    requires may { EachMayRetract 0 [] registry.old pairs.now }
+    ensures { registry.new ≡ zip_all (retracted 0 []) registry.old pairs.now }
 {
     for i in 0..pairs.len() {
-        retract_plain(&mut slots[i], &pairs[i]);
+        retract_plain(&mut registry[i], &pairs[i]);
     }
 }

@@ -6,9 +6,9 @@ ghost use Rattle.far_types.specs.Effects.{joined_totals};
 ghost use Rattle.far_types.specs.Table.{Place, in_group};
 ghost use Rattle.far_groups.specs.Live.{CanJoin};
 ghost use Rattle.far_offload.specs.Partials.{partial_of};
-ghost use Rattle.far_aggregates.specs.Accumulators.{KeepsSlot, Keeps, fold_of, pairs_here, registered_in, registered_of};
-ghost use Rattle.far_aggregates.specs.Lending.{IsServed, SlotIsServed};
-ghost use Rattle.far_aggregates.specs.Scans.{scanned_slot, has_pending, IsScanned, IsSame, AccumulatorMayScan, SlotMayBuild};
+ghost use Rattle.far_aggregates.specs.Accumulators.{KeepsEntry, Keeps, fold_of, pairs_here, registered_in, registered_of};
+ghost use Rattle.far_aggregates.specs.Lending.{IsServed, EntryIsServed};
+ghost use Rattle.far_aggregates.specs.Scans.{scanned_entry, has_pending, IsScanned, IsSame, AccumulatorMayScan, EntryMayBuild};
 ghost use Rattle.far_aggregates.specs.Aggregates.{joined};
 ghost use Rattle.far_aggregates.specs.Recounting.{AccumulatorMayMerge, IsMerged};
 
@@ -110,21 +110,21 @@ fn scan<G: LendGroup>(
 /// answers as before.
 fn build_in<G: LendGroup>(
     alloc: Global,
-    slot: &mut Option<Aggregate>,
+    entry: &mut Option<Aggregate>,
     group: &G,
     size: u32,
     number: u32,
 ) -> Result<(), Refusal>
     requires size { 0 < size }
-    requires pending { has_pending number slot.old ≡ true }
-    requires served { SlotIsServed (G.has group.now) (registered_in slot.old) }
-    requires may { SlotMayBuild size number (G.places group.now) slot.old }
-    ensures registered { OnOk result (registered_in slot.new ≡ scanned_slot number (registered_in slot.old)) }
-    ensures kept { (places : List Place) → G.places group.now ≡ in_group size number places → KeepsSlot size places slot.old → KeepsSlot size places slot.new }
-    ensures unchanged { OnErr result (registered_in slot.new ≡ registered_in slot.old) }
+    requires pending { has_pending number entry.old ≡ true }
+    requires served { EntryIsServed (G.has group.now) (registered_in entry.old) }
+    requires may { EntryMayBuild size number (G.places group.now) entry.old }
+    ensures registered { OnOk result (registered_in entry.new ≡ scanned_entry number (registered_in entry.old)) }
+    ensures kept { (places : List Place) → G.places group.now ≡ in_group size number places → KeepsEntry size places entry.old → KeepsEntry size places entry.new }
+    ensures unchanged { OnErr result (registered_in entry.new ≡ registered_in entry.old) }
     ensures memory { IfErr result (λ e. e ≡ Refusal.NoMemory) }
 {
-    if let Some(aggregate) = slot {
+    if let Some(aggregate) = entry {
         scan(
             alloc,
             &mut aggregate.accumulator,
@@ -141,21 +141,21 @@ fn build_in<G: LendGroup>(
 /// as before.
 pub fn build_at<G: LendGroup>(
     alloc: Global,
-    slots: &mut Vec<Option<Aggregate>>,
+    registry: &mut Vec<Option<Aggregate>>,
     a: u32,
     group: &G,
     size: u32,
     number: u32,
 ) -> Result<(), Refusal>
     requires size { 0 < size }
-    requires pending { has_pending number (joined (slice_get slots.old.items a)) ≡ true }
-    requires served { SlotIsServed (G.has group.now) (registered_in (joined (slice_get slots.old.items a))) }
-    requires may { SlotMayBuild size number (G.places group.now) (joined (slice_get slots.old.items a)) }
-    ensures registered { OnOk result (registered_of slots.new.items ≡ slice_set (registered_of slots.old.items) a (scanned_slot number (registered_in (joined (slice_get slots.old.items a))))) }
-    ensures kept { (places : List Place) → G.places group.now ≡ in_group size number places → Keeps size places slots.old.items → Keeps size places slots.new.items }
-    ensures unchanged { OnErr result (registered_of slots.new.items ≡ registered_of slots.old.items) }
+    requires pending { has_pending number (joined (slice_get registry.old.items a)) ≡ true }
+    requires served { EntryIsServed (G.has group.now) (registered_in (joined (slice_get registry.old.items a))) }
+    requires may { EntryMayBuild size number (G.places group.now) (joined (slice_get registry.old.items a)) }
+    ensures registered { OnOk result (registered_of registry.new.items ≡ slice_set (registered_of registry.old.items) a (scanned_entry number (registered_in (joined (slice_get registry.old.items a))))) }
+    ensures kept { (places : List Place) → G.places group.now ≡ in_group size number places → Keeps size places registry.old.items → Keeps size places registry.new.items }
+    ensures unchanged { OnErr result (registered_of registry.new.items ≡ registered_of registry.old.items) }
     ensures memory { IfErr result (λ e. e ≡ Refusal.NoMemory) }
 {
-    build_in(alloc, &mut slots[a as usize], group, size, number)?;
+    build_in(alloc, &mut registry[a as usize], group, size, number)?;
     Ok(())
 }

@@ -8,7 +8,7 @@ use std::alloc::{AllocError, Global};
 /// How many places a table has: 16 row groups of 64.
 pub(crate) const PLACES: u32 = 1_024;
 
-/// Room for all of them.
+/// Space for all of them.
 pub(crate) const LIMITS: Limits = Limits {
     group: 64,
     places: PLACES,

@@ -9,7 +9,7 @@ use far_store::FarTickets;
 use far_types::Refusal;
 use std::alloc::Global;
 
-/// Room for 2,097,152 numbers, and no bound on writes.
+/// Space for 2,097,152 numbers, and no bound on writes.
 const LIMITS: ObjectLimits = ObjectLimits {
     segments: 32,
     size: 65_536,
@@ -237,7 +237,7 @@ fn time_in<S: FarTickets>(
     time_filled(rt, objects, &mut column, count, rounds, times)
 }
 
-/// Times the sums of so many numbers, in a list and in a column whose objects are all local: there is room for 2,097,152
+/// Times the sums of so many numbers, in a list and in a column whose objects are all local: there is space for 2,097,152
 /// numbers. Each time becomes the least of all rounds. Returns what keeps the work from being left out.
 pub(crate) fn measure<S: FarTickets>(
     rt: &HostRuntime,

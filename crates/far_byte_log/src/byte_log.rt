@@ -39,7 +39,7 @@ pub struct Extent {
     written: Vec<Written<u8>>,
 }
 
-/// The log has no room for so many bytes.
+/// The log has no space for so many bytes.
 #[derive(Drop, Debug)]
 pub struct LogFull;
 
@@ -147,7 +147,7 @@ impl Engine for ByteLog {
 
     ghost engine_id = { λ log. log };
 
-    ghost is_of = { λ key name. (i : ℕ) → IfSome (slice_get key.written.items i) (λ token. slice_get name (key.offset + i) ≡ Some token.of) };
+    ghost is_of = { λ key id. (i : ℕ) → IfSome (slice_get key.written.items i) (λ token. slice_get id (key.offset + i) ≡ Some token.of) };
 
     fn write(&self, alloc: Global, bytes: &[u8]) -> Result<Extent, Failure<LogFull>> {
         let mut written = Vec::with_capacity(alloc, bytes.len())?;

@@ -39,14 +39,14 @@ bytes_with texts i after text =
 
 -- the ends behind fit, counted anew
 pub ends_fit : (texts : Texts) (i after end : ℕ) (text : Option (List ℕ)) → after ≤ length texts → end ≡ bytes_before texts i + length (bytes_of text) → text_bytes (take i texts ++ text ∷ drop after texts) < 2 ^ 32 → All (λ e. (bytes_before texts after ≤ e) × (e - bytes_before texts after + end < 2 ^ 32)) (drop after (ends_of texts))
-ends_fit texts i after end text h is room k d inside =
+ends_fit texts i after end text h is space k d inside =
     let b = bytes_before texts after in
     let back = drop after texts in
     let shown = ends_dropped texts after h in
     let many : k < length back = omega (arith, ap length shown, length-map (ends_of back) (λ e. b + e), length-ends_of back) in
     let e : get_or (drop after (ends_of texts)) k d ≡ b + bytes_before back (k + 1) =
     ap (λ l. get_or l k d) shown ∙ get_or-map (λ e. b + e) (ends_of back) k 0 d (omega (arith, length-ends_of back)) ∙ ap (λ n. b + n) (end_at back k many) in
-    (omega (arith, e), omega (arith, e, is, before_le back (k + 1), bytes_with texts i after text, room))
+    (omega (arith, e), omega (arith, e, is, before_le back (k + 1), bytes_with texts i after text, space))
 
 -- the words of ends are their bytes
 pub flat_words : (words : List (List ℕ)) (ends : List ℕ) (i : ℕ) → words ≡ map (to_le_bytes w32) ends → flat_map (λ word. word) (take i words) ≡ flat_map (to_le_bytes w32) (take i ends)

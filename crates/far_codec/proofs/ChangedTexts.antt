@@ -14,12 +14,12 @@ use Rattle.far_codec.specs.TextLaws.{Texts}
 use Rattle.far_codec.proofs.TextForms.{texts_form_is}
 
 pub are_with : (texts : Texts) (i : ℕ) (text : Option (List ℕ)) → AreTexts texts → IfSome text IsUtf8 → texts_length (with_text texts i text) < 2 ^ 32 → AreTexts (with_text texts i text)
-are_with texts i text are utf8 room =
+are_with texts i text are utf8 space =
     let fits : Option (List ℕ) → Type 0 = λ t. IfSome t IsUtf8 in
     record {
       utf8 = All-append fits (take i texts) (text ∷ drop (i + 1) texts) (All-take fits i texts are.utf8) (All-cons fits text (drop (i + 1) texts) utf8 (All-drop fits (i + 1) texts are.utf8));
-      count = omega (arith, room);
-      bytes = omega (arith, room);
+      count = omega (arith, space);
+      bytes = omega (arith, space);
     }
 
 -- text i stands among them

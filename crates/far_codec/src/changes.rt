@@ -10,7 +10,7 @@ ghost use Rattle.far_codec.specs.TextForm.{bytes_of, ends_of, texts_of, ends_in,
 use crate::flags::ChangedFlags;
 use crate::lengths::{length_of, length_with, length_with_next};
 use crate::mask::push_head;
-use crate::text_forms::{bytes_in, known_parts};
+use crate::text_forms::{bytes_in, form_parts};
 use crate::texts::{TextParts, end_in, start_in};
 use far_types::{Refusal, Text};
 use std::alloc::{AllocError, Global};
@@ -43,7 +43,7 @@ fn push_fields(
     requires parts { AreTextParts parts.mask.now (ends_in parts.ends.now) parts.body.now }
     requires words { parts.ends.now ≡ map (to_le_bytes w32) (ends_in parts.ends.now) }
     requires there { i ≤ length parts.ends.now }
-    requires room { text_bytes (with_text (texts_of parts.mask.now (ends_in parts.ends.now) parts.body.now) i text.now) < 2 ^ 32 }
+    requires space { text_bytes (with_text (texts_of parts.mask.now (ends_in parts.ends.now) parts.body.now) i text.now) < 2 ^ 32 }
     ensures utf8 { IfSome text.now IsUtf8 }
     ensures written { let texts = with_text (texts_of parts.entry.mask.now (ends_in parts.entry.ends.now) parts.entry.body.now) i text.now in OnOk result (form.new.items ≡ form.old.items ++ (flat_map (to_le_bytes w32) (ends_of texts) ++ flat_map bytes_of texts)) }
 {
@@ -65,7 +65,7 @@ fn push_fields(
     Ok(())
 }
 
-/// A list that is needed no more, without its bytes and with room for so many. It allocates only if it has not the room.
+/// A list that is needed no more, without its bytes and with space for so many. It allocates only if it has not the space.
 #[inline(always)]
 fn emptied(spare: Vec<u8>, size: usize) -> Result<Vec<u8>, Refusal>
     ensures items { IfOk result (λ list. list.items ≡ []) }
@@ -89,7 +89,7 @@ fn form_around(
     requires words { parts.ends.now ≡ map (to_le_bytes w32) (ends_in parts.ends.now) }
     requires texts { AreTexts (texts_of parts.mask.now (ends_in parts.ends.now) parts.body.now) }
     requires there { i ≤ length parts.ends.now }
-    requires room { texts_length (with_text (texts_of parts.mask.now (ends_in parts.ends.now) parts.body.now) i text.now) < 2 ^ 32 }
+    requires space { texts_length (with_text (texts_of parts.mask.now (ends_in parts.ends.now) parts.body.now) i text.now) < 2 ^ 32 }
     ensures form { IfOk result (λ new. IsTextsForm new.items) }
     ensures texts { let texts = with_text (texts_of parts.entry.mask.now (ends_in parts.entry.ends.now) parts.entry.body.now) i text.now in IfOk result (λ new. texts_meaning new.items ≡ texts) }
     ensures length { let texts = with_text (texts_of parts.entry.mask.now (ends_in parts.entry.ends.now) parts.entry.body.now) i text.now in IfOk result (λ new. length new.items ≡ texts_length texts) }
@@ -119,7 +119,7 @@ fn form_behind(
     requires words { parts.ends.now ≡ map (to_le_bytes w32) (ends_in parts.ends.now) }
     requires texts { AreTexts (texts_of parts.mask.now (ends_in parts.ends.now) parts.body.now) }
     requires there { list_any is_none (with_text (texts_of parts.mask.now (ends_in parts.ends.now) parts.body.now) (length parts.ends.now) text.now) ≡ false }
-    requires room { texts_length (with_text (texts_of parts.mask.now (ends_in parts.ends.now) parts.body.now) (length parts.ends.now) text.now) < 2 ^ 32 }
+    requires space { texts_length (with_text (texts_of parts.mask.now (ends_in parts.ends.now) parts.body.now) (length parts.ends.now) text.now) < 2 ^ 32 }
     ensures form { IfOk result (λ new. IsTextsForm new.items) }
     ensures texts { let texts = with_text (texts_of parts.entry.mask.now (ends_in parts.entry.ends.now) parts.entry.body.now) (length parts.entry.ends.now) text.now in IfOk result (λ new. texts_meaning new.items ≡ texts) }
     ensures length { let texts = with_text (texts_of parts.entry.mask.now (ends_in parts.entry.ends.now) parts.entry.body.now) (length parts.entry.ends.now) text.now in IfOk result (λ new. length new.items ≡ texts_length texts) }
@@ -147,7 +147,7 @@ pub fn form_with(
 ) -> Result<Vec<u8>, Refusal>
     requires form { IsTextsForm form.now }
     requires there { i < length (texts_meaning form.now) }
-    requires room { texts_length (slice_set (texts_meaning form.now) i text.now) < 2 ^ 32 }
+    requires space { texts_length (slice_set (texts_meaning form.now) i text.now) < 2 ^ 32 }
     ensures form { IfOk result (λ new. IsTextsForm new.items) }
     ensures texts { IfOk result (λ new. texts_meaning new.items ≡ slice_set (texts_meaning form.now) i text.now) }
     ensures length { IfOk result (λ new. length new.items ≡ texts_length (slice_set (texts_meaning form.now) i text.now)) }
@@ -155,7 +155,7 @@ pub fn form_with(
 {
     form_around(
         Vec::new(alloc),
-        known_parts(form),
+        form_parts(form),
         i,
         text,
         length_with(form, i, text),
@@ -163,16 +163,16 @@ pub fn form_with(
 }
 
 /// The far form of texts once this text stands behind the others: one pass over the old form. It is made in the memory of a list
-/// that is needed no more, and allocates only if that has not the room. Refused with `NoMemory` (1) alone.
+/// that is needed no more, and allocates only if that has not the space. Refused with `NoMemory` (1) alone.
 pub fn form_with_next(spare: Vec<u8>, form: &[u8], text: &Option<Text>) -> Result<Vec<u8>, Refusal>
     requires form { IsTextsForm form.now }
-    requires room { texts_length (texts_meaning form.now ++ text.now ∷ []) < 2 ^ 32 }
+    requires space { texts_length (texts_meaning form.now ++ text.now ∷ []) < 2 ^ 32 }
     ensures form { IfOk result (λ new. IsTextsForm new.items) }
     ensures texts { IfOk result (λ new. texts_meaning new.items ≡ texts_meaning form.now ++ text.now ∷ []) }
     ensures length { IfOk result (λ new. length new.items ≡ texts_length (texts_meaning form.now ++ text.now ∷ [])) }
     ensures memory { IfErr result (λ e. e ≡ Refusal.NoMemory) }
 {
-    let parts = known_parts(form);
+    let parts = form_parts(form);
     let size = length_with_next(form, text);
     if form[0] == 1 && text.is_some() {
         return form_behind(spare, parts, text, size);

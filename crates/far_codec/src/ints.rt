@@ -97,8 +97,8 @@ pub fn encode_ints(alloc: Global, numbers: &[Option<i64>]) -> Result<Vec<u8>, Re
     ensures length { IfOk result (λ form. length form.items ≡ ints_length numbers.now) }
     ensures memory { IfErr result (λ e. e ≡ Refusal.NoMemory) }
 {
-    let room = 6 + numbers.len().div_ceil(8) + 8 * numbers.len();
-    let mut form = Vec::with_capacity(alloc, room)?;
+    let space = 6 + numbers.len().div_ceil(8) + 8 * numbers.len();
+    let mut form = Vec::with_capacity(alloc, space)?;
     push_plain_head(&mut form, numbers.len())?;
     let all = push_present(&mut form, numbers)?;
     if all {

@@ -5,7 +5,7 @@ ghost use Rattle.far_types.specs.FormLengths.{texts_length};
 ghost use Rattle.far_codec.specs.TextForm.{bytes_of, texts_meaning, IsTextsForm};
 
 use crate::flags::other_missing;
-use crate::text_forms::{bytes_in, known_parts};
+use crate::text_forms::{bytes_in, form_parts};
 use crate::texts::text_in;
 use far_types::Text;
 
@@ -30,7 +30,7 @@ fn mask_size(missing: bool, count: usize) -> usize
 /// The length of the form of so many texts with so many bytes.
 pub(crate) fn length_of(missing: bool, count: usize, bytes: usize) -> usize
     requires few { count ≤ 2 ^ 32 }
-    requires room { bytes < 2 ^ 63 + 2 ^ 33 }
+    requires space { bytes < 2 ^ 63 + 2 ^ 33 }
     ensures { result ≡ 6 + cond missing ((count + 7) / 8) 0 + 4 * count + bytes }
 {
     6 + mask_size(missing, count) + 4 * count + bytes
@@ -42,7 +42,7 @@ pub fn length_with(form: &[u8], i: usize, text: &Option<Text>) -> usize
     requires there { i < length (texts_meaning form.now) }
     ensures { result ≡ texts_length (slice_set (texts_meaning form.now) i text.now) }
 {
-    let parts = known_parts(form);
+    let parts = form_parts(form);
     let count = parts.ends.len();
     let old = lent_length(text_in(parts, i));
     let missing = text.is_none() | other_missing(parts.mask, count, i);
@@ -58,7 +58,7 @@ fn parted_length_with_next(form: &[u8], text: &Option<Text>) -> usize
     requires { IsTextsForm form.now }
     ensures { result ≡ texts_length (texts_meaning form.now ++ text.now ∷ []) }
 {
-    let parts = known_parts(form);
+    let parts = form_parts(form);
     let count = parts.ends.len();
     let missing = text.is_none() | other_missing(parts.mask, count, count);
     length_of(missing, count + 1, parts.body.len() + bytes_in(text).len())

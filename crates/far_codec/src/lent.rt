@@ -8,7 +8,7 @@ ghost use Rattle.far_codec.specs.Lent.{IsForm, lent_in};
 
 use crate::head::is_set;
 use crate::ints::option_in;
-use crate::text_forms::{known_parts, mask_size};
+use crate::text_forms::{form_parts, mask_size};
 use crate::texts::{TextParts, text_in};
 use std::marker::Model;
 
@@ -77,7 +77,7 @@ impl<'a> LentTexts<'a> {
         ensures { result ≡ texts_meaning form.now }
     {
         LentTexts {
-            parts: known_parts(form),
+            parts: form_parts(form),
         }
     }
 

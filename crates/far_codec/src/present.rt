@@ -39,7 +39,7 @@ fn push_few(form: &mut Vec<u8>, numbers: &[Option<i64>]) -> Result<bool, AllocEr
 }
 
 /// Appends the words of numbers, and tells whether none is missing. Stops at the first that is. They are written in
-/// blocks, without a test that the form has room for each.
+/// blocks, without a test that the form has space for each.
 pub(crate) fn push_present(form: &mut Vec<u8>, numbers: &[Option<i64>]) -> Result<bool, AllocError>
     ensures written { IfOk result (λ all. IsTrue all → form.new.items ≡ form.old.items ++ flat_map number_bytes numbers.now) }
     ensures there { IfOk result (λ all. IsTrue all → AllByRecursion IsThere numbers.now) }

@@ -102,7 +102,7 @@ pub(crate) fn mask_size(version: u8, count: usize) -> usize
 }
 
 /// The parts of bytes that are known to be a far form of texts.
-pub(crate) fn known_parts(form: &[u8]) -> TextParts<'_>
+pub(crate) fn form_parts(form: &[u8]) -> TextParts<'_>
     requires { IsTextsForm form.now }
     ensures parts { AreTextParts result.mask.now (ends_in result.ends.now) result.body.now }
     ensures words { result.ends.now ≡ map (to_le_bytes w32) (ends_in result.ends.now) }
@@ -121,7 +121,7 @@ pub fn count_texts(form: &[u8]) -> usize
     requires { IsTextsForm form.now }
     ensures { result ≡ length (texts_meaning form.now) }
 {
-    known_parts(form).ends.len()
+    form_parts(form).ends.len()
 }
 
 /// Text `i` of a far form of texts, lent in place; `None` past the end, and where it is missing. Allocates nothing,
@@ -130,5 +130,5 @@ pub fn text_of(form: &[u8], i: usize) -> Option<&str>
     requires { IsTextsForm form.now }
     ensures { option_copied result ≡ option_and_then (λ text. text) (slice_get (texts_meaning form.now) i) }
 {
-    text_in(known_parts(form), i)
+    text_in(form_parts(form), i)
 }

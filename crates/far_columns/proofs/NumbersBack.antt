@@ -15,7 +15,7 @@ use Rattle.far_vector.specs.Vector.{Vector, IsShaped, IsVector, AreDisjoint, IsU
 use Rattle.far_vector.specs.Vectors.{AreVectors, ChangesVector}
 use Rattle.far_vector.specs.Effects.{is_full, after_push, pushed_in, after_unpush}
 use Rattle.far_columns.specs.NumbersTogether.{NumberLists, NumberColumns, KeepsNumbers}
-use Rattle.far_columns.specs.NumbersBack.{KeepsBelow, IsBegun, AreBegunFrom, AreBegunLast, all_uncreated}
+use Rattle.far_columns.specs.NumbersBack.{KeepsBelow, IsBegun, AreBegunFrom, AreBegunLast, after_uncreate_all}
 use Rattle.far_columns.proofs.NumbersTogether.{pairs-head, pairs-tail, disjoint-turned}
 use Rattle.far_columns.proofs.NumbersBegun.{one-more, alone, last}
 
@@ -71,45 +71,45 @@ same_length-back (c ∷ rest) same_length =
     (same_length-back rest (pairs-tail (λ c d. (c.size ≡ d.size) × (c.len ≡ d.len)) c rest same_length))
 
 module _ {K : Type 0} where
-  pub length-uncreated : (n : ℕ) (m : Movement (Option ℤ) K) → length (all_uncreated n m).entries ≡ length m.entries - n
+  pub length-uncreated : (n : ℕ) (m : Movement (Option ℤ) K) → length (after_uncreate_all n m).records ≡ length m.records - n
   length-uncreated zero m = omega arith
   length-uncreated (suc n) m =
-      let entries = (all_uncreated n m).entries in
-      omega (arith, length-uncreated n m, length-take-le (length entries - 1) entries (omega arith))
+      let records = (after_uncreate_all n m).records in
+      omega (arith, length-uncreated n m, length-take-le (length records - 1) records (omega arith))
 
   module _ (n : ℕ) (m mid : Movement (Option ℤ) K) (keeps : KeepsBelow n m mid) (p : ℕ) (below : p < n) where
     local-kept : is_local mid p ≡ is_local m p
     local-kept = ap (λ word. is_some (option_and_then at_of word)) (keeps.words p below)
 
     pins-kept : pins_of mid p ≡ pins_of m p
-    pins-kept = ap (λ entry. option_map_or (λ e. e.pins) entry 0) (keeps.entries p below)
+    pins-kept = ap (λ object_record. option_map_or (λ e. e.pins) object_record 0) (keeps.records p below)
 
     -- a row group that is begun stays so, where its object keeps its word and its record
     pub begun-kept : (c : Vector (Option ℤ)) → IsBegun m p c → IsBegun mid p c
     begun-kept c begun = record { alone = begun.alone; last = begun.last; local = local-kept ∙ begun.local; unpinned = pins-kept ∙ begun.unpinned }
 
-  pub begun-count : (m : Movement (Option ℤ) K) (o : ℕ) (columns : NumberColumns) → AreBegunFrom m o columns → o + length columns ≡ length m.entries
+  pub begun-count : (m : Movement (Option ℤ) K) (o : ℕ) (columns : NumberColumns) → AreBegunFrom m o columns → o + length columns ≡ length m.records
   begun-count m o [] is = omega (arith, is)
   begun-count m o (c ∷ columns) begun = omega (arith, begun-count m (o + 1) columns begun.1)
 
   -- those that are begun from some object on have the last objects
   pub begun-last : (m : Movement (Option ℤ) K) (o : ℕ) (columns : NumberColumns) → AreBegunFrom m o columns → AreBegunLast m columns
   begun-last m o columns begun =
-      let first : o ≡ length m.entries - length columns = omega (arith, begun-count m o columns begun) in
+      let first : o ≡ length m.records - length columns = omega (arith, begun-count m o columns begun) in
       subst (λ n. AreBegunFrom m n columns) first begun
 
   module _ (m : Movement (Option ℤ) K) (c : Vector (Option ℤ)) (rest : NumberColumns) (begun : AreBegunLast m (c ∷ rest)) where
     -- all but the first are begun last too
     pub rest-last : AreBegunLast m rest
-    rest-last = begun-last m (length m.entries - length (c ∷ rest) + 1) rest begun.1
+    rest-last = begun-last m (length m.records - length (c ∷ rest) + 1) rest begun.1
 
     -- and once they are taken back the first is
-    pub first-last : (mid : Movement (Option ℤ) K) → mid ≡ all_uncreated (length rest) m → KeepsBelow (length mid.entries) m mid → IsBegun mid (length mid.entries - 1) c
+    pub first-last : (mid : Movement (Option ℤ) K) → mid ≡ after_uncreate_all (length rest) m → KeepsBelow (length mid.records) m mid → IsBegun mid (length mid.records - 1) c
     first-last mid is keeps =
-        let all = begun-count m (length m.entries - length (c ∷ rest)) (c ∷ rest) begun in
-        let left : length mid.entries ≡ length m.entries - length rest = ap (λ w. length w.entries) is ∙ length-uncreated (length rest) m in
-        let number : length m.entries - length (c ∷ rest) ≡ length mid.entries - 1 = omega (arith, all, left) in
-        begun-kept (length mid.entries) m mid keeps (length mid.entries - 1) (omega (arith, all, left)) c (subst (λ o. IsBegun m o c) number begun.0)
+        let all = begun-count m (length m.records - length (c ∷ rest)) (c ∷ rest) begun in
+        let left : length mid.records ≡ length m.records - length rest = ap (λ w. length w.records) is ∙ length-uncreated (length rest) m in
+        let number : length m.records - length (c ∷ rest) ≡ length mid.records - 1 = omega (arith, all, left) in
+        begun-kept (length mid.records) m mid keeps (length mid.records - 1) (omega (arith, all, left)) c (subst (λ o. IsBegun m o c) number begun.0)
 
 -- the object of a row group that is begun
 pub object-begun : (c : Vector (Option ℤ)) (n : ℕ) → IsShaped c → is_full c ≡ true → object_at (after_push c n) c.len ≡ n
@@ -118,29 +118,29 @@ object-begun c n shaped full =
     let group : length c.objects ≡ c.len / c.size = sym (ap (λ l. l / c.size) places ∙ div-mul-add (length c.objects) c.size 0 shaped.some) in
     rw full (get_or_push c.objects n 0 (c.len / c.size) group)
 
-module _ {K : Type 0} (m mid new : Movement (Option ℤ) K) (c c' : Vector (Option ℤ)) (x : Option ℤ) (shaped : IsShaped c) (full : is_full c ≡ true) (is : c' ≡ after_push c (length m.entries)) (written : mid ≡ pushed_in m c x) (others : ChangesObject m mid (object_at c' c.len)) (keeps : KeepsBelow (length mid.entries) mid new) where
-  more : length mid.entries ≡ length m.entries + 1
+module _ {K : Type 0} (m mid new : Movement (Option ℤ) K) (c c' : Vector (Option ℤ)) (x : Option ℤ) (shaped : IsShaped c) (full : is_full c ≡ true) (is : c' ≡ after_push c (length m.records)) (written : mid ≡ pushed_in m c x) (others : ChangesObject m mid (object_at c' c.len)) (keeps : KeepsBelow (length mid.records) mid new) where
+  more : length mid.records ≡ length m.records + 1
   more = one-more m mid c c' x full is written
 
-  object : object_at c' c.len ≡ length m.entries
-  object = ap (λ v. object_at v c.len) is ∙ object-begun c (length m.entries) shaped full
+  object : object_at c' c.len ≡ length m.records
+  object = ap (λ v. object_at v c.len) is ∙ object-begun c (length m.records) shaped full
 
   -- the objects that were there stay as they are
-  pub below-all : KeepsBelow (length m.entries) m new
+  pub below-all : KeepsBelow (length m.records) m new
   below-all = record {
     words = λ p below. keeps.words p (omega (arith, below, more)) ∙ others.words p (λ e. omega (arith, e, object, below));
-    entries = λ p below. keeps.entries p (omega (arith, below, more)) ∙ others.entries p (λ e. omega (arith, e, object, below));
+    records = λ p below. keeps.records p (omega (arith, below, more)) ∙ others.records p (λ e. omega (arith, e, object, below));
   }
 
   -- the row group of the first is begun, and then those of the others
-  pub begun-all : (rest' : NumberColumns) → is_local mid (length m.entries) ≡ true → pins_of mid (length m.entries) ≡ 0 → AreBegunFrom new (length mid.entries) rest' → AreBegunFrom new (length m.entries) (c' ∷ rest')
+  pub begun-all : (rest' : NumberColumns) → is_local mid (length m.records) ≡ true → pins_of mid (length m.records) ≡ 0 → AreBegunFrom new (length mid.records) rest' → AreBegunFrom new (length m.records) (c' ∷ rest')
   begun-all rest' local unpinned begun =
-      let number : length mid.entries - 1 ≡ length m.entries = omega (arith, more) in
-      let first : IsBegun mid (length m.entries) c' = record { alone = alone m mid c c' x full is written; last = last m mid c c' x full is written ∙ ap Some number; local = local; unpinned = unpinned } in
-      (begun-kept (length mid.entries) mid new keeps (length m.entries) (omega (arith, more)) c' first, subst (λ o. AreBegunFrom new o rest') more begun)
+      let number : length mid.records - 1 ≡ length m.records = omega (arith, more) in
+      let first : IsBegun mid (length m.records) c' = record { alone = alone m mid c c' x full is written; last = last m mid c c' x full is written ∙ ap Some number; local = local; unpinned = unpinned } in
+      (begun-kept (length mid.records) mid new keeps (length m.records) (omega (arith, more)) c' first, subst (λ o. AreBegunFrom new o rest') more begun)
 
   -- taking all back gives what was there
-  pub undone-all : (rest rest' : NumberColumns) → (after_unpush c' ≡ c) × (after_uncreate mid ≡ m) → (map after_unpush rest' ≡ rest) × (all_uncreated (length rest) new ≡ mid) → (map after_unpush (c' ∷ rest') ≡ c ∷ rest) × (all_uncreated (length (c ∷ rest)) new ≡ m)
+  pub undone-all : (rest rest' : NumberColumns) → (after_unpush c' ≡ c) × (after_uncreate mid ≡ m) → (map after_unpush rest' ≡ rest) × (after_uncreate_all (length rest) new ≡ mid) → (map after_unpush (c' ∷ rest') ≡ c ∷ rest) × (after_uncreate_all (length (c ∷ rest)) new ≡ m)
   undone-all rest rest' first others = (
     ap (λ d. d ∷ map after_unpush rest') first.0 ∙ ap (λ l. c ∷ l) others.0,
     ap after_uncreate others.1 ∙ first.1,

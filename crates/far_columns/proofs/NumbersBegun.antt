@@ -11,38 +11,38 @@ use Rattle.far_types.specs.declared.refusal.Refusal.TheVariants as refusal
 use Rattle.far_types.specs.FirstOf.{first_of}
 use Rattle.far_log.specs.RegionState.{spaces_of, lowest_for, fits_in, fit_in_order}
 use Rattle.far_scopes.specs.Movement.{Movement}
-use Rattle.far_scopes.specs.Effects.{after_create, new_entry}
+use Rattle.far_scopes.specs.Effects.{after_create, new_record}
 use Rattle.far_scopes.specs.Refusing.{no_space, write_refusal}
 use Rattle.far_vector.specs.Vector.{Vector, IsShaped, object_at}
 use Rattle.far_vector.specs.Effects.{is_full, after_push, pushed_in, next_name, next_group, range_written}
 use Rattle.far_vector.specs.Refusing.{push_refusal}
 use Rattle.far_columns.specs.NumbersTogether.{NumberColumns}
 
-module _ {K : Type 0} (m mid : Movement (Option ℤ) K) (c c' : Vector (Option ℤ)) (x : Option ℤ) (full : is_full c ≡ true) (is : c' ≡ after_push c (length m.entries)) (written : mid ≡ pushed_in m c x) where
+module _ {K : Type 0} (m mid : Movement (Option ℤ) K) (c c' : Vector (Option ℤ)) (x : Option ℤ) (full : is_full c ≡ true) (is : c' ≡ after_push c (length m.records)) (written : mid ≡ pushed_in m c x) where
   -- there is an object more
-  pub one-more : length mid.entries ≡ length m.entries + 1
+  pub one-more : length mid.records ≡ length m.records + 1
   one-more =
-      ap (λ w. length w.entries) (written ∙ ap (λ (b : Bool). cond b (after_create m (next_name c) (next_group c x)) (range_written m c c.len (x ∷ []))) full)
-      ∙ length_push m.entries (new_entry (next_name c) (length (next_group c x)))
+      ap (λ w. length w.records) (written ∙ ap (λ (b : Bool). cond b (after_create m (next_name c) (next_group c x)) (range_written m c c.len (x ∷ []))) full)
+      ∙ length_push m.records (new_record (next_name c) (length (next_group c x)))
 
-  longer : c' ≡ record c { objects = c.objects ++ length m.entries ∷ []; len = c.len + 1 }
-  longer = is ∙ ap (λ (b : Bool). cond b (record c { objects = c.objects ++ length m.entries ∷ []; len = c.len + 1 }) (record c { len = c.len + 1 })) full
+  longer : c' ≡ record c { objects = c.objects ++ length m.records ∷ []; len = c.len + 1 }
+  longer = is ∙ ap (λ (b : Bool). cond b (record c { objects = c.objects ++ length m.records ∷ []; len = c.len + 1 }) (record c { len = c.len + 1 })) full
 
   -- the number is alone in its row group
   pub alone : c'.len ≡ (length c'.objects - 1) * c'.size + 1
   alone =
       let places : c.len ≡ length c.objects * c.size = eqb-true c.len (length c.objects * c.size) full in
-      let groups : length c'.objects - 1 ≡ length c.objects = let more = ap (λ (v : Vector (Option ℤ)). length v.objects) longer ∙ length_push c.objects (length m.entries) in omega (arith, more) in
+      let groups : length c'.objects - 1 ≡ length c.objects = let more = ap (λ (v : Vector (Option ℤ)). length v.objects) longer ∙ length_push c.objects (length m.records) in omega (arith, more) in
       ap (λ (v : Vector (Option ℤ)). v.len) longer ∙ ap (λ n. n + 1) places ∙ ap (λ n. n * c.size + 1) (sym groups) ∙ ap (λ s. (length c'.objects - 1) * s + 1) (sym (ap (λ (v : Vector (Option ℤ)). v.size) longer))
 
   -- its object is the last
-  pub last : slice_get c'.objects (length c'.objects - 1) ≡ Some (length mid.entries - 1)
+  pub last : slice_get c'.objects (length c'.objects - 1) ≡ Some (length mid.records - 1)
   last =
-      let groups : length c'.objects - 1 ≡ length c.objects = let more = ap (λ (v : Vector (Option ℤ)). length v.objects) longer ∙ length_push c.objects (length m.entries) in omega (arith, more) in
-      let number : length m.entries ≡ length mid.entries - 1 = omega (arith, one-more) in
+      let groups : length c'.objects - 1 ≡ length c.objects = let more = ap (λ (v : Vector (Option ℤ)). length v.objects) longer ∙ length_push c.objects (length m.records) in omega (arith, more) in
+      let number : length m.records ≡ length mid.records - 1 = omega (arith, one-more) in
       ap (λ (v : Vector (Option ℤ)). slice_get v.objects (length c'.objects - 1)) longer
-      ∙ ap (slice_get (c.objects ++ length m.entries ∷ [])) groups
-      ∙ slice_get-push_last c.objects (length m.entries)
+      ∙ ap (slice_get (c.objects ++ length m.records ∷ [])) groups
+      ∙ slice_get-push_last c.objects (length m.records)
       ∙ ap Some number
 
 -- the sizes of row groups, noted one after the other
@@ -58,7 +58,7 @@ module _ (columns : NumberColumns) (sizes : List ℕ) where
       let all : k ≡ length columns = omega (arith, past, within) in
       subst (λ n. All (λ size. 0 < size) (take n sizes)) all (subst (All (λ size. 0 < size)) (sym (so ∙ take_all k (map (λ c. c.size) columns) (omega (arith, past, length-map columns (λ c. c.size))))) (All-map (λ size. 0 < size) (λ c. c.size) columns (λ k d below. (shaped k d below).some)))
 
--- where the first list finds no room, they do not all
+-- where the first list finds no space, they do not all
 pub none-fits : (spaces : List ℕ) (n : ℕ) (ns : List ℕ) → is_some (lowest_for spaces n) ≡ false → fit_in_order spaces (n ∷ ns) ≡ false
 none-fits spaces n ns full = on-none (λ i. fit_in_order (slice_set spaces i (slice_index spaces i - n)) ns) (lowest_for spaces n) full
   where
@@ -68,17 +68,17 @@ none-fits spaces n ns full = on-none (λ i. fit_in_order (slice_set spaces i (sl
 
 -- why the first of several is refused
 module _ {K : Type 0} (m : Movement (Option ℤ) K) (c : Vector (Option ℤ)) (lens : List ℕ) (full : is_full c ≡ true) where
-  due : push_refusal m c ≡ first_of (no_space m (length m.entries) c.size ∷ [])
-  due = ap (λ (b : Bool). cond b (first_of (no_space m (length m.entries) c.size ∷ [])) (write_refusal m (object_at c c.len))) full
+  due : push_refusal m c ≡ first_of (no_space m (length m.records) c.size ∷ [])
+  due = ap (λ (b : Bool). cond b (first_of (no_space m (length m.records) c.size ∷ [])) (write_refusal m (object_at c c.len))) full
 
-  room-due : (e : Refusal) (fits : Bool) → first_of ((not fits, refusal.RegionFull) ∷ []) ≡ Some e → (e ≡ refusal.RegionFull) × (fits ≡ false)
-  room-due e true is = absurd cc
-  room-due e false is = (cc, refl)
+  space-due : (e : Refusal) (fits : Bool) → first_of ((not fits, refusal.RegionFull) ∷ []) ≡ Some e → (e ≡ refusal.RegionFull) × (fits ≡ false)
+  space-due e true is = absurd cc
+  space-due e false is = (cc, refl)
 
   pub first-refused : (e : Refusal) → (push_refusal m c ≡ Some e) ⊎ ((push_refusal m c ≡ None) × (is_full c ≡ true) × (e ≡ refusal.NoMemory))
       → ((e ≡ refusal.RegionFull) × (fit_in_order (spaces_of m.memory.state) (c.size ∷ lens) ≡ false)) ⊎ (e ≡ refusal.NoMemory)
   first-refused e (inl some) =
-      let why = room-due e (fits_in m.memory.state c.size) (sym due ∙ some) in
+      let why = space-due e (fits_in m.memory.state c.size) (sym due ∙ some) in
       inl (why.0, none-fits (spaces_of m.memory.state) c.size lens why.1)
   first-refused e (inr rest) = inr rest.2
 

@@ -48,30 +48,30 @@ both-begin c d has other size len begins =
 
 -- a row group that is begun is not full, so a number is pushed where its object may be written
 pub push-free : {K : Type 0} (m : Movement (Option ℤ) K) (v : Vector (Option ℤ)) → is_full v ≡ false → None ≡ write_refusal m (object_at v v.len) → push_refusal m v ≡ None
-push-free m v begun free = ap (λ (b : Bool). cond b (first_of (no_space m (length m.entries) v.size ∷ [])) (write_refusal m (object_at v v.len))) begun ∙ sym free
+push-free m v begun free = ap (λ (b : Bool). cond b (first_of (no_space m (length m.records) v.size ∷ [])) (write_refusal m (object_at v v.len))) begun ∙ sym free
 
 pub free-push : {K : Type 0} (m : Movement (Option ℤ) K) (v : Vector (Option ℤ)) → is_full v ≡ false → push_refusal m v ≡ None → write_refusal m (object_at v v.len) ≡ None
-free-push m v begun free = sym (ap (λ (b : Bool). cond b (first_of (no_space m (length m.entries) v.size ∷ [])) (write_refusal m (object_at v v.len))) begun) ∙ free
+free-push m v begun free = sym (ap (λ (b : Bool). cond b (first_of (no_space m (length m.records) v.size ∷ [])) (write_refusal m (object_at v v.len))) begun) ∙ free
 
 -- that is the refusal before other objects change
 abbrev writing : {K : Type 0} → Option Pointer → Option (ObjectRecord K) → ℕ → Option Refusal
-writing word entry changes = first_of (
-    (not (is_some (option_and_then at_of word)), option_map_or (λ e. refusal.Absent e.name.column e.name.group) entry refusal.StaleJob)
-    ∷ (not (nat_lt (option_map_or (λ e. e.version) entry 0) changes), refusal.EditsUsedUp)
+writing word object_record changes = first_of (
+    (not (is_some (option_and_then at_of word)), option_map_or (λ e. refusal.Absent e.name.column e.name.group) object_record refusal.StaleJob)
+    ∷ (not (nat_lt (option_map_or (λ e. e.version) object_record 0) changes), refusal.EditsUsedUp)
     ∷ [])
 
 pub write-other : {K : Type 0} (old new : Movement (Option ℤ) K) (o p : ℕ) → ChangesObject old new o → new.max_writes ≡ old.max_writes → p ≢ o → write_refusal new p ≡ write_refusal old p
 write-other old new o p changes same disjoint =
-    ap (λ word. writing word (slice_get new.entries p) new.max_writes) (changes.words p disjoint)
-    ∙ ap (λ entry. writing (slice_get old.memory.words p) entry new.max_writes) (changes.entries p disjoint)
-    ∙ ap (writing (slice_get old.memory.words p) (slice_get old.entries p)) same
+    ap (λ word. writing word (slice_get new.records p) new.max_writes) (changes.words p disjoint)
+    ∙ ap (λ object_record. writing (slice_get old.memory.words p) object_record new.max_writes) (changes.records p disjoint)
+    ∙ ap (writing (slice_get old.memory.words p) (slice_get old.records p)) same
 
 pub changes-same : {K : Type 0} (m : Movement (Option ℤ) K) (v : Vector (Option ℤ)) (x : Option ℤ) → (pushed_in m v x).max_writes ≡ m.max_writes
 changes-same m v x = elim (cases_Bool (is_full v)) [ inl full ↦ rw full refl | inr begun ↦ rw begun refl ]
 
 -- a number more in a row group that is begun makes no object
-pub count-same : {K : Type 0} (m : Movement (Option ℤ) K) (v : Vector (Option ℤ)) (x : Option ℤ) → is_full v ≡ false → length (pushed_in m v x).entries ≡ length m.entries
-count-same m v x begun = rw begun (length-with m.entries (object_at v v.len) (λ entry. record entry { version = entry.version + 1 }))
+pub count-same : {K : Type 0} (m : Movement (Option ℤ) K) (v : Vector (Option ℤ)) (x : Option ℤ) → is_full v ≡ false → length (pushed_in m v x).records ≡ length m.records
+count-same m v x begun = rw begun (length-with m.records (object_at v v.len) (λ object_record. record object_record { version = object_record.version + 1 }))
 
 -- apart either way
 pub disjoint-turned : (v w : Vector (Option ℤ)) → AreDisjoint v w → AreDisjoint w v

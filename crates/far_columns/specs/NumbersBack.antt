@@ -9,7 +9,7 @@ module _ {K : Type 0} where
   -- every object with a number below n has the word and the record that it had
   pub record KeepsBelow (n : ℕ) (old new : Movement (Option ℤ) K) : Type 0 where
     pub words : (p : ℕ) → p < n → slice_get new.memory.words p ≡ slice_get old.memory.words p
-    pub entries : (p : ℕ) → p < n → slice_get new.entries p ≡ slice_get old.entries p
+    pub records : (p : ℕ) → p < n → slice_get new.records p ≡ slice_get old.records p
 
   -- the last row group of a column has one number alone, and its object is this one, which is local and has no pin
   pub record IsBegun (m : Movement (Option ℤ) K) (o : ℕ) (c : Vector (Option ℤ)) : Type 0 where
@@ -20,14 +20,14 @@ module _ {K : Type 0} where
 
   -- the last row group of each column is begun so; their objects are this one and those behind it, to the last of all
   abbrev pub AreBegunFrom : Movement (Option ℤ) K → ℕ → NumberColumns → Type 0
-  AreBegunFrom m o [] = o ≡ length m.entries
+  AreBegunFrom m o [] = o ≡ length m.records
   AreBegunFrom m o (c ∷ columns) = IsBegun m o c × AreBegunFrom m (o + 1) columns
 
   -- the last row group of each column is begun so, and the last objects of all are theirs, in the order of the columns
   abbrev pub AreBegunLast : Movement (Option ℤ) K → NumberColumns → Type 0
-  AreBegunLast m columns = AreBegunFrom m (length m.entries - length columns) columns
+  AreBegunLast m columns = AreBegunFrom m (length m.records - length columns) columns
 
   -- the objects without the last n
-  abbrev pub all_uncreated : ℕ → Movement (Option ℤ) K → Movement (Option ℤ) K
-  all_uncreated zero m = m
-  all_uncreated (suc n) m = after_uncreate (all_uncreated n m)
+  abbrev pub after_uncreate_all : ℕ → Movement (Option ℤ) K → Movement (Option ℤ) K
+  after_uncreate_all zero m = m
+  after_uncreate_all (suc n) m = after_uncreate (after_uncreate_all n m)

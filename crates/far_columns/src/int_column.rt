@@ -106,11 +106,11 @@ impl IntColumn {
         number: Option<i64>,
     ) -> Result<(), Refusal>
         requires is { IsVector (number_lists S.content objects.old) self.old }
-        requires few { is_full self.old ≡ true → length objects.old.entries < 2 ^ 28 }
-        ensures pushed { OnOk result (self.new ≡ after_push self.old (length objects.old.entries)) }
+        requires few { is_full self.old ≡ true → length objects.old.records < 2 ^ 28 }
+        ensures pushed { OnOk result (self.new ≡ after_push self.old (length objects.old.records)) }
         ensures written { OnOk result (objects.new ≡ pushed_in objects.old self.old number) }
         ensures undone { OnOk result (is_full self.old ≡ true → (after_unpush self.new ≡ self.old) × (after_uncreate objects.new ≡ objects.old)) }
-        ensures last { OnOk result (is_full self.old ≡ true → (is_local objects.new (length objects.old.entries) ≡ true) × (pins_of objects.new (length objects.old.entries) ≡ 0)) }
+        ensures last { OnOk result (is_full self.old ≡ true → (is_local objects.new (length objects.old.records) ≡ true) × (pins_of objects.new (length objects.old.records) ≡ 0)) }
         ensures next { OnOk result (is_full self.old ≡ true → (lens : List ℕ) → fit_in_order (spaces_of objects.old.memory.state) (self.old.size ∷ lens) ≡ fit_in_order (spaces_of objects.new.memory.state) lens) }
         ensures numbers { OnOk result (numbers_in S.content objects.new self.new ≡ numbers_in S.content objects.old self.old ++ number ∷ []) }
         ensures is { IsVector (number_lists S.content objects.new) self.new }
@@ -118,7 +118,7 @@ impl IntColumn {
         ensures lists { OnOk result (KeepsOthers (number_lists S.content objects.old) (number_lists S.content objects.new) (object_at self.new self.old.len)) }
         ensures others { OnOk result (ChangesObject objects.old objects.new (object_at self.new self.old.len)) }
         ensures clean { AreClean ints_meaning S.content objects.old → AreClean ints_meaning S.content objects.new }
-        ensures store { (name : List ℕ) → AreHere S.is_of name objects.old → AreHere S.is_of name objects.new }
+        ensures store { (id : List ℕ) → AreHere S.is_of id objects.old → AreHere S.is_of id objects.new }
         ensures free { OnOk result (push_refusal objects.old self.old ≡ None) }
         ensures refused { IfErr result (λ e. (push_refusal objects.old self.old ≡ Some e) ⊎ ((push_refusal objects.old self.old ≡ None) × (is_full self.old ≡ true) × (e ≡ Refusal.NoMemory))) }
         ensures err { OnErr result ((self.new ≡ self.old) × (objects.new ≡ objects.old)) }
@@ -130,18 +130,18 @@ impl IntColumn {
     pub fn unpush<S: FarTickets>(&mut self, objects: &mut Objects<Option<i64>, S>)
         requires is { IsVector (number_lists S.content objects.old) self.old }
         requires alone { self.old.len ≡ (length self.old.objects - 1) * self.old.size + 1 }
-        requires last { slice_get self.old.objects (length self.old.objects - 1) ≡ Some (length objects.old.entries - 1) }
-        requires local { is_local objects.old (length objects.old.entries - 1) ≡ true }
-        requires unpinned { pins_of objects.old (length objects.old.entries - 1) ≡ 0 }
+        requires last { slice_get self.old.objects (length self.old.objects - 1) ≡ Some (length objects.old.records - 1) }
+        requires local { is_local objects.old (length objects.old.records - 1) ≡ true }
+        requires unpinned { pins_of objects.old (length objects.old.records - 1) ≡ 0 }
         ensures unpushed { self.new ≡ after_unpush self.old }
         ensures uncreated { objects.new ≡ after_uncreate objects.old }
         ensures numbers { numbers_in S.content objects.new self.new ≡ take (self.old.len - 1) (numbers_in S.content objects.old self.old) }
         ensures is { IsVector (number_lists S.content objects.new) self.new }
         ensures disjoint { (w : Vector (Option ℤ)) → IsVector (number_lists S.content objects.old) w → AreDisjoint self.old w → IsUntouched (number_lists S.content objects.old) (number_lists S.content objects.new) self.new w }
-        ensures lists { KeepsOthers (number_lists S.content objects.old) (number_lists S.content objects.new) (length objects.old.entries - 1) }
-        ensures others { ChangesObject objects.old objects.new (length objects.old.entries - 1) }
+        ensures lists { KeepsOthers (number_lists S.content objects.old) (number_lists S.content objects.new) (length objects.old.records - 1) }
+        ensures others { ChangesObject objects.old objects.new (length objects.old.records - 1) }
         ensures clean { AreClean ints_meaning S.content objects.old → AreClean ints_meaning S.content objects.new }
-        ensures store { (name : List ℕ) → AreHere S.is_of name objects.old → AreHere S.is_of name objects.new }
+        ensures store { (id : List ℕ) → AreHere S.is_of id objects.old → AreHere S.is_of id objects.new }
     {
         self.vector.unpush(objects);
     }
@@ -166,7 +166,7 @@ impl IntColumn {
         ensures lists { KeepsOthers (number_lists S.content objects.old) (number_lists S.content objects.new) (object_at self.old place) }
         ensures others { ChangesObject objects.old objects.new (object_at self.old place) }
         ensures clean { AreClean ints_meaning S.content objects.old → AreClean ints_meaning S.content objects.new }
-        ensures store { (name : List ℕ) → AreHere S.is_of name objects.old → AreHere S.is_of name objects.new }
+        ensures store { (id : List ℕ) → AreHere S.is_of id objects.old → AreHere S.is_of id objects.new }
         ensures refused { refusal_in result ≡ set_refusal objects.old self.old place }
         ensures err { OnErr result (objects.new ≡ objects.old) }
     {
@@ -192,7 +192,7 @@ impl IntColumn {
         ensures lists { KeepsOthers (number_lists S.content objects.old) (number_lists S.content objects.new) (object_at self.now place) }
         ensures others { ChangesObject objects.old objects.new (object_at self.now place) }
         ensures clean { AreClean ints_meaning S.content objects.old → AreClean ints_meaning S.content objects.new }
-        ensures store { (name : List ℕ) → AreHere S.is_of name objects.old → AreHere S.is_of name objects.new }
+        ensures store { (id : List ℕ) → AreHere S.is_of id objects.old → AreHere S.is_of id objects.new }
     {
         self.vector.set_in_group(objects, group, place, number);
     }

@@ -19,7 +19,7 @@ one-fault old new why same =
     omega (arith, few, met)
 
 -- one that is accepted meets none
-pub no-fault : {K : Type 0} (content : K → List ℕ) (name : List ℕ) (old new : World K) → IsMigratedTo content content name old new → new.faults ≤ old.faults + 1
-no-fault content name old new moved =
+pub no-fault : {K : Type 0} (content : K → List ℕ) (id : List ℕ) (old new : World K) → IsMigratedTo content content id old new → new.faults ≤ old.faults + 1
+no-fault content id old new moved =
     let met : new.faults ≡ old.faults = ap (λ world. world.faults) moved.world in
     omega (arith, met)

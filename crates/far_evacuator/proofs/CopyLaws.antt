@@ -7,7 +7,7 @@ use Rattle.far_pointer.specs.declared.pointer.Pointer.TheVariants.{Local, Remote
 use Rattle.far_pointer.specs.Layout.{HasWord, is_dirty}
 use Rattle.far_scopes.specs.declared.object_record.ObjectRecord.{ObjectRecord}
 use Rattle.far_scopes.specs.Memory.{list_in}
-use Rattle.far_scopes.specs.Movement.{Movement, has_copy, word_of, entry_of, dirty, ticket_of, list_of, AreClean, IsTracked, AreTracked}
+use Rattle.far_scopes.specs.Movement.{Movement, has_copy, word_of, record_of, dirty, ticket_of, list_of, AreClean, IsTracked, AreTracked}
 use Rattle.far_scopes.proofs.Places.{cases_option}
 use Rattle.far_scopes.proofs.Departures.{word-there}
 use Rattle.far_scopes.proofs.Arrivals.{not-within}
@@ -25,31 +25,31 @@ pub mapped : {A B : Type 0} (f : A → B) (o : Option A) (y : B) → option_map 
 mapped f None y is = cc
 mapped f (Some x) y is = let same : Some (f x) ≡ Some y = is in (x, refl, cc)
 
-module _ {X K : Type 0} (meaning : List ℕ → List X) (content : K → List ℕ) (spelled : List X → List ℕ → Type 0) (m : Movement X K) (tracked : AreTracked meaning content spelled m) (o : ℕ) (within : o < length m.entries) where
-  abbrev entry-there : (e : ObjectRecord K) × (entry_of m o ≡ Some e)
-  entry-there = elim (cases_option (entry_of m o)) [
-    | inl none ↦ absurd (not-within m.entries o within none)
+module _ {X K : Type 0} (meaning : List ℕ → List X) (content : K → List ℕ) (spelled : List X → List ℕ → Type 0) (m : Movement X K) (tracked : AreTracked meaning content spelled m) (o : ℕ) (within : o < length m.records) where
+  abbrev object_record-there : (e : ObjectRecord K) × (record_of m o ≡ Some e)
+  object_record-there = elim (cases_option (record_of m o)) [
+    | inl none ↦ absurd (not-within m.records o within none)
     | inr some ↦ some
   ]
 
-  abbrev entry : ObjectRecord K
-  entry = entry-there.0
+  abbrev object_record : ObjectRecord K
+  object_record = object_record-there.0
 
-  pub was : entry_of m o ≡ Some entry
-  was = entry-there.1
+  pub was : record_of m o ≡ Some object_record
+  was = object_record-there.1
 
-  ticket-was : ticket_of m o ≡ entry.ticket
+  ticket-was : ticket_of m o ≡ object_record.ticket
   ticket-was = ap (λ e. option_and_then (λ (x : ObjectRecord K). x.ticket) e) was
 
   abbrev word-was : (w : Pointer) × (slice_get m.memory.words o ≡ Some w)
   word-was = word-there m.memory.words o (subst (λ n. o < n) tracked.same_length within)
 
-  of-entry : IsTracked meaning content spelled m.max_writes m.leavings word-was.0 (list_in m.memory o) entry
-  of-entry = tracked.each o word-was.0 entry word-was.1 was
+  of-object_record : IsTracked meaning content spelled m.max_writes m.leavings word-was.0 (list_in m.memory o) object_record
+  of-object_record = tracked.each o word-was.0 object_record word-was.1 was
 
   -- what a ticket means is spelled by its content
   pub far-spelled : (ticket : K) → ticket_of m o ≡ Some ticket → spelled (meaning (content ticket)) (content ticket)
-  far-spelled ticket is = subst (λ (t : Option K). IfSome t (λ k. spelled (meaning (content k)) (content k))) (sym ticket-was ∙ is) of-entry.far
+  far-spelled ticket is = subst (λ (t : Option K). IfSome t (λ k. spelled (meaning (content k)) (content k))) (sym ticket-was ∙ is) of-object_record.far
 
   -- so is the list of a clean object by its ticket's
   pub clean-spelled : AreClean meaning content m → dirty m o ≡ false → (list : List X) → list_in m.memory o ≡ Some list → (bytes : List ℕ) → option_map content (ticket_of m o) ≡ Some bytes → spelled list bytes
@@ -70,12 +70,12 @@ module _ {X K : Type 0} (meaning : List ℕ → List X) (content : K → List �
     pub away-list : list_of meaning content m o ≡ Some (meaning bytes)
     away-list = rw (away, its.1, its.2) refl
 
-    away-long : length (meaning bytes) ≡ entry.len
-    away-long = subst (λ b. length (meaning b) ≡ entry.len) its.2 (subst (λ (t : Option K). IsSomeAnd t (λ k. length (meaning (content k)) ≡ entry.len)) (sym ticket-was ∙ its.1) ((tracked.each o Remote entry away was).away refl).1)
+    away-long : length (meaning bytes) ≡ object_record.len
+    away-long = subst (λ b. length (meaning b) ≡ object_record.len) its.2 (subst (λ (t : Option K). IsSomeAnd t (λ k. length (meaning (content k)) ≡ object_record.len)) (sym ticket-was ∙ its.1) ((tracked.each o Remote object_record away was).away refl).1)
 
     -- its length is the one that was recorded
-    pub away-length : (len : ℕ) → option_map (λ (e : ObjectRecord K). e.len) (entry_of m o) ≡ Some len → length (meaning bytes) ≡ len
-    away-length len is = let same : Some entry.len ≡ Some len = sym (ap (λ e. option_map (λ (x : ObjectRecord K). x.len) e) was) ∙ is in away-long ∙ cc
+    pub away-length : (len : ℕ) → option_map (λ (e : ObjectRecord K). e.len) (record_of m o) ≡ Some len → length (meaning bytes) ≡ len
+    away-length len is = let same : Some object_record.len ≡ Some len = sym (ap (λ e. option_map (λ (x : ObjectRecord K). x.len) e) was) ∙ is in away-long ∙ cc
 
     -- the bytes are a far form of its kind and length
     pub away-form : IsFarForm spelled m o bytes

@@ -2,14 +2,14 @@
 use Rattle.std.specs.Prelude.{◌≡◌, ℕ, ◌<◌, true, false, List, length, Some, option_map, IsSomeAnd}
 use Rattle.far_pointer.specs.declared.pointer.Pointer.TheVariants.{Remote}
 use Rattle.far_scopes.specs.Memory.{list_in}
-use Rattle.far_scopes.specs.Movement.{Movement, ChangesObject, word_of, entry_of, is_local, dirty, version_of, leavings_of, ticket_of, list_of, AreClean, AreHere}
+use Rattle.far_scopes.specs.Movement.{Movement, ChangesObject, word_of, record_of, is_local, dirty, version_of, leavings_of, ticket_of, list_of, AreClean, AreHere}
 use Rattle.far_evacuator.specs.declared.evacuation.EvacForm.{EvacForm}
 use Rattle.far_evacuator.specs.declared.evacuation.EvacForm.TheVariants.{Dirty, Clean}
 use Rattle.far_evacuator.specs.Jobs.{CarriedEvacuation, CarriedFetch}
 
 -- the bytes are a far form of the kind and the length of object o
 abbrev pub IsFarForm : {X K : Type 0} → (List X → List ℕ → Type 0) → Movement X K → ℕ → List ℕ → Type 0
-IsFarForm {X} spelled m o bytes = IsSomeAnd (entry_of m o) (λ entry. (list : List X) × (length list ≡ entry.len) × spelled list bytes)
+IsFarForm {X} spelled m o bytes = IsSomeAnd (record_of m o) (λ object_record. (list : List X) × (length list ≡ object_record.len) × spelled list bytes)
 
 module _ {X K : Type 0} (number_of : K → ℕ) where
   -- the newest far copy of object o is under the number of this ticket
@@ -33,7 +33,7 @@ module _ {X K : Type 0} (number_of : K → ℕ) where
       pub still : IsStill carried.job.object carried.ticket carried.job.form
 
   module _ (spelled : List X → List ℕ → Type 0) (m : Movement X K) where
-    -- a carried fetch is accepted where there is room
+    -- a carried fetch is accepted where there is space
     pub record IsInstallable (fetched : CarriedFetch K) : Type 0 where
       pub number : fetched.job.number ≡ m.number
       pub away : word_of m fetched.job.object ≡ Some Remote
@@ -43,8 +43,8 @@ module _ {X K : Type 0} (number_of : K → ℕ) where
 
 -- what an end of a job on object o leaves as it was: every list, and the word and the record of every other object. What
 -- is clean stays so, and tickets stay those of the store with this id
-pub record LeavesRest {X K : Type 0} (meaning : List ℕ → List X) (content : K → List ℕ) (is_of : K → List ℕ → Type 0) (name : List ℕ) (old new : Movement X K) (o : ℕ) : Type 0 where
+pub record LeavesRest {X K : Type 0} (meaning : List ℕ → List X) (content : K → List ℕ) (is_of : K → List ℕ → Type 0) (id : List ℕ) (old new : Movement X K) (o : ℕ) : Type 0 where
   pub lists : (p : ℕ) → list_of meaning content new p ≡ list_of meaning content old p
   pub others : ChangesObject old new o
   pub clean : AreClean meaning content old → AreClean meaning content new
-  pub here : AreHere is_of name new
+  pub here : AreHere is_of id new

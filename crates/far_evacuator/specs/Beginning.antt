@@ -30,7 +30,7 @@ module _ {X K : Type 0} (spelling : List X → List ℕ) (m : Movement X K) (o :
 module _ {X K : Type 0} (m : Movement X K) where
   -- the number of an object that is named is in use
   abbrev pub IsWanted : Want → Type 0
-  IsWanted (Object o) = o < length m.entries
+  IsWanted (Object o) = o < length m.records
   IsWanted Coldest = Unit {0}
 
   -- the object that an evacuation would take

@@ -50,8 +50,8 @@ module _ {K : Type 0} where
 
   -- the ticket that the object had is of the store with this id
   abbrev pub IsFormOf : (K → List ℕ → Type 0) → List ℕ → EvacForm K → Type 0
-  IsFormOf is_of name (Dirty bytes) = Unit {0}
-  IsFormOf is_of name (Clean own) = is_of own name
+  IsFormOf is_of id (Dirty bytes) = Unit {0}
+  IsFormOf is_of id (Clean own) = is_of own id
 
 -- how a call came out that hands its job back where it is refused
 abbrev pub outcome : {A J : Type 0} → Result A (Refusal × J) → Result A Refusal

@@ -72,7 +72,7 @@ fn chosen<T: Elem, S: FarTickets>(objects: &Objects<T, S>, want: Want) -> Result
     requires within { IsWanted objects.now want }
     requires tracked { AreTracked T.meaning S.content (IsSpelled T.in_range T.has_spelling T.spelling) objects.now }
     ensures taken { IfOk result (λ o. taken objects.now want ≡ Some o) }
-    ensures within { IfOk result (λ o. o < length objects.now.entries) }
+    ensures within { IfOk result (λ o. o < length objects.now.records) }
     ensures local { IfOk result (λ o. begin_refusal objects.now want ≡ lend_refusal objects.now o) }
     ensures refused { IfErr result (λ e. (begin_refusal objects.now want ≡ Some e)) }
 {
@@ -93,7 +93,7 @@ pub fn begin_fetch<T: Elem, S: FarTickets>(
     store: &S,
     o: u32,
 ) -> Result<FetchJob<S>, Refusal>
-    requires within { o < length objects.now.entries }
+    requires within { o < length objects.now.records }
     requires here { AreHere S.is_of (S.store_id store.now) objects.now }
     ensures begun { IfOk result (λ job. IsFetch objects.now o job) }
     ensures here { IfOk result (λ job. S.is_of job.ticket (S.store_id store.now)) }

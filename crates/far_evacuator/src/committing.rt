@@ -57,7 +57,7 @@ fn is_committable<T: Elem, S: FarTickets>(
     requires carried_here { S.is_of carried.now.ticket (S.store_id store.now) }
     requires clean { AreClean T.meaning S.content objects.now }
     ensures exact { IsTrue result ↔ IsCommittable S.number_of T.spelling objects.now carried.now }
-    ensures within { IsTrue result → carried.now.job.object < length objects.now.entries }
+    ensures within { IsTrue result → carried.now.job.object < length objects.now.records }
     ensures copied { IsTrue result → IsSomeAnd (list_in objects.now.memory carried.now.job.object) (λ list. IsSpelled T.in_range T.has_spelling T.spelling list (S.content carried.now.ticket)) }
 {
     let job = &carried.job;
@@ -81,7 +81,7 @@ fn is_still<T: Elem, S: FarTickets>(
     carried: &Carried<T, S>,
     list: &[T],
 ) -> bool
-    requires within { carried.now.job.object < length objects.now.entries }
+    requires within { carried.now.job.object < length objects.now.records }
     requires here { AreHere S.is_of (S.store_id store.now) objects.now }
     requires carried_here { S.is_of carried.now.ticket (S.store_id store.now) }
     requires clean { AreClean T.meaning S.content objects.now }

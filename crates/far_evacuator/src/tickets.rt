@@ -15,7 +15,7 @@ pub(crate) fn is_under<T: Elem, S: FarTickets>(
     o: u32,
     ticket: &S::Ticket,
 ) -> bool
-    requires within { o < length objects.now.entries }
+    requires within { o < length objects.now.records }
     requires here { IfSome (ticket_of objects.now o) (λ own. S.is_of own (S.store_id store.now)) }
     requires ticket_here { S.is_of ticket.now (S.store_id store.now) }
     ensures number { IsTrue result ↔ IsUnder S.number_of objects.now o ticket.now }
@@ -33,7 +33,7 @@ pub(crate) fn again_of<T: Elem, S: FarTickets>(
     store: &S,
     o: u32,
 ) -> S::Ticket
-    requires within { o < length objects.now.entries }
+    requires within { o < length objects.now.records }
     requires copy { option_map_or has_copy (word_of objects.now o) false ≡ true }
     requires here { IfSome (ticket_of objects.now o) (λ own. S.is_of own (S.store_id store.now)) }
     ensures ticket { ticket_of objects.now o ≡ Some result }

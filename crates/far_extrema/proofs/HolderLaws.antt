@@ -10,7 +10,7 @@ use Rattle.far_types.specs.declared.key.Key.{Key}
 use Rattle.far_types.specs.Keys.{line_cmp}
 use Rattle.far_types.specs.KeyOrder.{line_total}
 use Rattle.far_types.specs.Answers.{Extrema}
-use Rattle.far_types.specs.Effects.{merge_two, join_spans, joined_extrema, widened, with_observed}
+use Rattle.far_types.specs.Effects.{merge_two, join_min_maxes, joined_extrema, widened, with_observed}
 use Rattle.std.specs.Prelude.{◌≤ℤ◌}
 use Rattle.std.specs.Int.{int_min, int_max}
 use Rattle.std.proofs.lemmas.Int.{ints, int_min_is, int_max_is}
@@ -26,9 +26,9 @@ use Rattle.far_types.specs.Answers.{extrema_lines}
 use Rattle.far_types.proofs.ByKeyMaps.{get_at, by_key, entries-by_key, HaveDistinctKeys, sorted_distinct}
 use Rattle.far_types.proofs.ByKeyMaps as map_in
 use Rattle.far_extrema.proofs.GroupLaws.{past_reserved}
-use Rattle.far_extrema.specs.Spans.{put_span}
+use Rattle.far_extrema.specs.MinMaxes.{put_min_max}
 use Rattle.far_extrema.specs.Live.{all_groups, group_at}
-use Rattle.far_extrema.specs.Holders.{Holding, Holders, holders_of, span_in, span_at, reserved_in, reserved_at, picked, group_in, groups_in, reserved_keys, line_of, AreReserved, IsTopped, IsPut, IsGroup, HaveSameSpans, HaveSameReserved}
+use Rattle.far_extrema.specs.Holders.{Holding, Holders, holders_of, min_max_in, min_max_at, reserved_in, reserved_at, picked, group_in, groups_in, reserved_keys, line_of, AreReserved, IsTopped, IsPut, IsGroup, HaveSameMinMaxes, HaveSameReserved}
 use Rattle.far_extrema.proofs.SpreadLaws.{off, here, order}
 
 abbrev kept_keys : {V : Type 0} → (Option Key → Option V) → List (Option Key) → List (Option Key × V)
@@ -64,8 +64,8 @@ get-picked f m absent q =
     ] refl
 
 -- what a key has in a row group
-pub get-group_in : (m : Holders) (g : ℕ) (q : Option Key) → fin.get (group_in m g) q ≡ span_at m g q
-get-group_in m g = get-picked (span_at m g) m (λ q none. ap (λ o. span_in o g) none)
+pub get-group_in : (m : Holders) (g : ℕ) (q : Option Key) → fin.get (group_in m g) q ≡ min_max_at m g q
+get-group_in m g = get-picked (min_max_at m g) m (λ q none. ap (λ o. min_max_in o g) none)
 
 -- and whether it is reserved
 pub get-reserved : (m : Holders) (q : Option Key) → fin.get (reserved_keys m) q ≡ reserved_at m q
@@ -121,54 +121,54 @@ set_in m m' (suc n) g e l this other = elim (g == n) as (λ b. (g == n) ≡ b �
       ∙ sym (set-append (groups_in m n) (group_in m n) e g (omega (arith, length-groups_in m n)))
 ] refl
 
-get-put_span : (e : Extrema) (k : Option Key) (o : Option (ℤ × ℤ)) (q : Option Key) → fin.get (put_span e k o) q ≡ cond (eq_by_cmp line_cmp q k) o (fin.get e q)
-get-put_span e k None q = fin.get-remove line_total e k q
-get-put_span e k (Some x) q = fin.get-insert line_total e k x q
+get-put_min_max : (e : Extrema) (k : Option Key) (o : Option (ℤ × ℤ)) (q : Option Key) → fin.get (put_min_max e k o) q ≡ cond (eq_by_cmp line_cmp q k) o (fin.get e q)
+get-put_min_max e k None q = fin.get-remove line_total e k q
+get-put_min_max e k (Some x) q = fin.get-insert line_total e k x q
 
--- a span that is put changes one row group under one key
-pub put-in : (m m' : Holders) (count g : ℕ) (k : Option Key) (o : Option (ℤ × ℤ)) → g < count → IsPut m g k o m' → groups_in m' count ≡ slice_set (groups_in m count) g (put_span (group_at (groups_in m count) g) k o)
+-- a min-max that is put changes one row group under one key
+pub put-in : (m m' : Holders) (count g : ℕ) (k : Option Key) (o : Option (ℤ × ℤ)) → g < count → IsPut m g k o m' → groups_in m' count ≡ slice_set (groups_in m count) g (put_min_max (group_at (groups_in m count) g) k o)
 put-in m m' count g k o l put =
-    set_in m m' count g (put_span (group_in m g) k o) l
-    (same _ _ (λ q. get-group_in m' g q ∙ put g q ∙ ap (λ b. cond (b && eq_by_cmp line_cmp q k) o (span_at m g q)) own ∙ ap (cond (eq_by_cmp line_cmp q k) o) (sym (get-group_in m g q)) ∙ sym (get-put_span (group_in m g) k o q)))
-    (λ h n. same _ _ (λ q. get-group_in m' h q ∙ put h q ∙ ap (λ b. cond (b && eq_by_cmp line_cmp q k) o (span_at m h q)) (off h g n) ∙ sym (get-group_in m h q)))
-    ∙ ap (λ e. slice_set (groups_in m count) g (put_span e k o)) (sym (group_at-in m count g l)) where
+    set_in m m' count g (put_min_max (group_in m g) k o) l
+    (same _ _ (λ q. get-group_in m' g q ∙ put g q ∙ ap (λ b. cond (b && eq_by_cmp line_cmp q k) o (min_max_at m g q)) own ∙ ap (cond (eq_by_cmp line_cmp q k) o) (sym (get-group_in m g q)) ∙ sym (get-put_min_max (group_in m g) k o q)))
+    (λ h n. same _ _ (λ q. get-group_in m' h q ∙ put h q ∙ ap (λ b. cond (b && eq_by_cmp line_cmp q k) o (min_max_at m h q)) (off h g n) ∙ sym (get-group_in m h q)))
+    ∙ ap (λ e. slice_set (groups_in m count) g (put_min_max e k o)) (sym (group_at-in m count g l)) where
       own : (g == g) ≡ true
       own = grind (arith, nat_tests)
 
--- a row group gets other spans
+-- a row group gets other min-maxes
 pub put-group : (m m' : Holders) (count g : ℕ) (e : Extrema) → g < count → IsGroup m g e m' → groups_in m' count ≡ slice_set (groups_in m count) g e
 put-group m m' count g e l put =
     set_in m m' count g e l
-    (same _ _ (λ q. get-group_in m' g q ∙ put g q ∙ ap (λ b. cond b (fin.get e q) (span_at m g q)) own))
-    (λ h n. same _ _ (λ q. get-group_in m' h q ∙ put h q ∙ ap (λ b. cond b (fin.get e q) (span_at m h q)) (off h g n) ∙ sym (get-group_in m h q))) where
+    (same _ _ (λ q. get-group_in m' g q ∙ put g q ∙ ap (λ b. cond b (fin.get e q) (min_max_at m g q)) own))
+    (λ h n. same _ _ (λ q. get-group_in m' h q ∙ put h q ∙ ap (λ b. cond b (fin.get e q) (min_max_at m h q)) (off h g n) ∙ sym (get-group_in m h q))) where
       own : (g == g) ≡ true
       own = grind (arith, nat_tests)
 
--- the same spans make the same row groups
-pub same-groups : (m m' : Holders) (n : ℕ) → HaveSameSpans m m' → groups_in m' n ≡ groups_in m n
-same-groups m m' n alike_spans = alike m' m n (λ g l. same _ _ (λ q. get-group_in m' g q ∙ alike_spans g q ∙ sym (get-group_in m g q)))
+-- the same min-maxes make the same row groups
+pub same-groups : (m m' : Holders) (n : ℕ) → HaveSameMinMaxes m m' → groups_in m' n ≡ groups_in m n
+same-groups m m' n alike_min_maxes = alike m' m n (λ g l. same _ _ (λ q. get-group_in m' g q ∙ alike_min_maxes g q ∙ sym (get-group_in m g q)))
 
 -- and the same reservations the same reserved keys
 pub same-reserved : (m m' : Holders) → HaveSameReserved m m' → reserved_keys m' ≡ reserved_keys m
 same-reserved m m' alike_reserved = same _ _ (λ q. get-reserved m' q ∙ alike_reserved q ∙ sym (get-reserved m q))
 
 -- what all row groups have under a key
-get-all : (m : Holders) (n : ℕ) (q : Option Key) → fin.get (all_groups (groups_in m n)) q ≡ joined_to n (λ g. span_at m g q)
+get-all : (m : Holders) (n : ℕ) (q : Option Key) → fin.get (all_groups (groups_in m n)) q ≡ joined_to n (λ g. min_max_at m g q)
 get-all m zero q = fin.get-empty line_cmp q
 get-all m (suc n) q =
     ap (λ e. fin.get e q) (fold-append joined_extrema fin.empty (groups_in m n) (group_in m n ∷ []))
-    ∙ get-joined join_spans (all_groups (groups_in m n)) (group_in m n) q
-    ∙ (λ i. merge_two join_spans (get-all m n q i) (get-group_in m n q i))
+    ∙ get-joined join_min_maxes (all_groups (groups_in m n)) (group_in m n) q
+    ∙ (λ i. merge_two join_min_maxes (get-all m n q i) (get-group_in m n q i))
 
 pub none_joined : (n : ℕ) → joined_to n (λ g. None) ≡ None
 none_joined zero = refl
-none_joined (suc n) = ap (λ o. merge_two join_spans o None) (none_joined n)
+none_joined (suc n) = ap (λ o. merge_two join_min_maxes o None) (none_joined n)
 
--- no row group has no span
+-- no row group has no min-max
 pub top-none : IsTopOf [] None
 top-none n below = none_joined n
 
--- the span of a key, where it has row groups
+-- the min-max of a key, where it has row groups
 abbrev pub top_in : Option Holding → Option (ℤ × ℤ)
 top_in None = None
 top_in (Some holding) = holding.top
@@ -176,12 +176,12 @@ top_in (Some holding) = holding.top
 abbrev Entries : Type 0
 Entries = List (Option Key × Holding)
 
-topped_at : (es : Entries) (q : Option Key) (t : Holding) → AllByRecursion IsTopped es → map_in.at es q ≡ Some t → IsTopOf t.spans t.top
+topped_at : (es : Entries) (q : Option Key) (t : Holding) → AllByRecursion IsTopped es → map_in.at es q ≡ Some t → IsTopOf t.min_maxes t.top
 topped_at [] q t h e = absurd (none_some t e) where
   none_some : (t : Holding) → None ≡ Some t → ⊥
   none_some t h = cc
-topped_at (x ∷ es) q t h e = elim (is_at (line_cmp q) x.0) as (λ b. cond b (Some x.1) (map_in.at es q) ≡ Some t → IsTopOf t.spans t.top) [
-  | true ↦ λ s. subst (λ (u : Holding). IsTopOf u.spans u.top) (some_is x.1 t s) h.0
+topped_at (x ∷ es) q t h e = elim (is_at (line_cmp q) x.0) as (λ b. cond b (Some x.1) (map_in.at es q) ≡ Some t → IsTopOf t.min_maxes t.top) [
+  | true ↦ λ s. subst (λ (u : Holding). IsTopOf u.min_maxes u.top) (some_is x.1 t s) h.0
   | false ↦ λ s. topped_at es q t h.1 s
 ] e where
   some_is : (s t : Holding) → Some s ≡ Some t → s ≡ t
@@ -189,15 +189,15 @@ topped_at (x ∷ es) q t h e = elim (is_at (line_cmp q) x.0) as (λ b. cond b (S
 
 -- is that of all row groups
 pub get-tops : (es : Entries) (count : ℕ) (q : Option Key) → AreReserved count (holders_of es) → AllByRecursion IsTopped es → fin.get (all_groups (groups_in (holders_of es) count)) q ≡ top_in (fin.get (holders_of es) q)
-get-tops es count q kept topped = get-all (holders_of es) count q ∙ elim (fin.get (holders_of es) q) as (λ o. fin.get (holders_of es) q ≡ o → joined_to count (λ g. span_in o g) ≡ top_in o) [
+get-tops es count q kept topped = get-all (holders_of es) count q ∙ elim (fin.get (holders_of es) q) as (λ o. fin.get (holders_of es) q ≡ o → joined_to count (λ g. min_max_in o g) ≡ top_in o) [
   | None ↦ λ e. none_joined count
-  | Some spread ↦ λ e. topped_at es q spread topped (sym (get_at es q) ∙ e) count (λ g l. ap (λ o. span_in o g) (sym e) ∙ kept g q l)
+  | Some spread ↦ λ e. topped_at es q spread topped (sym (get_at es q) ∙ e) count (λ g l. ap (λ o. min_max_in o g) (sym e) ∙ kept g q l)
 ] refl
 
 abbrev Lines : Type 0
 Lines = List (Option Key × ℤ × ℤ)
 
--- the spans of all row groups, by key
+-- the min-maxes of all row groups, by key
 abbrev top_of : Option Key × Holding → Option (Option Key × (ℤ × ℤ))
 top_of e = option_map (λ (top : ℤ × ℤ). (e.0, top)) e.1.top
 
@@ -240,7 +240,7 @@ lines_tops (e ∷ es) = elim e.1.top as (λ o. map {B = Option Key × ℤ × ℤ
   | Some top ↦ let line : Option Key × ℤ × ℤ = (e.0, top.0, top.1) in ap (λ (ls : Lines). line ∷ ls) (lines_tops es)
 ]
 
--- the lines of the spans that are kept are those of all row groups joined
+-- the lines of the min-maxes that are kept are those of all row groups joined
 pub lines-all : (es : Entries) (count : ℕ) → AreReserved count (holders_of es) → AllByRecursion IsTopped es → IsStrictlySortedBy line_cmp (map (λ (e : Option Key × Holding). e.0) es)
     → filter_map line_of es ≡ extrema_lines (all_groups (groups_in (holders_of es) count))
 lines-all es count kept topped sorted =
@@ -248,11 +248,11 @@ lines-all es count kept topped sorted =
     ∙ ap (map {B = Option Key × ℤ × ℤ} (λ (e : Option Key × (ℤ × ℤ)). (e.0, e.1.0, e.1.1))) (sym (entries-by_key (tops es) (sorted_tops es sorted)))
     ∙ ap extrema_lines (same (by_key (tops es)) (all_groups (groups_in (holders_of es) count)) (λ q. get_at (tops es) q ∙ tops_at es q (sorted_distinct es sorted) ∙ ap top_in (sym (get_at es q)) ∙ sym (get-tops es count q kept topped)))
 
--- a span that is put in a reserved row group leaves none in the others
+-- a min-max that is put in a reserved row group leaves none in the others
 pub reserved-put : (m m' : Holders) (count g : ℕ) (k : Option Key) (o : Option (ℤ × ℤ)) → AreReserved count m → g < count → IsPut m g k o m' → AreReserved count m'
-reserved-put m m' count g k o kept l put h q le = put h q ∙ ap (λ b. cond (b && eq_by_cmp line_cmp q k) o (span_at m h q)) (off h g (λ e. omega arith)) ∙ kept h q le
+reserved-put m m' count g k o kept l put h q le = put h q ∙ ap (λ b. cond (b && eq_by_cmp line_cmp q k) o (min_max_at m h q)) (off h g (λ e. omega arith)) ∙ kept h q le
 
-none_in : (m : Holders) (g : ℕ) → ((q : Option Key) → span_at m g q ≡ None) → group_in m g ≡ fin.empty
+none_in : (m : Holders) (g : ℕ) → ((q : Option Key) → min_max_at m g q ≡ None) → group_in m g ≡ fin.empty
 none_in m g h = same _ _ (λ q. get-group_in m g q ∙ h q ∙ sym (fin.get-empty line_cmp q))
 
 -- row groups without a row are reserved
@@ -273,7 +273,7 @@ more-reserved m count (suc more) kept =
       last_one (suc n) = ap (λ es. fin.empty ∷ es) (last_one n)
 
 -- nothing is there where nothing is reserved
-pub get-group_at : (m : Holders) (count g : ℕ) (q : Option Key) → AreReserved count m → fin.get (group_at (groups_in m count) g) q ≡ span_at m g q
+pub get-group_at : (m : Holders) (count g : ℕ) (q : Option Key) → AreReserved count m → fin.get (group_at (groups_in m count) g) q ≡ min_max_at m g q
 get-group_at m count g q kept = elim (order g count) [
   | inl l ↦ ap (λ e. fin.get e q) (group_at-in m count g l) ∙ get-group_in m g q
   | inr l ↦ ap (λ e. fin.get e q) (past_reserved (groups_in m count) g (omega (arith, length-groups_in m count))) ∙ fin.get-empty line_cmp q ∙ sym (kept g q l)
@@ -284,24 +284,24 @@ both_false true = refl
 both_false false = refl
 
 -- one key's row groups change at one row group
-pub put-set : (m : Holders) (k : Option Key) (t t' : Holding) (g : ℕ) (o : Option (ℤ × ℤ)) → fin.get m k ≡ Some t → IsSet t.spans g o t'.spans → IsPut m g k o (fin.insert m k t')
+pub put-set : (m : Holders) (k : Option Key) (t t' : Holding) (g : ℕ) (o : Option (ℤ × ℤ)) → fin.get m k ≡ Some t → IsSet t.min_maxes g o t'.min_maxes → IsPut m g k o (fin.insert m k t')
 put-set m k t t' g o there set h q =
-    ap (λ p. span_in p h) (fin.get-insert line_total m k t' q)
-    ∙ elim (eq_by_cmp line_cmp q k) as (λ b. eq_by_cmp line_cmp q k ≡ b → span_in (cond b (Some t') (fin.get m q)) h ≡ cond (h == g && b) o (span_at m h q)) [
-      | true ↦ λ e. set h ∙ sym (λ i. cond (and_true (h == g) i) o (span_in ((ap (fin.get m) (same_key q k e) ∙ there) i) h))
-      | false ↦ λ e. sym (ap (λ b. cond b o (span_at m h q)) (both_false (h == g)))
+    ap (λ p. min_max_in p h) (fin.get-insert line_total m k t' q)
+    ∙ elim (eq_by_cmp line_cmp q k) as (λ b. eq_by_cmp line_cmp q k ≡ b → min_max_in (cond b (Some t') (fin.get m q)) h ≡ cond (h == g && b) o (min_max_at m h q)) [
+      | true ↦ λ e. set h ∙ sym (λ i. cond (and_true (h == g) i) o (min_max_in ((ap (fin.get m) (same_key q k e) ∙ there) i) h))
+      | false ↦ λ e. sym (ap (λ b. cond b o (min_max_at m h q)) (both_false (h == g)))
     ] refl where
       and_true : (b : Bool) → (b && true) ≡ b
       and_true true = refl
       and_true false = refl
 
 -- a key comes with one row group
-pub put-new : (m : Holders) (k : Option Key) (t : Holding) (g : ℕ) (x : ℤ × ℤ) → fin.get m k ≡ None → t.spans ≡ (g, x) ∷ [] → IsPut m g k (Some x) (fin.insert m k t)
+pub put-new : (m : Holders) (k : Option Key) (t : Holding) (g : ℕ) (x : ℤ × ℤ) → fin.get m k ≡ None → t.min_maxes ≡ (g, x) ∷ [] → IsPut m g k (Some x) (fin.insert m k t)
 put-new m k t g x absent one h q =
-    ap (λ p. span_in p h) (fin.get-insert line_total m k t q)
-    ∙ elim (eq_by_cmp line_cmp q k) as (λ b. eq_by_cmp line_cmp q k ≡ b → span_in (cond b (Some t) (fin.get m q)) h ≡ cond (h == g && b) (Some x) (span_at m h q)) [
-      | true ↦ λ e. ap (λ s. at s h) one ∙ sym (λ i. cond (and_true (h == g) i) (Some x) (span_in ((ap (fin.get m) (same_key q k e) ∙ absent) i) h))
-      | false ↦ λ e. sym (ap (λ b. cond b (Some x) (span_at m h q)) (both_false (h == g)))
+    ap (λ p. min_max_in p h) (fin.get-insert line_total m k t q)
+    ∙ elim (eq_by_cmp line_cmp q k) as (λ b. eq_by_cmp line_cmp q k ≡ b → min_max_in (cond b (Some t) (fin.get m q)) h ≡ cond (h == g && b) (Some x) (min_max_at m h q)) [
+      | true ↦ λ e. ap (λ s. at s h) one ∙ sym (λ i. cond (and_true (h == g) i) (Some x) (min_max_in ((ap (fin.get m) (same_key q k e) ∙ absent) i) h))
+      | false ↦ λ e. sym (ap (λ b. cond b (Some x) (min_max_at m h q)) (both_false (h == g)))
     ] refl where
       and_true : (b : Bool) → (b && true) ≡ b
       and_true true = refl
@@ -317,24 +317,24 @@ put-same m k t h = same _ _ (λ q.
     ] refl)
 
 -- what stands already is put again
-pub put-own : (m : Holders) (g : ℕ) (k : Option Key) (x : ℤ × ℤ) → span_at m g k ≡ Some x → IsPut m g k (Some x) m
-put-own m g k x there h q = elim (h == g) as (λ a. (h == g) ≡ a → span_at m h q ≡ cond (a && eq_by_cmp line_cmp q k) (Some x) (span_at m h q)) [
-  | true ↦ λ e. elim (eq_by_cmp line_cmp q k) as (λ b. eq_by_cmp line_cmp q k ≡ b → span_at m h q ≡ cond b (Some x) (span_at m h q)) [
-    | true ↦ λ s. (λ i. span_at m (here h g e i) (same_key q k s i)) ∙ there
+pub put-own : (m : Holders) (g : ℕ) (k : Option Key) (x : ℤ × ℤ) → min_max_at m g k ≡ Some x → IsPut m g k (Some x) m
+put-own m g k x there h q = elim (h == g) as (λ a. (h == g) ≡ a → min_max_at m h q ≡ cond (a && eq_by_cmp line_cmp q k) (Some x) (min_max_at m h q)) [
+  | true ↦ λ e. elim (eq_by_cmp line_cmp q k) as (λ b. eq_by_cmp line_cmp q k ≡ b → min_max_at m h q ≡ cond b (Some x) (min_max_at m h q)) [
+    | true ↦ λ s. (λ i. min_max_at m (here h g e i) (same_key q k s i)) ∙ there
     | false ↦ λ s. refl
   ] refl
   | false ↦ λ e. refl
 ] refl
 
 -- a value that is seen
-pub seen-in : (m m' : Holders) (count g : ℕ) (k : Option Key) (v : ℤ) (o : Option (ℤ × ℤ)) → AreReserved count m → span_at m g k ≡ o → g < count → IsPut m g k (Some (widened v o)) m' → groups_in m' count ≡ slice_set (groups_in m count) g (with_observed (group_at (groups_in m count) g) (k, v))
-seen-in m m' count g k v o kept previous l put =
+pub observed-in : (m m' : Holders) (count g : ℕ) (k : Option Key) (v : ℤ) (o : Option (ℤ × ℤ)) → AreReserved count m → min_max_at m g k ≡ o → g < count → IsPut m g k (Some (widened v o)) m' → groups_in m' count ≡ slice_set (groups_in m count) g (with_observed (group_at (groups_in m count) g) (k, v))
+observed-in m m' count g k v o kept previous l put =
     put-in m m' count g k (Some (widened v o)) l put
-    ∙ ap (λ p. slice_set (groups_in m count) g (put_span (group_at (groups_in m count) g) k (Some (widened v p)))) (sym (get-group_at m count g k kept ∙ previous))
+    ∙ ap (λ p. slice_set (groups_in m count) g (put_min_max (group_at (groups_in m count) g) k (Some (widened v p)))) (sym (get-group_at m count g k kept ∙ previous))
 
 -- nothing is there in an empty map
 pub reserved-empty : (m : Holders) (count : ℕ) → ((q : Option Key) → fin.get m q ≡ None) → AreReserved count m
-reserved-empty m count none g q l = ap (λ o. span_in o g) (none q)
+reserved-empty m count none g q l = ap (λ o. min_max_in o g) (none q)
 
 pub widened_within : (v : ℤ) (s : ℤ × ℤ) → s.0 ≤ℤ v → v ≤ℤ s.1 → widened v (Some s) ≡ s
 widened_within v s low high =

@@ -2,6 +2,6 @@ pub mod GoneLaws
 pub mod GroupLaws
 pub mod HolderLaws
 pub mod ReserveLaws
-pub mod SlotLaws
+pub mod BlockLaws
 pub mod SpreadLaws
 pub mod TournamentLaws

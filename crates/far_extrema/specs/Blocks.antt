@@ -1,14 +1,14 @@
--- What a block has of the spans of row groups that follow one another.
+-- What a block has of the min-maxes of row groups that follow one another.
 -- Internal: no public contract cites it.
 use Rattle.std.specs.Prelude.{ℕ, ◌+◌, ℤ, List, [], ◌∷◌, Option, None, Some}
-use Rattle.far_extrema.specs.Spreads.{Spans}
+use Rattle.far_extrema.specs.Spreads.{MinMaxes}
 
-pub record Slots : Type 0 where
-  pub spans : Spans
+pub record BlockState : Type 0 where
+  pub min_maxes : MinMaxes
   pub first : ℕ
 
--- the spans that stand in slots, of row groups from this one on
-abbrev pub slotted : ℕ → List (Option (ℤ × ℤ)) → Spans
-slotted first [] = []
-slotted first (None ∷ slots) = slotted (first + 1) slots
-slotted first (Some span ∷ slots) = (first, span) ∷ slotted (first + 1) slots
+-- the min-maxes that stand in elements, of row groups from this one on
+abbrev pub present : ℕ → List (Option (ℤ × ℤ)) → MinMaxes
+present first [] = []
+present first (None ∷ elements) = present (first + 1) elements
+present first (Some min_max ∷ elements) = (first, min_max) ∷ present (first + 1) elements

@@ -1,4 +1,4 @@
--- By key, the spans of the row groups in which it occurs, and the extrema of row groups that they make.
+-- By key, the min-maxes of the row groups in which it occurs, and the extrema of row groups that they make.
 use Rattle.std.specs.Prelude.{◌≡◌, ◌≢◌, ◌==◌, ◌≤◌, ◌&&◌, ℕ, zero, suc, ℤ, Bool, true, false, cond, List, [], ◌∷◌, ◌++◌, Option, None, Some, option_map}
 use Rattle.std.specs.List.{filter_map}
 use Rattle.std.specs.Ordering.{eq_by_cmp}
@@ -6,17 +6,17 @@ use Rattle.std.specs.FinMap as fin
 use Rattle.far_types.specs.declared.key.Key.{Key}
 use Rattle.far_types.specs.Keys.{line_cmp}
 use Rattle.far_types.specs.Answers.{ByKey, Extrema}
-use Rattle.far_extrema.specs.Spreads.{Spans, Spread, at, IsTopOf, IsSet}
+use Rattle.far_extrema.specs.Spreads.{MinMaxes, Spread, at, IsTopOf, IsSet}
 
--- the spans of the row groups in which a key occurs, their span together, and whether it is reserved for one more
+-- the min-maxes of the row groups in which a key occurs, their min-max together, and whether it is reserved for one more
 pub record Holding : Type 0 where
-  pub spans : Spans
+  pub min_maxes : MinMaxes
   pub top : Option (ℤ × ℤ)
   pub reserved : Bool
 
 abbrev pub held : Option Spread → Bool → Holding
-held None reserved = record { spans = []; top = None; reserved = reserved }
-held (Some spread) reserved = record { spans = spread.spans; top = spread.top; reserved = reserved }
+held None reserved = record { min_maxes = []; top = None; reserved = reserved }
+held (Some spread) reserved = record { min_maxes = spread.min_maxes; top = spread.top; reserved = reserved }
 
 -- by key, the row groups in which it occurs
 abbrev pub Holders : Type 0
@@ -26,13 +26,13 @@ Holders = ByKey Holding
 abbrev pub holders_of : List (Option Key × Holding) → Holders
 holders_of entries = fin.from_entries entries
 
-abbrev pub span_in : Option Holding → ℕ → Option (ℤ × ℤ)
-span_in None group = None
-span_in (Some holding) group = at holding.spans group
+abbrev pub min_max_in : Option Holding → ℕ → Option (ℤ × ℤ)
+min_max_in None group = None
+min_max_in (Some holding) group = at holding.min_maxes group
 
--- the span of a key in a row group
-abbrev pub span_at : Holders → ℕ → Option Key → Option (ℤ × ℤ)
-span_at holders group key = span_in (fin.get holders key) group
+-- the min-max of a key in a row group
+abbrev pub min_max_at : Holders → ℕ → Option Key → Option (ℤ × ℤ)
+min_max_at holders group key = min_max_in (fin.get holders key) group
 
 abbrev pub reserved_in : Option Holding → Option (Bool)
 reserved_in None = None
@@ -48,7 +48,7 @@ picked f keys = fin.from_entries (filter_map (λ key. option_map (λ value. (key
 
 -- the extrema of a row group
 abbrev pub group_in : Holders → ℕ → Extrema
-group_in holders group = picked (span_at holders group) (fin.keys holders)
+group_in holders group = picked (min_max_at holders group) (fin.keys holders)
 
 -- the extrema of the row groups below this number
 abbrev pub groups_in : Holders → ℕ → List Extrema
@@ -61,26 +61,26 @@ reserved_keys holders = picked (reserved_at holders) (fin.keys holders)
 
 -- no key occurs in a row group from this number on
 abbrev pub AreReserved : ℕ → Holders → Type 0
-AreReserved count holders = (g : ℕ) → (key : Option Key) → count ≤ g → span_at holders g key ≡ None
+AreReserved count holders = (g : ℕ) → (key : Option Key) → count ≤ g → min_max_at holders g key ≡ None
 
--- the span that is kept is that of all row groups together
+-- the min-max that is kept is that of all row groups together
 abbrev pub IsTopped : Option Key × Holding → Type 0
-IsTopped entry = IsTopOf entry.1.spans entry.1.top
+IsTopped entry = IsTopOf entry.1.min_maxes entry.1.top
 
 -- the line of a key that occurs in a row group
 abbrev pub line_of : Option Key × Holding → Option (Option Key × ℤ × ℤ)
 line_of entry = option_map (λ (top : ℤ × ℤ). (entry.0, top.0, top.1)) entry.1.top
 
--- a key has this span in a row group, or none, and all else is as it was
+-- a key has this min-max in a row group, or none, and all else is as it was
 abbrev pub IsPut : Holders → ℕ → Option Key → Option (ℤ × ℤ) → Holders → Type 0
-IsPut old group key span new = (g : ℕ) → (q : Option Key) → span_at new g q ≡ cond (g == group && eq_by_cmp line_cmp q key) span (span_at old g q)
+IsPut old group key min_max new = (g : ℕ) → (q : Option Key) → min_max_at new g q ≡ cond (g == group && eq_by_cmp line_cmp q key) min_max (min_max_at old g q)
 
--- these are the spans of a row group, and those of the others are as they were
+-- these are the min-maxes of a row group, and those of the others are as they were
 abbrev pub IsGroup : Holders → ℕ → Extrema → Holders → Type 0
-IsGroup old group extrema new = (g : ℕ) → (q : Option Key) → span_at new g q ≡ cond (g == group) (fin.get extrema q) (span_at old g q)
+IsGroup old group extrema new = (g : ℕ) → (q : Option Key) → min_max_at new g q ≡ cond (g == group) (fin.get extrema q) (min_max_at old g q)
 
-abbrev pub HaveSameSpans : Holders → Holders → Type 0
-HaveSameSpans old new = (g : ℕ) → (q : Option Key) → span_at new g q ≡ span_at old g q
+abbrev pub HaveSameMinMaxes : Holders → Holders → Type 0
+HaveSameMinMaxes old new = (g : ℕ) → (q : Option Key) → min_max_at new g q ≡ min_max_at old g q
 
 abbrev pub HaveSameReserved : Holders → Holders → Type 0
 HaveSameReserved old new = (q : Option Key) → reserved_at new q ≡ reserved_at old q
@@ -95,4 +95,4 @@ IsReservedFor extrema holders = (q : Option Key) → fin.get extrema q ≢ None 
 
 -- a row group is cleared of an entry, which is kept while a row group is left to it, or it is reserved
 abbrev pub IsCleared : ℕ → Holding → Bool → Holding → Type 0
-IsCleared group old kept new = IsSet old.spans group None new.spans × (new.reserved ≡ old.reserved) × (kept ≡ false → (new.spans ≡ []) × (new.reserved ≡ false))
+IsCleared group old kept new = IsSet old.min_maxes group None new.min_maxes × (new.reserved ≡ old.reserved) × (kept ≡ false → (new.min_maxes ≡ []) × (new.reserved ≡ false))

@@ -1,46 +1,46 @@
--- The spans of the row groups in which a key occurs.
+-- The min-maxes of the row groups in which a key occurs.
 use Rattle.std.specs.Prelude.{◌≡◌, ◌<◌, ◌≤◌, ◌==◌, ℕ, zero, suc, ℤ, cond, List, [], ◌∷◌, Option, None, Some}
-use Rattle.far_types.specs.Effects.{join_spans, merge_two}
+use Rattle.far_types.specs.Effects.{join_min_maxes, merge_two}
 
--- by row group, the span of the key there
-abbrev pub Spans : Type 0
-Spans = List (ℕ × (ℤ × ℤ))
+-- by row group, the min-max of the key there
+abbrev pub MinMaxes : Type 0
+MinMaxes = List (ℕ × (ℤ × ℤ))
 
--- the spans of the row groups in which a key occurs, their span together if there are some, how many branches there are at
+-- the min-maxes of the row groups in which a key occurs, their min-max together if there are some, how many branches there are at
 -- most on the way to one, and the range in which they are
 pub record Spread : Type 0 where
-  pub spans : Spans
+  pub min_maxes : MinMaxes
   pub top : Option (ℤ × ℤ)
   pub depth : ℕ
   pub first : ℕ
   pub last : ℕ
 
--- the span of a row group
-abbrev pub at : Spans → ℕ → Option (ℤ × ℤ)
+-- the min-max of a row group
+abbrev pub at : MinMaxes → ℕ → Option (ℤ × ℤ)
 at [] q = None
-at (one ∷ spans) q = cond (q == one.0) (Some one.1) (at spans q)
+at (one ∷ min_maxes) q = cond (q == one.0) (Some one.1) (at min_maxes q)
 
 -- none before this number
-abbrev pub IsFrom : ℕ → Spans → Type 0
-IsFrom low spans = (q : ℕ) → q < low → at spans q ≡ None
+abbrev pub IsFrom : ℕ → MinMaxes → Type 0
+IsFrom low min_maxes = (q : ℕ) → q < low → at min_maxes q ≡ None
 
 -- none from this number on
-abbrev pub IsBelow : ℕ → Spans → Type 0
-IsBelow high spans = (q : ℕ) → high ≤ q → at spans q ≡ None
+abbrev pub IsBelow : ℕ → MinMaxes → Type 0
+IsBelow high min_maxes = (q : ℕ) → high ≤ q → at min_maxes q ≡ None
 
 -- what stands at the numbers below this one, joined
 abbrev pub joined_to : ℕ → (ℕ → Option (ℤ × ℤ)) → Option (ℤ × ℤ)
 joined_to zero f = None
-joined_to (suc n) f = merge_two join_spans (joined_to n f) (f n)
+joined_to (suc n) f = merge_two join_min_maxes (joined_to n f) (f n)
 
--- all their spans joined are this one, or none if there is no row group
-abbrev pub IsTopOf : Spans → Option (ℤ × ℤ) → Type 0
-IsTopOf spans top = (n : ℕ) → IsBelow n spans → joined_to n (at spans) ≡ top
+-- all their min-maxes joined are this one, or none if there is no row group
+abbrev pub IsTopOf : MinMaxes → Option (ℤ × ℤ) → Type 0
+IsTopOf min_maxes top = (n : ℕ) → IsBelow n min_maxes → joined_to n (at min_maxes) ≡ top
 
--- a row group has this span, or none, and the others have what they had
-abbrev pub IsSet : Spans → ℕ → Option (ℤ × ℤ) → Spans → Type 0
-IsSet old group span new = (q : ℕ) → at new q ≡ cond (q == group) span (at old q)
+-- a row group has this min-max, or none, and the others have what they had
+abbrev pub IsSet : MinMaxes → ℕ → Option (ℤ × ℤ) → MinMaxes → Type 0
+IsSet old group min_max new = (q : ℕ) → at new q ≡ cond (q == group) min_max (at old q)
 
 -- each row group has what it had
-abbrev pub AreSame : Spans → Spans → Type 0
+abbrev pub AreSame : MinMaxes → MinMaxes → Type 0
 AreSame old new = (q : ℕ) → at new q ≡ at old q

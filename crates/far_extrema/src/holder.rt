@@ -4,7 +4,7 @@ ghost use Rattle.far_types.specs.Effects.{widened};
 ghost use Rattle.far_extrema.specs.Spreads.{at, IsSet, IsTopOf};
 
 use super::rows_left::RowsLeft;
-use super::spans::{MinMax, is_strictly_within, is_within, merge_two};
+use super::min_maxes::{MinMax, is_strictly_within, is_within, merge_two};
 use super::tournament::{Spare, Tournament};
 use far_types::Refusal;
 use std::alloc::Global;
@@ -29,19 +29,19 @@ impl Model for Holder {
 
 impl Holder {
     /// One row group, and no memory for another. Allocates nothing.
-    pub fn new(group: u32, span: MinMax) -> Holder
-        ensures spans { result.spans ≡ (group, span) ∷ [] }
+    pub fn new(group: u32, min_max: MinMax) -> Holder
+        ensures min_maxes { result.min_maxes ≡ (group, min_max) ∷ [] }
         ensures reserved { result.reserved ≡ false }
     {
         Holder {
-            groups: Some(Tournament::new(group, span)),
+            groups: Some(Tournament::new(group, min_max)),
             spare: None,
         }
     }
 
     /// No row group, and memory for one. Allocates nothing.
     pub fn with_spare(spare: Spare) -> Holder
-        ensures spans { result.spans ≡ [] }
+        ensures min_maxes { result.min_maxes ≡ [] }
         ensures reserved { result.reserved ≡ true }
     {
         Holder {
@@ -50,20 +50,20 @@ impl Holder {
         }
     }
 
-    /// The span of a row group, or `None` if the key does not occur in it.
-    pub fn span(&self, group: u32) -> Option<MinMax>
-        ensures { result ≡ at self.now.spans group }
+    /// The min-max of a row group, or `None` if the key does not occur in it.
+    pub fn min_max(&self, group: u32) -> Option<MinMax>
+        ensures { result ≡ at self.now.min_maxes group }
     {
         match &self.groups {
-            Some(groups) => groups.span(group),
+            Some(groups) => groups.min_max(group),
             None => None,
         }
     }
 
-    /// The span of all row groups together, or `None` if there is none.
+    /// The min-max of all row groups together, or `None` if there is none.
     pub fn top(&self) -> Option<MinMax>
         ensures is { result ≡ self.now.top }
-        ensures top { IsTopOf self.now.spans result }
+        ensures top { IsTopOf self.now.min_maxes result }
     {
         match &self.groups {
             Some(groups) => groups.top(),
@@ -73,7 +73,7 @@ impl Holder {
 
     /// Whether no row group is left, nor memory for one.
     pub fn is_vacant(&self) -> bool
-        ensures spans { IsTrue result → self.now.spans ≡ [] }
+        ensures min_maxes { IsTrue result → self.now.min_maxes ≡ [] }
         ensures reserved { IsTrue result → self.now.reserved ≡ false }
     {
         self.groups.is_none() && self.spare.is_none()
@@ -81,7 +81,7 @@ impl Holder {
 
     /// Reserves memory for a row group more. Refused with `NoMemory` (1) alone, and then nothing is changed.
     pub fn reserve(&mut self, alloc: Global) -> Result<(), Refusal>
-        ensures spans { self.new.spans ≡ self.old.spans }
+        ensures min_maxes { self.new.min_maxes ≡ self.old.min_maxes }
         ensures reserved { OnOk result (self.new.reserved ≡ true) }
         ensures err { OnErr result (self.new ≡ self.old) }
         ensures memory { IfErr result (λ e. e ≡ Refusal.NoMemory) }
@@ -93,28 +93,28 @@ impl Holder {
     }
 
     /// A row group more, which leaves what is reserved as it is. Refused with `NoMemory` (1) alone, and then nothing is changed.
-    fn add(&mut self, alloc: Global, group: u32, span: MinMax) -> Result<(), Refusal>
-        requires { at self.old.spans group ≡ None }
-        ensures ok { OnOk result (IsSet self.old.spans group (Some span) self.new.spans) }
+    fn add(&mut self, alloc: Global, group: u32, min_max: MinMax) -> Result<(), Refusal>
+        requires { at self.old.min_maxes group ≡ None }
+        ensures ok { OnOk result (IsSet self.old.min_maxes group (Some min_max) self.new.min_maxes) }
         ensures reserved { self.new.reserved ≡ self.old.reserved }
         ensures err { OnErr result (self.new ≡ self.old) }
         ensures memory { IfErr result (λ e. e ≡ Refusal.NoMemory) }
     {
         match &mut self.groups {
             Some(groups) => {
-                if !groups.set(group, Some(span)) {
-                    groups.add(Spare::new(alloc)?, group, span);
+                if !groups.set(group, Some(min_max)) {
+                    groups.add(Spare::new(alloc)?, group, min_max);
                 }
             }
-            None => self.groups = Some(Tournament::new(group, span)),
+            None => self.groups = Some(Tournament::new(group, min_max)),
         }
         Ok(())
     }
 
-    /// A value more in a row group whose span is known: a value within that changes nothing. Allocates nothing.
+    /// A value more in a row group whose min-max is known: a value within that changes nothing. Allocates nothing.
     fn widen(&mut self, group: u32, previous: MinMax, value: i64)
-        requires { at self.old.spans group ≡ Some previous }
-        ensures spans { IsSet self.old.spans group (Some (widened value (Some previous))) self.new.spans }
+        requires { at self.old.min_maxes group ≡ Some previous }
+        ensures min_maxes { IsSet self.old.min_maxes group (Some (widened value (Some previous))) self.new.min_maxes }
         ensures reserved { self.new.reserved ≡ self.old.reserved }
     {
         if is_within(value, previous) {
@@ -124,7 +124,7 @@ impl Holder {
         self.put(group, wide);
     }
 
-    /// A value more in a row group, which leaves what is reserved as it is. Returns the previous span there, or
+    /// A value more in a row group, which leaves what is reserved as it is. Returns the previous min-max there, or
     /// `None` if the key did not occur. Refused with `NoMemory` (1) alone, where the key is new there, and then nothing is changed.
     pub fn observe(
         &mut self,
@@ -132,17 +132,17 @@ impl Holder {
         group: u32,
         value: i64,
     ) -> Result<Option<MinMax>, Refusal>
-        ensures previous { IfOk result (λ previous. previous ≡ at self.old.spans group) }
-        ensures ok { OnOk result (IsSet self.old.spans group (Some (widened value (at self.old.spans group))) self.new.spans) }
+        ensures previous { IfOk result (λ previous. previous ≡ at self.old.min_maxes group) }
+        ensures ok { OnOk result (IsSet self.old.min_maxes group (Some (widened value (at self.old.min_maxes group))) self.new.min_maxes) }
         ensures reserved { self.new.reserved ≡ self.old.reserved }
         ensures err { OnErr result (self.new ≡ self.old) }
-        ensures only_new { OnErr result (at self.old.spans group ≡ None) }
+        ensures only_new { OnErr result (at self.old.min_maxes group ≡ None) }
         ensures memory { IfErr result (λ e. e ≡ Refusal.NoMemory) }
     {
-        match self.span(group) {
-            Some(span) => {
-                self.widen(group, span, value);
-                Ok(Some(span))
+        match self.min_max(group) {
+            Some(min_max) => {
+                self.widen(group, min_max, value);
+                Ok(Some(min_max))
             }
             None => {
                 self.add(alloc, group, (value, value))?;
@@ -152,33 +152,33 @@ impl Holder {
     }
 
     /// A row group more, which takes the memory that is reserved. Allocates nothing.
-    pub fn fill(&mut self, group: u32, span: MinMax)
+    pub fn fill(&mut self, group: u32, min_max: MinMax)
         requires reserved { self.old.reserved ≡ true }
-        requires new { at self.old.spans group ≡ None }
-        ensures { IsSet self.old.spans group (Some span) self.new.spans }
+        requires new { at self.old.min_maxes group ≡ None }
+        ensures { IsSet self.old.min_maxes group (Some min_max) self.new.min_maxes }
     {
         match self.spare.take() {
             Some(spare) => match &mut self.groups {
                 Some(groups) => {
-                    if !groups.set(group, Some(span)) {
-                        groups.add(spare, group, span);
+                    if !groups.set(group, Some(min_max)) {
+                        groups.add(spare, group, min_max);
                     }
                 }
-                None => self.groups = Some(Tournament::new(group, span)),
+                None => self.groups = Some(Tournament::new(group, min_max)),
             },
             None => unreachable!(),
         }
     }
 
-    /// A span in place of that of a row group in which the key occurs. Allocates nothing.
-    pub fn put(&mut self, group: u32, span: MinMax)
-        requires { at self.old.spans group ≢ None }
-        ensures spans { IsSet self.old.spans group (Some span) self.new.spans }
+    /// A min-max in place of that of a row group in which the key occurs. Allocates nothing.
+    pub fn put(&mut self, group: u32, min_max: MinMax)
+        requires { at self.old.min_maxes group ≢ None }
+        ensures min_maxes { IsSet self.old.min_maxes group (Some min_max) self.new.min_maxes }
         ensures reserved { self.new.reserved ≡ self.old.reserved }
     {
         match &mut self.groups {
             Some(groups) => {
-                if !groups.set(group, Some(span)) {
+                if !groups.set(group, Some(min_max)) {
                     unreachable!();
                 }
             }
@@ -188,8 +188,8 @@ impl Holder {
 
     /// A row group in which the key occurs no more. Allocates nothing.
     pub fn leave(&mut self, group: u32)
-        requires { at self.old.spans group ≢ None }
-        ensures spans { IsSet self.old.spans group None self.new.spans }
+        requires { at self.old.min_maxes group ≢ None }
+        ensures min_maxes { IsSet self.old.min_maxes group None self.new.min_maxes }
         ensures reserved { self.new.reserved ≡ self.old.reserved }
     {
         match &mut self.groups {
@@ -207,23 +207,23 @@ impl Holder {
     }
 
     /// A value less in a row group, of which the rows are left. They are read only if the value was the least or the
-    /// greatest. Returns the span that is left, or `None` if the key occurs there no more. Allocates nothing.
+    /// greatest. Returns the min-max that is left, or `None` if the key occurs there no more. Allocates nothing.
     pub fn shrink<R: RowsLeft>(&mut self, group: u32, value: i64, rows: &R) -> Option<MinMax>
         requires at_hand { R.at_hand rows.now }
-        requires previous { at self.old.spans group ≡ Some (widened value (R.extremes rows.now)) }
+        requires previous { at self.old.min_maxes group ≡ Some (widened value (R.extremes rows.now)) }
         ensures left { result ≡ R.extremes rows.now }
-        ensures spans { IsSet self.old.spans group (R.extremes rows.now) self.new.spans }
+        ensures min_maxes { IsSet self.old.min_maxes group (R.extremes rows.now) self.new.min_maxes }
         ensures reserved { self.new.reserved ≡ self.old.reserved }
     {
-        if let Some(span) = self.span(group) {
-            if is_strictly_within(value, span) {
-                return Some(span);
+        if let Some(min_max) = self.min_max(group) {
+            if is_strictly_within(value, min_max) {
+                return Some(min_max);
             }
         }
-        match rows.span() {
-            Some(span) => {
-                self.put(group, span);
-                Some(span)
+        match rows.min_max() {
+            Some(min_max) => {
+                self.put(group, min_max);
+                Some(min_max)
             }
             None => {
                 self.leave(group);
@@ -234,10 +234,10 @@ impl Holder {
 
     /// A row group in which the key occurs no more, if it did. Allocates nothing.
     pub fn clear(&mut self, group: u32)
-        ensures spans { IsSet self.old.spans group None self.new.spans }
+        ensures min_maxes { IsSet self.old.min_maxes group None self.new.min_maxes }
         ensures reserved { self.new.reserved ≡ self.old.reserved }
     {
-        if self.span(group).is_some() {
+        if self.min_max(group).is_some() {
             self.leave(group);
         }
     }

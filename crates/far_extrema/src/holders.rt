@@ -7,12 +7,12 @@ ghost use Rattle.std.specs.FinMap as fin;
 ghost use Rattle.far_types.specs.declared.key.Key.{Key};
 ghost use Rattle.far_types.specs.Effects.{widened};
 ghost use Rattle.far_types.specs.Keys.{line_cmp};
-ghost use Rattle.far_extrema.specs.Spans.{extrema_of};
-ghost use Rattle.far_extrema.specs.Holders.{holders_of, span_at, reserved_at, line_of, IsPut, IsTopped, HaveSameReserved, HaveSameSpans, KeepsReserved, IsReservedFor, IsGroup, IsCleared};
+ghost use Rattle.far_extrema.specs.MinMaxes.{extrema_of};
+ghost use Rattle.far_extrema.specs.Holders.{holders_of, min_max_at, reserved_at, line_of, IsPut, IsTopped, HaveSameReserved, HaveSameMinMaxes, KeepsReserved, IsReservedFor, IsGroup, IsCleared};
 
 use super::holder::Holder;
 use super::rows_left::RowsLeft;
-use super::spans::{MinMax, Spans};
+use super::min_maxes::{MinMax, MinMaxes};
 use super::tournament::Spare;
 use far_types::{Key, Refusal, clone_key};
 use std::alloc::Global;
@@ -21,18 +21,18 @@ use std::collections::BTreeMap;
 /// What stands by key.
 pub type Holders = BTreeMap<Option<Key>, Holder>;
 
-/// The span of a key in a row group. Allocates nothing.
-pub fn span_in(holders: &Holders, group: u32, key: &Option<Key>) -> Option<MinMax>
-    ensures { result ≡ span_at (holders_of holders.now.entries) group key.now }
+/// The min-max of a key in a row group. Allocates nothing.
+pub fn min_max_in(holders: &Holders, group: u32, key: &Option<Key>) -> Option<MinMax>
+    ensures { result ≡ min_max_at (holders_of holders.now.entries) group key.now }
 {
     match holders.get(key) {
-        Some(holder) => holder.span(group),
+        Some(holder) => holder.min_max(group),
         None => None,
     }
 }
 
 /// A value more under a key in a row group. One look-up brings it in where the key is known. Returns the previous
-/// span there, or `None`. A clone of the key is made where it is new. Refused with `NoMemory` (1) alone, where the key is new in the
+/// min-max there, or `None`. A clone of the key is made where it is new. Refused with `NoMemory` (1) alone, where the key is new in the
 /// row group, and then nothing is changed.
 pub fn observe_in(
     holders: &mut Holders,
@@ -41,11 +41,11 @@ pub fn observe_in(
     key: &Option<Key>,
     value: i64,
 ) -> Result<Option<MinMax>, Refusal>
-    ensures previous { IfOk result (λ previous. previous ≡ span_at (holders_of holders.old.entries) group key.now) }
-    ensures ok { OnOk result (IsPut (holders_of holders.old.entries) group key.now (Some (widened value (span_at (holders_of holders.old.entries) group key.now))) (holders_of holders.new.entries)) }
+    ensures previous { IfOk result (λ previous. previous ≡ min_max_at (holders_of holders.old.entries) group key.now) }
+    ensures ok { OnOk result (IsPut (holders_of holders.old.entries) group key.now (Some (widened value (min_max_at (holders_of holders.old.entries) group key.now))) (holders_of holders.new.entries)) }
     ensures reserved { OnOk result (HaveSameReserved (holders_of holders.old.entries) (holders_of holders.new.entries)) }
     ensures err { OnErr result (holders_of holders.new.entries ≡ holders_of holders.old.entries) }
-    ensures only_new { OnErr result (span_at (holders_of holders.old.entries) group key.now ≡ None) }
+    ensures only_new { OnErr result (min_max_at (holders_of holders.old.entries) group key.now ≡ None) }
     ensures memory { IfErr result (λ e. e ≡ Refusal.NoMemory) }
 {
     match holders.get_mut(key) {
@@ -57,22 +57,22 @@ pub fn observe_in(
     }
 }
 
-/// A span in place of that of a key in a row group. Allocates nothing.
-pub fn set_in(holders: &mut Holders, group: u32, key: &Option<Key>, span: MinMax)
-    requires { span_at (holders_of holders.old.entries) group key.now ≢ None }
-    ensures spans { IsPut (holders_of holders.old.entries) group key.now (Some span) (holders_of holders.new.entries) }
+/// A min-max in place of that of a key in a row group. Allocates nothing.
+pub fn set_in(holders: &mut Holders, group: u32, key: &Option<Key>, min_max: MinMax)
+    requires { min_max_at (holders_of holders.old.entries) group key.now ≢ None }
+    ensures min_maxes { IsPut (holders_of holders.old.entries) group key.now (Some min_max) (holders_of holders.new.entries) }
     ensures reserved { HaveSameReserved (holders_of holders.old.entries) (holders_of holders.new.entries) }
 {
     match holders.get_mut(key) {
-        Some(holder) => holder.put(group, span),
+        Some(holder) => holder.put(group, min_max),
         None => unreachable!(),
     }
 }
 
 /// A row group in which a key occurs no more: the key goes with its last one, if it is not reserved. Allocates nothing.
 pub fn leave_in(holders: &mut Holders, group: u32, key: &Option<Key>)
-    requires { span_at (holders_of holders.old.entries) group key.now ≢ None }
-    ensures spans { IsPut (holders_of holders.old.entries) group key.now None (holders_of holders.new.entries) }
+    requires { min_max_at (holders_of holders.old.entries) group key.now ≢ None }
+    ensures min_maxes { IsPut (holders_of holders.old.entries) group key.now None (holders_of holders.new.entries) }
     ensures reserved { HaveSameReserved (holders_of holders.old.entries) (holders_of holders.new.entries) }
 {
     match holders.get_mut(key) {
@@ -88,7 +88,7 @@ pub fn leave_in(holders: &mut Holders, group: u32, key: &Option<Key>)
 }
 
 /// A value less under a key in a row group, of which the rows are left. They are read only if the value was the least or the
-/// greatest. Returns the span that is left, or `None`; the key goes with its last row group, if it is not reserved. One look-up
+/// greatest. Returns the min-max that is left, or `None`; the key goes with its last row group, if it is not reserved. One look-up
 /// finds the key, and one more lets it go. Allocates nothing.
 pub fn shrink_in<R: RowsLeft>(
     holders: &mut Holders,
@@ -98,9 +98,9 @@ pub fn shrink_in<R: RowsLeft>(
     rows: &R,
 ) -> Option<MinMax>
     requires at_hand { R.at_hand rows.now }
-    requires previous { span_at (holders_of holders.old.entries) group key.now ≡ Some (widened value (R.extremes rows.now)) }
+    requires previous { min_max_at (holders_of holders.old.entries) group key.now ≡ Some (widened value (R.extremes rows.now)) }
     ensures left { result ≡ R.extremes rows.now }
-    ensures spans { IsPut (holders_of holders.old.entries) group key.now (R.extremes rows.now) (holders_of holders.new.entries) }
+    ensures min_maxes { IsPut (holders_of holders.old.entries) group key.now (R.extremes rows.now) (holders_of holders.new.entries) }
     ensures reserved { HaveSameReserved (holders_of holders.old.entries) (holders_of holders.new.entries) }
 {
     match holders.get_mut(key) {
@@ -118,7 +118,7 @@ pub fn shrink_in<R: RowsLeft>(
 
 /// Reserves memory for a row group more of a key. Refused with `NoMemory` (1) alone.
 fn reserve_in(holders: &mut Holders, alloc: Global, key: &Option<Key>) -> Result<(), Refusal>
-    ensures spans { HaveSameSpans (holders_of holders.old.entries) (holders_of holders.new.entries) }
+    ensures min_maxes { HaveSameMinMaxes (holders_of holders.old.entries) (holders_of holders.new.entries) }
     ensures kept { KeepsReserved (holders_of holders.old.entries) (holders_of holders.new.entries) }
     ensures reserved { OnOk result (reserved_at (holders_of holders.new.entries) key.now ≢ None) }
     ensures memory { IfErr result (λ e. e ≡ Refusal.NoMemory) }
@@ -135,38 +135,38 @@ fn reserve_in(holders: &mut Holders, alloc: Global, key: &Option<Key>) -> Result
 
 /// Reserves memory for a row group more of each of these keys. Refused with `NoMemory` (1) alone, and then some may be
 /// reserved.
-pub fn reserve_all(holders: &mut Holders, alloc: Global, spans: &Spans) -> Result<(), Refusal>
-    ensures spans { HaveSameSpans (holders_of holders.old.entries) (holders_of holders.new.entries) }
-    ensures reserved { OnOk result (IsReservedFor (extrema_of spans.now.entries) (holders_of holders.new.entries)) }
+pub fn reserve_all(holders: &mut Holders, alloc: Global, min_maxes: &MinMaxes) -> Result<(), Refusal>
+    ensures min_maxes { HaveSameMinMaxes (holders_of holders.old.entries) (holders_of holders.new.entries) }
+    ensures reserved { OnOk result (IsReservedFor (extrema_of min_maxes.now.entries) (holders_of holders.new.entries)) }
     ensures memory { IfErr result (λ e. e ≡ Refusal.NoMemory) }
 {
-    for (key, _) in spans {
+    for (key, _) in min_maxes {
         reserve_in(holders, alloc, key)?;
     }
     Ok(())
 }
 
 /// A row group more for a reserved key. Allocates nothing.
-fn fill_in(holders: &mut Holders, group: u32, key: &Option<Key>, span: MinMax)
+fn fill_in(holders: &mut Holders, group: u32, key: &Option<Key>, min_max: MinMax)
     requires reserved { reserved_at (holders_of holders.old.entries) key.now ≢ None }
-    requires new { span_at (holders_of holders.old.entries) group key.now ≡ None }
-    ensures spans { IsPut (holders_of holders.old.entries) group key.now (Some span) (holders_of holders.new.entries) }
+    requires new { min_max_at (holders_of holders.old.entries) group key.now ≡ None }
+    ensures min_maxes { IsPut (holders_of holders.old.entries) group key.now (Some min_max) (holders_of holders.new.entries) }
     ensures reserved { (q : Option Key) → eq_by_cmp line_cmp q key.now ≡ false → reserved_at (holders_of holders.new.entries) q ≡ reserved_at (holders_of holders.old.entries) q }
 {
     match holders.get_mut(key) {
-        Some(holder) => holder.fill(group, span),
+        Some(holder) => holder.fill(group, min_max),
         None => unreachable!(),
     }
 }
 
-/// These are the spans of a row group in which no key occurs yet; each of their keys is reserved. Allocates nothing.
-pub fn fill_all(holders: &mut Holders, group: u32, spans: &Spans)
-    requires reserved { IsReservedFor (extrema_of spans.now.entries) (holders_of holders.old.entries) }
-    requires new { (q : Option Key) → span_at (holders_of holders.old.entries) group q ≡ None }
-    ensures { IsGroup (holders_of holders.old.entries) group (extrema_of spans.now.entries) (holders_of holders.new.entries) }
+/// These are the min-maxes of a row group in which no key occurs yet; each of their keys is reserved. Allocates nothing.
+pub fn fill_all(holders: &mut Holders, group: u32, min_maxes: &MinMaxes)
+    requires reserved { IsReservedFor (extrema_of min_maxes.now.entries) (holders_of holders.old.entries) }
+    requires new { (q : Option Key) → min_max_at (holders_of holders.old.entries) group q ≡ None }
+    ensures { IsGroup (holders_of holders.old.entries) group (extrema_of min_maxes.now.entries) (holders_of holders.new.entries) }
 {
-    for (key, span) in spans {
-        fill_in(holders, group, key, *span);
+    for (key, min_max) in min_maxes {
+        fill_in(holders, group, key, *min_max);
     }
 }
 
@@ -180,20 +180,20 @@ fn clear(holder: &mut Holder, group: u32) -> bool
 
 /// No key occurs in a row group any more. Allocates nothing.
 pub fn clear_in(holders: &mut Holders, group: u32)
-    ensures spans { IsGroup (holders_of holders.old.entries) group fin.empty (holders_of holders.new.entries) }
+    ensures min_maxes { IsGroup (holders_of holders.old.entries) group fin.empty (holders_of holders.new.entries) }
     ensures reserved { HaveSameReserved (holders_of holders.old.entries) (holders_of holders.new.entries) }
 {
     holders.retain(|_, holder| clear(holder, group));
 }
 
 /// A line of an answer.
-fn line(key: Option<Key>, span: MinMax) -> (Option<Key>, i64, i64)
-    ensures { result ≡ (key, span.0, span.1) }
+fn line(key: Option<Key>, min_max: MinMax) -> (Option<Key>, i64, i64)
+    ensures { result ≡ (key, min_max.0, min_max.1) }
 {
-    (key, span.0, span.1)
+    (key, min_max.0, min_max.1)
 }
 
-/// The lines of the spans of all row groups, by their keys, of which clones are made. A key that is only reserved has none.
+/// The lines of the min-maxes of all row groups, by their keys, of which clones are made. A key that is only reserved has none.
 pub fn lines(alloc: Global, holders: &Holders) -> Result<Vec<(Option<Key>, i64, i64)>, Refusal>
     ensures ok { IfOk result (λ lines. lines.items ≡ filter_map line_of holders.now.entries) }
     ensures ordered { IsOrdered line_cmp holders.now }

@@ -9,10 +9,10 @@ mod holders;
 pub mod laws;
 pub mod live_extrema;
 pub mod rows_left;
-mod spans;
+mod min_maxes;
 mod tournament;
 
 pub use group_extrema::GroupExtrema;
 pub use live_extrema::LiveExtrema;
 pub use rows_left::RowsLeft;
-pub use spans::{MinMax, is_strictly_within};
+pub use min_maxes::{MinMax, is_strictly_within};

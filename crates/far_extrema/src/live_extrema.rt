@@ -6,17 +6,17 @@ ghost use Rattle.far_extrema.specs.Holders.{holders_of};
 use super::group_extrema::GroupExtrema;
 use super::holders::{
     Holders, clear_in, fill_all, leave_in, lines, observe_in, reserve_all, set_in, shrink_in,
-    span_in,
+    min_max_in,
 };
 use super::rows_left::RowsLeft;
-use super::spans::{MinMax, is_within, merge_two};
+use super::min_maxes::{MinMax, is_within, merge_two};
 use far_types::{Answer, ExtremaLines, Key, Refusal};
 use std::alloc::Global;
 use std::collections::BTreeMap;
 use std::marker::Model;
 
 /// The least and the greatest value under each key, kept up to date row group by row group, and how many row groups
-/// are pending: not yet scanned. By key there is a tournament of the row groups in which it occurs. So a span that changes
+/// are pending: not yet scanned. By key there is a tournament of the row groups in which it occurs. So a min-max that changes
 /// costs a look-up by key and a few steps for each doubling of the row groups, and an answer costs nothing for a row
 /// group.
 ///
@@ -48,7 +48,7 @@ impl LiveExtrema {
     ghost use Rattle.far_types.specs.Answers.{extrema_lines};
     ghost use Rattle.far_types.specs.Effects.{with_observed, widened};
     ghost use Rattle.far_extrema.specs.Live.{with_reserved, group_at, IsReservedFor};
-    ghost use Rattle.far_extrema.specs.Spans.{put_span};
+    ghost use Rattle.far_extrema.specs.MinMaxes.{put_min_max};
 
     /// No row group is reserved, and so many are pending. Allocates nothing.
     pub fn new(alloc: Global, left: u32) -> LiveExtrema
@@ -71,13 +71,13 @@ impl LiveExtrema {
     }
 
     /// Reserves the row groups up to this one; those that are new have no row. Allocates nothing.
-    pub fn reserve(&mut self, group: u32)
+    pub fn make_room(&mut self, group: u32)
         ensures { self.new ≡ record self.old { groups = with_reserved group self.old.groups } }
     {
         self.reserved_groups = self.reserved_groups.max(group as usize + 1);
     }
 
-    /// Reserves as `reserve` does, and memory for each key of these extrema, so that they can stand for the row group. No key
+    /// Reserves as `make_room` does, and memory for each key of these extrema, so that they can stand for the row group. No key
     /// is listed for being reserved alone. Refused with `NoMemory` (1) alone: then no other row group is reserved, but some of
     /// the keys may be.
     pub fn reserve_for(&mut self, group: u32, extrema: &GroupExtrema) -> Result<(), Refusal>
@@ -87,13 +87,13 @@ impl LiveExtrema {
         ensures err { OnErr result (self.new.groups ≡ self.old.groups) }
         ensures memory { IfErr result (λ e. e ≡ Refusal.NoMemory) }
     {
-        reserve_all(&mut self.holders, self.alloc, extrema.spans())?;
-        self.reserve(group);
+        reserve_all(&mut self.holders, self.alloc, extrema.min_maxes())?;
+        self.make_room(group);
         Ok(())
     }
 
-    /// One folded row more in a row group. Returns the previous span of its key there, or `None` if it did not occur:
-    /// `put_span` of that undoes the row. Costs one look-up, where the key occurs in some row group. A clone of the key is made where
+    /// One folded row more in a row group. Returns the previous min-max of its key there, or `None` if it did not occur:
+    /// `put_min_max` of that undoes the row. Costs one look-up, where the key occurs in some row group. A clone of the key is made where
     /// it is new. Refused with `NoMemory` (1) alone, where the key is new in the row group, and then nothing is changed.
     pub fn observe_under(
         &mut self,
@@ -127,27 +127,27 @@ impl LiveExtrema {
 
     /// The least and the greatest value under a key in a row group, or `None` if it does not occur there, as in a
     /// row group that is not reserved. Allocates nothing.
-    pub fn span(&self, group: u32, key: &Option<Key>) -> Option<MinMax>
+    pub fn min_max(&self, group: u32, key: &Option<Key>) -> Option<MinMax>
         ensures { result ≡ fin.get (group_at self.now.groups group) key.now }
     {
-        span_in(&self.holders, group, key)
+        min_max_in(&self.holders, group, key)
     }
 
-    /// Puts a span in place of the one under a key that occurs in a row group; none makes the key go. With the
-    /// previous span there, this undoes `observe_under`. Allocates nothing.
-    pub fn put_span(&mut self, group: u32, key: &Option<Key>, span: Option<MinMax>)
+    /// Puts a min-max in place of the one under a key that occurs in a row group; none makes the key go. With the
+    /// previous min-max there, this undoes `observe_under`. Allocates nothing.
+    pub fn put_min_max(&mut self, group: u32, key: &Option<Key>, min_max: Option<MinMax>)
         requires reserved { group < length self.old.groups }
         requires there { fin.get (group_at self.old.groups group) key.now ≢ None }
-        ensures { self.new ≡ record self.old { groups = slice_set self.old.groups group (put_span (group_at self.old.groups group) key.now span) } }
+        ensures { self.new ≡ record self.old { groups = slice_set self.old.groups group (put_min_max (group_at self.old.groups group) key.now min_max) } }
     {
-        match span {
-            Some(span) => set_in(&mut self.holders, group, key, span),
+        match min_max {
+            Some(min_max) => set_in(&mut self.holders, group, key, min_max),
             None => leave_in(&mut self.holders, group, key),
         }
     }
 
     /// One folded row less in a row group, of which the rows under its key are left: these are read only if its value was the
-    /// least or the greatest there. Returns the span that is left, or `None` if the key goes. Costs one look-up, and one more
+    /// least or the greatest there. Returns the min-max that is left, or `None` if the key goes. Costs one look-up, and one more
     /// if the key goes with its last row group. Allocates nothing.
     pub fn shrink<R: RowsLeft>(
         &mut self,
@@ -160,7 +160,7 @@ impl LiveExtrema {
         requires at_hand { R.at_hand rows.now }
         requires previous { fin.get (group_at self.old.groups group) key.now ≡ Some (widened value (R.extremes rows.now)) }
         ensures left { result ≡ R.extremes rows.now }
-        ensures shrunk { self.new ≡ record self.old { groups = slice_set self.old.groups group (put_span (group_at self.old.groups group) key.now (R.extremes rows.now)) } }
+        ensures shrunk { self.new ≡ record self.old { groups = slice_set self.old.groups group (put_min_max (group_at self.old.groups group) key.now (R.extremes rows.now)) } }
     {
         shrink_in(&mut self.holders, group, key, value, rows)
     }
@@ -174,7 +174,7 @@ impl LiveExtrema {
         ensures groups { self.new.groups ≡ slice_set self.old.groups group extrema }
     {
         clear_in(&mut self.holders, group);
-        fill_all(&mut self.holders, group, extrema.spans());
+        fill_all(&mut self.holders, group, extrema.min_maxes());
     }
 
     /// These are the rows of a row group in which no key occurs yet, and one row group less is pending. Costs a look-up for
@@ -187,7 +187,7 @@ impl LiveExtrema {
         ensures left { self.new.left ≡ self.old.left - 1 }
         ensures groups { self.new.groups ≡ slice_set self.old.groups group extrema }
     {
-        fill_all(&mut self.holders, group, extrema.spans());
+        fill_all(&mut self.holders, group, extrema.min_maxes());
         self.left -= 1;
     }
 

@@ -1,7 +1,7 @@
-// What tells the span of the rows that are left under a key.
+// What tells the min-max of the rows that are left under a key.
 ghost use Rattle.std.specs.Prelude.{◌≡◌, Option, ℤ};
 
-use super::spans::MinMax;
+use super::min_maxes::MinMax;
 
 /// The rows of a row group that are left under one key once a row went. Extrema know no rows, so whoever has them at hand
 /// reads them.
@@ -13,7 +13,7 @@ pub trait RowsLeft {
     ghost extremes: { Self → Option (ℤ × ℤ) };
 
     /// The least and the greatest of their values, or `None` if there is no such row. Allocates nothing.
-    fn span(&self) -> Option<MinMax>
+    fn min_max(&self) -> Option<MinMax>
         requires { at_hand self.now }
         ensures { result ≡ extremes self.now };
 }

@@ -1,17 +1,17 @@
-// The spans of the row groups in which one key occurs.
+// The min-maxes of the row groups in which one key occurs.
 ghost use Rattle.std.specs.Prelude.{◌≡◌, ◌+◌, ◌-◌, ◌%◌, ◌∷◌, [], ◌<◌, ◌≤◌, Option, Some, None, false, IsTrue, IfErr};
 ghost use Rattle.std.specs.Option.{option_copied};
-ghost use Rattle.far_extrema.specs.Blocks.{slotted};
+ghost use Rattle.far_extrema.specs.Blocks.{present};
 ghost use Rattle.far_extrema.specs.Spreads.{at, IsTopOf, IsFrom, IsBelow, IsSet, AreSame};
 
 use super::block::{Block, either, range_of};
-use super::spans::MinMax;
+use super::min_maxes::MinMax;
 use far_types::Refusal;
 use std::alloc::Global;
 use std::marker::Model;
 use std::mem;
 
-/// The spans of the row groups in which a key occurs, and their span together: a tournament whose winners stand at the
+/// The min-maxes of the row groups in which a key occurs, and their min-max together: a tournament whose winners stand at the
 /// branches, over blocks of sixteen row groups. A branch parts its row groups at a number, which is that of the middle of
 /// the least aligned range of row groups in which they all are. So there are no more branches on the way to a block than
 /// its number has bits, and one branch less than blocks. A row group that is alone in its block's range takes no block.
@@ -21,7 +21,7 @@ pub struct Tournament {
     node: Node,
 }
 
-/// A node keeps the span of its row groups together; there is none if the last of them went.
+/// A node keeps the min-max of its row groups together; there is none if the last of them went.
 #[cycle(tournament)]
 #[derive(Drop)]
 enum Node {
@@ -83,9 +83,9 @@ impl Model for Tournament {
 
     ghost Value = { Spread };
 
-    ghost use Rattle.far_extrema.specs.Tournaments.{seen, IsKept};
+    ghost use Rattle.far_extrema.specs.Tournaments.{spread_of, IsKept};
 
-    ghost view = { λ tournament. seen tournament.node };
+    ghost view = { λ tournament. spread_of tournament.node };
 
     ghost invariant = { λ tournament. IsKept tournament.node };
 
@@ -98,18 +98,18 @@ impl Model for Tournament {
 
 impl Tournament {
     /// One row group alone. Allocates nothing.
-    pub fn new(group: u32, span: MinMax) -> Tournament
-        ensures { result.spans ≡ (group, span) ∷ [] }
+    pub fn new(group: u32, min_max: MinMax) -> Tournament
+        ensures { result.min_maxes ≡ (group, min_max) ∷ [] }
     {
         Tournament {
-            node: Node::One(group, Some(span)),
+            node: Node::One(group, Some(min_max)),
         }
     }
 
-    /// The span of all row groups together, or `None` if there is none.
+    /// The min-max of all row groups together, or `None` if there is none.
     pub fn top(&self) -> Option<MinMax>
         ensures is { result ≡ self.now.top }
-        ensures top { IsTopOf self.now.spans result }
+        ensures top { IsTopOf self.now.min_maxes result }
     {
         match &self.node {
             Node::One(_, top) => *top,
@@ -118,21 +118,21 @@ impl Tournament {
         }
     }
 
-    /// The span of a row group, or `None` if the key does not occur in it.
-    pub fn span(&self, group: u32) -> Option<MinMax>
-        ensures { result ≡ at self.now.spans group }
+    /// The min-max of a row group, or `None` if the key does not occur in it.
+    pub fn min_max(&self, group: u32) -> Option<MinMax>
+        ensures { result ≡ at self.now.min_maxes group }
     {
         self.find(group).copied()
     }
 
-    /// The span of a row group where it stands. It comes back in registers, so that the way down is a loop.
+    /// The min-max of a row group where it stands. It comes back in registers, so that the way down is a loop.
     fn find(&self, group: u32) -> Option<&MinMax>
-        ensures { option_copied result ≡ at self.now.spans group }
+        ensures { option_copied result ≡ at self.now.min_maxes group }
     {
         match &self.node {
-            Node::One(holder, span) => {
+            Node::One(holder, min_max) => {
                 if *holder == group {
-                    span.as_ref()
+                    min_max.as_ref()
                 } else {
                     None
                 }
@@ -152,26 +152,26 @@ impl Tournament {
         }
     }
 
-    /// A span, or none, in place of that of a row group, where there is a slot for it. Says whether there is. Takes no
+    /// A min-max, or none, in place of that of a row group, where there is an element for it. Says whether there is. Takes no
     /// memory.
-    pub fn set(&mut self, group: u32, span: Option<MinMax>) -> bool
-        ensures set { IsTrue result → IsSet self.old.spans group span self.new.spans }
+    pub fn set(&mut self, group: u32, min_max: Option<MinMax>) -> bool
+        ensures set { IsTrue result → IsSet self.old.min_maxes group min_max self.new.min_maxes }
         ensures same { result ≡ false → self.new ≡ self.old }
-        ensures absent { result ≡ false → at self.old.spans group ≡ None }
+        ensures absent { result ≡ false → at self.old.min_maxes group ≡ None }
     {
         match &mut self.node {
             Node::One(holder, previous) => {
                 if *holder != group {
                     return false;
                 }
-                *previous = span;
+                *previous = min_max;
             }
             Node::Few(top, block) => {
                 let block = &mut **block;
                 if !block.covers(group) {
                     return false;
                 }
-                block.put(group, span);
+                block.put(group, min_max);
                 *top = block.joined();
             }
             Node::Several(top, branch) => {
@@ -180,9 +180,9 @@ impl Tournament {
                     return false;
                 }
                 let is_set = if group < branch.split {
-                    branch.before.set(group, span)
+                    branch.before.set(group, min_max)
                 } else {
-                    branch.after.set(group, span)
+                    branch.after.set(group, min_max)
                 };
                 if !is_set {
                     return false;
@@ -190,7 +190,7 @@ impl Tournament {
                 *top = either(branch.before.top(), branch.after.top());
             }
         }
-        if span.is_none() {
+        if min_max.is_none() {
             self.prune();
         }
         true
@@ -198,7 +198,7 @@ impl Tournament {
 
     /// A branch one of whose parts has no row group gives way to the other part.
     fn prune(&mut self)
-        ensures { AreSame self.old.spans self.new.spans }
+        ensures { AreSame self.old.min_maxes self.new.min_maxes }
     {
         let rest = match &mut self.node {
             Node::One(_, _) => return,
@@ -218,34 +218,34 @@ impl Tournament {
     }
 
     /// A row group more in which the key occurs, which gets a block or a branch that was made for it. Allocates nothing.
-    pub fn add(&mut self, spare: Spare, group: u32, span: MinMax)
-        requires { at self.old.spans group ≡ None }
-        ensures { IsSet self.old.spans group (Some span) self.new.spans }
+    pub fn add(&mut self, spare: Spare, group: u32, min_max: MinMax)
+        requires { at self.old.min_maxes group ≡ None }
+        ensures { IsSet self.old.min_maxes group (Some min_max) self.new.min_maxes }
     {
         let (first, last) = self.reach();
         if group < first {
-            self.add_before(spare, group, span, first, last);
+            self.add_before(spare, group, min_max, first, last);
             return;
         }
         if last < group {
-            self.add_after(spare, group, span, first, last);
+            self.add_after(spare, group, min_max, first, last);
             return;
         }
         match &mut self.node {
             Node::One(holder, previous) => {
-                *self = widened(spare, *holder, *previous, group, span);
+                *self = widened(spare, *holder, *previous, group, min_max);
             }
             Node::Few(top, block) => {
                 let block = &mut **block;
-                block.put(group, Some(span));
+                block.put(group, Some(min_max));
                 *top = block.joined();
             }
             Node::Several(top, branch) => {
                 let branch = &mut **branch;
                 if group < branch.split {
-                    branch.before.add(spare, group, span);
+                    branch.before.add(spare, group, min_max);
                 } else {
-                    branch.after.add(spare, group, span);
+                    branch.after.add(spare, group, min_max);
                 }
                 *top = either(branch.before.top(), branch.after.top());
             }
@@ -256,8 +256,8 @@ impl Tournament {
     fn reach(&self) -> (u32, u32)
         ensures first { result.0 ≡ self.now.first }
         ensures last { result.1 ≡ self.now.last }
-        ensures from { IsFrom result.0 self.now.spans }
-        ensures below { IsBelow (result.1 + 1) self.now.spans }
+        ensures from { IsFrom result.0 self.now.min_maxes }
+        ensures below { IsBelow (result.1 + 1) self.now.min_maxes }
         ensures order { result.0 ≤ result.1 }
     {
         match &self.node {
@@ -274,43 +274,43 @@ impl Tournament {
     }
 
     /// A row group more, before all that may be here.
-    fn add_before(&mut self, spare: Spare, group: u32, span: MinMax, first: u32, last: u32)
-        requires from { IsFrom first self.old.spans }
-        requires below { IsBelow (last + 1) self.old.spans }
+    fn add_before(&mut self, spare: Spare, group: u32, min_max: MinMax, first: u32, last: u32)
+        requires from { IsFrom first self.old.min_maxes }
+        requires below { IsBelow (last + 1) self.old.min_maxes }
         requires order { first ≤ last }
         requires before { group < first }
-        ensures { IsSet self.old.spans group (Some span) self.new.spans }
+        ensures { IsSet self.old.min_maxes group (Some min_max) self.new.min_maxes }
     {
         let split = middle(group, first);
-        let top = either(Some(span), self.top());
+        let top = either(Some(min_max), self.top());
         let mut branch = spare.branch;
         *branch = Branch {
             first: split.0.min(group),
             split: split.1,
             last: split.2.max(last),
-            before: Tournament::new(group, span),
-            after: mem::replace(self, Tournament::new(group, span)),
+            before: Tournament::new(group, min_max),
+            after: mem::replace(self, Tournament::new(group, min_max)),
         };
         self.node = Node::Several(top, branch);
     }
 
     /// A row group more, after all that may be here.
-    fn add_after(&mut self, spare: Spare, group: u32, span: MinMax, first: u32, last: u32)
-        requires from { IsFrom first self.old.spans }
-        requires below { IsBelow (last + 1) self.old.spans }
+    fn add_after(&mut self, spare: Spare, group: u32, min_max: MinMax, first: u32, last: u32)
+        requires from { IsFrom first self.old.min_maxes }
+        requires below { IsBelow (last + 1) self.old.min_maxes }
         requires order { first ≤ last }
         requires after { last < group }
-        ensures { IsSet self.old.spans group (Some span) self.new.spans }
+        ensures { IsSet self.old.min_maxes group (Some min_max) self.new.min_maxes }
     {
         let split = middle(last, group);
-        let top = either(self.top(), Some(span));
+        let top = either(self.top(), Some(min_max));
         let mut branch = spare.branch;
         *branch = Branch {
             first: split.0.min(first),
             split: split.1,
             last: split.2.max(group),
-            before: mem::replace(self, Tournament::new(group, span)),
-            after: Tournament::new(group, span),
+            before: mem::replace(self, Tournament::new(group, min_max)),
+            after: Tournament::new(group, min_max),
         };
         self.node = Node::Several(top, branch);
     }
@@ -322,14 +322,14 @@ fn widened(
     holder: u32,
     previous: Option<MinMax>,
     group: u32,
-    span: MinMax,
+    min_max: MinMax,
 ) -> Tournament
     requires first { holder - holder % 16 ≤ group }
     requires last { group < holder - holder % 16 + 16 }
-    ensures { IsSet (slotted holder (previous ∷ [])) group (Some span) result.spans }
+    ensures { IsSet (present holder (previous ∷ [])) group (Some min_max) result.min_maxes }
 {
     let mut few = Block::new(holder, previous);
-    few.put(group, Some(span));
+    few.put(group, Some(min_max));
     let top = few.joined();
     let mut block = spare.block;
     *block = few;

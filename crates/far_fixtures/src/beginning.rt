@@ -26,7 +26,7 @@ pub fn no_objects<T: Elem, S: FarTickets>(
 ) -> Result<Objects<T, S>, Refusal>
     requires { limits.segments ≤ 65536 }
     ensures none { IfOk result (λ m. m ≡ no_objects 7 limits) }
-    ensures here { IfOk result (λ m. (name : List ℕ) → AreHere S.is_of name m) }
+    ensures here { IfOk result (λ m. (id : List ℕ) → AreHere S.is_of id m) }
 {
     match Objects::new(alloc, 7, limits) {
         Err(Refusal::NoMemory) => Objects::new(alloc, 7, limits),

@@ -19,7 +19,7 @@ pub fn digest_of<T: Element, S: FarTickets>(objects: &Objects<T, S>) -> u64 {
 }
 
 fn with_object<T: Element, S: FarTickets>(digest: u64, objects: &Objects<T, S>, o: u32) -> u64
-    requires { o < length objects.now.entries }
+    requires { o < length objects.now.records }
 {
     let mut digest = with(digest, objects.word(o).bits());
     digest = with(digest, objects.version(o));

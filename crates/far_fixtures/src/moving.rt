@@ -17,7 +17,7 @@ pub fn send_away<T: Element, S: FarStore>(
     store: &S,
     o: u32,
 ) -> Result<(), Refusal>
-    requires within { o < length objects.old.entries }
+    requires within { o < length objects.old.records }
     ensures lists { (p : ℕ) → list_of T.meaning S.content objects.new p ≡ list_of T.meaning S.content objects.old p }
     ensures here { AreHere S.is_of (S.store_id store.now) objects.old → AreHere S.is_of (S.store_id store.now) objects.new }
 {
@@ -37,7 +37,7 @@ pub fn bring_back<T: Element, S: FarStore>(
     store: &S,
     o: u32,
 ) -> Result<(), Refusal>
-    requires within { o < length objects.old.entries }
+    requires within { o < length objects.old.records }
     requires here { AreHere S.is_of (S.store_id store.now) objects.old }
     ensures lists { (p : ℕ) → list_of T.meaning S.content objects.new p ≡ list_of T.meaning S.content objects.old p }
     ensures here { AreHere S.is_of (S.store_id store.now) objects.new }

@@ -16,14 +16,14 @@ pub on-ok : {A E : Type 0} {P Q : Type 0} (r : Result A E) → (P → Q) → OnO
 on-ok (Ok x) f h = f h
 on-ok (Err e) f h = h
 
-module _ {K : Type 0} (seen : List (List ℕ)) where
+module _ {K : Type 0} (accesses : List (List ℕ)) where
   -- a table with what was read of it
   abbrev pub remembering : LiveState K → State K
-  remembering s = record { table = s.table; rows = s.rows; seen = seen }
+  remembering s = record { table = s.table; rows = s.rows; accesses = accesses }
 
   pub inserted : (content : K → List ℕ) (old new : LiveState K) (row : List Cell) (r : Result ℕ Refusal) → OnOk r (IsEdited content old (edit.Insert row) new) → IfOk r (λ place. place ≡ length old.table.places)
       → IfOk r (λ place. Accepts content (remembering old) (step.Edit (edit.Insert row)) (reply.Place place) (remembering new))
-  inserted content old new row (Ok place) edited at = (ap reply.Place at, record { changed = edited; seen = refl })
+  inserted content old new row (Ok place) edited at = (ap reply.Place at, record { changed = edited; accesses = refl })
   inserted content old new row (Err e) edited at = edited
 
   pub refused : {A : Type 0} (old new : LiveState K) (s : Step) (r : Result A Refusal) → IfErr r (λ e. (new ≡ old) × WhyRefused (remembering old) s e) → IfErr r (λ e. Refuses (remembering old) s e (remembering new))

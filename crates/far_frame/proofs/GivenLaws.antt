@@ -14,7 +14,7 @@ use Rattle.far_types.specs.declared.cell.Kind.TheVariants as kind
 use Rattle.far_types.specs.Cells.{cell_at}
 use Rattle.far_types.specs.Lent.{int_cell, text_cell}
 use Rattle.far_types.specs.Table.{Table, Place, column as column_of, part}
-use Rattle.far_vector.specs.Pieces.{pieces_of, touched_count}
+use Rattle.far_vector.specs.Pieces.{pieces_of, overlapped_count}
 use Rattle.far_vector.proofs.PieceLaws.{joined-pieces, length-pieces}
 use Rattle.far_columns.specs.Numbers.{Numbers}
 use Rattle.far_frame.specs.declared.piece.IntPiece.{IntPiece}
@@ -98,10 +98,10 @@ text-again : (v : Option (List ℕ)) → text_cell (text_of (text_cell v)) ≡ t
 text-again None = refl
 text-again (Some text) = refl
 
-touched-few : (size from to : ℕ) → touched_count size from to ≤ to
+touched-few : (size from to : ℕ) → overlapped_count size from to ≤ to
 touched-few size from to = elim (cases_lt from to) [
-  | inl more ↦ (let count : touched_count size from to ≡ (to - 1) / size + 1 - from / size = rw (lt-ltb from to more) refl in let down = div-le_self (to - 1) size in omega (arith, count, down, more))
-  | inr past ↦ (let count : touched_count size from to ≡ 0 = rw (le-ltb from to past) refl in omega (arith, count))
+  | inl more ↦ (let count : overlapped_count size from to ≡ (to - 1) / size + 1 - from / size = rw (lt-ltb from to more) refl in let down = div-le_self (to - 1) size in omega (arith, count, down, more))
+  | inr past ↦ (let count : overlapped_count size from to ≡ 0 = rw (le-ltb from to past) refl in omega (arith, count))
 ]
 
 copy-ints : (vs : List (Option ℤ)) (flags : List Bool) → length vs < 2 ^ 63 → length flags < 2 ^ 63 → (it : IntPiece) × (int_piece it ≡ record { cells = map int_cell vs; flags = flags })

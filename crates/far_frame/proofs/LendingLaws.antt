@@ -23,7 +23,7 @@ use Rattle.far_types.specs.Lent.{int_cell, text_cell}
 use Rattle.far_types.specs.Bounds.{AreLimits}
 use Rattle.far_types.specs.Table.{Table, Place, column as column_of, part}
 use Rattle.far_scopes.specs.Refusing.{refusal_in}
-use Rattle.far_vector.specs.Pieces.{pieces_of, touched as touched_groups, touched_count}
+use Rattle.far_vector.specs.Pieces.{pieces_of, touched as overlapped_groups, overlapped_count}
 use Rattle.far_vector.proofs.PieceLaws.{none-pieces, pieces-step, joined-pieces, end, further, ends}
 use Rattle.far_columns.specs.Numbers.{Numbers, with_flags}
 use Rattle.far_rows.specs.declared.column_index.ColumnIndex.{ColumnIndex}
@@ -44,7 +44,7 @@ use Rattle.far_table.specs.TableRows.{TableRows}
 use Rattle.far_types.specs.declared.limits.Limits.{Limits}
 use Rattle.far_frame.specs.State.{State}
 use Rattle.far_frame.specs.Effects.{Replies}
-use Rattle.far_frame.specs.Lending.{Piece, Gives, AreSeen, IsLent, piece_of, pieces_in, flags_of, ints_lent, texts_lent, text_piece, lent_part, lend_refusal}
+use Rattle.far_frame.specs.Lending.{Piece, Gives, AreObserved, IsLent, piece_of, pieces_in, flags_of, ints_lent, texts_lent, text_piece, lent_part, lend_refusal}
 
 -- a part of some places in a column
 module _ (c : ℕ) (places : List Place) (from to : ℕ) where
@@ -155,15 +155,15 @@ same-group : (size a b : ℕ) → 0 < size → a ≤ b → a / size ≤ b / size
 same-group size a b some low = le-div (a / size) b size some (let down = div-mul-le_self a size in omega (arith, down, low))
 
 -- what lets a part through lets each part of it through
-part-through : (f : ℕ → Bool × Refusal) (size from to a b : ℕ) → 0 < size → from ≤ a → b ≤ to → first_of (map f (touched_groups size from to)) ≡ None → first_of (map f (touched_groups size a b)) ≡ None
+part-through : (f : ℕ → Bool × Refusal) (size from to a b : ℕ) → 0 < size → from ≤ a → b ≤ to → first_of (map f (overlapped_groups size from to)) ≡ None → first_of (map f (overlapped_groups size a b)) ≡ None
 part-through f size from to a b some low high none = elim (cases_lt a b) [
-  | inl more ↦ on-range f (a / size) (touched_count size a b) (λ k above below.
-      let count : touched_count size a b ≡ (b - 1) / size + 1 - a / size = rw (lt-ltb a b more) refl in
-      let all : touched_count size from to ≡ (to - 1) / size + 1 - from / size = rw (lt-ltb from to (omega (arith, more, low, high))) refl in
+  | inl more ↦ on-range f (a / size) (overlapped_count size a b) (λ k above below.
+      let count : overlapped_count size a b ≡ (b - 1) / size + 1 - a / size = rw (lt-ltb a b more) refl in
+      let all : overlapped_count size from to ≡ (to - 1) / size + 1 - from / size = rw (lt-ltb from to (omega (arith, more, low, high))) refl in
       let first = same-group size from a some low in
       let last = same-group size (b - 1) (to - 1) some (omega (arith, high)) in
-      off-range f (from / size) (touched_count size from to) none k (omega (arith, first, above)) (omega (arith, above, below, count, all, first, last)))
-  | inr past ↦ (let count : touched_count size a b ≡ 0 = rw (le-ltb a b past) refl in ap (λ n. first_of (map f (range_with_len (a / size) n))) count)
+      off-range f (from / size) (overlapped_count size from to) none k (omega (arith, first, above)) (omega (arith, above, below, count, all, first, last)))
+  | inr past ↦ (let count : overlapped_count size a b ≡ 0 = rw (le-ltb a b past) refl in ap (λ n. first_of (map f (range_with_len (a / size) n))) count)
 ]
 
 placed-flags : (rows : ℕ → List Cell) (n : ℕ) (flags : List Bool) → flags_of (placed rows n flags) ≡ flags
@@ -211,7 +211,7 @@ module _ {K : Type 0} (content : K → List ℕ) (r : Rows K) (are : AreRows con
 
     module _ (from to : ℕ) where
       ints-by : (found : Option ColumnIndex) → slice_get r.column_indexes column ≡ found
-          → first_of ((is_none found, refusal.NoColumn) ∷ (is_text (option_map kind_of found), refusal.WrongKind) ∷ no_range r from to ∷ map (λ g. option_map_or (absent_at r column g) found (false, refusal.StaleJob)) (touched_groups r.size from to)) ≡ None
+          → first_of ((is_none found, refusal.NoColumn) ∷ (is_text (option_map kind_of found), refusal.WrongKind) ∷ no_range r from to ∷ map (λ g. option_map_or (absent_at r column g) found (false, refusal.StaleJob)) (overlapped_groups r.size from to)) ≡ None
           → map ints_lent (option_map_or (λ (s : ColumnIndex). with_flags (pieces_of (numbers_of content r s) r.size from to) (slice_range r.alive from to)) found []) ≡ map (piece_of column) (pieces_of places r.size from to)
       ints-by None lies none = absurd cc
       ints-by (Some (column_index.Text i)) lies none = absurd cc
@@ -219,7 +219,7 @@ module _ {K : Type 0} (content : K → List ℕ) (r : Rows K) (are : AreRows con
           let s : ColumnIndex = column_index.Number i in
           let nums = numbers_of content r s in
           let same = column-read (map int_cell nums) (slice_get-map (column_in (all_numbers content r) (all_texts content r)) r.column_indexes column ∙ ap (option_map (column_in (all_numbers content r) (all_texts content r))) lies) in
-          let range = range-within from to (first-off (no_range r from to) (map (λ g. absent_at r column g s) (touched_groups r.size from to)) none).0 in
+          let range = range-within from to (first-off (no_range r from to) (map (λ g. absent_at r column g s) (overlapped_groups r.size from to)) none).0 in
           ap (λ (flags : List Bool). map ints_lent (with_flags (pieces_of nums r.size from to) flags)) (flags-read from to) ∙ all-cut r.size are.some column nums places same from to range.0 range.1
 
       -- a part of a column of numbers is lent as the plain table has it
@@ -231,7 +231,7 @@ module _ {K : Type 0} (r : Rows K) (column from to : ℕ) where
   skips off cases is = rw is refl
 
   abbrev there : List (Bool × Refusal)
-  there = no_range r from to ∷ map (absent_in r column) (touched_groups r.size from to)
+  there = no_range r from to ∷ map (absent_in r column) (overlapped_groups r.size from to)
 
   -- a column of numbers is lent as numbers, one of texts as texts, and none as nothing
   pub lends-ints : option_map kind_of (slice_get r.column_indexes column) ≡ Some kind.Int → ints_refusal r column from to ≡ lend_refusal r column from to
@@ -249,7 +249,7 @@ module _ {K : Type 0} (r : Rows K) (column from to : ℕ) where
   -- each part of what can be lent of a column of texts can be lent
   pub texts-part : 0 < r.size → (a b : ℕ) → from ≤ a → a ≤ b → b ≤ to → texts_refusal r column from to ≡ None → texts_refusal r column a b ≡ None
   texts-part some a b low between high none =
-      let groups : ℕ → ℕ → List (Bool × Refusal) = λ m n. map (absent_in r column) (touched_groups r.size m n) in
+      let groups : ℕ → ℕ → List (Bool × Refusal) = λ m n. map (absent_in r column) (overlapped_groups r.size m n) in
       let known = first-off (no_column r column) (of_numbers r column ∷ no_range r from to ∷ groups from to) none in
       let kind = first-off (of_numbers r column) (no_range r from to ∷ groups from to) known.1 in
       let range = first-off (no_range r from to) (groups from to) kind.1 in
@@ -260,7 +260,7 @@ module _ {K : Type 0} (r : Rows K) (column from to : ℕ) where
       (part-through (absent_in r column) r.size from to a b some low high range.1)))
 
   pub lends-low : lend_refusal r column from to ≡ None → from ≤ to
-  lends-low none = not-below to from (neither (nat_lt to from) (nat_lt (length r.alive) to) (first-off (no_range r from to) (map (absent_in r column) (touched_groups r.size from to)) (first-off (no_column r column) there none).1).0).0
+  lends-low none = not-below to from (neither (nat_lt to from) (nat_lt (length r.alive) to) (first-off (no_range r from to) (map (absent_in r column) (overlapped_groups r.size from to)) (first-off (no_column r column) there none).1).0).0
 
 pieces-given : (of : Option Kind) (pieces : List Piece) (given : Reply) → Gives of pieces given → pieces_in given ≡ pieces
 pieces-given of pieces (reply.Ints copies) is = is.1
@@ -356,16 +356,16 @@ copies-pushed shown had new x more = ap (map shown) more ∙ map-append shown ha
 
 -- what is copied is what a lending replies
 pub lent-reply : {K : Type 0} (column from to : ℕ) (old new : State K) (given : Reply) (refuses : Refusal → Type 0) → Gives (slice_get old.table.schema column) (lent_part old.table column from to) given → lend_refusal old.rows column from to ≡ None
-    → AreSeen column (touched_groups old.rows.size from to) old new → Replies (λ served. IsLent column from to old served new) refuses given
-lent-reply column from to old new (reply.Ints copies) refuses gives due seen = record { due = due; says = gives; used = seen }
-lent-reply column from to old new (reply.Texts copies) refuses gives due seen = record { due = due; says = gives; used = seen }
-lent-reply column from to old new (reply.Place place) refuses gives due seen = absurd gives
-lent-reply column from to old new reply.Done refuses gives due seen = absurd gives
-lent-reply column from to old new (reply.Aggregate a) refuses gives due seen = absurd gives
-lent-reply column from to old new (reply.Answer answer) refuses gives due seen = absurd gives
-lent-reply column from to old new (reply.Job n) refuses gives due seen = absurd gives
-lent-reply column from to old new (reply.Next found) refuses gives due seen = absurd gives
-lent-reply column from to old new (reply.Refused why) refuses gives due seen = absurd gives
+    → AreObserved column (overlapped_groups old.rows.size from to) old new → Replies (λ served. IsLent column from to old served new) refuses given
+lent-reply column from to old new (reply.Ints copies) refuses gives due accesses = record { due = due; says = gives; used = accesses }
+lent-reply column from to old new (reply.Texts copies) refuses gives due accesses = record { due = due; says = gives; used = accesses }
+lent-reply column from to old new (reply.Place place) refuses gives due accesses = absurd gives
+lent-reply column from to old new reply.Done refuses gives due accesses = absurd gives
+lent-reply column from to old new (reply.Aggregate a) refuses gives due accesses = absurd gives
+lent-reply column from to old new (reply.Answer answer) refuses gives due accesses = absurd gives
+lent-reply column from to old new (reply.Job n) refuses gives due accesses = absurd gives
+lent-reply column from to old new (reply.Next found) refuses gives due accesses = absurd gives
+lent-reply column from to old new (reply.Refused why) refuses gives due accesses = absurd gives
 
 -- a piece of texts more is copied
 module _ (column : ℕ) (places : List Place) (size : ℕ) (some : 0 < size) (start to : ℕ) (more : start < to) (all : List Piece) where

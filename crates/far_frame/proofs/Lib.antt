@@ -10,6 +10,6 @@ mod WaitingLaws
 mod WorldLaws
 pub mod LendingLaws
 mod GivenLaws
-mod SeenLaws
+mod ObservedLaws
 mod SpentLaws
 mod NumberLaws

@@ -178,8 +178,8 @@ module _ {K : Type 0} where
   opened-numbered old none = numbered-of old old.begun [] refl none (All-nil (λ n. n < old.begun)) none-distinct
 
   -- a migration spends all numbers
-  pub migrated-spent : {L : Type 0} (content : K → List ℕ) (new_content : L → List ℕ) (name : List ℕ) (old : World K) (new : World L) → IsMigratedTo content new_content name old new → (n : ℕ) → n < old.begun → IsSpent n new
-  migrated-spent {L} content new_content name old new h n given = record {
+  pub migrated-spent : {L : Type 0} (content : K → List ℕ) (new_content : L → List ℕ) (id : List ℕ) (old : World K) (new : World L) → IsMigratedTo content new_content id old new → (n : ℕ) → n < old.begun → IsSpent n new
+  migrated-spent {L} content new_content id old new h n given = record {
     given = subst (λ (b : ℕ). n < b) (sym (ap (λ (w : World L). w.begun) h.world)) given;
     gone = ap (λ (w : World L). lookup (is_number n) w.jobs) h.world;
   }

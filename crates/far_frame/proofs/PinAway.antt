@@ -9,8 +9,8 @@ use Rattle.far_types.specs.FirstOf.{first_of}
 use Rattle.far_types.specs.MayRefuse.{MayRefuse}
 use Rattle.far_scopes.specs.Movement.{is_local}
 use Rattle.far_scopes.specs.Refusing.{absent}
-use Rattle.far_scopes.proofs.Framing.{entry-with_other}
-use Rattle.far_vector.specs.Pieces.{touched as touched_groups}
+use Rattle.far_scopes.proofs.Framing.{object_record-with_other}
+use Rattle.far_vector.specs.Pieces.{touched as overlapped_groups}
 use Rattle.far_rows.specs.declared.column_index.ColumnIndex.{ColumnIndex}
 use Rattle.far_rows.specs.declared.column_index.ColumnIndex.TheVariants as column_index
 use Rattle.far_rows.specs.declared.object.Object.{Object}
@@ -73,11 +73,11 @@ module _ {K : Type 0} (r : Rows K) (column group : ℕ) where
     same-or : (q o : Object) → (is_here r q ≡ true) → (pins_at r o ≢ 0 → is_here r o ≡ true) → pins_at (after_pin r q) o ≢ 0 → is_here r o ≡ true
     same-or (object.Number q) (object.Number o) here rest some = elim (cases_eq o q) [
       | inl same ↦ subst (λ (p : ℕ). is_local r.number_objects p ≡ true) (sym same) here
-      | inr other ↦ rest (λ none. some (ap (λ (e : Option (ObjectRecord K)). option_map_or (λ e. e.pins) e 0) (entry-with_other r.number_objects.entries q _ o other) ∙ none))
+      | inr other ↦ rest (λ none. some (ap (λ (e : Option (ObjectRecord K)). option_map_or (λ e. e.pins) e 0) (object_record-with_other r.number_objects.records q _ o other) ∙ none))
     ]
     same-or (object.Text q) (object.Text o) here rest some = elim (cases_eq o q) [
       | inl same ↦ subst (λ (p : ℕ). is_local r.text_objects p ≡ true) (sym same) here
-      | inr other ↦ rest (λ none. some (ap (λ (e : Option (ObjectRecord K)). option_map_or (λ e. e.pins) e 0) (entry-with_other r.text_objects.entries q _ o other) ∙ none))
+      | inr other ↦ rest (λ none. some (ap (λ (e : Option (ObjectRecord K)). option_map_or (λ e. e.pins) e 0) (object_record-with_other r.text_objects.records q _ o other) ∙ none))
     ]
     same-or (object.Number q) (object.Text o) here rest some = rest some
     same-or (object.Text q) (object.Number o) here rest some = rest some
@@ -129,7 +129,7 @@ module _ {K : Type 0} (r : Rows K) (column c g : ℕ) where
 
   absent-lent : (from to : ℕ) → lend_refusal r column from to ≡ Some (refusal.Absent c g) → (absent_in r c g).0 ≡ true
   absent-lent from to is =
-      let groups = touched_groups r.size from to in
+      let groups = overlapped_groups r.size from to in
       let ranged = passed (no_column r column).0 refusal.NoColumn (first_of (no_range r from to ∷ map (absent_in r column) groups)) (λ same. cc) is in
       absent-groups groups (passed (no_range r from to).0 refusal.OutOfRange (first_of (map (absent_in r column) groups)) (λ same. cc) ranged)
 

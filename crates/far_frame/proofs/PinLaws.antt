@@ -13,7 +13,7 @@ use Rattle.far_scopes.specs.declared.replacement.Replacement.{Replacement}
 use Rattle.far_scopes.specs.Memory.{Memory, at_of}
 use Rattle.far_scopes.specs.Movement.{Movement, is_local, pins_of}
 use Rattle.far_scopes.specs.Compaction.{moved_word, hot_first, offset_after, IsCompacted}
-use Rattle.far_scopes.specs.Effects.{new_entry, with_entry, after_create, written, overwritten, after_replace, with_lens, written_all, after_replace_all, after_touch, after_pin, after_unpin, after_leave, after_arrive}
+use Rattle.far_scopes.specs.Effects.{new_record, with_record, after_create, written, overwritten, after_replace, with_lens, after_write_all, after_replace_all, after_touch, after_pin, after_unpin, after_leave, after_arrive}
 use Rattle.far_scopes.specs.Placing.{spot, with_new}
 use Rattle.far_scopes.specs.Replacing.{moved_all, replaced_all as replaced_all_in}
 use Rattle.far_vector.specs.Vector.{Vector, object_at}
@@ -21,7 +21,7 @@ use Rattle.far_vector.specs.Effects.{is_full, next_name, next_group, pushed_in, 
 use Rattle.far_columns.specs.Numbers.{Numbers}
 use Rattle.far_columns.specs.NumbersTogether.{NumberColumns, all_pushed_in}
 use Rattle.far_texts.specs.Texts.{Texts}
-use Rattle.far_texts.specs.Together.{all_created}
+use Rattle.far_texts.specs.Together.{after_create_all}
 
 false-true : {A : Type 0} → false ≡ true → A
 false-true h = absurd (let on : true ≡ false = sym h in cc)
@@ -38,12 +38,12 @@ module _ {X : Type 0} (change : X → X) where
     found (Some y) = refl
 
   -- what the change does not touch is seen as before, of every element
-  seen-same : {A : Type 0} (record_accesses : Option X → A) → ((x : X) → record_accesses (Some (change x)) ≡ record_accesses (Some x)) → (xs : List X) (o p : ℕ) → record_accesses (slice_get (with_changed xs o) p) ≡ record_accesses (slice_get xs p)
-  seen-same record_accesses same [] o p = refl
-  seen-same record_accesses same (x ∷ xs) zero zero = same x
-  seen-same record_accesses same (x ∷ xs) zero (suc p) = refl
-  seen-same record_accesses same (x ∷ xs) (suc o) zero = ap (λ (l : List X). record_accesses (slice_get l zero)) (changed-later x xs o)
-  seen-same record_accesses same (x ∷ xs) (suc o) (suc p) = ap (λ (l : List X). record_accesses (slice_get l (suc p))) (changed-later x xs o) ∙ seen-same record_accesses same xs o p
+  reads-same : {A : Type 0} (reading : Option X → A) → ((x : X) → reading (Some (change x)) ≡ reading (Some x)) → (xs : List X) (o p : ℕ) → reading (slice_get (with_changed xs o) p) ≡ reading (slice_get xs p)
+  reads-same reading same [] o p = refl
+  reads-same reading same (x ∷ xs) zero zero = same x
+  reads-same reading same (x ∷ xs) zero (suc p) = refl
+  reads-same reading same (x ∷ xs) (suc o) zero = ap (λ (l : List X). reading (slice_get l zero)) (changed-later x xs o)
+  reads-same reading same (x ∷ xs) (suc o) (suc p) = ap (λ (l : List X). reading (slice_get l (suc p))) (changed-later x xs o) ∙ reads-same reading same xs o p
 
 -- whether a word, if there is one, says that its object is local
 abbrev says_local : Option Pointer → Bool
@@ -98,40 +98,40 @@ module _ {X : Type 0} (parts : List (Part X)) (order : List ℕ) (from to : ℕ)
   local-map (w ∷ words) (suc p) = local-map words p
 
 -- lists that are placed anew take none away
-moved-local : {X : Type 0} (rs : List (Replacement X)) (room : RegionState X) (words : List Pointer) (p : ℕ) → says_local (slice_get (moved_all room words rs) p) ≡ says_local (slice_get words p)
-moved-local [] room words p = refl
-moved-local (r ∷ rs) room words p =
-    let to = spot room (length r.list.items) in
-    seen-same (λ (word : Pointer). with_at word to) says_local (local-moved to) (moved_all (with_new room r.list.items) words rs) r.object p
-    ∙ moved-local rs (with_new room r.list.items) words p
+moved-local : {X : Type 0} (rs : List (Replacement X)) (region : RegionState X) (words : List Pointer) (p : ℕ) → says_local (slice_get (moved_all region words rs) p) ≡ says_local (slice_get words p)
+moved-local [] region words p = refl
+moved-local (r ∷ rs) region words p =
+    let to = spot region (length r.list.items) in
+    reads-same (λ (word : Pointer). with_at word to) says_local (local-moved to) (moved_all (with_new region r.list.items) words rs) r.object p
+    ∙ moved-local rs (with_new region r.list.items) words p
 
 module _ {K : Type 0} where
   -- how many pins a record, if there is one, says
   abbrev says_pins : Option (ObjectRecord K) → ℕ
-  says_pins entry = option_map_or (λ e. e.pins) entry 0
+  says_pins object_record = option_map_or (λ e. e.pins) object_record 0
 
-  pins-more : (entries : List (ObjectRecord K)) (name : Name) (n p : ℕ) → says_pins (slice_get (entries ++ new_entry name n ∷ []) p) ≡ says_pins (slice_get entries p)
+  pins-more : (records : List (ObjectRecord K)) (name : Name) (n p : ℕ) → says_pins (slice_get (records ++ new_record name n ∷ []) p) ≡ says_pins (slice_get records p)
   pins-more [] name n zero = refl
   pins-more [] name n (suc p) = refl
-  pins-more (e ∷ entries) name n zero = refl
-  pins-more (e ∷ entries) name n (suc p) = pins-more entries name n p
+  pins-more (e ∷ records) name n zero = refl
+  pins-more (e ∷ records) name n (suc p) = pins-more records name n p
 
-  pins-lens : {X : Type 0} (rs : List (Replacement X)) (entries : List (ObjectRecord K)) (p : ℕ) → says_pins (slice_get (with_lens entries rs) p) ≡ says_pins (slice_get entries p)
-  pins-lens [] entries p = refl
-  pins-lens (r ∷ rs) entries p =
-      pins-lens rs (with_entry entries r.object (λ entry. record entry { len = length r.list.items })) p
-      ∙ seen-same (λ (entry : ObjectRecord K). record entry { len = length r.list.items }) says_pins (λ e. refl) entries r.object p
+  pins-lens : {X : Type 0} (rs : List (Replacement X)) (records : List (ObjectRecord K)) (p : ℕ) → says_pins (slice_get (with_lens records rs) p) ≡ says_pins (slice_get records p)
+  pins-lens [] records p = refl
+  pins-lens (r ∷ rs) records p =
+      pins-lens rs (with_record records r.object (λ object_record. record object_record { len = length r.list.items })) p
+      ∙ reads-same (λ (object_record : ObjectRecord K). record object_record { len = length r.list.items }) says_pins (λ e. refl) records r.object p
 
   abbrev one_less : ObjectRecord K → ObjectRecord K
-  one_less entry = record entry { pins = entry.pins - 1 }
+  one_less object_record = record object_record { pins = object_record.pins - 1 }
 
   -- where there is no pin none is taken off
-  pins-less : (entries : List (ObjectRecord K)) (o p : ℕ) → says_pins (slice_get entries p) ≡ 0 → says_pins (slice_get (with_entry entries o one_less) p) ≡ 0
+  pins-less : (records : List (ObjectRecord K)) (o p : ℕ) → says_pins (slice_get records p) ≡ 0 → says_pins (slice_get (with_record records o one_less) p) ≡ 0
   pins-less [] o p none = none
-  pins-less (e ∷ entries) zero zero none = omega (arith, none)
-  pins-less (e ∷ entries) zero (suc p) none = none
-  pins-less (e ∷ entries) (suc o) zero none = ap (λ (l : List (ObjectRecord K)). says_pins (slice_get l zero)) (changed-later one_less e entries o) ∙ none
-  pins-less (e ∷ entries) (suc o) (suc p) none = ap (λ (l : List (ObjectRecord K)). says_pins (slice_get l (suc p))) (changed-later one_less e entries o) ∙ pins-less entries o p none
+  pins-less (e ∷ records) zero zero none = omega (arith, none)
+  pins-less (e ∷ records) zero (suc p) none = none
+  pins-less (e ∷ records) (suc o) zero none = ap (λ (l : List (ObjectRecord K)). says_pins (slice_get l zero)) (changed-later one_less e records o) ∙ none
+  pins-less (e ∷ records) (suc o) (suc p) none = ap (λ (l : List (ObjectRecord K)). says_pins (slice_get l (suc p))) (changed-later one_less e records o) ∙ pins-less records o p none
 
 module _ {X K : Type 0} where
   -- each object has the pins that it had, and those that have some and are local stay local
@@ -147,14 +147,14 @@ module _ {X K : Type 0} where
 
   keeps-written : (m : Movement X K) (o : ℕ) → KeepsPinned m (written m o)
   keeps-written m o = record {
-    pins = λ p. seen-same (λ (entry : ObjectRecord K). record entry { version = entry.version + 1 }) says_pins (λ e. refl) m.entries o p;
-    here = λ p some here. seen-same (λ (word : Pointer). with_hot (with_dirty word) true) says_local local-marked m.memory.words o p ∙ here;
+    pins = λ p. reads-same (λ (object_record : ObjectRecord K). record object_record { version = object_record.version + 1 }) says_pins (λ e. refl) m.records o p;
+    here = λ p some here. reads-same (λ (word : Pointer). with_hot (with_dirty word) true) says_local local-marked m.memory.words o p ∙ here;
   }
 
   pub keeps-touched : (m : Movement X K) (o : ℕ) → KeepsPinned m (after_touch m o)
   keeps-touched m o = record {
     pins = λ p. refl;
-    here = λ p some here. seen-same (λ (word : Pointer). with_hot word true) says_local local-heated m.memory.words o p ∙ here;
+    here = λ p some here. reads-same (λ (word : Pointer). with_hot word true) says_local local-heated m.memory.words o p ∙ here;
   }
 
   keeps-overwritten : (m : Movement X K) (o i : ℕ) (ws : List X) → KeepsPinned m (overwritten m o i ws)
@@ -163,27 +163,27 @@ module _ {X K : Type 0} where
   pub keeps-replaced : (m : Movement X K) (o : ℕ) (list : List X) → KeepsPinned m (after_replace m o list)
   keeps-replaced m o list = record {
     pins = λ p.
-        seen-same (λ (entry : ObjectRecord K). record entry { version = entry.version + 1 }) says_pins (λ e. refl) (with_entry m.entries o (λ entry. record entry { len = length list })) o p
-        ∙ seen-same (λ (entry : ObjectRecord K). record entry { len = length list }) says_pins (λ e. refl) m.entries o p;
+        reads-same (λ (object_record : ObjectRecord K). record object_record { version = object_record.version + 1 }) says_pins (λ e. refl) (with_record m.records o (λ object_record. record object_record { len = length list })) o p
+        ∙ reads-same (λ (object_record : ObjectRecord K). record object_record { len = length list }) says_pins (λ e. refl) m.records o p;
     here = λ p some here.
         let to = spot m.memory.state (length list) in
-        seen-same (λ (word : Pointer). with_hot (with_dirty word) true) says_local local-marked (with_changed (λ (word : Pointer). with_at word to) m.memory.words o) o p
-        ∙ seen-same (λ (word : Pointer). with_at word to) says_local (local-moved to) m.memory.words o p
+        reads-same (λ (word : Pointer). with_hot (with_dirty word) true) says_local local-marked (with_changed (λ (word : Pointer). with_at word to) m.memory.words o) o p
+        ∙ reads-same (λ (word : Pointer). with_at word to) says_local (local-moved to) m.memory.words o p
         ∙ here;
   }
 
-  keeps-written_all : (rs : List (Replacement X)) (m : Movement X K) → KeepsPinned m (written_all m rs)
-  keeps-written_all [] m = keeps-same m
-  keeps-written_all (r ∷ rs) m = keeps-then m (written m r.object) (written_all (written m r.object) rs) (keeps-written m r.object) (keeps-written_all rs (written m r.object))
+  keeps-after_write_all : (rs : List (Replacement X)) (m : Movement X K) → KeepsPinned m (after_write_all m rs)
+  keeps-after_write_all [] m = keeps-same m
+  keeps-after_write_all (r ∷ rs) m = keeps-then m (written m r.object) (after_write_all (written m r.object) rs) (keeps-written m r.object) (keeps-after_write_all rs (written m r.object))
 
   pub keeps-replaced_all : (m : Movement X K) (rs : List (Replacement X)) → KeepsPinned m (after_replace_all m rs)
   keeps-replaced_all m rs =
-      let mid : Movement X K = record m { memory = replaced_all_in m.memory rs; entries = with_lens m.entries rs } in
-      keeps-then m mid (written_all mid rs) (record { pins = λ p. pins-lens rs m.entries p; here = λ p some here. moved-local rs m.memory.state m.memory.words p ∙ here }) (keeps-written_all rs mid)
+      let mid : Movement X K = record m { memory = replaced_all_in m.memory rs; records = with_lens m.records rs } in
+      keeps-then m mid (after_write_all mid rs) (record { pins = λ p. pins-lens rs m.records p; here = λ p some here. moved-local rs m.memory.state m.memory.words p ∙ here }) (keeps-after_write_all rs mid)
 
   keeps-created : (m : Movement X K) (name : Name) (list : List X) → KeepsPinned m (after_create m name list)
   keeps-created m name list = record {
-    pins = λ p. pins-more m.entries name (length list) p;
+    pins = λ p. pins-more m.records name (length list) p;
     here = λ p some here. local-more m.memory.words (Local (spot m.memory.state (length list)) true true false) p here;
   }
 
@@ -193,7 +193,7 @@ module _ {X K : Type 0} where
   -- an object goes away that has no pin
   pub keeps-departed : (m : Movement X K) (o : ℕ) (ticket : K) → pins_of m o ≡ 0 → KeepsPinned m (after_leave m o ticket)
   keeps-departed m o ticket free = record {
-    pins = λ p. seen-same (λ (entry : ObjectRecord K). record entry { leavings = entry.leavings + 1; ticket = Some ticket }) says_pins (λ e. refl) m.entries o p;
+    pins = λ p. reads-same (λ (object_record : ObjectRecord K). record object_record { leavings = object_record.leavings + 1; ticket = Some ticket }) says_pins (λ e. refl) m.records o p;
     here = λ p some here. local-gone m.memory.words o p (λ same. some (subst (λ (q : ℕ). pins_of m q ≡ 0) (sym same) free)) here;
   }
 
@@ -225,7 +225,7 @@ module _ {X K : Type 0} where
   pinned-here m o p = refl
 
   pub unpinned-some : (m : Movement X K) (o p : ℕ) → pins_of (after_unpin m o) p ≢ 0 → pins_of m p ≢ 0
-  unpinned-some m o p some none = some (pins-less m.entries o p none)
+  unpinned-some m o p some none = some (pins-less m.records o p none)
 
 module _ {K : Type 0} where
   pub keeps-all_pushed : (columns : NumberColumns) (m : Movement (Option ℤ) K) (numbers : Numbers) → KeepsPinned m (all_pushed_in m columns numbers)
@@ -235,10 +235,10 @@ module _ {K : Type 0} where
       let mid = pushed_in m c number in
       keeps-then m mid (all_pushed_in mid columns numbers) (keeps-pushed m c number) (keeps-all_pushed columns mid numbers)
 
-  pub keeps-all_created : (columns : List Texts) (m : Movement ℕ K) (forms : List (ℕ × List ℕ)) → KeepsPinned m (all_created m columns forms)
-  keeps-all_created [] m forms = keeps-same m
-  keeps-all_created (c ∷ columns) m [] = keeps-same m
-  keeps-all_created (c ∷ columns) m (form ∷ forms) =
+  pub keeps-after_create_all : (columns : List Texts) (m : Movement ℕ K) (forms : List (ℕ × List ℕ)) → KeepsPinned m (after_create_all m columns forms)
+  keeps-after_create_all [] m forms = keeps-same m
+  keeps-after_create_all (c ∷ columns) m [] = keeps-same m
+  keeps-after_create_all (c ∷ columns) m (form ∷ forms) =
       let name : Name = record { column = c.column; group = length c.objects } in
       let mid = after_create m name form.1 in
-      keeps-then m mid (all_created mid columns forms) (keeps-created m name form.1) (keeps-all_created columns mid forms)
+      keeps-then m mid (after_create_all mid columns forms) (keeps-created m name form.1) (keeps-after_create_all columns mid forms)

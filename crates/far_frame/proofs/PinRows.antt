@@ -35,7 +35,7 @@ use Rattle.far_frame.specs.Lending.{all_used}
 use Rattle.far_frame.specs.Jobs.{WorkOf, Commits, Installs, Merges}
 use Rattle.far_frame.specs.Pins.{is_here}
 use Rattle.far_scopes.specs.Effects.{after_arrive}
-use Rattle.far_frame.proofs.PinLaws.{KeepsPinned, keeps-same, keeps-then, keeps-touched, keeps-replaced, keeps-replaced_all, keeps-arrived, keeps-departed, keeps-compacted, keeps-set, keeps-all_pushed, keeps-all_created}
+use Rattle.far_frame.proofs.PinLaws.{KeepsPinned, keeps-same, keeps-then, keeps-touched, keeps-replaced, keeps-replaced_all, keeps-arrived, keeps-departed, keeps-compacted, keeps-set, keeps-all_pushed, keeps-after_create_all}
 
 pub not-on : {A : Type 0} → false ≡ true → A
 not-on h = absurd (let on : true ≡ false = sym h in cc)
@@ -85,7 +85,7 @@ module _ {K : Type 0} where
     rows-set new place value (Some s) of moved = rows-are r (set_in content r s place value) new moved (rows-column_index s place value)
 
     texts-moved : (texts : List (Option (List ℕ))) (now : Movement ℕ K) (b : Bool) → all_begin r.texts ≡ b → TextsMoved content r texts now → KeepsPinned r.text_objects now
-    texts-moved texts now true is moved = subst (KeepsPinned r.text_objects) (sym (moved.begun is)) (keeps-all_created r.texts r.text_objects (next_forms (lists_of content r.text_objects) (length r.text_objects.entries) r.texts texts))
+    texts-moved texts now true is moved = subst (KeepsPinned r.text_objects) (sym (moved.begun is)) (keeps-after_create_all r.texts r.text_objects (next_forms (lists_of content r.text_objects) (length r.text_objects.records) r.texts texts))
     texts-moved texts now false is moved = (let lists = moved.replaced is in subst (KeepsPinned r.text_objects) (sym lists.2) (keeps-replaced_all r.text_objects lists.0))
 
     pub rows-edited : (new : Rows K) (e : Edit) → Moves content r e new → KeepsRows r new

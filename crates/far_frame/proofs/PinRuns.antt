@@ -4,7 +4,7 @@ use Rattle.far_types.specs.declared.cell.Kind.{Kind}
 use Rattle.far_types.specs.declared.limits.Limits.{Limits}
 use Rattle.far_types.specs.declared.refusal.Refusal.{Refusal}
 use Rattle.far_types.specs.declared.refusal.Refusal.TheVariants as refusal
-use Rattle.far_vector.specs.Pieces.{touched as touched_groups}
+use Rattle.far_vector.specs.Pieces.{touched as overlapped_groups}
 use Rattle.far_rows.specs.declared.object.Object.{Object}
 use Rattle.far_rows.specs.declared.object.Object.TheVariants as object
 use Rattle.far_rows.specs.Rows.{Rows}
@@ -42,7 +42,7 @@ module _ {K : Type 0} (content : K → List ℕ) (number_of : K → ℕ) where
     accepted-rows (step.Unwatch a) given is h = stays old new (ap (λ (t : LiveState K). t.rows) h.1.changed.state)
     accepted-rows (step.ScanGroup a g) given is h = stays old new (ap (λ (t : LiveState K). t.rows) h.1.changed.state)
     accepted-rows (step.Ask a) given is h = unchanged h.3
-    accepted-rows (step.Lend column from to) given is h = rows-are old.rows _ new.rows h.used.rows (rows-used column (touched_groups old.rows.size from to) old.rows)
+    accepted-rows (step.Lend column from to) given is h = rows-are old.rows _ new.rows h.used.rows (rows-used column (overlapped_groups old.rows.size from to) old.rows)
     accepted-rows (step.Pin column group) given is h = not-on (sym is)
     accepted-rows (step.Unpin column group) given is h = not-on (sym is)
     accepted-rows (step.Compact k segment) given is h = rows-compacted k segment old.rows new.rows h.1.changed.rows

@@ -7,7 +7,7 @@ use Rattle.far_pointer.specs.declared.pointer.Pointer.{Pointer}
 use Rattle.far_pointer.specs.declared.pointer.Pointer.TheVariants.{Local, Remote}
 use Rattle.far_scopes.specs.declared.object_record.ObjectRecord.{ObjectRecord}
 use Rattle.far_scopes.specs.Memory.{at_of, place_of}
-use Rattle.far_scopes.specs.Renewal.{renewed_word, renewed_entry}
+use Rattle.far_scopes.specs.Renewal.{renewed_word, renewed_record}
 use Rattle.far_rows.specs.declared.object.Object.{Object}
 use Rattle.far_rows.specs.declared.object.Object.TheVariants as object
 use Rattle.far_rows.specs.Coldest.{pins_at}
@@ -34,11 +34,11 @@ same-rest : (n m : ℕ) → suc n ≡ suc m → n ≡ m
 same-rest n m h = cc
 
 module _ {K L : Type 0} where
-  entry-pins : (entries : List (ObjectRecord K)) (tickets : List (Option L)) → length tickets ≡ length entries → (o : ℕ) → option_map_or (λ e. e.pins) (slice_get (map (λ (e : ObjectRecord K × Option L). renewed_entry e.0 e.1) (zip entries tickets)) o) 0 ≡ option_map_or (λ e. e.pins) (slice_get entries o) 0
-  entry-pins [] tickets same_length o = refl
-  entry-pins (e ∷ entries) [] same_length o = none-long (length entries) same_length
-  entry-pins (e ∷ entries) (t ∷ tickets) same_length zero = refl
-  entry-pins (e ∷ entries) (t ∷ tickets) same_length (suc o) = entry-pins entries tickets (same-rest (length tickets) (length entries) same_length) o
+  object_record-pins : (records : List (ObjectRecord K)) (tickets : List (Option L)) → length tickets ≡ length records → (o : ℕ) → option_map_or (λ e. e.pins) (slice_get (map (λ (e : ObjectRecord K × Option L). renewed_record e.0 e.1) (zip records tickets)) o) 0 ≡ option_map_or (λ e. e.pins) (slice_get records o) 0
+  object_record-pins [] tickets same_length o = refl
+  object_record-pins (e ∷ records) [] same_length o = none-long (length records) same_length
+  object_record-pins (e ∷ records) (t ∷ tickets) same_length zero = refl
+  object_record-pins (e ∷ records) (t ∷ tickets) same_length (suc o) = object_record-pins records tickets (same-rest (length tickets) (length records) same_length) o
 
   rows-local : (r : Rows K) (tickets : RowsTickets L) (o : Object) → is_here (renewed_rows r tickets) o ≡ is_here r o
   rows-local r tickets (object.Number o) = ap is_some (place-renewed r.number_objects.memory.words o)
@@ -46,17 +46,17 @@ module _ {K L : Type 0} where
 
   module _ (content : K → List ℕ) (new_content : L → List ℕ) where
     rows-pinned : (r : Rows K) (tickets : RowsTickets L) → RenewsRows content new_content r tickets → (o : Object) → pins_at (renewed_rows r tickets) o ≡ pins_at r o
-    rows-pinned r tickets renews (object.Number o) = entry-pins r.number_objects.entries tickets.numbers renews.numbers.same_length o
-    rows-pinned r tickets renews (object.Text o) = entry-pins r.text_objects.entries tickets.texts renews.texts.same_length o
+    rows-pinned r tickets renews (object.Number o) = object_record-pins r.number_objects.records tickets.numbers renews.numbers.same_length o
+    rows-pinned r tickets renews (object.Text o) = object_record-pins r.text_objects.records tickets.texts renews.texts.same_length o
 
     -- after a migration each object has the pins that it had
-    pub migrated-pins : (name : List ℕ) (old : World K) (new : World L) → IsMigratedTo content new_content name old new → (o : Object) → pins_at new.state.rows o ≡ pins_at old.state.rows o
-    migrated-pins name old new h o = ap (λ (t : State L). pins_at t.rows o) h.migrated.state ∙ rows-pinned old.state.rows h.migrated.tickets h.migrated.renews o
+    pub migrated-pins : (id : List ℕ) (old : World K) (new : World L) → IsMigratedTo content new_content id old new → (o : Object) → pins_at new.state.rows o ≡ pins_at old.state.rows o
+    migrated-pins id old new h o = ap (λ (t : State L). pins_at t.rows o) h.migrated.state ∙ rows-pinned old.state.rows h.migrated.tickets h.migrated.renews o
 
     -- and is local if it was
-    pub migrated-here : (name : List ℕ) (old : World K) (new : World L) → IsMigratedTo content new_content name old new → (o : Object) → is_here new.state.rows o ≡ is_here old.state.rows o
-    migrated-here name old new h o = ap (λ (t : State L). is_here t.rows o) h.migrated.state ∙ rows-local old.state.rows h.migrated.tickets o
+    pub migrated-here : (id : List ℕ) (old : World K) (new : World L) → IsMigratedTo content new_content id old new → (o : Object) → is_here new.state.rows o ≡ is_here old.state.rows o
+    migrated-here id old new h o = ap (λ (t : State L). is_here t.rows o) h.migrated.state ∙ rows-local old.state.rows h.migrated.tickets o
 
     -- so each object that has a pin is local after the migration, if it was so before
-    pub migrated-holds : (name : List ℕ) (old : World K) (new : World L) → ArePinnedHere old.state.rows → IsMigratedTo content new_content name old new → ArePinnedHere new.state.rows
-    migrated-holds name old new all h o some = migrated-here name old new h o ∙ all o (λ none. some (migrated-pins name old new h o ∙ none))
+    pub migrated-holds : (id : List ℕ) (old : World K) (new : World L) → ArePinnedHere old.state.rows → IsMigratedTo content new_content id old new → ArePinnedHere new.state.rows
+    migrated-holds id old new all h o some = migrated-here id old new h o ∙ all o (λ none. some (migrated-pins id old new h o ∙ none))

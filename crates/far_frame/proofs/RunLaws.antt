@@ -33,7 +33,7 @@ use Rattle.far_frame.specs.Waiting.{job_at}
 use Rattle.far_frame.specs.Worlds.{World, IsBegun, IsNotBegun, IsCarry, IsNoCarry, IsEnded, IsNotEnded}
 
 -- an aggregate that answers
-the-answer : (places : List Place) (o : Option Registered) (r : Registered) (x : Answer) → o ≡ Some r → Answers places o x → (left r.unbuilt ≡ 0) × (x ≡ answer_over r.spec (rows_of places))
+the-answer : (places : List Place) (o : Option Registered) (r : Registered) (x : Answer) → o ≡ Some r → Answers places o x → (left r.pending ≡ 0) × (x ≡ answer_over r.spec (rows_of places))
 the-answer places o r x h k = let P : Option Registered → Type 0 = λ q. Answers places q x in subst P h k
 
 given-answer : (x y : Answer) → reply.Answer x ≡ reply.Answer y → y ≡ x
@@ -91,7 +91,7 @@ module _ {K : Type 0} (content : K → List ℕ) (number_of : K → ℕ) where
   runs-join old (s ∷ steps) (given ∷ replies) mid more others new h k = (h.0, h.1, runs-join h.0 steps replies mid more others new h.2 k)
 
   -- an answer is that of the aggregate
-  answered : (old : World K) (a : ℕ) (x : Answer) (new : World K) (r : Registered) → aggregate_at old.state.table a ≡ Some r → IsStep content number_of old (step.Ask a) (reply.Answer x) new → (left r.unbuilt ≡ 0) × (x ≡ answer_now r.spec old.state.table)
+  answered : (old : World K) (a : ℕ) (x : Answer) (new : World K) (r : Registered) → aggregate_at old.state.table a ≡ Some r → IsStep content number_of old (step.Ask a) (reply.Answer x) new → (left r.pending ≡ 0) × (x ≡ answer_now r.spec old.state.table)
   answered old a x new r h k =
       let same : k.0.0 ≡ x = given-answer x k.0.0 k.0.1 in
       the-answer old.state.table.places (aggregate_at old.state.table a) r x h (subst (Answers old.state.table.places (aggregate_at old.state.table a)) same k.0.2)
@@ -99,7 +99,7 @@ module _ {K : Type 0} (content : K → List ℕ) (number_of : K → ℕ) where
   pub answer-now : (old : World K) (a : ℕ) (x : Answer) (new : World K) (r : Registered) → aggregate_at old.state.table a ≡ Some r → IsStep content number_of old (step.Ask a) (reply.Answer x) new → x ≡ answer_now r.spec old.state.table
   answer-now old a x new r h k = (answered old a x new r h k).1
 
-  pub answer-built : (old : World K) (a : ℕ) (x : Answer) (new : World K) (r : Registered) → aggregate_at old.state.table a ≡ Some r → IsStep content number_of old (step.Ask a) (reply.Answer x) new → left r.unbuilt ≡ 0
+  pub answer-built : (old : World K) (a : ℕ) (x : Answer) (new : World K) (r : Registered) → aggregate_at old.state.table a ≡ Some r → IsStep content number_of old (step.Ask a) (reply.Answer x) new → left r.pending ≡ 0
   answer-built old a x new r h k = (answered old a x new r h k).0
 
   -- what is lent is that part of its column
@@ -188,11 +188,11 @@ module _ {K : Type 0} (content : K → List ℕ) (number_of : K → ℕ) where
         subst (λ (w : WorkOf K). Merges number_of old.state w new.state) phase found
 
     pub merged-state : new.state ≡ record old.state { table = scanned_at build.aggregate build.group old.state.table }
-    merged-state = λ i. record { table = (merged.changed.state i).table; rows = (merged.changed.state i).rows; seen = merged.seen i }
+    merged-state = λ i. record { table = (merged.changed.state i).table; rows = (merged.changed.state i).rows; accesses = merged.accesses i }
 
     pub merged-scan : (scanned : World K) → IsStep content number_of old (step.ScanGroup build.aggregate build.group) reply.Done scanned → new.state ≡ scanned.state
     merged-scan scanned h =
-        let by_scan : scanned.state ≡ record old.state { table = scanned_at build.aggregate build.group old.state.table } = λ i. record { table = (h.0.1.changed.state i).table; rows = (h.0.1.changed.state i).rows; seen = h.0.1.seen i } in
+        let by_scan : scanned.state ≡ record old.state { table = scanned_at build.aggregate build.group old.state.table } = λ i. record { table = (h.0.1.changed.state i).table; rows = (h.0.1.changed.state i).rows; accesses = h.0.1.accesses i } in
         merged-state ∙ sym by_scan
 
   same-faults : (old new : World K) (serves : Reply → World K → Type 0) (refuses : Refusal → World K → Type 0) (given : Reply) → ((served : Reply) → serves served new → new.faults ≡ old.faults) → ((why : Refusal) → refuses why new → new.faults ≡ old.faults) → Replies (λ served. serves served new) (λ why. refuses why new) given → new.faults ≤ old.faults + 1

@@ -44,38 +44,38 @@ install-refused {A} (Err e) accepted roomless stale full (inr (inr m)) =
     let let_in : ¬ (¬ accepted) = λ no. no-stale e r refl m (stale.1 no) in
     inr (inr (m, let_in, λ none. let_in (λ may. no-full e r refl m (full.1 (may, none)))))
 
-module _ {K : Type 0} (is_of : K → List ℕ → Type 0) (name : List ℕ) where
+module _ {K : Type 0} (is_of : K → List ℕ → Type 0) (id : List ℕ) where
   abbrev IsHere : Option (JobRecord K) → Type 0
-  IsHere job = IfSome job (IsJobAt is_of name)
+  IsHere job = IfSome job (IsJobAt is_of id)
 
-  here-in : (found : Option (Option (JobRecord K))) (job : JobRecord K) → IfSome found IsHere → joined found ≡ Some job → IsJobAt is_of name job
+  here-in : (found : Option (Option (JobRecord K))) (job : JobRecord K) → IfSome found IsHere → joined found ≡ Some job → IsJobAt is_of id job
   here-in None job h k = absurd (none-is-some job k)
   here-in (Some None) job h k = absurd (none-is-some job k)
-  here-in (Some (Some found)) job h k = subst (IsJobAt is_of name) (same-some found job k) h
+  here-in (Some (Some found)) job h k = subst (IsJobAt is_of id) (same-some found job k) h
 
   -- the job of a number is of the store
-  pub job-here : (waiting : Waiting K) (n : ℕ) (job : JobRecord K) → AreJobsAt is_of name waiting → job_at waiting n ≡ Some job → IsJobAt is_of name job
+  pub job-here : (waiting : Waiting K) (n : ℕ) (job : JobRecord K) → AreJobsAt is_of id waiting → job_at waiting n ≡ Some job → IsJobAt is_of id job
   job-here waiting n job all is = here-in (lookup (is_number n) waiting) job (IfSome-lookup_from_All IsHere (is_number n) waiting all) is
 
-  pub more-here : (waiting : Waiting K) (n : ℕ) (job : JobRecord K) → AreJobsAt is_of name waiting → IsJobAt is_of name job → AreJobsAt is_of name (one_more waiting n job)
+  pub more-here : (waiting : Waiting K) (n : ℕ) (job : JobRecord K) → AreJobsAt is_of id waiting → IsJobAt is_of id job → AreJobsAt is_of id (one_more waiting n job)
   more-here waiting n job all here = All-values-insert_entry nat_cmp n (Some job) IsHere waiting all here
 
-  pub with-here : (waiting : Waiting K) (n : ℕ) (job : JobRecord K) → AreJobsAt is_of name waiting → IsJobAt is_of name job → AreJobsAt is_of name (with_job waiting n (Some job))
+  pub with-here : (waiting : Waiting K) (n : ℕ) (job : JobRecord K) → AreJobsAt is_of id waiting → IsJobAt is_of id job → AreJobsAt is_of id (with_job waiting n (Some job))
   with-here waiting n job all here = All-values-set_value (is_number n) IsHere waiting (Some job) all here
 
-  without-here : (waiting : Waiting K) (n : ℕ) → AreJobsAt is_of name waiting → AreJobsAt is_of name (without_job waiting n)
+  without-here : (waiting : Waiting K) (n : ℕ) → AreJobsAt is_of id waiting → AreJobsAt is_of id (without_job waiting n)
   without-here waiting n all = All-map-remove_entry (is_number n) (λ entry. entry.1) IsHere waiting all
 
-  pub ended-here : (spent : Bool) (waiting : Waiting K) (n : ℕ) → AreJobsAt is_of name waiting → AreJobsAt is_of name (cond spent (without_job waiting n) waiting)
+  pub ended-here : (spent : Bool) (waiting : Waiting K) (n : ℕ) → AreJobsAt is_of id waiting → AreJobsAt is_of id (cond spent (without_job waiting n) waiting)
   ended-here true waiting n all = without-here waiting n all
   ended-here false waiting n all = all
 
   -- a step on the table leaves the world what it is
-  pub table-moved : (old new : State K) (jobs : Waiting K) → ((of : List ℕ) → AreAt is_of of old.rows → AreAt is_of of new.rows) → IsWorld is_of name old jobs → IsWorld is_of name new jobs
-  table-moved old new jobs here w = record { rows_at = here name w.rows_at; jobs_at = w.jobs_at }
+  pub table-moved : (old new : State K) (jobs : Waiting K) → ((of : List ℕ) → AreAt is_of of old.rows → AreAt is_of of new.rows) → IsWorld is_of id old jobs → IsWorld is_of id new jobs
+  table-moved old new jobs here w = record { rows_at = here id w.rows_at; jobs_at = w.jobs_at }
 
-  pub rows-stayed : (old new : State K) (jobs : Waiting K) → new.rows ≡ old.rows → IsWorld is_of name old jobs → IsWorld is_of name new jobs
-  rows-stayed old new jobs same w = record { rows_at = subst (AreAt is_of name) (sym same) w.rows_at; jobs_at = w.jobs_at }
+  pub rows-stayed : (old new : State K) (jobs : Waiting K) → new.rows ≡ old.rows → IsWorld is_of id old jobs → IsWorld is_of id new jobs
+  rows-stayed old new jobs same w = record { rows_at = subst (AreAt is_of id) (sym same) w.rows_at; jobs_at = w.jobs_at }
 
 -- an end as a step
 module _ {K : Type 0} (ends : WorkOf K → State K → Type 0) (why : WorkOf K → Refusal → Type 0) (n : ℕ) (old new : World K) where

@@ -95,7 +95,7 @@ module _ {K : Type 0} where
     Accepts old (step.Pin column group) given new = (given ≡ reply.Done) × (pin_refusal old.rows column group ≡ None) × Alters (IsMoved (IsPinned column group)) old new
     Accepts old (step.Unpin column group) given new = (given ≡ reply.Done) × (unpin_refusal old.rows column group ≡ None) × Alters (IsMoved (IsUnpinned column group)) old new
     Accepts old (step.Compact kind segment) given new = (given ≡ reply.Done) × Alters (IsMoved (IsCompactedOf kind segment)) old new
-    Accepts old (step.Prefetch column) given new = (prefetch_refusal old.table column ≡ None) × Proposes (next_groups old.table old.seen column) given × (new ≡ old)
+    Accepts old (step.Prefetch column) given new = (prefetch_refusal old.table column ≡ None) × Proposes (next_groups old.table old.accesses column) given × (new ≡ old)
     Accepts old (step.BeginEvac column group) given new = ⊥
     Accepts old (step.BeginFetch column group) given new = ⊥
     Accepts old (step.BeginOffload a g) given new = ⊥

@@ -51,14 +51,14 @@ module _ {K : Type 0} where
   abbrev pub kind_of : JobRecord K → JobKind
   kind_of job = kind_of_work job.work
 
-  module _ (is_of : K → List ℕ → Type 0) (name : List ℕ) where
+  module _ (is_of : K → List ℕ → Type 0) (id : List ℕ) where
     abbrev pub IsWorkAt : WorkOf K → Type 0
-    IsWorkAt (work.Evac evac) = IsFormOf is_of name (of_either evac).form
-    IsWorkAt (work.Carried carried) = is_of (of_either carried).ticket name
-    IsWorkAt (work.Fetch fetch) = is_of (of_either fetch).ticket name
-    IsWorkAt (work.Fetched fetched) = is_of (of_either fetched).job.ticket name
-    IsWorkAt (work.Offload build) = AreTicketsOf is_of name build.job.tickets
-    IsWorkAt (work.Offloaded build) = AreTicketsOf is_of name build.job.tickets
+    IsWorkAt (work.Evac evac) = IsFormOf is_of id (of_either evac).form
+    IsWorkAt (work.Carried carried) = is_of (of_either carried).ticket id
+    IsWorkAt (work.Fetch fetch) = is_of (of_either fetch).ticket id
+    IsWorkAt (work.Fetched fetched) = is_of (of_either fetched).job.ticket id
+    IsWorkAt (work.Offload build) = AreTicketsOf is_of id build.job.tickets
+    IsWorkAt (work.Offloaded build) = AreTicketsOf is_of id build.job.tickets
 
     -- what a job holds is of the store with this id
     abbrev pub IsJobAt : JobRecord K → Type 0
@@ -158,7 +158,7 @@ module _ {K : Type 0} where
       Installs (work.Fetched fetched) new = Alters (IsMoved (IsInstalled content number_of fetched)) old new
       Installs _ new = ⊥
 
-      -- or it is not: what it rests on does not hold any more, its object finds no room, or memory is wanted. Any other job is
+      -- or it is not: what it rests on does not hold any more, its object finds no space, or memory is wanted. Any other job is
       -- stale here
       abbrev pub InstallRefusal : WorkOf K → Refusal → Type 0
       InstallRefusal (work.Fetched fetched) given = ((given ≡ refusal.StaleJob) × ¬ (IsFetchAccepted number_of old.rows fetched))

@@ -10,7 +10,7 @@ use Rattle.far_types.specs.declared.refusal.Refusal.TheVariants as refusal
 use Rattle.far_types.specs.FirstOf.{first_of}
 use Rattle.far_types.specs.Lent.{int_cell, text_cell}
 use Rattle.far_types.specs.Table.{Table, Place, column as column_of, groups}
-use Rattle.far_vector.specs.Pieces.{pieces_of, touched as touched_groups}
+use Rattle.far_vector.specs.Pieces.{pieces_of, touched as overlapped_groups}
 use Rattle.far_prefetcher.specs.Strides.{history_of, with_access, proposed}
 use Rattle.far_rows.specs.Rows.{Rows}
 use Rattle.far_rows.specs.Moving.{object_at, after_touch}
@@ -65,8 +65,8 @@ Gives of pieces (reply.Texts copies) = (of ≡ Some kind.Text) × (map text_piec
 Gives of pieces _ = ⊥
 
 -- the access histories, once some row groups of a column were accessed, in order
-abbrev pub all_seen : List (List ℕ) → ℕ → List ℕ → List (List ℕ)
-all_seen seen column lent = fold (λ histories g. slice_set histories column (with_access (history_of histories column) g)) seen lent
+abbrev pub all_observed : List (List ℕ) → ℕ → List ℕ → List (List ℕ)
+all_observed accesses column lent = fold (λ histories g. slice_set histories column (with_access (history_of histories column) g)) accesses lent
 
 -- there is no such column
 abbrev pub prefetch_refusal : Table → ℕ → Option Refusal
@@ -74,7 +74,7 @@ prefetch_refusal table column = first_of ((not (nat_lt column (length table.sche
 
 -- the row groups of a column to fetch next
 abbrev pub next_groups : Table → List (List ℕ) → ℕ → List ℕ
-next_groups table seen column = proposed (groups table.limits.group (length table.places)) (history_of seen column)
+next_groups table accesses column = proposed (groups table.limits.group (length table.places)) (history_of accesses column)
 
 module _ {K : Type 0} where
   -- the objects of some row groups of a column are marked as recently used, in order
@@ -84,16 +84,16 @@ module _ {K : Type 0} where
   -- why a part of a column is not lent: there is no such column; the places are not all there; the object of a row group that
   -- has some of them is away, the first such
   abbrev pub lend_refusal : Rows K → ℕ → ℕ → ℕ → Option Refusal
-  lend_refusal r column from to = first_of (no_column r column ∷ no_range r from to ∷ map (absent_in r column) (touched_groups r.size from to))
+  lend_refusal r column from to = first_of (no_column r column ∷ no_range r from to ∷ map (absent_in r column) (overlapped_groups r.size from to))
 
   -- row groups of a column are accessed, in order: their objects are marked as recently used, and the history has them
-  pub record AreSeen (column : ℕ) (lent : List ℕ) (old new : State K) : Type 0 where
+  pub record AreObserved (column : ℕ) (lent : List ℕ) (old new : State K) : Type 0 where
     pub table : new.table ≡ old.table
     pub rows : new.rows ≡ all_used old.rows column lent
-    pub seen : new.seen ≡ all_seen old.seen column lent
+    pub accesses : new.accesses ≡ all_observed old.accesses column lent
 
   -- a part of a column is lent
   pub record IsLent (column from to : ℕ) (old : State K) (given : Reply) (new : State K) : Type 0 where
     pub due : lend_refusal old.rows column from to ≡ None
     pub says : Gives (slice_get old.table.schema column) (lent_part old.table column from to) given
-    pub used : AreSeen column (touched_groups old.rows.size from to) old new
+    pub used : AreObserved column (overlapped_groups old.rows.size from to) old new

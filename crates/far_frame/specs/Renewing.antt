@@ -10,9 +10,9 @@ module _ {K L : Type 0} (content : K → List ℕ) (new_content : L → List ℕ
   pub record IsMigrated (old : State K) (new : State L) : Type 0 where
     pub tickets : RowsTickets L
     pub renews : RenewsRows content new_content old.rows tickets
-    pub state : new ≡ record { table = old.table; rows = renewed_rows old.rows tickets; seen = old.seen }
+    pub state : new ≡ record { table = old.table; rows = renewed_rows old.rows tickets; accesses = old.accesses }
 
   -- likewise a world: all numbers of jobs that were begun are spent, and the count goes on
-  pub record IsMigratedTo (name : List ℕ) (old : World K) (new : World L) : Type 0 where
+  pub record IsMigratedTo (id : List ℕ) (old : World K) (new : World L) : Type 0 where
     pub migrated : IsMigrated old.state new.state
-    pub world : new ≡ record { state = new.state; store = name; begun = old.begun; jobs = []; faults = old.faults }
+    pub world : new ≡ record { state = new.state; store = id; begun = old.begun; jobs = []; faults = old.faults }

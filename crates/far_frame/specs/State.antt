@@ -12,11 +12,11 @@ use Rattle.far_table.specs.State.{State as LiveState}
 pub record State (K : Type 0) : Type 0 where
   pub table : Table
   pub rows : Rows K
-  pub seen : List (List ℕ)
+  pub accesses : List (List ℕ)
 
 -- a table as it is opened
 abbrev pub empty_state : {K : Type 0} → List Kind → Limits → ℕ → State K
-empty_state schema limits number = record { table = empty_table schema limits; rows = empty_rows schema limits number; seen = replicate (length schema) [] }
+empty_state schema limits number = record { table = empty_table schema limits; rows = empty_rows schema limits number; accesses = replicate (length schema) [] }
 
 module _ {K : Type 0} where
   -- the table and its rows alone
@@ -26,4 +26,4 @@ module _ {K : Type 0} where
   -- the table and its rows change so, and the access history stays
   pub record Alters (change : LiveState K → LiveState K → Type 0) (old new : State K) : Type 0 where
     pub changed : change (live old) (live new)
-    pub seen : new.seen ≡ old.seen
+    pub accesses : new.accesses ≡ old.accesses

@@ -42,7 +42,7 @@ module _ {K : Type 0} where
 
   -- what the jobs hold is of the store with this id
   abbrev pub AreJobsAt : (K → List ℕ → Type 0) → List ℕ → Waiting K → Type 0
-  AreJobsAt is_of name waiting = All (λ job. IfSome job (IsJobAt is_of name)) (values_of waiting)
+  AreJobsAt is_of id waiting = All (λ job. IfSome job (IsJobAt is_of id)) (values_of waiting)
 
   -- the job of a number is carried, and nothing else is changed
   pub record IsCarriedAt (content : K → List ℕ) (n : ℕ) (old new : Waiting K) : Type 0 where

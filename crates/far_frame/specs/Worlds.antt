@@ -27,9 +27,9 @@ pub record World (K : Type 0) : Type 0 where
 
 module _ {K : Type 0} where
   -- what always holds: every ticket is of the world's store
-  pub record IsWorld (is_of : K → List ℕ → Type 0) (name : List ℕ) (state : State K) (jobs : Waiting K) : Type 0 where
-    pub rows_at : AreAt is_of name state.rows
-    pub jobs_at : AreJobsAt is_of name jobs
+  pub record IsWorld (is_of : K → List ℕ → Type 0) (id : List ℕ) (state : State K) (jobs : Waiting K) : Type 0 where
+    pub rows_at : AreAt is_of id state.rows
+    pub jobs_at : AreJobsAt is_of id jobs
 
   -- the numbers of jobs are used up
   abbrev pub used_up : World K → Option Refusal

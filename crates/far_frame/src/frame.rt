@@ -3,7 +3,7 @@ ghost use Rattle.std.specs.Prelude.{◌≡◌, ◌⊎◌, ℕ, List, true, false
 ghost use Rattle.std.specs.Option.{option_copied};
 ghost use Rattle.far_types.specs.declared.edit.Edit.TheVariants as edit;
 ghost use Rattle.far_types.specs.Bounds.{AreLimits};
-ghost use Rattle.far_aggregates.specs.Aggregates.{is_left};
+ghost use Rattle.far_aggregates.specs.Aggregates.{is_pending_in};
 ghost use Rattle.far_aggregates.specs.Readings.{plain_in};
 ghost use Rattle.far_rows.specs.Jobs.{AreAt};
 ghost use Rattle.far_table.specs.Watching.{aggregate_at};
@@ -63,7 +63,7 @@ impl<S: FarTickets> Model for Frame<S> {
 
     ghost Value = { State S.Ticket };
 
-    ghost view = { λ f. record { table = f.table.table; rows = f.table.rows; seen = f.prefetcher } };
+    ghost view = { λ f. record { table = f.table.table; rows = f.table.rows; accesses = f.prefetcher } };
 }
 
 impl<S: FarTickets> Frame<S> {
@@ -79,7 +79,7 @@ impl<S: FarTickets> Frame<S> {
     ) -> Result<Frame<S>, Refusal>
         ensures ok { IfOk result (λ frame. frame ≡ empty_state schema limits number) }
         ensures limits { OnOk result (AreLimits limits) }
-        ensures here { IfOk result (λ frame. (name : List ℕ) → AreAt S.is_of name frame.rows) }
+        ensures here { IfOk result (λ frame. (id : List ℕ) → AreAt S.is_of id frame.rows) }
         ensures bad { IfErr result (λ e. ((e ≡ Refusal.BadSchema) × ¬ (AreLimits limits)) ⊎ ((e ≡ Refusal.NoMemory) × AreLimits limits)) }
     {
         let columns = schema.len();
@@ -105,7 +105,7 @@ impl<S: FarTickets> Frame<S> {
     pub fn insert(&mut self, row: Row) -> Result<u32, Refusal>
         ensures ok { IfOk result (λ place. Accepts S.content self.old (step.Edit (edit.Insert row)) (reply.Place place) self.new) }
         ensures err { IfErr result (λ e. Refuses self.old (step.Edit (edit.Insert row)) e self.new) }
-        ensures here { (name : List ℕ) → AreAt S.is_of name self.old.rows → AreAt S.is_of name self.new.rows }
+        ensures here { (id : List ℕ) → AreAt S.is_of id self.old.rows → AreAt S.is_of id self.new.rows }
     {
         self.table.insert(row)
     }
@@ -116,7 +116,7 @@ impl<S: FarTickets> Frame<S> {
     pub fn set(&mut self, place: u32, column: u32, cell: Cell) -> Result<(), Refusal>
         ensures ok { OnOk result (Accepts S.content self.old (step.Edit (edit.Set place column cell)) reply.Done self.new) }
         ensures err { IfErr result (λ e. Refuses self.old (step.Edit (edit.Set place column cell)) e self.new) }
-        ensures here { (name : List ℕ) → AreAt S.is_of name self.old.rows → AreAt S.is_of name self.new.rows }
+        ensures here { (id : List ℕ) → AreAt S.is_of id self.old.rows → AreAt S.is_of id self.new.rows }
     {
         self.table.set(column, place, cell)
     }
@@ -126,7 +126,7 @@ impl<S: FarTickets> Frame<S> {
     pub fn remove(&mut self, place: u32) -> Result<(), Refusal>
         ensures ok { OnOk result (Accepts S.content self.old (step.Edit (edit.Remove place)) reply.Done self.new) }
         ensures err { IfErr result (λ e. Refuses self.old (step.Edit (edit.Remove place)) e self.new) }
-        ensures here { (name : List ℕ) → AreAt S.is_of name self.old.rows → AreAt S.is_of name self.new.rows }
+        ensures here { (id : List ℕ) → AreAt S.is_of id self.old.rows → AreAt S.is_of id self.new.rows }
     {
         self.table.remove(place)
     }
@@ -208,8 +208,8 @@ impl<S: FarTickets> Frame<S> {
 
     /// An aggregate and a row group that is still pending in it, or `None` if there is none. Allocates nothing.
     pub fn unbuilt(&self) -> Option<(u32, u32)>
-        ensures some { IfSome result (λ at. is_left (aggregate_at self.now.table at.0) at.1 ≡ true) }
-        ensures none { IfNone result ((a : ℕ) → (g : ℕ) → is_left (aggregate_at self.now.table a) g ≡ false) }
+        ensures some { IfSome result (λ at. is_pending_in (aggregate_at self.now.table at.0) at.1 ≡ true) }
+        ensures none { IfNone result ((a : ℕ) → (g : ℕ) → is_pending_in (aggregate_at self.now.table a) g ≡ false) }
     {
         self.table.unbuilt()
     }

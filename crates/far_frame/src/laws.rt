@@ -49,12 +49,12 @@ pub fn rows_are_those_of_the_plain_list<S: FarTickets>()
 /// in it.
 pub fn an_answer_is_over_the_rows_now<S: FarTickets>()
     ensures answer { (old : World S.Ticket) → (a : ℕ) → (answer : Answer) → (new : World S.Ticket) → (aggregate : Registered) → aggregate_at old.state.table a ≡ Some aggregate → IsStep S.content S.number_of old (step.Ask a) (reply.Answer answer) new → answer ≡ answer_now aggregate.spec old.state.table }
-    ensures built { (old : World S.Ticket) → (a : ℕ) → (answer : Answer) → (new : World S.Ticket) → (aggregate : Registered) → aggregate_at old.state.table a ≡ Some aggregate → IsStep S.content S.number_of old (step.Ask a) (reply.Answer answer) new → left aggregate.unbuilt ≡ 0 }
+    ensures built { (old : World S.Ticket) → (a : ℕ) → (answer : Answer) → (new : World S.Ticket) → (aggregate : Registered) → aggregate_at old.state.table a ≡ Some aggregate → IsStep S.content S.number_of old (step.Ask a) (reply.Answer answer) new → left aggregate.pending ≡ 0 }
     ensures same { (old : World S.Ticket) → (a : ℕ) → (answer : Answer) → (new : World S.Ticket) → IsStep S.content S.number_of old (step.Ask a) (reply.Answer answer) new → new ≡ old }
 {}
 
 /// An edit that is accepted does to the rows what it does to the plain list, and one that is refused is refused as the
-/// plain list refuses it, or because an object is away or finds no room, or for lack of memory where nothing else refuses it.
+/// plain list refuses it, or because an object is away or finds no space, or for lack of memory where nothing else refuses it.
 pub fn an_edit_is_that_of_the_plain_list<S: FarTickets>()
     ensures inserted { (old : World S.Ticket) → (e : Edit) → (place : ℕ) → (new : World S.Ticket) → IsStep S.content S.number_of old (step.Edit e) (reply.Place place) new → new.state.table ≡ edited e old.state.table }
     ensures done { (old : World S.Ticket) → (e : Edit) → (new : World S.Ticket) → IsStep S.content S.number_of old (step.Edit e) reply.Done new → new.state.table ≡ edited e old.state.table }
@@ -69,7 +69,7 @@ pub fn a_recount_is_over_the_rows_now()
 
 /// A table that goes on with another store, as by `World::migrate`, keeps its rows and aggregates, and so its answers.
 pub fn a_migration_keeps_the_table<S: FarTickets, N: FarTickets>()
-    ensures { (name : List ℕ) → (old : World S.Ticket) → (new : World N.Ticket) → IsMigratedTo S.content N.content name old new → new.state.table ≡ old.state.table }
+    ensures { (id : List ℕ) → (old : World S.Ticket) → (new : World N.Ticket) → IsMigratedTo S.content N.content id old new → new.state.table ≡ old.state.table }
 {}
 
 /// The pieces of a part of a column (`lent_part`) are, joined, that part of its column, with the flags of its places; dead places are in
@@ -107,9 +107,9 @@ pub fn a_pinned_object_stays<S: FarTickets, N: FarTickets>()
     ensures opened { (schema : List Kind) → (limits : Limits) → (number : ℕ) → ArePinnedHere (empty_rows {K = S.Ticket} schema limits number) }
     ensures lent { (old : World S.Ticket) → ArePinnedHere old.state.rows → (column from to c g : ℕ) → (new : World S.Ticket) → IsStep S.content S.number_of old (step.Lend column from to) (reply.Refused (refusal.Absent c g)) new → IfSome (object_at old.state.rows c g) (λ o. pins_at old.state.rows o ≡ 0) }
     ensures committed { (old : World S.Ticket) → (n : ℕ) → (job : JobRecord S.Ticket) → (carried : ByKind (CarriedEvacuation S.Ticket) (CarriedEvacuation S.Ticket)) → job_at old.jobs n ≡ Some job → job.work ≡ work.Carried carried → pins_by old.state.rows carried ≢ 0 → (new : World S.Ticket) → ¬ (IsStep S.content S.number_of old (step.Commit n) reply.Done new) }
-    ensures migrated { (name : List ℕ) → (old : World S.Ticket) → (new : World N.Ticket) → ArePinnedHere old.state.rows → IsMigratedTo S.content N.content name old new → ArePinnedHere new.state.rows }
-    ensures migrated_pins { (name : List ℕ) → (old : World S.Ticket) → (new : World N.Ticket) → IsMigratedTo S.content N.content name old new → (o : Object) → pins_at new.state.rows o ≡ pins_at old.state.rows o }
-    ensures migrated_places { (name : List ℕ) → (old : World S.Ticket) → (new : World N.Ticket) → IsMigratedTo S.content N.content name old new → (o : Object) → is_here new.state.rows o ≡ is_here old.state.rows o }
+    ensures migrated { (id : List ℕ) → (old : World S.Ticket) → (new : World N.Ticket) → ArePinnedHere old.state.rows → IsMigratedTo S.content N.content id old new → ArePinnedHere new.state.rows }
+    ensures migrated_pins { (id : List ℕ) → (old : World S.Ticket) → (new : World N.Ticket) → IsMigratedTo S.content N.content id old new → (o : Object) → pins_at new.state.rows o ≡ pins_at old.state.rows o }
+    ensures migrated_places { (id : List ℕ) → (old : World S.Ticket) → (new : World N.Ticket) → IsMigratedTo S.content N.content id old new → (o : Object) → is_here new.state.rows o ≡ is_here old.state.rows o }
 {}
 
 /// A merge that is accepted does to the table exactly what a scan of its row group does, and changes no row and no object.
@@ -139,7 +139,7 @@ pub fn a_number_names_one_job<S: FarTickets, N: FarTickets>()
     ensures stale { (old : World S.Ticket) → AreNumbered old → (s : Step) → (n : ℕ) → end_of s ≡ Some n → IsSome (job_at old.jobs n) → (new : World S.Ticket) → IsStep S.content S.number_of old s (reply.Refused refusal.StaleJob) new → IsSpent n new }
     ensures spent { (n : ℕ) → (old : World S.Ticket) → (steps : List Step) → (replies : List Reply) → (new : World S.Ticket) → IsSpent n old → IsRun S.content S.number_of old steps replies new → IsSpent n new }
     ensures named { (old : World S.Ticket) → (s : Step) → IsSomeAnd (job_of s) (λ n. IsSpent n old) → (given : Reply) → (new : World S.Ticket) → IsStep S.content S.number_of old s given new → given ≡ reply.Refused refusal.StaleJob }
-    ensures migrated { (name : List ℕ) → (old : World S.Ticket) → (new : World N.Ticket) → IsMigratedTo S.content N.content name old new → (n : ℕ) → n < old.begun → IsSpent n new }
+    ensures migrated { (id : List ℕ) → (old : World S.Ticket) → (new : World N.Ticket) → IsMigratedTo S.content N.content id old new → (n : ℕ) → n < old.begun → IsSpent n new }
 {}
 
 /// Lists of steps served one after another are served as one list.

@@ -80,7 +80,7 @@ impl<S: FarStore> World<S> {
 
     /// The store to which the table's objects go. All tickets of the rows are of it. Allocates nothing.
     pub fn store(&self) -> &S
-        ensures name { S.store_id result.now ≡ self.now.store }
+        ensures store_id { S.store_id result.now ≡ self.now.store }
         ensures here { AreAt S.is_of self.now.store self.now.state.rows }
     {
         &self.store

@@ -9,5 +9,5 @@ by-value (Ok x) p q ok err = ok x p
 by-value (Err e) p q ok err = err e q
 
 module _ {K : Type 0} (is_of : K → List ℕ → Type 0) where
-  pub kept-at : (old new : Rows K) → new ≡ old → (name : List ℕ) → AreAt is_of name old → AreAt is_of name new
-  kept-at old new same name at = subst (λ r. AreAt is_of name r) (sym same) at
+  pub kept-at : (old new : Rows K) → new ≡ old → (id : List ℕ) → AreAt is_of id old → AreAt is_of id new
+  kept-at old new same id at = subst (λ r. AreAt is_of id r) (sym same) at

@@ -62,7 +62,7 @@ fn send_away<S: FarStore>(alloc: Global, frame: &mut Frame<S>, store: &S) -> Res
 
 // Gives a table three rows.
 fn insert_rows<S: FarTickets>(alloc: Global, frame: &mut Frame<S>) -> Result<(), Refusal>
-    ensures { (name : List ℕ) → AreAt S.is_of name frame.old.rows → AreAt S.is_of name frame.new.rows }
+    ensures { (id : List ℕ) → AreAt S.is_of id frame.old.rows → AreAt S.is_of id frame.new.rows }
 {
     let first = insert(alloc, frame, 5);
     let second = insert(alloc, frame, 6);

@@ -141,7 +141,7 @@ const COLDEST: Calls = &[
     (Call::Coldest, Due::Coldest(None)),
 ];
 
-/// Numbers in row groups of two, with room for two of them in each of three segments.
+/// Numbers in row groups of two, with space for two of them in each of three segments.
 const THREE_SEGMENTS: Opening = Opening {
     kinds: &[Kind::Int],
     limits: Limits {
@@ -157,7 +157,7 @@ const THREE_SEGMENTS: Opening = Opening {
 };
 
 /// The second row group alone is left in the first segment. It goes to the beginning of the second one, and the first is empty: so there
-/// is room for five row groups more. Before the last of them each segment has one, and there is none to which another could be compacted.
+/// is space for five row groups more. Before the last of them each segment has one, and there is none to which another could be compacted.
 const COMPACTED: Calls = &[
     (Call::Evac(0, 0), Due::Job(0)),
     (Call::Carry(0), Due::Done),

@@ -47,7 +47,7 @@ pub const NUMBERS: Opening = Opening {
     ],
 };
 
-/// A column of numbers and one of texts in row groups of three, with room for all objects.
+/// A column of numbers and one of texts in row groups of three, with space for all objects.
 pub const PAIRS: Opening = Opening {
     kinds: &[Kind::Int, Kind::Text],
     limits: Limits {
@@ -151,7 +151,7 @@ pub fn frame<S: FarTickets>(
     limits: Limits,
     number: u32,
 ) -> Result<Frame<S>, Refusal>
-    ensures { IfOk result (λ frame. (name : List ℕ) → AreAt S.is_of name frame.rows) }
+    ensures { IfOk result (λ frame. (id : List ℕ) → AreAt S.is_of id frame.rows) }
 {
     match schema(alloc, kinds) {
         Ok(schema) => Frame::open(alloc, schema, limits, number),

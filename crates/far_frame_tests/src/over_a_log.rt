@@ -11,7 +11,7 @@ use std::alloc::Global;
 use std::sync::Wait;
 use std::thread::Threads;
 
-/// Two row groups go away and come back. One is written then, and the log has no room for its new form, so it stays.
+/// Two row groups go away and come back. One is written then, and the log has no space for its new form, so it stays.
 const COME_AND_GO: Calls = &[
     (Call::Evac(0, 0), Due::Job(0)),
     (Call::Carry(0), Due::Done),
@@ -50,8 +50,8 @@ const COME_AND_GO: Calls = &[
     (Call::Faults(1), Due::Done),
 ];
 
-/// Room for two far forms of two numbers, of 22 bytes each.
-const ROOM: usize = 44;
+/// Space for two far forms of two numbers, of 22 bytes each.
+const CAPACITY: usize = 44;
 
 static SCRIPT: Script = Script {
     name: "objects come and go over one log",
@@ -75,7 +75,7 @@ fn first_wrong_once<R: Threads + Wait + Sync>(
     rt: &R,
     alloc: Global,
 ) -> Result<Option<usize>, Refusal> {
-    match ByteLog::new(alloc, ROOM) {
+    match ByteLog::new(alloc, CAPACITY) {
         Ok(log) => first_wrong_over(rt, alloc, log),
         Err(_) => Err(Refusal::NoMemory),
     }

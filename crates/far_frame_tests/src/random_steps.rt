@@ -1,6 +1,6 @@
 //! Random steps of every kind on a world that goes over several stores, against plain lists, reply by reply.
 //!
-//! The lists know how long each list and far form is, so where each lies, when one finds no room, and which object goes away first. How
+//! The lists know how long each list and far form is, so where each lies, when one finds no space, and which object goes away first. How
 //! many pins an object has no call tells, so at each look all are taken off and put on again. How old a far copy of a dirty one is, none
 //! tells either.
 mod aggregates;
@@ -69,7 +69,7 @@ const STORES: u64 = 4;
 const LOOK: u32 = 50;
 
 /// The regions are too small for all objects. In every second run edits and jobs are used up.
-fn narrow_run(seed: u64) -> Run {
+fn run_short_of_space(seed: u64) -> Run {
     Run {
         seed,
         steps: 500,
@@ -87,8 +87,8 @@ fn narrow_run(seed: u64) -> Run {
     }
 }
 
-/// There is room for all objects, and after each step the table is looked at, but for the most of its aggregates.
-fn roomy_run(seed: u64) -> Run {
+/// There is space for all objects, and after each step the table is looked at, but for the most of its aggregates.
+fn run_with_space(seed: u64) -> Run {
     Run {
         seed,
         steps: 50,
@@ -343,9 +343,9 @@ fn first_wrong_run<R: Threads + Wait + Sync>(
 ) -> Result<Option<(u64, u32)>, Refusal> {
     for n in 0..2 * SEEDS {
         let run = if n < SEEDS {
-            narrow_run(n)
+            run_short_of_space(n)
         } else {
-            roomy_run(n)
+            run_with_space(n)
         };
         match play(rt, alloc, &run, told) {
             Ok(None) => {}

@@ -24,7 +24,7 @@ pub enum End {
 
 /// Registers an aggregate.
 fn watch<S: FarTickets>(frame: &mut Frame<S>, spec: Spec) -> Result<u32, Refusal>
-    ensures { (name : List ℕ) → AreAt S.is_of name frame.old.rows → AreAt S.is_of name frame.new.rows }
+    ensures { (id : List ℕ) → AreAt S.is_of id frame.old.rows → AreAt S.is_of id frame.new.rows }
 {
     frame.watch(spec)
 }
@@ -43,7 +43,7 @@ pub fn insert<S: FarTickets>(
     frame: &mut Frame<S>,
     number: i64,
 ) -> Result<(), Refusal>
-    ensures { (name : List ℕ) → AreAt S.is_of name frame.old.rows → AreAt S.is_of name frame.new.rows }
+    ensures { (id : List ℕ) → AreAt S.is_of id frame.old.rows → AreAt S.is_of id frame.new.rows }
 {
     match row_of(alloc, number) {
         Ok(row) => match frame.insert(row) {
@@ -56,7 +56,7 @@ pub fn insert<S: FarTickets>(
 
 /// Registers an aggregate of all rows.
 pub fn watch_totals<S: FarTickets>(alloc: Global, frame: &mut Frame<S>) -> Result<(), Refusal>
-    ensures { (name : List ℕ) → AreAt S.is_of name frame.old.rows → AreAt S.is_of name frame.new.rows }
+    ensures { (id : List ℕ) → AreAt S.is_of id frame.old.rows → AreAt S.is_of id frame.new.rows }
 {
     match spec(alloc, TOTALS) {
         Ok(spec) => watch(frame, spec).and(Ok(())),
@@ -66,7 +66,7 @@ pub fn watch_totals<S: FarTickets>(alloc: Global, frame: &mut Frame<S>) -> Resul
 
 /// Gives a table a row, and an aggregate into which it is still to be built.
 fn fill<S: FarTickets>(alloc: Global, frame: &mut Frame<S>) -> Result<(), Refusal>
-    ensures { (name : List ℕ) → AreAt S.is_of name frame.old.rows → AreAt S.is_of name frame.new.rows }
+    ensures { (id : List ℕ) → AreAt S.is_of id frame.old.rows → AreAt S.is_of id frame.new.rows }
 {
     let inserted = insert(alloc, frame, 4);
     inserted.and(watch_totals(alloc, frame))

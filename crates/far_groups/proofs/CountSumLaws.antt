@@ -9,12 +9,12 @@ use Rattle.far_types.specs.declared.key.Key.{Key}
 use Rattle.far_types.specs.Keys.{line_cmp}
 use Rattle.far_types.specs.KeyOrder.{line_total}
 use Rattle.far_types.specs.Answers.{Totals}
-use Rattle.far_types.specs.Effects.{raised, with_pair, without_value, without_pair, add_count_sums, count_in}
+use Rattle.far_types.specs.Effects.{added, with_pair, without_value, without_pair, add_count_sums, count_in}
 use Rattle.far_types.proofs.ByKeyMaps.{Entries, with_more, at, IsSet, set_inserts, set_removes, set_again, get_at}
 use Rattle.far_groups.specs.CountSums.{totals_of, IsSumOf, IsCountSum, AreCountSums, with_count_sum, LeavesCountSum, without_less, without_count_sum}
 
 -- one pair is a count of 1 and its value
-more_of_one : (v : ℤ) (o : Option (ℕ × ℤ)) → with_more add_count_sums (1, v) o ≡ raised v o
+more_of_one : (v : ℤ) (o : Option (ℕ × ℤ)) → with_more add_count_sums (1, v) o ≡ added v o
 more_of_one v None = refl
 more_of_one v (Some t) = refl
 
@@ -32,7 +32,7 @@ pub if_found : (o : Option (ℕ × ℤ)) (t : ℕ × ℤ) → o ≡ Some t → I
 if_found o t e h = subst (λ o. IfSome o IsCountSum) e h
 
 pub sum_valid_sums : (t u : ℕ × ℤ) → IsCountSum t → IsCountSum u → t.0 + u.0 ≤ 2 ^ 26 → IsCountSum (add_count_sums t u)
-sum_valid_sums t u h k room = (omega arith, room, (omega (arith, ints), omega (arith, ints)))
+sum_valid_sums t u h k capacity = (omega arith, capacity, (omega (arith, ints), omega (arith, ints)))
 
 chosen : (b : Bool) (o p : Option (ℕ × ℤ)) → IfSome o IsCountSum → IfSome p IsCountSum → IfSome (cond b o p) IsCountSum
 chosen true o p h k = h
@@ -50,10 +50,10 @@ AreCountSums-remove m k all q =
     subst (λ o. IfSome o IsCountSum) (sym (fin.get-remove line_total m k q)) (chosen (eq_by_cmp line_cmp q k) None (fin.get m q) tt (all q))
 
 pub AreCountSums-with : (m : Totals) (k : Option Key) (more : ℕ × ℤ) → AreCountSums m → IsCountSum more → count_in (fin.get m k) + more.0 ≤ 2 ^ 26 → AreCountSums (with_count_sum m k more)
-AreCountSums-with m k more all h room = AreCountSums-insert m k (with_more add_count_sums more (fin.get m k)) all (more_valid_sums (fin.get m k) (all k) room) where
+AreCountSums-with m k more all h capacity = AreCountSums-insert m k (with_more add_count_sums more (fin.get m k)) all (more_valid_sums (fin.get m k) (all k) capacity) where
   more_valid_sums : (o : Option (ℕ × ℤ)) → IfSome o IsCountSum → count_in o + more.0 ≤ 2 ^ 26 → IsCountSum (with_more add_count_sums more o)
-  more_valid_sums None there room = h
-  more_valid_sums (Some t) there room = sum_valid_sums t more there h room
+  more_valid_sums None there capacity = h
+  more_valid_sums (Some t) there capacity = sum_valid_sums t more there h capacity
 
 -- what goes with a count of which nothing is left, and what stays else
 pub last_goes : (m : Totals) (k : Option Key) (less t rest : ℕ × ℤ) → rest ≡ (t.0 - less.0, t.1 -ℤ less.1) → less.0 ≤ t.0 → rest.0 ≡ 0 → fin.remove m k ≡ without_less m k less (Some t)

@@ -9,7 +9,7 @@ use Rattle.far_types.specs.Keys.{line_cmp}
 use Rattle.far_types.specs.KeyOrder.{line_total}
 use Rattle.far_types.specs.Pairs.{Pair, PairsFit}
 use Rattle.far_types.specs.Answers.{Totals, totals}
-use Rattle.far_types.specs.Effects.{raised, with_pair, merge_two, joined_totals, add_count_sums, count_in}
+use Rattle.far_types.specs.Effects.{added, with_pair, merge_two, joined_totals, add_count_sums, count_in}
 use Rattle.far_types.proofs.Grouping.{same, same_key, get-joined}
 use Rattle.far_types.proofs.ByKeyMaps.{joined-empty, get_inserted}
 use Rattle.far_types.proofs.TotalLaws.{totals-cons}
@@ -20,11 +20,11 @@ use Rattle.far_groups.proofs.CountSumLaws.{with_count_sum-one, AreCountSums-with
 use Rattle.far_groups.proofs.JoinLaws.{leaves, with_undone}
 
 -- a value comes to a count and a sum either way
-both_raised : (v : ℤ) (o t : Option (ℕ × ℤ)) → merge_two add_count_sums (Some (raised v o)) t ≡ merge_two add_count_sums o (Some (raised v t))
-both_raised v None None = refl
-both_raised v None (Some y) = let n : 1 + y.0 ≡ y.0 + 1 = omega arith in let s : v +ℤ y.1 ≡ y.1 +ℤ v = omega (arith, ints) in λ i. Some (n i, s i)
-both_raised v (Some x) None = refl
-both_raised v (Some x) (Some y) =
+both_added : (v : ℤ) (o t : Option (ℕ × ℤ)) → merge_two add_count_sums (Some (added v o)) t ≡ merge_two add_count_sums o (Some (added v t))
+both_added v None None = refl
+both_added v None (Some y) = let n : 1 + y.0 ≡ y.0 + 1 = omega arith in let s : v +ℤ y.1 ≡ y.1 +ℤ v = omega (arith, ints) in λ i. Some (n i, s i)
+both_added v (Some x) None = refl
+both_added v (Some x) (Some y) =
     let n : x.0 + 1 + y.0 ≡ x.0 + (y.0 + 1) = omega arith in
     let s : (x.1 +ℤ v) +ℤ y.1 ≡ x.1 +ℤ (y.1 +ℤ v) = omega (arith, ints) in
     λ i. Some (n i, s i)
@@ -33,16 +33,16 @@ both_raised v (Some x) (Some y) =
 pair_moved : (m n : Totals) (p : Pair) → joined_totals (with_pair m p) n ≡ joined_totals m (with_pair n p)
 pair_moved m n p = same _ _ (λ q.
     get-joined add_count_sums (with_pair m p) n q
-    ∙ ap (λ o. merge_two add_count_sums o (fin.get n q)) (fin.get-insert line_total m p.0 (raised p.1 (fin.get m p.0)) q)
-    ∙ elim (eq_by_cmp line_cmp q p.0) as (λ b. eq_by_cmp line_cmp q p.0 ≡ b → merge_two add_count_sums (cond b (Some (raised p.1 (fin.get m p.0))) (fin.get m q)) (fin.get n q) ≡ merge_two add_count_sums (fin.get m q) (cond b (Some (raised p.1 (fin.get n p.0))) (fin.get n q))) [
+    ∙ ap (λ o. merge_two add_count_sums o (fin.get n q)) (fin.get-insert line_total m p.0 (added p.1 (fin.get m p.0)) q)
+    ∙ elim (eq_by_cmp line_cmp q p.0) as (λ b. eq_by_cmp line_cmp q p.0 ≡ b → merge_two add_count_sums (cond b (Some (added p.1 (fin.get m p.0))) (fin.get m q)) (fin.get n q) ≡ merge_two add_count_sums (fin.get m q) (cond b (Some (added p.1 (fin.get n p.0))) (fin.get n q))) [
       | true ↦ λ h.
           let key = same_key q p.0 h in
-          ap (λ k. merge_two add_count_sums (Some (raised p.1 (fin.get m p.0))) (fin.get n k)) key
-          ∙ both_raised p.1 (fin.get m p.0) (fin.get n p.0)
-          ∙ ap (λ k. merge_two add_count_sums (fin.get m k) (Some (raised p.1 (fin.get n p.0)))) (sym key)
+          ap (λ k. merge_two add_count_sums (Some (added p.1 (fin.get m p.0))) (fin.get n k)) key
+          ∙ both_added p.1 (fin.get m p.0) (fin.get n p.0)
+          ∙ ap (λ k. merge_two add_count_sums (fin.get m k) (Some (added p.1 (fin.get n p.0)))) (sym key)
       | false ↦ λ h. refl
     ] refl
-    ∙ ap (merge_two add_count_sums (fin.get m q)) (sym (fin.get-insert line_total n p.0 (raised p.1 (fin.get n p.0)) q))
+    ∙ ap (merge_two add_count_sums (fin.get m q)) (sym (fin.get-insert line_total n p.0 (added p.1 (fin.get n p.0)) q))
     ∙ sym (get-joined add_count_sums m (with_pair n p) q))
 
 -- pairs that are folded one after another are joined
@@ -50,32 +50,32 @@ pub with_pairs-joined : (m : Totals) (ps : List Pair) → with_pairs m ps ≡ jo
 with_pairs-joined m [] = sym (joined-empty add_count_sums m)
 with_pairs-joined m (p ∷ ps) = with_pairs-joined (with_pair m p) ps ∙ pair_moved m (totals ps) p ∙ ap (joined_totals m) (sym (totals-cons p ps))
 
-count-raised : (v : ℤ) (o : Option (ℕ × ℤ)) → (raised v o).0 ≡ count_in o + 1
-count-raised v None = refl
-count-raised v (Some t) = refl
+count-added : (v : ℤ) (o : Option (ℕ × ℤ)) → (added v o).0 ≡ count_in o + 1
+count-added v None = refl
+count-added v (Some t) = refl
 
 -- with a pair of the second folded into the first, the rest can be joined
 rest_joins : (m n : Totals) (p : Pair) → CanJoin m (with_pair n p) → CanJoin (with_pair m p) n
 rest_joins m n p can q =
-    subst (λ o. count_in o + count_in (fin.get n q) ≤ 2 ^ 26) (sym (fin.get-insert line_total m p.0 (raised p.1 (fin.get m p.0)) q))
-    (elim (eq_by_cmp line_cmp q p.0) as (λ b. eq_by_cmp line_cmp q p.0 ≡ b → count_in (fin.get m q) + count_in (cond b (Some (raised p.1 (fin.get n p.0))) (fin.get n q)) ≤ 2 ^ 26 → count_in (cond b (Some (raised p.1 (fin.get m p.0))) (fin.get m q)) + count_in (fin.get n q) ≤ 2 ^ 26) [
-      | true ↦ λ h room.
+    subst (λ o. count_in o + count_in (fin.get n q) ≤ 2 ^ 26) (sym (fin.get-insert line_total m p.0 (added p.1 (fin.get m p.0)) q))
+    (elim (eq_by_cmp line_cmp q p.0) as (λ b. eq_by_cmp line_cmp q p.0 ≡ b → count_in (fin.get m q) + count_in (cond b (Some (added p.1 (fin.get n p.0))) (fin.get n q)) ≤ 2 ^ 26 → count_in (cond b (Some (added p.1 (fin.get m p.0))) (fin.get m q)) + count_in (fin.get n q) ≤ 2 ^ 26) [
+      | true ↦ λ h capacity.
           let key = same_key q p.0 h in
           let own : count_in (fin.get m q) ≡ count_in (fin.get m p.0) = ap (λ k. count_in (fin.get m k)) key in
           let other : count_in (fin.get n q) ≡ count_in (fin.get n p.0) = ap (λ k. count_in (fin.get n k)) key in
-          let one = count-raised p.1 (fin.get m p.0) in
-          let two = count-raised p.1 (fin.get n p.0) in
+          let one = count-added p.1 (fin.get m p.0) in
+          let two = count-added p.1 (fin.get n p.0) in
           omega arith
-      | false ↦ λ h room. room
-    ] refl (subst (λ o. count_in (fin.get m q) + count_in o ≤ 2 ^ 26) (fin.get-insert line_total n p.0 (raised p.1 (fin.get n p.0)) q) (can q)))
+      | false ↦ λ h capacity. capacity
+    ] refl (subst (λ o. count_in (fin.get m q) + count_in o ≤ 2 ^ 26) (fin.get-insert line_total n p.0 (added p.1 (fin.get n p.0)) q) (can q)))
 
 -- pairs can be folded where their totals can be joined
 pub can_fold : (m : Totals) (ps : List Pair) → PairsFit ps → CanJoin m (totals ps) → CanFoldAll m ps
 can_fold m [] fits can = tt
 can_fold m (p ∷ ps) fits can =
     let joins = subst (CanJoin m) (totals-cons p ps) can in
-    let here : count_in (fin.get (with_pair (totals ps) p) p.0) ≡ count_in (fin.get (totals ps) p.0) + 1 = ap count_in (get_inserted (totals ps) p.0 (raised p.1 (fin.get (totals ps) p.0))) ∙ count-raised p.1 (fin.get (totals ps) p.0) in
-    let room = joins p.0 in
+    let here : count_in (fin.get (with_pair (totals ps) p) p.0) ≡ count_in (fin.get (totals ps) p.0) + 1 = ap count_in (get_inserted (totals ps) p.0 (added p.1 (fin.get (totals ps) p.0))) ∙ count-added p.1 (fin.get (totals ps) p.0) in
+    let capacity = joins p.0 in
     (fits.0, omega arith, can_fold (with_pair m p) ps fits.1 (rest_joins m (totals ps) p joins))
 
 -- the count and the sum of one value are some that rows can have

@@ -84,13 +84,13 @@ rest_joins : (m n : Totals) (k : Option Key) (t : ℕ × ℤ) → fin.get n k �
 rest_joins m n k t none can q =
     subst (λ o. count_in o + count_in (fin.get n q) ≤ 2 ^ 26) (sym (fin.get-insert line_total m k (with_more add_count_sums t (fin.get m k)) q))
     (elim (eq_by_cmp line_cmp q k) as (λ b. eq_by_cmp line_cmp q k ≡ b → count_in (fin.get m q) + count_in (cond b (Some t) (fin.get n q)) ≤ 2 ^ 26 → count_in (cond b (Some (with_more add_count_sums t (fin.get m k))) (fin.get m q)) + count_in (fin.get n q) ≤ 2 ^ 26) [
-      | true ↦ λ h room.
+      | true ↦ λ h capacity.
           let key = same_key q k h in
           let here : count_in (fin.get n q) ≡ 0 = ap count_in (ap (fin.get n) key ∙ none) in
           let own : count_in (fin.get m q) ≡ count_in (fin.get m k) = ap (λ x. count_in (fin.get m x)) key in
           let more = count_with t (fin.get m k) in
           omega arith
-      | false ↦ λ h room. room
+      | false ↦ λ h capacity. capacity
     ] refl (subst (λ o. count_in (fin.get m q) + count_in o ≤ 2 ^ 26) (fin.get-insert line_total n k t q) (can q)))
 
 -- entries can be added one after another where all can be joined

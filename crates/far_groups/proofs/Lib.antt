@@ -6,7 +6,7 @@ pub mod NumberLaws
 pub mod PairLaws
 pub mod PlaceLaws
 pub mod PlainLaws
-pub mod RaiseLaws
+pub mod AddLaws
 pub mod ReserveLaws
 pub mod CountSumLaws
 pub mod WalkLaws

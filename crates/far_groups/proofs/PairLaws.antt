@@ -11,23 +11,23 @@ use Rattle.far_types.specs.Keys.{line_cmp}
 use Rattle.far_types.specs.KeyOrder.{line_total}
 use Rattle.far_types.specs.Pairs.{Pair, PairsFit}
 use Rattle.far_types.specs.Answers.{Totals, totals, count_sum}
-use Rattle.far_types.specs.Effects.{raised, with_pair, count_in}
+use Rattle.far_types.specs.Effects.{added, with_pair, count_in}
 use Rattle.far_types.proofs.TotalLaws.{totals-cons}
 use Rattle.far_types.proofs.ByKeyMaps.{get_inserted}
 use Rattle.far_types.proofs.LineLaws.{int_sum-low, int_sum-high}
 use Rattle.far_groups.specs.CountSums.{IsSumOf, IsCountSum}
 use Rattle.far_groups.specs.Live.{CanTake, CanJoin}
 
-get-with_pair : (p : Pair) (ps : List Pair) (k : Option Key) → fin.get (totals (p ∷ ps)) k ≡ cond (eq_by_cmp line_cmp k p.0) (Some (raised p.1 (fin.get (totals ps) p.0))) (fin.get (totals ps) k)
-get-with_pair p ps k = ap (λ m. fin.get m k) (totals-cons p ps) ∙ fin.get-insert line_total (totals ps) p.0 (raised p.1 (fin.get (totals ps) p.0)) k
+get-with_pair : (p : Pair) (ps : List Pair) (k : Option Key) → fin.get (totals (p ∷ ps)) k ≡ cond (eq_by_cmp line_cmp k p.0) (Some (added p.1 (fin.get (totals ps) p.0))) (fin.get (totals ps) k)
+get-with_pair p ps k = ap (λ m. fin.get m k) (totals-cons p ps) ∙ fin.get-insert line_total (totals ps) p.0 (added p.1 (fin.get (totals ps) p.0)) k
 
 either : (P : Option (ℕ × ℤ) → Type 0) (b : Bool) (x y : Option (ℕ × ℤ)) → P x → P y → P (cond b x y)
 either P true x y h k = h
 either P false x y h k = k
 
-count-raised : (v : ℤ) (o : Option (ℕ × ℤ)) (n : ℕ) → count_in o ≤ n → (raised v o).0 ≤ suc n
-count-raised v None n h = omega arith
-count-raised v (Some t) n h = omega arith
+count-added : (v : ℤ) (o : Option (ℕ × ℤ)) (n : ℕ) → count_in o ≤ n → (added v o).0 ≤ suc n
+count-added v None n h = omega arith
+count-added v (Some t) n h = omega arith
 
 -- no more pairs stand under a key than are in
 abbrev pub AreFew : Totals → ℕ → Type 0
@@ -39,8 +39,8 @@ AreFew-empty k = subst (λ o. count_in o ≤ 0) (sym (fin.get-empty line_cmp k))
 pub AreFew-with_pair : (m : Totals) (p : Pair) (n : ℕ) → AreFew m n → AreFew (with_pair m p) (suc n)
 AreFew-with_pair m p n few k =
     let here = few k in
-    subst (λ o. count_in o ≤ suc n) (sym (fin.get-insert line_total m p.0 (raised p.1 (fin.get m p.0)) k))
-    (either (λ o. count_in o ≤ suc n) (eq_by_cmp line_cmp k p.0) (Some (raised p.1 (fin.get m p.0))) (fin.get m k) (count-raised p.1 (fin.get m p.0) n (few p.0)) (omega arith))
+    subst (λ o. count_in o ≤ suc n) (sym (fin.get-insert line_total m p.0 (added p.1 (fin.get m p.0)) k))
+    (either (λ o. count_in o ≤ suc n) (eq_by_cmp line_cmp k p.0) (Some (added p.1 (fin.get m p.0))) (fin.get m k) (count-added p.1 (fin.get m p.0) n (few p.0)) (omega arith))
 
 pub counted : (ps : List Pair) (k : Option Key) → count_in (fin.get (totals ps) k) ≤ length ps
 counted [] k = AreFew-empty k
@@ -50,24 +50,24 @@ counted (p ∷ ps) k = subst (λ m. count_in (fin.get m k) ≤ suc (length ps)) 
 abbrev SumFits : Option (ℕ × ℤ) → Type 0
 SumFits o = IfSome o (λ t. IsSumOf t.0 t.1)
 
-sum-raised : (v : ℤ) (o : Option (ℕ × ℤ)) → FitsSigned w64 v → SumFits o → IsSumOf (raised v o).0 (raised v o).1
-sum-raised v None fits h = (omega (arith, ints), omega (arith, ints))
-sum-raised v (Some t) fits h = (omega (arith, ints), omega (arith, ints))
+sum-added : (v : ℤ) (o : Option (ℕ × ℤ)) → FitsSigned w64 v → SumFits o → IsSumOf (added v o).0 (added v o).1
+sum-added v None fits h = (omega (arith, ints), omega (arith, ints))
+sum-added v (Some t) fits h = (omega (arith, ints), omega (arith, ints))
 
 sums_fit : (ps : List Pair) → PairsFit ps → (k : Option Key) → SumFits (fin.get (totals ps) k)
 sums_fit [] h k = subst SumFits (sym (fin.get-empty line_cmp k)) tt
 sums_fit (p ∷ ps) h k =
     subst SumFits (sym (get-with_pair p ps k))
-    (either SumFits (eq_by_cmp line_cmp k p.0) (Some (raised p.1 (fin.get (totals ps) p.0))) (fin.get (totals ps) k) (sum-raised p.1 (fin.get (totals ps) p.0) h.0 (sums_fit ps h.1 p.0)) (sums_fit ps h.1 k))
+    (either SumFits (eq_by_cmp line_cmp k p.0) (Some (added p.1 (fin.get (totals ps) p.0))) (fin.get (totals ps) k) (sum-added p.1 (fin.get (totals ps) p.0) h.0 (sums_fit ps h.1 p.0)) (sums_fit ps h.1 k))
 
-leaves : (v : ℤ) (o : Option (ℕ × ℤ)) → SumFits o → CanTake v (Some (raised v o))
+leaves : (v : ℤ) (o : Option (ℕ × ℤ)) → SumFits o → CanTake v (Some (added v o))
 leaves v None h = (omega arith, (omega (arith, ints), omega (arith, ints)))
 leaves v (Some t) h = (omega arith, (omega (arith, ints), omega (arith, ints)))
 
 -- a pair that is in can be taken
 pub can_take : (p : Pair) (ps : List Pair) → PairsFit (p ∷ ps) → CanTake p.1 (fin.get (totals (p ∷ ps)) p.0)
 can_take p ps h =
-    subst (CanTake p.1) (sym (ap (λ m. fin.get m p.0) (totals-cons p ps) ∙ get_inserted (totals ps) p.0 (raised p.1 (fin.get (totals ps) p.0)))) (leaves p.1 (fin.get (totals ps) p.0) (sums_fit ps h.1 p.0))
+    subst (CanTake p.1) (sym (ap (λ m. fin.get m p.0) (totals-cons p ps) ∙ get_inserted (totals ps) p.0 (added p.1 (fin.get (totals ps) p.0)))) (leaves p.1 (fin.get (totals ps) p.0) (sums_fit ps h.1 p.0))
 
 -- those of at most 2^26 pairs can be joined
 pub can_join : (ps qs : List Pair) → length ps + length qs ≤ 2 ^ 26 → CanJoin (totals ps) (totals qs)

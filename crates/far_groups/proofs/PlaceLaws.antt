@@ -44,8 +44,8 @@ by_count t P none some = at_test (t.0 == 0) refl where
   at_test false is = some (λ h. grind (arith, nat_tests))
 
 -- more at a place
-pub place_raised : (ts : Places) (k : ℕ) (t u more : ℕ × ℤ) → k < length ts → t ≡ get_or ts k t → u ≡ with_more add_count_sums more (standing t) → IsCountSum u → by_place (slice_set ts k u) ≡ with_count_sum (by_place ts) (place_key k) more
-place_raised ts k t u more within is sum valid_sums =
+pub place_added : (ts : Places) (k : ℕ) (t u more : ℕ × ℤ) → k < length ts → t ≡ get_or ts k t → u ≡ with_more add_count_sums more (standing t) → IsCountSum u → by_place (slice_set ts k u) ≡ with_count_sum (by_place ts) (place_key k) more
+place_added ts k t u more within is sum valid_sums =
     set_inserts (lines_from 0 ts) (lines_from 0 (slice_set ts k u)) (place_key k) u
     (subst (IsSet (lines_from 0 ts) (lines_from 0 (slice_set ts k u)) (place_key k)) (stands u (λ h. omega arith)) (set_place 0 k k ts u (omega arith) within))
     ∙ ap (fin.insert (by_place ts) (place_key k)) (sum ∙ ap (with_more add_count_sums more) (sym (get_place ts k t within is)))
@@ -55,8 +55,8 @@ pub taken_stands : (t less : ℕ × ℤ) → LeavesCountSum less (standing t) �
 taken_stands t less there = by_count t (standing t ≡ Some t) (λ none. absurd (subst (LeavesCountSum less) (gone t none) there)) (stands t)
 
 -- less at a place
-pub place_lowered : (ts : Places) (k : ℕ) (t rest less : ℕ × ℤ) → k < length ts → t ≡ get_or ts k t → rest ≡ (t.0 - less.0, t.1 -ℤ less.1) → LeavesCountSum less (fin.get (by_place ts) (place_key k)) → by_place (slice_set ts k rest) ≡ without_count_sum (by_place ts) (place_key k) less
-place_lowered ts k t rest less within is left there =
+pub place_subtracted : (ts : Places) (k : ℕ) (t rest less : ℕ × ℤ) → k < length ts → t ≡ get_or ts k t → rest ≡ (t.0 - less.0, t.1 -ℤ less.1) → LeavesCountSum less (fin.get (by_place ts) (place_key k)) → by_place (slice_set ts k rest) ≡ without_count_sum (by_place ts) (place_key k) less
+place_subtracted ts k t rest less within is left there =
     let found = get_place ts k t within is in
     let some = found ∙ taken_stands t less (subst (LeavesCountSum less) found there) in
     let has = subst (LeavesCountSum less) some there in
@@ -105,9 +105,9 @@ module _ (ts : Places) (k : ℕ) (t : ℕ × ℤ) (within : k < length ts) (is :
   pub next_count_sum : AreCountSums (by_place ts) → IsCountSum t
   next_count_sum all = subst (λ o. IfSome o IsCountSum) (get_place ts k t within is ∙ stands t some) (all (place_key k))
 
-  -- and there is room for it
-  pub next_room : (m : Totals) → CanJoin m (by_place ts) → count_in (fin.get (joined_totals m (by_place (take k ts))) (place_key k)) + t.0 ≤ 2 ^ 26
-  next_room m can =
+  -- and there is space for it
+  pub next_capacity : (m : Totals) → CanJoin m (by_place ts) → count_in (fin.get (joined_totals m (by_place (take k ts))) (place_key k)) + t.0 ≤ 2 ^ 26
+  next_capacity m can =
       let own = get-joined add_count_sums m (by_place (take k ts)) (place_key k) ∙ ap (merge_two add_count_sums (fin.get m (place_key k))) next_new ∙ merge_two_none add_count_sums (fin.get m (place_key k)) in
       subst (λ o. count_in o + t.0 ≤ 2 ^ 26) (sym own)
       (subst (λ o. count_in (fin.get m (place_key k)) + count_in o ≤ 2 ^ 26) (get_place ts k t within is ∙ stands t some) (can (place_key k)))

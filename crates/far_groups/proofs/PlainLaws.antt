@@ -49,8 +49,8 @@ pub count_sum_there : (t : ℕ × ℤ) → AreCountSums (plain_totals t) → IsC
 count_sum_there t all = if_found _ _ (get_plain t) (all None)
 
 -- what comes under no key
-pub plain_raised : (t more : ℕ × ℤ) → plain_totals (add_count_sums t more) ≡ with_count_sum (plain_totals t) None more
-plain_raised t more =
+pub plain_added : (t more : ℕ × ℤ) → plain_totals (add_count_sums t more) ≡ with_count_sum (plain_totals t) None more
+plain_added t more =
     set_inserts (one_line t) (one_line (add_count_sums t more)) None (add_count_sums t more) (set_plain t (add_count_sums t more))
     ∙ ap (λ o. fin.insert (plain_totals t) None (with_more add_count_sums more o)) (sym (get_plain t))
 
@@ -88,14 +88,14 @@ plain_gone t less rest q is there none =
     ∙ ap (λ k. without_count_sum (plain_totals t) k less) (sym (taken_key t less q there))
 
 -- and else the rest
-pub plain_lowered : (t less rest : ℕ × ℤ) (q : Option Key) → rest ≡ (t.0 - less.0, t.1 -ℤ less.1) → LeavesCountSum less (fin.get (plain_totals t) q) → (rest.0 ≡ 0 → ⊥) → plain_totals rest ≡ without_count_sum (plain_totals t) q less
-plain_lowered t less rest q is there some =
+pub plain_subtracted : (t less rest : ℕ × ℤ) (q : Option Key) → rest ≡ (t.0 - less.0, t.1 -ℤ less.1) → LeavesCountSum less (fin.get (plain_totals t) q) → (rest.0 ≡ 0 → ⊥) → plain_totals rest ≡ without_count_sum (plain_totals t) q less
+plain_subtracted t less rest q is there some =
     taken_part (one_line t) (one_line rest) None less t rest refl (set_plain t rest) is some
     ∙ ap (λ k. without_count_sum (plain_totals t) k less) (sym (taken_key t less q there))
 
--- the room that a join has under no key
-pub plain_room : (m : Totals) (t : ℕ × ℤ) → CanJoin m (plain_totals t) → count_in (fin.get m None) + t.0 ≤ 2 ^ 26
-plain_room m t can = subst (λ o. count_in (fin.get m None) + count_in o ≤ 2 ^ 26) (get_plain t) (can None)
+-- the space that a join has under no key
+pub plain_capacity : (m : Totals) (t : ℕ × ℤ) → CanJoin m (plain_totals t) → count_in (fin.get m None) + t.0 ≤ 2 ^ 26
+plain_capacity m t can = subst (λ o. count_in (fin.get m None) + count_in o ≤ 2 ^ 26) (get_plain t) (can None)
 
 -- and what comes of it
 pub plain_joined : (m : Totals) (t : ℕ × ℤ) → with_count_sum m None t ≡ joined_totals m (plain_totals t)

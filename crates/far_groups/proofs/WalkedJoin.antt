@@ -10,11 +10,11 @@ use Rattle.far_types.proofs.Grouping.{same, get-joined}
 use Rattle.far_types.proofs.ByKeyMaps.{get_at}
 use Rattle.far_groups.specs.Live.{CanJoin}
 use Rattle.far_groups.specs.CountSums.{totals_of, IsCountSum, AreCountSums, IsAddend, AreAddends}
-use Rattle.far_groups.specs.Walks.{Lines, count_sum_at, new_lines, raised_by}
+use Rattle.far_groups.specs.Walks.{Lines, count_sum_at, new_lines, added_to}
 use Rattle.far_groups.proofs.CountSumLaws.{sum_valid_sums}
 use Rattle.far_groups.proofs.NewLines.{new_count_sum, new_at}
 
-both : (a b : Option (ℕ × ℤ)) → raised_by b (merge_two add_count_sums a (new_count_sum a b)) ≡ merge_two add_count_sums a b
+both : (a b : Option (ℕ × ℤ)) → added_to b (merge_two add_count_sums a (new_count_sum a b)) ≡ merge_two add_count_sums a b
 both None None = refl
 both None (Some u) =
     let count : 0 + u.0 ≡ u.0 = omega arith in
@@ -49,15 +49,15 @@ module _ (old mid others : Lines) (reserved : totals_of mid ≡ joined_totals (t
   )
 
   -- and when all are raised, both are joined
-  pub walked_join : (now : Lines) → ((q : Option Key) → count_sum_at now q ≡ raised_by (count_sum_at others q) (count_sum_at mid q)) → totals_of now ≡ joined_totals (totals_of old) (totals_of others)
-  walked_join now raised = same _ _ (λ q.
-      get_at now q ∙ raised q ∙ ap (raised_by (count_sum_at others q)) (mid_at q) ∙ both (count_sum_at old q) (count_sum_at others q)
+  pub walked_join : (now : Lines) → ((q : Option Key) → count_sum_at now q ≡ added_to (count_sum_at others q) (count_sum_at mid q)) → totals_of now ≡ joined_totals (totals_of old) (totals_of others)
+  walked_join now added = same _ _ (λ q.
+      get_at now q ∙ added q ∙ ap (added_to (count_sum_at others q)) (mid_at q) ∙ both (count_sum_at old q) (count_sum_at others q)
       ∙ sym (get-joined add_count_sums (totals_of old) (totals_of others) q ∙ (λ i. merge_two add_count_sums (get_at old q i) (get_at others q i))))
 
-together_valid_sums : (a b : Option (ℕ × ℤ)) → IfSome a IsCountSum → IfSome b IsCountSum → count_in a + count_in b ≤ 2 ^ 26 → IfSome (merge_two add_count_sums a b) IsCountSum
-together_valid_sums None b h k room = k
-together_valid_sums (Some t) None h k room = h
-together_valid_sums (Some t) (Some u) h k room = sum_valid_sums t u h k room
+merged_valid_sums : (a b : Option (ℕ × ℤ)) → IfSome a IsCountSum → IfSome b IsCountSum → count_in a + count_in b ≤ 2 ^ 26 → IfSome (merge_two add_count_sums a b) IsCountSum
+merged_valid_sums None b h k capacity = k
+merged_valid_sums (Some t) None h k capacity = h
+merged_valid_sums (Some t) (Some u) h k capacity = sum_valid_sums t u h k capacity
 
 pub AreCountSums-joined : (m n : Totals) → AreCountSums m → AreCountSums n → CanJoin m n → AreCountSums (joined_totals m n)
-AreCountSums-joined m n all others_all can q = subst (λ o. IfSome o IsCountSum) (sym (get-joined add_count_sums m n q)) (together_valid_sums (fin.get m q) (fin.get n q) (all q) (others_all q) (can q))
+AreCountSums-joined m n all others_all can q = subst (λ o. IfSome o IsCountSum) (sym (get-joined add_count_sums m n q)) (merged_valid_sums (fin.get m q) (fin.get n q) (all q) (others_all q) (can q))

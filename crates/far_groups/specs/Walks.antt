@@ -26,6 +26,6 @@ abbrev pub new_lines : Lines → Lines → Lines
 new_lines lines others = map (λ line. (line.0, (0, pos 0))) (filter (λ line. not (is_some (count_sum_at lines line.0))) others)
 
 -- what is there with what comes; what is not there stays away
-abbrev pub raised_by : Option (ℕ × ℤ) → Option (ℕ × ℤ) → Option (ℕ × ℤ)
-raised_by more None = None
-raised_by more (Some count_sum) = merge_two add_count_sums (Some count_sum) more
+abbrev pub added_to : Option (ℕ × ℤ) → Option (ℕ × ℤ) → Option (ℕ × ℤ)
+added_to more None = None
+added_to more (Some count_sum) = merge_two add_count_sums (Some count_sum) more

@@ -93,7 +93,7 @@ fn plain_with_key(
 ) -> Result<CountSums, Refusal>
     requires valid_sums { AreCountSums (plain_totals count_sum) }
     requires more_valid_sums { IsCountSum more }
-    requires room { count_in (fin.get (plain_totals count_sum) key.now) + more.0 ≤ 2 ^ 26 }
+    requires capacity { count_in (fin.get (plain_totals count_sum) key.now) + more.0 ≤ 2 ^ 26 }
     requires other { IsSome key.now }
     ensures ok { IfOk result (λ keys. totals_of keys.entries ≡ with_count_sum (plain_totals count_sum) key.now more) }
     ensures valid_sums { IfOk result (λ keys. AreCountSums (totals_of keys.entries)) }
@@ -114,7 +114,7 @@ fn with_key(
 ) -> Result<Form, Refusal>
     requires valid_sums { AreCountSums (by_number numbers.now.entries) }
     requires more_valid_sums { IsCountSum more }
-    requires room { count_in (fin.get (by_number numbers.now.entries) key.now) + more.0 ≤ 2 ^ 26 }
+    requires capacity { count_in (fin.get (by_number numbers.now.entries) key.now) + more.0 ≤ 2 ^ 26 }
     requires other { number_of key.now ≡ None }
     ensures ok { IfOk result (λ form. in_form form ≡ with_count_sum (by_number numbers.now.entries) key.now more) }
     ensures valid_sums { IfOk result (λ form. AreCountSums (in_form form)) }
@@ -135,7 +135,7 @@ fn in_tree(
 ) -> Result<Form, Refusal>
     requires valid_sums { AreCountSums (by_number numbers.entries) }
     requires more_valid_sums { IsCountSum more }
-    requires room { count_in (fin.get (by_number numbers.entries) key.now) + more.0 ≤ 2 ^ 26 }
+    requires capacity { count_in (fin.get (by_number numbers.entries) key.now) + more.0 ≤ 2 ^ 26 }
     ensures ok { IfOk result (λ form. in_form form ≡ with_count_sum (by_number numbers.entries) key.now more) }
     ensures valid_sums { IfOk result (λ form. AreCountSums (in_form form)) }
     ensures memory { IfErr result (λ e. e ≡ Refusal.NoMemory) }
@@ -191,7 +191,7 @@ fn place_for(dense: &Dense, key: &Option<Key>) -> Option<usize>
 pub fn add(by_key: &mut ByKey, key: Option<Key>, more: CountSum) -> Result<(), Refusal>
     requires valid_sums { AreCountSums (totals_in by_key.old) }
     requires more_valid_sums { IsCountSum more }
-    requires room { count_in (fin.get (totals_in by_key.old) key) + more.0 ≤ 2 ^ 26 }
+    requires capacity { count_in (fin.get (totals_in by_key.old) key) + more.0 ≤ 2 ^ 26 }
     ensures valid_sums { AreCountSums (totals_in by_key.new) }
     ensures ok { OnOk result (totals_in by_key.new ≡ with_count_sum (totals_in by_key.old) key more) }
     ensures err { OnErr result (totals_in by_key.new ≡ totals_in by_key.old) }
@@ -209,7 +209,7 @@ pub fn add(by_key: &mut ByKey, key: Option<Key>, more: CountSum) -> Result<(), R
 pub fn add_under(by_key: &mut ByKey, key: &Option<Key>, more: CountSum) -> Result<(), Refusal>
     requires valid_sums { AreCountSums (totals_in by_key.old) }
     requires more_valid_sums { IsCountSum more }
-    requires room { count_in (fin.get (totals_in by_key.old) key.now) + more.0 ≤ 2 ^ 26 }
+    requires capacity { count_in (fin.get (totals_in by_key.old) key.now) + more.0 ≤ 2 ^ 26 }
     ensures valid_sums { AreCountSums (totals_in by_key.new) }
     ensures ok { OnOk result (totals_in by_key.new ≡ with_count_sum (totals_in by_key.old) key.now more) }
     ensures err { OnErr result (totals_in by_key.new ≡ totals_in by_key.old) }
@@ -248,7 +248,7 @@ fn add_elsewhere(
 ) -> Result<(), Refusal>
     requires valid_sums { AreCountSums (totals_in by_key.old) }
     requires more_valid_sums { IsCountSum (count, sum) }
-    requires room { count_in (fin.get (totals_in by_key.old) key.now) + count ≤ 2 ^ 26 }
+    requires capacity { count_in (fin.get (totals_in by_key.old) key.now) + count ≤ 2 ^ 26 }
     requires elsewhere { MayBeElsewhere by_key.old.form key.now }
     ensures valid_sums { AreCountSums (totals_in by_key.new) }
     ensures ok { OnOk result (totals_in by_key.new ≡ with_count_sum (totals_in by_key.old) key.now (count, sum)) }

@@ -32,7 +32,7 @@ pub fn count_sum_of(value: i64) -> CountSum
 pub fn merge_two(count_sum: CountSum, more: CountSum) -> CountSum
     requires valid_sums { IsCountSum count_sum }
     requires more_valid_sums { IsCountSum more }
-    requires room { count_sum.0 + more.0 ≤ 2 ^ 26 }
+    requires capacity { count_sum.0 + more.0 ≤ 2 ^ 26 }
     ensures value { result ≡ add_count_sums count_sum more }
     ensures valid_sums { IsCountSum result }
 {
@@ -53,10 +53,10 @@ pub fn subtract(count_sum: CountSum, less: CountSum) -> CountSum
 pub fn add_existing(count_sums: &mut CountSums, key: &Option<Key>, more: CountSum) -> bool
     requires valid_sums { AreCountSums (totals_of count_sums.old.entries) }
     requires more_valid_sums { IsCountSum more }
-    requires room { count_in (fin.get (totals_of count_sums.old.entries) key.now) + more.0 ≤ 2 ^ 26 }
+    requires capacity { count_in (fin.get (totals_of count_sums.old.entries) key.now) + more.0 ≤ 2 ^ 26 }
     ensures valid_sums { AreCountSums (totals_of count_sums.new.entries) }
     ensures there { result ≡ is_some (fin.get (totals_of count_sums.old.entries) key.now) }
-    ensures raised { IsTrue result → totals_of count_sums.new.entries ≡ with_count_sum (totals_of count_sums.old.entries) key.now more }
+    ensures added { IsTrue result → totals_of count_sums.new.entries ≡ with_count_sum (totals_of count_sums.old.entries) key.now more }
     ensures absent { result ≡ false → count_sums.new.entries ≡ count_sums.old.entries }
 {
     match count_sums.get_mut(key) {
@@ -72,7 +72,7 @@ pub fn add_existing(count_sums: &mut CountSums, key: &Option<Key>, more: CountSu
 pub fn add(count_sums: &mut CountSums, key: Option<Key>, more: CountSum) -> Result<(), Refusal>
     requires valid_sums { AreCountSums (totals_of count_sums.old.entries) }
     requires more_valid_sums { IsCountSum more }
-    requires room { count_in (fin.get (totals_of count_sums.old.entries) key) + more.0 ≤ 2 ^ 26 }
+    requires capacity { count_in (fin.get (totals_of count_sums.old.entries) key) + more.0 ≤ 2 ^ 26 }
     ensures valid_sums { AreCountSums (totals_of count_sums.new.entries) }
     ensures ok { OnOk result (totals_of count_sums.new.entries ≡ with_count_sum (totals_of count_sums.old.entries) key more) }
     ensures err { OnErr result (count_sums.new.entries ≡ count_sums.old.entries) }
@@ -93,7 +93,7 @@ pub fn add_under(
 ) -> Result<(), Refusal>
     requires valid_sums { AreCountSums (totals_of count_sums.old.entries) }
     requires more_valid_sums { IsCountSum more }
-    requires room { count_in (fin.get (totals_of count_sums.old.entries) key.now) + more.0 ≤ 2 ^ 26 }
+    requires capacity { count_in (fin.get (totals_of count_sums.old.entries) key.now) + more.0 ≤ 2 ^ 26 }
     ensures valid_sums { AreCountSums (totals_of count_sums.new.entries) }
     ensures ok { OnOk result (totals_of count_sums.new.entries ≡ with_count_sum (totals_of count_sums.old.entries) key.now more) }
     ensures err { OnErr result (count_sums.new.entries ≡ count_sums.old.entries) }

@@ -51,10 +51,10 @@ pub fn may_place(dense: &Dense, place: usize) -> bool
 
 /// What stands at a place, with more.
 #[inline(always)]
-fn raised(count_sum: CountSum, more: CountSum) -> CountSum
+fn added(count_sum: CountSum, more: CountSum) -> CountSum
     requires valid_sums { IfSome (standing count_sum) IsCountSum }
     requires more_valid_sums { IsCountSum more }
-    requires room { count_in (standing count_sum) + more.0 ≤ 2 ^ 26 }
+    requires capacity { count_in (standing count_sum) + more.0 ≤ 2 ^ 26 }
     ensures value { result ≡ option_map_or (λ there. add_count_sums there more) (standing count_sum) more }
     ensures valid_sums { IsCountSum result }
 {
@@ -69,10 +69,10 @@ fn raised(count_sum: CountSum, more: CountSum) -> CountSum
 pub fn add_existing(dense: &mut Dense, place: usize, more: CountSum) -> bool
     requires valid_sums { AreCountSums (by_place dense.old.items) }
     requires more_valid_sums { IsCountSum more }
-    requires room { count_in (fin.get (by_place dense.old.items) (place_key place)) + more.0 ≤ 2 ^ 26 }
+    requires capacity { count_in (fin.get (by_place dense.old.items) (place_key place)) + more.0 ≤ 2 ^ 26 }
     ensures valid_sums { AreCountSums (by_place dense.new.items) }
     ensures there { place < length dense.old.items → result ≡ true }
-    ensures raised { IsTrue result → by_place dense.new.items ≡ with_count_sum (by_place dense.old.items) (place_key place) more }
+    ensures added { IsTrue result → by_place dense.new.items ≡ with_count_sum (by_place dense.old.items) (place_key place) more }
     ensures absent { result ≡ false → dense.new.items ≡ dense.old.items }
     ensures behind { result ≡ false → length dense.old.items ≤ place }
     ensures len { length dense.new.items ≡ length dense.old.items }
@@ -80,7 +80,7 @@ pub fn add_existing(dense: &mut Dense, place: usize, more: CountSum) -> bool
     if place >= dense.len() {
         return false;
     }
-    dense[place] = raised(dense[place], more);
+    dense[place] = added(dense[place], more);
     true
 }
 
@@ -100,7 +100,7 @@ fn grow(dense: &mut Dense, len: usize) -> Result<(), Refusal>
 pub fn add(dense: &mut Dense, place: usize, more: CountSum) -> Result<(), Refusal>
     requires valid_sums { AreCountSums (by_place dense.old.items) }
     requires more_valid_sums { IsCountSum more }
-    requires room { count_in (fin.get (by_place dense.old.items) (place_key place)) + more.0 ≤ 2 ^ 26 }
+    requires capacity { count_in (fin.get (by_place dense.old.items) (place_key place)) + more.0 ≤ 2 ^ 26 }
     requires fits { place < 2 ^ 63 }
     ensures valid_sums { AreCountSums (by_place dense.new.items) }
     ensures ok { OnOk result (by_place dense.new.items ≡ with_count_sum (by_place dense.old.items) (place_key place) more) }

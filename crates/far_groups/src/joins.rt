@@ -7,7 +7,7 @@ ghost use Rattle.far_types.specs.Keys.{line_cmp};
 ghost use Rattle.far_types.specs.Effects.{add_count_sums, joined_totals};
 ghost use Rattle.far_groups.specs.Live.{CanJoin};
 ghost use Rattle.far_groups.specs.CountSums.{totals_of, AreCountSums, IsAddend, AreAddends};
-ghost use Rattle.far_groups.specs.Walks.{count_sum_at, new_lines, raised_by};
+ghost use Rattle.far_groups.specs.Walks.{count_sum_at, new_lines, added_to};
 
 use super::count_sums::{CountSum, CountSums, join};
 use far_types::{Key, Refusal, clone_key};
@@ -129,7 +129,7 @@ fn added(count_sum: CountSum, more: CountSum) -> CountSum
 /// Adds what the other has to what is here, under each key of both. Allocates nothing.
 fn add_all_existing(count_sums: &mut CountSums, other: &CountSums)
     requires addends { (key : Option Key) → AreAddends (count_sum_at count_sums.old.entries key) (count_sum_at other.now.entries key) }
-    ensures { (key : Option Key) → count_sum_at count_sums.new.entries key ≡ raised_by (count_sum_at other.now.entries key) (count_sum_at count_sums.old.entries key) }
+    ensures { (key : Option Key) → count_sum_at count_sums.new.entries key ≡ added_to (count_sum_at other.now.entries key) (count_sum_at count_sums.old.entries key) }
 {
     let mut walk = Walk::new(other);
     count_sums.retain(|key, count_sum| {

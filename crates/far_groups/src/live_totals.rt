@@ -88,7 +88,7 @@ impl LiveTotals {
     /// caller folded by itself. Refused as `add`, and then nothing is changed.
     pub fn add_rows(&mut self, key: Option<Key>, count: u64, sum: i128) -> Result<(), Refusal>
         requires valid_sums { IsCountSum (count, sum) }
-        requires room { count_in (fin.get self.old.totals key) + count ≤ 2 ^ 26 }
+        requires capacity { count_in (fin.get self.old.totals key) + count ≤ 2 ^ 26 }
         ensures ok { OnOk result (self.new ≡ record self.old { totals = joined_totals self.old.totals (fin.insert fin.empty key (count, sum)) }) }
         ensures err { OnErr result (self.new ≡ self.old) }
         ensures only_new { OnErr result (fin.get self.old.totals key ≡ None) }

@@ -21,10 +21,10 @@ pub type Numbers = BTreeMap<i64, CountSum>;
 fn add_existing(numbers: &mut Numbers, number: &i64, more: CountSum) -> bool
     requires valid_sums { AreCountSums (by_number numbers.old.entries) }
     requires more_valid_sums { IsCountSum more }
-    requires room { count_in (fin.get (by_number numbers.old.entries) (number_key number.now)) + more.0 ≤ 2 ^ 26 }
+    requires capacity { count_in (fin.get (by_number numbers.old.entries) (number_key number.now)) + more.0 ≤ 2 ^ 26 }
     ensures valid_sums { AreCountSums (by_number numbers.new.entries) }
     ensures there { result ≡ is_some (fin.get (by_number numbers.old.entries) (number_key number.now)) }
-    ensures raised { IsTrue result → by_number numbers.new.entries ≡ with_count_sum (by_number numbers.old.entries) (number_key number.now) more }
+    ensures added { IsTrue result → by_number numbers.new.entries ≡ with_count_sum (by_number numbers.old.entries) (number_key number.now) more }
     ensures absent { result ≡ false → numbers.new.entries ≡ numbers.old.entries }
 {
     match numbers.get_mut(number) {
@@ -40,7 +40,7 @@ fn add_existing(numbers: &mut Numbers, number: &i64, more: CountSum) -> bool
 pub fn add(numbers: &mut Numbers, number: &i64, more: CountSum) -> Result<(), Refusal>
     requires valid_sums { AreCountSums (by_number numbers.old.entries) }
     requires more_valid_sums { IsCountSum more }
-    requires room { count_in (fin.get (by_number numbers.old.entries) (number_key number.now)) + more.0 ≤ 2 ^ 26 }
+    requires capacity { count_in (fin.get (by_number numbers.old.entries) (number_key number.now)) + more.0 ≤ 2 ^ 26 }
     ensures valid_sums { AreCountSums (by_number numbers.new.entries) }
     ensures ok { OnOk result (by_number numbers.new.entries ≡ with_count_sum (by_number numbers.old.entries) (number_key number.now) more) }
     ensures err { OnErr result (numbers.new.entries ≡ numbers.old.entries) }

@@ -7,7 +7,7 @@ use Rattle.std.specs.Prelude.{vec_capacity, slice_get, slice_set}
 use Rattle.std.specs.declared.vec.Vec.{Vec}
 use Rattle.far_log.specs.Chunking.{capacity_at, start_at, joined, AreChunks, IsPlaceOf}
 
--- a chunk has as much room as all those in front of it, and the first
+-- a chunk has as much space as all those in front of it, and the first
 pub start-size : (size number : ℕ) → start_at size number + size ≡ capacity_at size number
 start-size size zero = omega arith
 start-size size (suc number) = let later = start-size (size + size) number in omega arith
@@ -33,7 +33,7 @@ size-is level (suc number) =
     let more : suc level + number ≡ level + suc number = omega arith in
     ap (λ size. capacity_at size number) twice ∙ size-is (suc level) number ∙ ap (λ n. 2 ^ n) more
 
--- the room of a chunk, where the first takes 64
+-- the space of a chunk, where the first takes 64
 pub size-64 : (number : ℕ) → capacity_at 64 number ≡ 2 ^ (6 + number)
 size-64 number = size-is 6 number
 
@@ -184,7 +184,7 @@ module _ {X Z : Type 0} where
   chunks-set size (b ∷ (a ∷ cs)) (suc zero) c d h e long capacity = (h.0, chunks-set (size + size) (a ∷ cs) zero c d h.1 e long capacity)
   chunks-set size (b ∷ (a ∷ cs)) (suc (suc number)) c d h e long capacity = (h.0, chunks-set (size + size) (a ∷ cs) (suc number) c d h.1 e long capacity)
 
-  -- no more elements than room
+  -- no more elements than space
   pub within-size : (size : ℕ) (cs : List (Vec X Z)) → AreChunks size cs → length (joined cs) ≤ start_at size (length cs)
   within-size size [] h = omega arith
   within-size size (c ∷ []) h = omega (arith, h.0, length-append c.items [])

@@ -2,7 +2,7 @@
 use Rattle.std.proofs.Common.{◌≡◌, ◌≢◌, ℕ, zero, suc, ◌+◌, ◌<◌, ◌≤◌, List, [], ◌∷◌, ◌++◌, length, get_or, map, Some, IsSome, refl, sym, ap, subst, ◌∙◌, inl, inr, arith}
 use Rattle.std.specs.Prelude.{slice_set, sum_by, Contains}
 use Rattle.far_log.specs.RegionState.{Part, SegmentState, RegionState, segment_of, space_in, fill_from, list_at, IsLayoutFrom, IsRegion}
-use Rattle.far_log.specs.Effects.{gathered, compacted, laid_from, list_or_none, IsOrder, IsEmptyOther, Compacts, with_segment}
+use Rattle.far_log.specs.Effects.{gathered, compacted, layout_from, list_or_none, IsOrder, IsEmptyOther, Compacts, with_segment}
 use Rattle.std.proofs.Common.{get_or-set_same, get_or-set_other, length-set, take, drop}
 use Rattle.std.proofs.lemmas.List.{set-get_or, set-set}
 use Rattle.std.proofs.lemmas.Bool.{eq-eqb, ne_eqb, cases_eq}
@@ -10,20 +10,20 @@ use Rattle.std.proofs.lemmas.List.{take_at}
 use Rattle.std.proofs.lemmas.List.Sums.{sum_by-cons}
 use Rattle.std.proofs.lemmas.List.Elements.{All-get_or}
 use Rattle.far_log.proofs.Gathers.{list-there, lens-le-size, some-list}
-use Rattle.far_log.proofs.RegionLaws.{region-set, laid-segment, same_length-sizes}
+use Rattle.far_log.proofs.RegionLaws.{region-set, layout-segment, same_length-sizes}
 use Rattle.far_log.specs.declared.skip.Skip.{Skip}
 use Rattle.far_log.specs.Skipping.{IsSkip, IsSpaced}
 use Rattle.far_log.proofs.Skipped.{skip-set, skip-less}
 
 -- lists that have elements, laid one behind the other
 module _ {X : Type 0} (pick : ℕ → List X) where
-  abbrev laid-at : ℕ → List ℕ → List (Part X)
-  laid-at from order = laid_from from (map pick order)
+  abbrev layout-at : ℕ → List ℕ → List (Part X)
+  layout-at from order = layout_from from (map pick order)
 
   abbrev AllFilled : List ℕ → Type 0
   AllFilled order = (k : ℕ) → k < length order → 0 < length (pick (get_or order k 0))
 
-  begins-at-least : (from : ℕ) (order : List ℕ) (k : ℕ) → k < length order → from ≤ get_or (map (λ p. p.offset) (laid-at from order)) k 0
+  begins-at-least : (from : ℕ) (order : List ℕ) (k : ℕ) → k < length order → from ≤ get_or (map (λ p. p.offset) (layout-at from order)) k 0
   begins-at-least from [] k lt = absurd (omega arith)
   begins-at-least from (o ∷ os) zero lt = omega arith
   begins-at-least from (o ∷ os) (suc k) lt = let later = begins-at-least (from + length (pick o)) os k (omega arith) in omega arith
@@ -31,18 +31,18 @@ module _ {X : Type 0} (pick : ℕ → List X) where
   rest-filled : (o : ℕ) (os : List ℕ) → AllFilled (o ∷ os) → AllFilled os
   rest-filled o os h = λ k lt. h (suc k) (omega arith)
 
-  laid-picked : (from size : ℕ) (order : List ℕ) → AllFilled order → from + sum_by (λ o. length (pick o)) order ≤ size → IsLayoutFrom from (laid-at from order) size
-  laid-picked from size [] h le = omega arith
-  laid-picked from size (o ∷ os) h le =
-      (omega arith, h zero (omega arith), laid-picked (from + length (pick o)) size os (rest-filled o os h) (omega (arith, sum_by-cons (λ n. length (pick n)) o os)))
+  layout-picked : (from size : ℕ) (order : List ℕ) → AllFilled order → from + sum_by (λ o. length (pick o)) order ≤ size → IsLayoutFrom from (layout-at from order) size
+  layout-picked from size [] h le = omega arith
+  layout-picked from size (o ∷ os) h le =
+      (omega arith, h zero (omega arith), layout-picked (from + length (pick o)) size os (rest-filled o os h) (omega (arith, sum_by-cons (λ n. length (pick n)) o os)))
 
-  picked-at : (from : ℕ) (order : List ℕ) (k : ℕ) → AllFilled order → k < length order → list_at (laid-at from order) (get_or (map (λ p. p.offset) (laid-at from order)) k 0) ≡ Some (pick (get_or order k 0))
+  picked-at : (from : ℕ) (order : List ℕ) (k : ℕ) → AllFilled order → k < length order → list_at (layout-at from order) (get_or (map (λ p. p.offset) (layout-at from order)) k 0) ≡ Some (pick (get_or order k 0))
   picked-at from [] k h lt = absurd (omega arith)
   picked-at from (o ∷ os) zero h lt = rw (eq-eqb from from refl) refl
   picked-at from (o ∷ os) (suc k) h lt =
       let some = h zero (omega arith) in
       let later = begins-at-least (from + length (pick o)) os k (omega arith) in
-      rw (ne_eqb from (get_or (map (λ p. p.offset) (laid-at (from + length (pick o)) os)) k 0) (λ e. omega arith)) (picked-at (from + length (pick o)) os k (rest-filled o os h) (omega arith))
+      rw (ne_eqb from (get_or (map (λ p. p.offset) (layout-at (from + length (pick o)) os)) k 0) (λ e. omega arith)) (picked-at (from + length (pick o)) os k (rest-filled o os h) (omega arith))
 
 -- where a list lies, a part begins
 some-offset : {X : Type 0} (ps : List (Part X)) (offset : ℕ) → IsSome (list_at ps offset) → Contains (map (λ p. p.offset) ps) offset
@@ -60,12 +60,12 @@ module _ {X : Type 0} (old : RegionState X) (from to : ℕ) (order : List ℕ) (
   source = segment_of old from
 
   filled : AllFilled (list_or_none (segment_of old from).parts) order
-  filled k lt = some-list 0 (segment_of old from).size (segment_of old from).parts (get_or order k 0) (laid-segment old from region there) (All-get_or (λ o. IsSome (list_at (segment_of old from).parts o)) order k 0 lt listed.listed)
+  filled k lt = some-list 0 (segment_of old from).size (segment_of old from).parts (get_or order k 0) (layout-segment old from region there) (All-get_or (λ o. IsSome (list_at (segment_of old from).parts o)) order k 0 lt listed.listed)
 
-  laid-gathered : IsLayoutFrom 0 (gathered (segment_of old from).parts order) (segment_of old to).size
-  laid-gathered =
-      laid-picked (list_or_none (segment_of old from).parts) 0 (segment_of old to).size order filled
-      (omega (arith, lens-le-size (segment_of old from) order (laid-segment old from region there) listed, same_length-sizes old from region there, same_length-sizes old to region target.within))
+  layout-gathered : IsLayoutFrom 0 (gathered (segment_of old from).parts order) (segment_of old to).size
+  layout-gathered =
+      layout-picked (list_or_none (segment_of old from).parts) 0 (segment_of old to).size order filled
+      (omega (arith, lens-le-size (segment_of old from) order (layout-segment old from region there) listed, same_length-sizes old from region there, same_length-sizes old to region target.within))
 
   abbrev filled_state : RegionState X
   filled_state = with_segment old to (record (segment_of old to) { parts = gathered (segment_of old from).parts order })
@@ -76,7 +76,7 @@ module _ {X : Type 0} (old : RegionState X) (from to : ℕ) (order : List ℕ) (
   pub compacted-region : IsRegion (compacted old from to order)
   compacted-region =
       region-set filled_state from (record (segment_of old from) { parts = [] })
-      (region-set old to (record (segment_of old to) { parts = gathered (segment_of old from).parts order }) region target.within refl laid-gathered)
+      (region-set old to (record (segment_of old to) { parts = gathered (segment_of old from).parts order }) region target.within refl layout-gathered)
       (omega (arith, there, length-set old to (record (segment_of old to) { parts = gathered (segment_of old from).parts order })))
       (ap (λ s. s.size) (sym (stays from (λ e. target.other (sym e)))))
       (omega arith)

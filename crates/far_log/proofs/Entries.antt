@@ -19,12 +19,12 @@ module _ (es : List PartEntry) where
   link-is i e h = slice_get-map (λ (u : PartEntry). u.link) es i ∙ ap (option_map (λ (u : PartEntry). u.link)) h
 
 -- where an extent begins tells on which side of another it stands
-module _ (es : List PartEntry) (m k o : ℕ) (s : Extent) (d : PartEntry) (rising : IsSorted (extents_of es)) (there : m < length es) where
+module _ (es : List PartEntry) (m k o : ℕ) (s : Extent) (d : PartEntry) (sorted : IsSorted (extents_of es)) (there : m < length es) where
   pub entry-behind : (get_or es m d).extent.offset ≤ o → slice_get (extents_of es) k ≡ Some s → s.offset ≡ o → m ≤ k
-  entry-behind le e at = at-or-behind (extents_of es) m k o s (get_or es m d).extent rising (extent-is es m (get_or es m d) (slice_get-get_or es m d there)) le e at
+  entry-behind le e at = at-or-behind (extents_of es) m k o s (get_or es m d).extent sorted (extent-is es m (get_or es m d) (slice_get-get_or es m d there)) le e at
 
   pub entry-before : o < (get_or es m d).extent.offset → slice_get (extents_of es) k ≡ Some s → s.offset ≡ o → k < m
-  entry-before lt e at = before (extents_of es) m k o s (get_or es m d).extent rising (extent-is es m (get_or es m d) (slice_get-get_or es m d there)) lt e at
+  entry-before lt e at = before (extents_of es) m k o s (get_or es m d).extent sorted (extent-is es m (get_or es m d) (slice_get-get_or es m d there)) lt e at
 
 -- an extent keeps its place, and its link is another
 pub extents-relinked : (es : List PartEntry) (i : ℕ) (e : PartEntry) (l : Link) → slice_get es i ≡ Some e → extents_of (slice_set es i record { extent = e.extent; link = l }) ≡ extents_of es
@@ -81,18 +81,18 @@ module _ (es : List PartEntry) (from state : ℕ) where
       ap (λ ss. slice_get ss (k - from)) (sym (take-map (λ (u : PartEntry). u.extent) state (drop from es)) ∙ ap (take state) (sym (drop-map (λ (u : PartEntry). u.extent) from es)))
       ∙ get-take state (drop from (extents_of es)) (k - from) (omega (arith, le, lt)) ∙ get-drop from (extents_of es) (k - from) ∙ ap (slice_get (extents_of es)) back ∙ h
 
-  pub part-rising : IsSorted (extents_of es) → IsSorted (extents_of chunk)
-  part-rising h = λ j k s t e f lt. h (from + j) (from + k) s t (in-table j s e) (in-table k t f) (omega (arith, lt))
+  pub part-sorted : IsSorted (extents_of es) → IsSorted (extents_of chunk)
+  part-sorted h = λ j k s t e f lt. h (from + j) (from + k) s t (in-table j s e) (in-table k t f) (omega (arith, lt))
 
   -- the first extent of a chunk tells in which chunk, or in front of it, another lies
-  module _ (d : PartEntry) (rising : IsSorted (extents_of es)) (there : from < length es) (some : 0 < state) where
+  module _ (d : PartEntry) (sorted : IsSorted (extents_of es)) (there : from < length es) (some : 0 < state) where
     first-is : get_or chunk 0 d ≡ get_or es from d
     first-is =
         let first : from + 0 ≡ from = omega arith in
         get_or-take state (drop from es) 0 d some ∙ get_or-drop from es 0 d ∙ ap (λ i. get_or es i d) first
 
     pub chunk-behind : (k o : ℕ) (s : Extent) → (get_or chunk 0 d).extent.offset ≤ o → slice_get (extents_of es) k ≡ Some s → s.offset ≡ o → from ≤ k
-    chunk-behind k o s le e at = entry-behind es from k o s d rising there (subst (λ (u : PartEntry). u.extent.offset ≤ o) first-is le) e at
+    chunk-behind k o s le e at = entry-behind es from k o s d sorted there (subst (λ (u : PartEntry). u.extent.offset ≤ o) first-is le) e at
 
     pub chunk-before : (k o : ℕ) (s : Extent) → o < (get_or chunk 0 d).extent.offset → slice_get (extents_of es) k ≡ Some s → s.offset ≡ o → k < from
-    chunk-before k o s lt e at = entry-before es from k o s d rising there (subst (λ (u : PartEntry). o < u.extent.offset) first-is lt) e at
+    chunk-before k o s lt e at = entry-before es from k o s d sorted there (subst (λ (u : PartEntry). o < u.extent.offset) first-is lt) e at

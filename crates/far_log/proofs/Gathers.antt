@@ -6,8 +6,8 @@ use Rattle.std.proofs.lemmas.Option.{same_Some}
 use Rattle.std.proofs.lemmas.List.{map_more}
 use Rattle.std.proofs.lemmas.List.Sums.{sum_by-cons, sum_by_more_le}
 use Rattle.far_log.specs.RegionState.{Part, SegmentState, end_of, fill_from, IsLayoutFrom, IsLayout, list_at}
-use Rattle.far_log.specs.Effects.{laid_from, list_or_none, gathered, IsOrder}
-use Rattle.far_log.proofs.Laid.{fill-le-size, list-others}
+use Rattle.far_log.specs.Effects.{layout_from, list_or_none, gathered, IsOrder}
+use Rattle.far_log.proofs.Layouts.{fill-le-size, list-others}
 
 -- no number of a list is this one
 abbrev Lacks : ℕ → List ℕ → Type 0
@@ -37,14 +37,14 @@ module _ {X : Type 0} where
   others offset ps = filter (λ p. not (eqb p.offset offset)) ps
 
   -- lists laid one behind the other end where their lengths say
-  pub fill-laid_from : (from : ℕ) (xss : List (List X)) → fill_from from (laid_from from xss) ≡ from + total xss
-  fill-laid_from from [] = omega arith
-  fill-laid_from from (xs ∷ xss) = omega (arith, fill-laid_from (from + length xs) xss, sum_by-cons (λ (ys : List X). length ys) xs xss)
+  pub fill-layout_from : (from : ℕ) (xss : List (List X)) → fill_from from (layout_from from xss) ≡ from + total xss
+  fill-layout_from from [] = omega arith
+  fill-layout_from from (xs ∷ xss) = omega (arith, fill-layout_from (from + length xs) xss, sum_by-cons (λ (ys : List X). length ys) xs xss)
 
   -- one list more
-  pub laid_from-push : (from : ℕ) (xss : List (List X)) (xs : List X) → laid_from from (xss ++ xs ∷ []) ≡ laid_from from xss ++ record { offset = fill_from from (laid_from from xss); list = xs } ∷ []
-  laid_from-push from [] xs = refl
-  laid_from-push from (ys ∷ xss) xs = ap (λ ps. record { offset = from; list = ys } ∷ ps) (laid_from-push (from + length ys) xss xs)
+  pub layout_from-push : (from : ℕ) (xss : List (List X)) (xs : List X) → layout_from from (xss ++ xs ∷ []) ≡ layout_from from xss ++ record { offset = fill_from from (layout_from from xss); list = xs } ∷ []
+  layout_from-push from [] xs = refl
+  layout_from-push from (ys ∷ xss) xs = ap (λ ps. record { offset = from; list = ys } ∷ ps) (layout_from-push (from + length ys) xss xs)
 
   -- where a list lies, it is that list
   pub list-there : (ps : List (Part X)) (offset : ℕ) → IsSome (list_at ps offset) → list_at ps offset ≡ Some (list_or_none ps offset)
@@ -112,16 +112,16 @@ module _ {X : Type 0} where
   lens-of ps [] = refl
   lens-of ps (o ∷ os) = omega (arith, lens-of ps os, sum_by-cons (λ (xs : List X). length xs) (list_or_none ps o) (map (list_or_none ps) os), sum_by-cons (λ n. length (list_or_none ps n)) o os)
 
-  -- there is room for the next
+  -- there is space for the next
   pub next-fits : (s : SegmentState X) (order : List ℕ) (i size : ℕ) → IsLayout s → IsOrder s.parts order → i < length order → s.size ≤ size
       → length (list_or_none s.parts (get_or order i 0)) ≤ size - fill_from 0 (gathered s.parts (take i order))
   next-fits s order i size h o lt le =
-      omega (arith, fill-laid_from 0 (map (list_or_none s.parts) (take i order)), lens-of s.parts (take i order), lens-le-size s order h o, sum_by_more_le (λ n. length (list_or_none s.parts n)) order i 0 lt)
+      omega (arith, fill-layout_from 0 (map (list_or_none s.parts) (take i order)), lens-of s.parts (take i order), lens-le-size s order h o, sum_by_more_le (λ n. length (list_or_none s.parts n)) order i 0 lt)
 
   -- one part more is gathered
   pub gathered-more : (ps : List (Part X)) (order : List ℕ) (i : ℕ) → i < length order
       → gathered ps (take (i + 1) order) ≡ gathered ps (take i order) ++ record { offset = fill_from 0 (gathered ps (take i order)); list = list_or_none ps (get_or order i 0) } ∷ []
-  gathered-more ps order i lt = ap (laid_from 0) (map_more (list_or_none ps) order i 0 lt) ∙ laid_from-push 0 (map (list_or_none ps) (take i order)) (list_or_none ps (get_or order i 0))
+  gathered-more ps order i lt = ap (layout_from 0) (map_more (list_or_none ps) order i 0 lt) ∙ layout_from-push 0 (map (list_or_none ps) (take i order)) (list_or_none ps (get_or order i 0))
 
   -- parts are not empty
   pub some-list : (from size : ℕ) (ps : List (Part X)) (offset : ℕ) → IsLayoutFrom from ps size → IsSome (list_at ps offset) → 0 < length (list_or_none ps offset)

@@ -7,7 +7,7 @@ pub mod Linked
 pub mod PartChanges
 pub mod PartDrops
 pub mod Writes
-pub mod Laid
+pub mod Layouts
 pub mod RegionLaws
 pub mod Gathers
 pub mod Fits

@@ -12,7 +12,7 @@ use Rattle.std.proofs.Math.Nat.{suc-mul}
 use Rattle.far_pointer.specs.declared.pointer.At.{At}
 use Rattle.far_log.specs.RegionState.{SegmentState, RegionState, fill_of, space_in, IsLayout, list_at, segment_of, part_of, spaces_of, capacity_of, target_of, IsRegion}
 use Rattle.far_log.specs.Effects.{ChangesOnly, WritesPart, with_segment, with_part, with_list, written_at, with_list_at}
-use Rattle.far_log.proofs.Laid.{ChangesList, space-with_part, laid-with_part, changes-placed, changes-replaced, no-list-at-fill, no-list-behind, written-one}
+use Rattle.far_log.proofs.Layouts.{ChangesList, space-with_part, layout-with_part, changes-placed, changes-replaced, no-list-at-fill, no-list-behind, written-one}
 
 -- a location is its two numbers
 same-at : (q at : At) → q.segment ≡ at.segment → q.offset ≡ at.offset → q ≡ at
@@ -47,20 +47,20 @@ module _ {X : Type 0} (state : RegionState X) where
   ]
 
   pub region-set : (number : ℕ) (s : SegmentState X) → IsRegion state → number < length state → s.size ≡ (segment_of state number).size → IsLayout s → IsRegion (with_segment state number s)
-  region-set number s h lt same laid =
+  region-set number s h lt same layout =
       let first = first-size number s lt same in
       record {
         few = omega (arith, h.few, length-set state number s);
         same_length = rw first (All-set (λ t. t.size ≡ (segment_of state 0).size) state number s (same ∙ same_length-sizes number h lt) h.same_length);
-        laid = All-set IsLayout state number s laid h.laid;
+        layout = All-set IsLayout state number s layout h.layout;
       }
 
   -- the segment that a read by number gives
   pub segment-read : (number : ℕ) (s : SegmentState X) → number < length state → s ≡ get_or state number s → s ≡ segment_of state number
   segment-read number s lt e = e ∙ get_or_default state number s _ lt
 
-  pub laid-segment : (number : ℕ) → IsRegion state → number < length state → IsLayout (segment_of state number)
-  laid-segment number h lt = All-get_or IsLayout state number _ lt h.laid
+  pub layout-segment : (number : ℕ) → IsRegion state → number < length state → IsLayout (segment_of state number)
+  layout-segment number h lt = All-get_or IsLayout state number _ lt h.layout
 
   -- what lies at a location lies in a segment
   pub part-there : (at : At) → IsSome (part_of state at) → at.segment < length state
@@ -94,14 +94,14 @@ module _ {X : Type 0} (state : RegionState X) where
   pub places : (at : At) (list : List X) → IsRegion state → 0 < length list → target_of state (length list) ≡ Some at.segment → at.offset ≡ fill_of (segment_of state at.segment) → Places at list
   places at list h some e fill =
       let takes = target-takes (length list) at.segment e in
-      let laid = laid-segment at.segment h takes.0 in
+      let layout = layout-segment at.segment h takes.0 in
       let s : SegmentState X = segment_of state at.segment in
       record {
         within = takes.0;
         fits = takes.1;
-        region = region-set at.segment (with_part s list) h takes.0 refl (laid-with_part s list laid some takes.1);
-        free = ap (list_at s.parts) fill ∙ no-list-at-fill 0 s.size s.parts laid;
-        change = changes-segment at (with_part s list) (Some list) takes.0 (rw fill (changes-placed s list laid));
+        region = region-set at.segment (with_part s list) h takes.0 refl (layout-with_part s list layout some takes.1);
+        free = ap (list_at s.parts) fill ∙ no-list-at-fill 0 s.size s.parts layout;
+        change = changes-segment at (with_part s list) (Some list) takes.0 (rw fill (changes-placed s list layout));
       }
 
   -- a write within a part, for the region
@@ -110,7 +110,7 @@ module _ {X : Type 0} (state : RegionState X) where
       let lt = part-there at (rw e refl) in
       let s : SegmentState X = segment_of state at.segment in
       let list : List X = take i xs ++ (ws ++ drop (i + length ws) xs) in
-      let one = written-one s at.offset i ws xs (laid-segment at.segment h lt) e le in
+      let one = written-one s at.offset i ws xs (layout-segment at.segment h lt) e le in
       let same : written_at state at i ws ≡ with_list_at state at list = ap (slice_set state at.segment) one in
       record {
         state = same;
@@ -143,13 +143,13 @@ module _ {X : Type 0} (state : RegionState X) where
 
 -- a region without parts
 pub region-new : {X : Type 0} (n size : ℕ) → n ≤ 65536 → IsRegion {X = X} (replicate n record { parts = []; size = size })
-region-new zero size le = record { few = omega arith; same_length = λ k d lt. absurd (omega arith); laid = λ k d lt. absurd (omega arith) }
+region-new zero size le = record { few = omega arith; same_length = λ k d lt. absurd (omega arith); layout = λ k d lt. absurd (omega arith) }
 region-new {X} (suc n) size le =
     let empty : SegmentState X = record { parts = []; size = size } in
     record {
       few = omega (arith, length-replicate (suc n) empty);
       same_length = All-replicate (λ s. s.size ≡ size) (suc n) empty refl;
-      laid = All-replicate IsLayout (suc n) empty (omega arith);
+      layout = All-replicate IsLayout (suc n) empty (omega arith);
     }
 
 -- the sizes of segments, each for as many elements
@@ -167,6 +167,6 @@ below-size state number offset h some =
     elim (cases_lt offset (segment_of state 0).size) [
       | inl under ↦ under
       | inr over ↦
-          let none = no-list-behind 0 (segment_of state number).size (segment_of state number).parts offset (laid-segment state number h lt) (omega (arith, same_length-sizes state number h lt)) in
+          let none = no-list-behind 0 (segment_of state number).size (segment_of state number).parts offset (layout-segment state number h lt) (omega (arith, same_length-sizes state number h lt)) in
           absurd (let never = rw none at some in cc)
     ]

@@ -10,11 +10,11 @@ use Rattle.far_log.specs.declared.part_entry.PartEntry.{PartEntry}
 use Rattle.far_log.specs.declared.table.Table.{Table}
 use Rattle.far_log.specs.RegionState.{Part, SegmentState, RegionState, fill_of, space_in, used_in, used_of, capacity_of, segment_of, part_of, list_at, IsLayout}
 use Rattle.far_log.specs.Storage.{extents_of, links_of, parts_in, extents_end, AreAdjacent, IsStored, IsKept, segment_states, AreKept}
-use Rattle.far_log.proofs.StoredParts.{stored-fill, begin-le-end, count-le-end, laid-parts}
+use Rattle.far_log.proofs.StoredParts.{stored-fill, begin-le-end, count-le-end, layout-parts}
 use Rattle.far_log.proofs.Gathers.{some-list, list-is}
 use Rattle.far_log.proofs.ExtentOf.{some-extent, extent-within, IsExtentOf}
 use Rattle.far_log.proofs.PartChanges.{shown}
-use Rattle.far_log.proofs.Laid.{fill-le-size}
+use Rattle.far_log.proofs.Layouts.{fill-le-size}
 
 -- a table without parts
 abbrev pub default_value : Table
@@ -138,8 +138,8 @@ some-element xs (s ∷ ss) offset adjacent end some = omega (arith, end, adjacen
 -- and so has the part
 pub part-some : {X : Type 0} (xs : List X) (ss : List Extent) (offset : ℕ) (list : List X) → AreAdjacent 0 ss → extents_end 0 ss ≡ length xs → list_at (parts_in xs ss) offset ≡ Some list → 0 < length list
 part-some {X} xs ss offset list adjacent end is =
-    let laid = laid-parts xs 0 0 (length xs) ss (omega arith) adjacent (omega (arith, end)) (omega arith) in
-    let some = some-list 0 (length xs) (parts_in xs ss) offset laid (rw is refl) in
+    let layout = layout-parts xs 0 0 (length xs) ss (omega arith) adjacent (omega (arith, end)) (omega arith) in
+    let some = some-list 0 (length xs) (parts_in xs ss) offset layout (rw is refl) in
     omega (arith, some, ap (λ (ys : List X). length ys) (list-is (parts_in xs ss) offset list is))
 
 -- no part, no element

@@ -11,7 +11,7 @@ use Rattle.far_log.specs.Effects.{with_segment, with_part, written}
 use Rattle.far_log.specs.Fitting.{once_filled, waiting_fit}
 use Rattle.far_log.specs.Skipping.{IsSkip, IsSpaced}
 use Rattle.far_log.proofs.Fits.{lowest-first, lowest-later, filled-first}
-use Rattle.far_log.proofs.Laid.{space-with_part, space-written}
+use Rattle.far_log.proofs.Layouts.{space-with_part, space-written}
 
 -- lengths of lists that wait, or that were placed and are 0
 abbrev pub AreLong : ℕ → List ℕ → Type 0

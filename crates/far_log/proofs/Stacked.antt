@@ -9,7 +9,7 @@ use Rattle.far_log.specs.RegionState.{Part}
 use Rattle.far_log.specs.Effects.{written_over}
 use Rattle.far_log.specs.Stacking.{Stacked, stack_of, stacks_from, AreWithin, IsStacked, IsPut}
 use Rattle.far_log.proofs.Writes.{block_over, part-written}
-use Rattle.far_log.proofs.Laid.{written-before, written-none}
+use Rattle.far_log.proofs.Layouts.{written-before, written-none}
 
 module _ {X : Type 0} (size : ℕ) (block : List X) where
   pub length-stacks : (from : ℕ) (ns : List ℕ) → length (stacks_from size block from ns) ≡ length ns

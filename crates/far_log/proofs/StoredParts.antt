@@ -37,13 +37,13 @@ module _ {X : Type 0} (items : List X) where
       ]
 
   -- the parts lie one behind the other
-  pub laid-parts : (f from size : ℕ) (ss : List Extent) → f ≤ from → AreAdjacent from ss → extents_end from ss ≤ length items → length items ≤ size → IsLayoutFrom f (parts_in items ss) size
-  laid-parts f from size [] le h end state = omega arith
-  laid-parts f from size (s ∷ ss) le h end state =
+  pub layout-parts : (f from size : ℕ) (ss : List Extent) → f ≤ from → AreAdjacent from ss → extents_end from ss ≤ length items → length items ≤ size → IsLayoutFrom f (parts_in items ss) size
+  layout-parts f from size [] le h end state = omega arith
+  layout-parts f from size (s ∷ ss) le h end state =
       let long = length-part s (head-within from s ss h end) in
       elim s.live as (λ b. IsLayoutFrom f (map (part_in items) (cond b (s ∷ filter (λ u. u.live) ss) (filter (λ u. u.live) ss))) size) [
-        | true ↦ (omega (arith, h.0), omega (arith, h.1), laid-parts (end_of (part_in items s)) (from + s.len) size ss (omega (arith, h.0)) h.2 end state)
-        | false ↦ laid-parts f (from + s.len) size ss (omega arith) h.2 end state
+        | true ↦ (omega (arith, h.0), omega (arith, h.1), layout-parts (end_of (part_in items s)) (from + s.len) size ss (omega (arith, h.0)) h.2 end state)
+        | false ↦ layout-parts f (from + s.len) size ss (omega arith) h.2 end state
       ]
 
   -- so much for a whole segment
@@ -51,8 +51,8 @@ module _ {X : Type 0} (items : List X) where
   stored-fill [] used size h = h.end
   stored-fill (s ∷ ss) used size h = fill-parts 0 0 s ss h.adjacent (omega (arith, h.end)) h.live ∙ h.end
 
-  pub stored-laid : (ss : List Extent) (used size : ℕ) → IsStored items ss used size → IsLayoutFrom 0 (parts_in items ss) size
-  stored-laid ss used size h = laid-parts 0 0 size ss (omega arith) h.adjacent (omega (arith, h.end)) h.enough
+  pub stored-layout : (ss : List Extent) (used size : ℕ) → IsStored items ss used size → IsLayoutFrom 0 (parts_in items ss) size
+  stored-layout ss used size h = layout-parts 0 0 size ss (omega arith) h.adjacent (omega (arith, h.end)) h.enough
 
   -- a segment without parts has no extents
   pub no-extents : (ss : List Extent) → EndsLive ss → parts_in items ss ≡ [] → ss ≡ []
@@ -84,8 +84,8 @@ begins-later from (u ∷ ss) zero (suc k) s t h e f lt =
 begins-later from (u ∷ ss) (suc j) zero s t h e f lt = absurd (omega arith)
 begins-later from (u ∷ ss) (suc j) (suc k) s t h e f lt = begins-later (from + u.len) ss j k s t h.2 e f (omega arith)
 
-pub adjacent-rising : (from : ℕ) (ss : List Extent) → AreAdjacent from ss → IsSorted ss
-adjacent-rising from ss h = λ j k s t e f lt. begins-later from ss j k s t h e f lt
+pub adjacent-sorted : (from : ℕ) (ss : List Extent) → AreAdjacent from ss → IsSorted ss
+adjacent-sorted from ss h = λ j k s t e f lt. begins-later from ss j k s t h e f lt
 
 -- where an extent begins tells on which side of another it stands
 pub at-or-behind : (ss : List Extent) (m k o : ℕ) (s t : Extent) → IsSorted ss → slice_get ss m ≡ Some t → t.offset ≤ o → slice_get ss k ≡ Some s → s.offset ≡ o → m ≤ k

@@ -1,4 +1,4 @@
--- A list that is kept in chunks, each with twice the room of the one before it.
+-- A list that is kept in chunks, each with twice the space of the one before it.
 -- Internal: no public contract cites it.
 use Rattle.std.specs.Prelude.{◌≡◌, ℕ, zero, suc, ◌+◌, ◌≤◌, ◌<◌, ◌^◌, List, [], ◌∷◌, ◌++◌, length, vec_capacity}
 use Rattle.std.specs.declared.vec.Vec.{Vec}
@@ -24,7 +24,7 @@ module _ {X Z : Type 0} where
   joined [] = []
   joined (c ∷ cs) = c.items ++ joined cs
 
-  -- each chunk but the last is full, and the last has its room reserved; the first takes `size`
+  -- each chunk but the last is full, and the last has its space reserved; the first takes `size`
   abbrev pub AreChunks : ℕ → List (Vec X Z) → Type 0
   AreChunks size [] = Unit {0}
   AreChunks size (c ∷ []) = (length c.items ≤ size) × (size ≤ vec_capacity c)

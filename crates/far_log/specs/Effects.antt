@@ -58,9 +58,9 @@ module _ {X : Type 0} where
     pub change : ChangesOnly old new at (Some list)
 
   -- lists as parts, one behind the other
-  abbrev pub laid_from : ℕ → List (List X) → List (Part X)
-  laid_from from [] = []
-  laid_from from (xs ∷ xss) = record { offset = from; list = xs } ∷ laid_from (from + length xs) xss
+  abbrev pub layout_from : ℕ → List (List X) → List (Part X)
+  layout_from from [] = []
+  layout_from from (xs ∷ xss) = record { offset = from; list = xs } ∷ layout_from (from + length xs) xss
 
   -- the list that begins at an offset, and the empty one where none does
   abbrev pub list_or_none : List (Part X) → ℕ → List X
@@ -68,7 +68,7 @@ module _ {X : Type 0} where
 
   -- the parts that begin at these offsets, laid in this order from the segment's beginning on
   abbrev pub gathered : List (Part X) → List ℕ → List (Part X)
-  gathered parts order = laid_from 0 (map (list_or_none parts) order)
+  gathered parts order = layout_from 0 (map (list_or_none parts) order)
 
   -- the region once the parts of segment `from` lie in segment `to` in this order
   abbrev pub compacted : RegionState X → ℕ → ℕ → List ℕ → RegionState X

@@ -8,7 +8,7 @@ pub record Part (X : Type 0) : Type 0 where
   pub offset : ℕ
   pub list : List X
 
--- the state of a segment: its parts by rising offset, and for how many elements it is made
+-- the state of a segment: its parts by ascending offset, and for how many elements it is made
 pub record SegmentState (X : Type 0) : Type 0 where
   pub parts : List (Part X)
   pub size : ℕ
@@ -100,4 +100,4 @@ module _ {X : Type 0} where
   pub record IsRegion (state : RegionState X) : Type 0 where
     pub few : length state ≤ 65536
     pub same_length : All (λ s. s.size ≡ (segment_of state 0).size) state
-    pub laid : All IsLayout state
+    pub layout : All IsLayout state

@@ -81,10 +81,10 @@ impl<T> Block<T> {
         self.items.slice_mut(begin..end)
     }
 
-    /// A list of the block, to be written. What is left in it counts as no more than `most` elements, the room that it has.
+    /// A list of the block, to be written. What is left in it counts as no more than `most` elements, the space that it has.
     ///
     /// A slice keeps its length, so this is no more than `slice_mut`. But a contract on a borrow speaks of longer lists too,
-    /// and by that of `slice_mut` they would lie over what comes behind the room.
+    /// and by that of `slice_mut` they would lie over what comes behind the space.
     pub fn lend(&mut self, begin: usize, end: usize, most: usize) -> &mut [T]
         requires ordered { begin ≤ end }
         requires within { end ≤ vec_len self.old.items }

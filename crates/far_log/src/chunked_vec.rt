@@ -87,7 +87,7 @@ fn make_chunk<T: Drop>(chunks: &mut Vec<Vec<T>>, chunk: usize) -> Result<(), Ref
 
 /// A list of plain values that grows without moving what it holds (a segmented array).
 ///
-/// It lies in chunks, the first with room for 64 values and each other with twice the room of the one before it. A
+/// It lies in chunks, the first with space for 64 values and each other with twice the space of the one before it. A
 /// chunk is made when it is first needed; only the list of at most 27 chunks moves. A cut keeps the chunks for values
 /// to come, as `Vec` keeps its memory: they are given back when the list is dropped.
 #[derive(Drop)]

@@ -32,7 +32,7 @@ impl<T: Copy + Drop> Segments<T> {
         requires other { to ≢ from }
         requires empty { (segment_of self.old to).parts ≡ [] }
         requires size { (segment_of self.old from).size ≤ (segment_of self.old to).size }
-        requires laid { IsLayout (segment_of self.old from) }
+        requires layout { IsLayout (segment_of self.old from) }
         requires order { IsOrder (segment_of self.old from).parts order.now }
         ensures gathered { OnOk result (self.new ≡ with_segment self.old to (record (segment_of self.old to) { parts = gathered (segment_of self.old from).parts order.now })) }
         ensures offsets { IfOk result (λ offsets. offsets.items ≡ map (λ p. p.offset) (gathered (segment_of self.old from).parts order.now)) }
@@ -65,7 +65,7 @@ impl<T: Copy + Drop> Segments<T> {
         requires other { to ≢ from }
         requires empty { (segment_of self.old to).parts ≡ [] }
         requires size { (segment_of self.old from).size ≤ (segment_of self.old to).size }
-        requires laid { IsLayout (segment_of self.old from) }
+        requires layout { IsLayout (segment_of self.old from) }
         requires order { IsOrder (segment_of self.old from).parts order.now }
         ensures moved { OnOk result (self.new ≡ compacted self.old from to order.now) }
         ensures offsets { IfOk result (λ offsets. offsets.items ≡ map (λ p. p.offset) (gathered (segment_of self.old from).parts order.now)) }

@@ -20,7 +20,7 @@ pub struct Extent {
 // The number among these extents of the one that begins at an offset; some number where none does.
 fn extent_among(entries: &[PartEntry], offset: u32) -> usize
     requires some { 0 < length entries.now }
-    requires rising { IsSorted (extents_of entries.now) }
+    requires sorted { IsSorted (extents_of entries.now) }
     ensures within { result < length entries.now }
     ensures found { (k : ℕ) (s : Extent) → slice_get (extents_of entries.now) k ≡ Some s → s.offset ≡ offset → result ≡ k }
 {

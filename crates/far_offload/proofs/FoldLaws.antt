@@ -16,16 +16,16 @@ use Rattle.far_types.specs.declared.spec.Fold.TheVariants as fold
 use Rattle.far_types.specs.Cells.{number_in, key_in}
 use Rattle.far_types.specs.Filters.{keeps}
 use Rattle.far_types.specs.Pairs.{Pair, PairsFit, key_under, paired}
-use Rattle.far_types.specs.Answers.{count_sum, int_sum, span, totals, extrema}
+use Rattle.far_types.specs.Answers.{count_sum, int_sum, min_max, totals, extrema}
 use Rattle.far_types.specs.Effects.{widened, joined_totals, joined_extrema}
 use Rattle.far_types.proofs.ByKeyMaps.{grouped-one}
-use Rattle.far_types.proofs.Values.{count_sum-among, span-among, span-cons}
+use Rattle.far_types.proofs.Values.{count_sum-among, min_max-among, min_max-cons}
 use Rattle.far_types.proofs.TotalLaws.{totals-cons, totals-among, totals-append, extrema-cons, extrema-among, extrema-append}
 use Rattle.far_extrema.proofs.HolderLaws.{widened_within}
 use Rattle.far_groups.proofs.PairLaws.{counted}
 use Rattle.far_offload.specs.declared.partial.PartialDone.TheVariants.{Totals, Extrema}
 use Rattle.far_offload.specs.Columns.{Columns, cells_at}
-use Rattle.far_offload.specs.Partials.{pair_at, pairs_over, value_at, values_over, span_in, partial_of, with_folded, CanFold, IsWithin}
+use Rattle.far_offload.specs.Partials.{pair_at, pairs_over, value_at, values_over, min_max_in, partial_of, with_folded, CanFold, IsWithin}
 
 enumerate-more : (n : ℕ) (flags : List Bool) (i : ℕ) → i < length flags → enumerate_from n (take i flags ++ get_or flags i false ∷ []) ≡ enumerate_from n (take i flags) ++ (n + i, get_or flags i false) ∷ []
 enumerate-more n [] i h = absurd (omega arith)
@@ -57,10 +57,10 @@ count_sum-more values value =
     let sum : value +ℤ int_sum values ≡ int_sum values +ℤ value = omega (arith, ints) in
     count_sum-among values value [] ∙ ap (λ l. count_sum (value ∷ l)) (append-nil values) ∙ (λ i. (count i, sum i))
 
-pub span-more : (values : List ℤ) (value : ℤ) → span_in (values ++ value ∷ []) ≡ Some (widened value (span_in values))
-span-more [] value = refl
-span-more (v ∷ values) value =
-    ap Some (span-among (v ∷ values) value [] ∙ ap (λ l. span (value ∷ l)) (append-nil (v ∷ values)) ∙ span-cons value (v ∷ values))
+pub min_max-more : (values : List ℤ) (value : ℤ) → min_max_in (values ++ value ∷ []) ≡ Some (widened value (min_max_in values))
+min_max-more [] value = refl
+min_max-more (v ∷ values) value =
+    ap Some (min_max-among (v ∷ values) value [] ∙ ap (λ l. min_max (value ∷ l)) (append-nil (v ∷ values)) ∙ min_max-cons value (v ∷ values))
 
 pub partial-more : (f : Fold) (pairs : List Pair) (pair : Pair) → partial_of f (pairs ++ pair ∷ []) ≡ with_folded (partial_of f pairs) pair
 partial-more fold.Totals pairs pair =
@@ -85,14 +85,14 @@ values-same spec columns flags i flag within is none =
     ∙ append-nil (values_over spec columns (take i flags))
 
 -- a value that is within what there is leaves it as it is
-pub within-kept : (value : ℤ) (span there : Option (ℤ × ℤ)) → span ≡ there → IsWithin span (Some value) → Some (widened value there) ≡ there
+pub within-kept : (value : ℤ) (min_max there : Option (ℤ × ℤ)) → min_max ≡ there → IsWithin min_max (Some value) → Some (widened value there) ≡ there
 within-kept value None there before h = absurd h
 within-kept value (Some s) there before h = ap (λ o. Some (widened value o)) (sym before) ∙ ap Some (widened_within value s h.0 h.1) ∙ before
 
-pub values-within : (spec : Spec) (columns : Columns) (flags : List Bool) (i : ℕ) (flag : Bool) (seen : Option (ℤ × ℤ)) → i < length flags → get_or flags i false ≡ flag → seen ≡ span_in (values_over spec columns (take i flags)) → IsWithin seen (value_at spec columns (i, flag)) → span_in (values_over spec columns (take (i + 1) flags)) ≡ span_in (values_over spec columns (take i flags))
-values-within spec columns flags i flag seen within is before = elim (value_at spec columns (i, flag)) as (λ (o : Option ℤ). o ≡ value_at spec columns (i, flag) → IsWithin seen o → span_in (values_over spec columns (take (i + 1) flags)) ≡ span_in (values_over spec columns (take i flags))) [
-  | None ↦ λ e h. ap span_in (values-same spec columns flags i flag within is e)
-  | Some value ↦ λ e h. ap span_in (values-with spec columns flags i flag value within is e) ∙ span-more (values_over spec columns (take i flags)) value ∙ within-kept value seen (span_in (values_over spec columns (take i flags))) before h
+pub values-within : (spec : Spec) (columns : Columns) (flags : List Bool) (i : ℕ) (flag : Bool) (observed : Option (ℤ × ℤ)) → i < length flags → get_or flags i false ≡ flag → observed ≡ min_max_in (values_over spec columns (take i flags)) → IsWithin observed (value_at spec columns (i, flag)) → min_max_in (values_over spec columns (take (i + 1) flags)) ≡ min_max_in (values_over spec columns (take i flags))
+values-within spec columns flags i flag observed within is before = elim (value_at spec columns (i, flag)) as (λ (o : Option ℤ). o ≡ value_at spec columns (i, flag) → IsWithin observed o → min_max_in (values_over spec columns (take (i + 1) flags)) ≡ min_max_in (values_over spec columns (take i flags))) [
+  | None ↦ λ e h. ap min_max_in (values-same spec columns flags i flag within is e)
+  | Some value ↦ λ e h. ap min_max_in (values-with spec columns flags i flag value within is e) ∙ min_max-more (values_over spec columns (take i flags)) value ∙ within-kept value observed (min_max_in (values_over spec columns (take i flags))) before h
 ] refl
 
 -- a place with a value gives a pair where it has a key
@@ -188,14 +188,14 @@ pub no-totals : (values : List ℤ) → length values ≡ 0 → totals (map (λ 
 no-totals [] none = refl
 no-totals (value ∷ values) none = absurd (omega arith)
 
-plain-extrema : (values : List ℤ) (least greatest : ℤ) → Some (least, greatest) ≡ span_in values → extrema (map (λ value. (None, value)) values) ≡ fin.insert fin.empty None (least, greatest)
+plain-extrema : (values : List ℤ) (least greatest : ℤ) → Some (least, greatest) ≡ min_max_in values → extrema (map (λ value. (None, value)) values) ≡ fin.insert fin.empty None (least, greatest)
 plain-extrema [] least greatest h = absurd cc
-plain-extrema (value ∷ values) least greatest h = grouped-one span None value values ∙ ap (fin.insert fin.empty None) (sym (some_same h))
+plain-extrema (value ∷ values) least greatest h = grouped-one min_max None value values ∙ ap (fin.insert fin.empty None) (sym (some_same h))
   where
     some_same : {a b : ℤ × ℤ} → Some a ≡ Some b → a ≡ b
     some_same e = cc
 
-pub no-extrema : (values : List ℤ) → None ≡ span_in values → extrema (map (λ value. (None, value)) values) ≡ fin.empty
+pub no-extrema : (values : List ℤ) → None ≡ min_max_in values → extrema (map (λ value. (None, value)) values) ≡ fin.empty
 no-extrema [] h = refl
 no-extrema (value ∷ values) h = absurd cc
 
@@ -203,5 +203,5 @@ no-extrema (value ∷ values) h = absurd cc
 pub added-totals : (values : List ℤ) → (length values ≡ 0 → ⊥) → joined_totals fin.empty (fin.insert fin.empty None (count_sum values)) ≡ totals (map (λ value. (None, value)) values)
 added-totals values some = ap (joined_totals fin.empty) (sym (plain-totals values some)) ∙ sym (totals-append [] (map (λ value. (None, value)) values))
 
-pub seen-extrema : (values : List ℤ) (least greatest : ℤ) → Some (least, greatest) ≡ span_in values → joined_extrema fin.empty (fin.insert fin.empty None (least, greatest)) ≡ extrema (map (λ value. (None, value)) values)
-seen-extrema values least greatest h = ap (joined_extrema fin.empty) (sym (plain-extrema values least greatest h)) ∙ sym (extrema-append [] (map (λ value. (None, value)) values))
+pub observed-extrema : (values : List ℤ) (least greatest : ℤ) → Some (least, greatest) ≡ min_max_in values → joined_extrema fin.empty (fin.insert fin.empty None (least, greatest)) ≡ extrema (map (λ value. (None, value)) values)
+observed-extrema values least greatest h = ap (joined_extrema fin.empty) (sym (plain-extrema values least greatest h)) ∙ sym (extrema-append [] (map (λ value. (None, value)) values))

@@ -54,12 +54,12 @@ module _ (spec : Spec) (columns : Columns) (flags : List Bool) (i : ℕ) (flag :
   next = pairs-next spec columns flags i flag there within is (pair-is spec columns (i, flag))
 
   -- a place that stands under another key, or under none
-  pub span-elsewhere : (key_under spec.key (cells_at columns i) ≡ Some key → ⊥) → fin.get (extrema (pairs_over spec columns (take (i + 1) flags))) key ≡ fin.get (extrema pairs) key
-  span-elsewhere h = ap (λ l. fin.get (extrema l) key) next ∙ not-under pairs key (key_under spec.key (cells_at columns i)) (value_at spec columns (i, flag)) h
+  pub min_max-elsewhere : (key_under spec.key (cells_at columns i) ≡ Some key → ⊥) → fin.get (extrema (pairs_over spec columns (take (i + 1) flags))) key ≡ fin.get (extrema pairs) key
+  min_max-elsewhere h = ap (λ l. fin.get (extrema l) key) next ∙ not-under pairs key (key_under spec.key (cells_at columns i)) (value_at spec columns (i, flag)) h
 
   -- a place that stands under the key and has a value
-  pub span-there : (value : ℤ) → key_under spec.key (cells_at columns i) ≡ Some key → Some value ≡ value_at spec columns (i, flag) → fin.get (extrema (pairs_over spec columns (take (i + 1) flags))) key ≡ Some (widened value (fin.get (extrema pairs) key))
-  span-there value under has =
+  pub min_max-there : (value : ℤ) → key_under spec.key (cells_at columns i) ≡ Some key → Some value ≡ value_at spec columns (i, flag) → fin.get (extrema (pairs_over spec columns (take (i + 1) flags))) key ≡ Some (widened value (fin.get (extrema pairs) key))
+  min_max-there value under has =
       ap (λ l. fin.get (extrema l) key) next
       ∙ ap (λ (o : Option ℤ). fin.get (extrema (pairs ++ cons_option (option_and_then {U = Pair} (λ v. option_map (λ k. (k, v)) (key_under spec.key (cells_at columns i))) o) [])) key) (sym has)
       ∙ ap (λ (u : Option (Option Key)). fin.get (extrema (pairs ++ cons_option (option_map {U = Pair} (λ k. (k, value)) u) [])) key) under
@@ -67,10 +67,10 @@ module _ (spec : Spec) (columns : Columns) (flags : List Bool) (i : ℕ) (flag :
       ∙ get_inserted (extrema pairs) key (widened value (fin.get (extrema pairs) key))
 
   -- or one whose value is within what stands there
-  pub span-within : (span : Option (ℤ × ℤ)) → span ≡ fin.get (extrema pairs) key → key_under spec.key (cells_at columns i) ≡ Some key → IsWithin span (value_at spec columns (i, flag)) → fin.get (extrema (pairs_over spec columns (take (i + 1) flags))) key ≡ fin.get (extrema pairs) key
-  span-within span before under = elim (value_at spec columns (i, flag)) as (λ (o : Option ℤ). o ≡ value_at spec columns (i, flag) → IsWithin span o → fin.get (extrema (pairs_over spec columns (take (i + 1) flags))) key ≡ fin.get (extrema pairs) key) [
+  pub min_max-within : (min_max : Option (ℤ × ℤ)) → min_max ≡ fin.get (extrema pairs) key → key_under spec.key (cells_at columns i) ≡ Some key → IsWithin min_max (value_at spec columns (i, flag)) → fin.get (extrema (pairs_over spec columns (take (i + 1) flags))) key ≡ fin.get (extrema pairs) key
+  min_max-within min_max before under = elim (value_at spec columns (i, flag)) as (λ (o : Option ℤ). o ≡ value_at spec columns (i, flag) → IsWithin min_max o → fin.get (extrema (pairs_over spec columns (take (i + 1) flags))) key ≡ fin.get (extrema pairs) key) [
     | None ↦ λ e h. ap (λ l. fin.get (extrema l) key) (pairs-valueless spec columns flags i flag within is e)
-    | Some value ↦ λ e h. span-there value under e ∙ within-kept value span (fin.get (extrema pairs) key) before h
+    | Some value ↦ λ e h. min_max-there value under e ∙ within-kept value min_max (fin.get (extrema pairs) key) before h
   ] refl
 
 -- a cell that gives a number as its key is that number

@@ -10,7 +10,7 @@ use Rattle.far_types.specs.declared.spec.Fold.TheVariants as fold
 use Rattle.far_types.specs.Cells.{number_in}
 use Rattle.far_types.specs.Filters.{keeps}
 use Rattle.far_types.specs.Pairs.{Pair, pair_of}
-use Rattle.far_types.specs.Answers.{span, totals, extrema}
+use Rattle.far_types.specs.Answers.{min_max, totals, extrema}
 use Rattle.far_types.specs.Effects.{with_pair, with_observed, count_in}
 use Rattle.far_offload.specs.declared.partial.PartialDone.{PartialDone}
 use Rattle.far_offload.specs.declared.partial.PartialDone.TheVariants.{Totals, Extrema}
@@ -33,19 +33,19 @@ abbrev pub values_over : Spec → Columns → List Bool → List ℤ
 values_over spec columns flags = filter_map (value_at spec columns) (enumerate_from 0 flags)
 
 -- the least and the greatest of some values, where there is one
-abbrev pub span_in : List ℤ → Option (ℤ × ℤ)
-span_in [] = None
-span_in (value ∷ values) = Some (span (value ∷ values))
+abbrev pub min_max_in : List ℤ → Option (ℤ × ℤ)
+min_max_in [] = None
+min_max_in (value ∷ values) = Some (min_max (value ∷ values))
 
 -- they are numbers of 64 bits
-abbrev pub SpanFits : Option (ℤ × ℤ) → Type 0
-SpanFits span = IfSome span (λ s. FitsSigned w64 s.0 × FitsSigned w64 s.1)
+abbrev pub MinMaxFits : Option (ℤ × ℤ) → Type 0
+MinMaxFits min_max = IfSome min_max (λ s. FitsSigned w64 s.0 × FitsSigned w64 s.1)
 
 -- a value is within the least and the greatest, which it leaves as they are; where there is none there is nothing to leave
 abbrev pub IsWithin : Option (ℤ × ℤ) → Option ℤ → Type 0
-IsWithin span None = Unit {0}
+IsWithin min_max None = Unit {0}
 IsWithin None (Some value) = ⊥
-IsWithin (Some span) (Some value) = (span.0 ≤ℤ value) × (value ≤ℤ span.1)
+IsWithin (Some min_max) (Some value) = (min_max.0 ≤ℤ value) × (value ≤ℤ min_max.1)
 
 -- what pairs come to; no row group is left to a partial
 abbrev pub partial_of : Fold → List Pair → PartialDone
@@ -55,9 +55,9 @@ partial_of fold.Extrema pairs = Extrema (extrema pairs)
 -- one pair more
 abbrev pub with_folded : PartialDone → Pair → PartialDone
 with_folded (Totals live) pair = Totals (record live { totals = with_pair live.totals pair })
-with_folded (Extrema seen) pair = Extrema (with_observed seen pair)
+with_folded (Extrema observed) pair = Extrema (with_observed observed pair)
 
 -- a pair more can be counted under the key
 abbrev pub CanFold : PartialDone → Option Key → Type 0
 CanFold (Totals live) key = count_in (fin.get live.totals key) < 2 ^ 26
-CanFold (Extrema seen) key = Unit {0}
+CanFold (Extrema observed) key = Unit {0}

@@ -75,19 +75,19 @@ fn number_alive(values: Option<&Column<'_>>, place: usize, alive: bool) -> Optio
     }
 }
 
-/// Whether a value is within a span, so that it changes nothing there.
+/// Whether a value is within a min-max, so that it changes nothing there.
 #[inline(always)]
-fn is_within(span: Option<(i64, i64)>, value: i64) -> bool
-    ensures { IsTrue result → IsWithin span (Some value) }
+fn is_within(min_max: Option<(i64, i64)>, value: i64) -> bool
+    ensures { IsTrue result → IsWithin min_max (Some value) }
 {
-    match span {
+    match min_max {
         Some((least, greatest)) => least <= value && value <= greatest,
         None => false,
     }
 }
 
-/// The value of a place as `value_at` says, where it is not within a span. The filter is asked last: of the values of a row
-/// group most are within the span of those before them.
+/// The value of a place as `value_at` says, where it is not within a min-max. The filter is asked last: of the values of a row
+/// group most are within the min-max of those before them.
 #[inline(always)]
 pub(crate) fn value_beyond(
     spec: &Spec,
@@ -95,17 +95,17 @@ pub(crate) fn value_beyond(
     values: Option<&Column<'_>>,
     place: usize,
     alive: bool,
-    span: Option<(i64, i64)>,
+    min_max: Option<(i64, i64)>,
 ) -> Option<i64>
     requires { option_copied values ≡ column_of columns.now spec.now.value }
     ensures beyond { IfSome result (λ value. Some value ≡ value_at spec.now columns.now (place, alive)) }
-    ensures within { IfNone result (IsWithin span (value_at spec.now columns.now (place, alive))) }
+    ensures within { IfNone result (IsWithin min_max (value_at spec.now columns.now (place, alive))) }
     ensures fits { IfSome result (FitsSigned w64) }
 {
     let Some(value) = number_alive(values, place, alive) else {
         return None;
     };
-    if is_within(span, value) {
+    if is_within(min_max, value) {
         return None;
     }
     if spec.filter.keeps_cells(&PlaceCells { columns, place }) {

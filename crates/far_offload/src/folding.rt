@@ -8,7 +8,7 @@ use crate::column::{Column, find};
 use crate::filtering::value_at;
 use crate::keys::key_at;
 use crate::partial::PartialDone;
-use crate::plain::{count_sum_of, span_of};
+use crate::plain::{count_sum_of, min_max_of};
 use far_extrema::GroupExtrema;
 use far_groups::LiveTotals;
 use far_types::{Fold, Refusal, Spec};
@@ -42,14 +42,14 @@ fn plain_extrema(
     alive: &[bool],
 ) -> Result<GroupExtrema, Refusal>
     requires { spec.now.key ≡ None }
-    ensures extrema { IfOk result (λ seen. seen ≡ extrema (pairs_over spec.now columns.now alive.now)) }
+    ensures extrema { IfOk result (λ observed. observed ≡ extrema (pairs_over spec.now columns.now alive.now)) }
     ensures memory { IfErr result (λ e. e ≡ Refusal.NoMemory) }
 {
-    let mut seen = GroupExtrema::new(alloc);
-    if let Some((least, greatest)) = span_of(spec, columns, alive) {
-        seen.observe_rows(None, least, greatest)?;
+    let mut observed = GroupExtrema::new(alloc);
+    if let Some((least, greatest)) = min_max_of(spec, columns, alive) {
+        observed.observe_rows(None, least, greatest)?;
     }
-    Ok(seen)
+    Ok(observed)
 }
 
 /// The partial aggregate of an aggregate with a key column.

@@ -1,5 +1,5 @@
 #![tactic(auto)]
-//! Aggregates of a row group whose columns are at hand, as lists of numbers or as far forms: `fold` and `span_under` read
+//! Aggregates of a row group whose columns are at hand, as lists of numbers or as far forms: `fold` and `min_max_under` read
 //! them where they lie. Where they lie in the far store an `OffloadJob` reads the contents under their tickets and folds
 //! those, so nothing enters the local region.
 
@@ -22,4 +22,4 @@ pub use into::fold_into;
 pub use job::OffloadJob;
 pub use laws::columns_at_hand_give_the_pairs_of_their_places;
 pub use partial::PartialDone;
-pub use under::span_under;
+pub use under::min_max_under;

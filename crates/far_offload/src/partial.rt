@@ -35,7 +35,7 @@ impl PartialDone {
     {
         match self {
             PartialDone::Totals(live) => live.add_under(key, value),
-            PartialDone::Extrema(seen) => seen.observe_under(key, value),
+            PartialDone::Extrema(observed) => observed.observe_under(key, value),
         }
     }
 }

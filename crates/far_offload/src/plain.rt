@@ -4,7 +4,7 @@ ghost use Rattle.std.specs.Int.{w64};
 ghost use Rattle.far_types.specs.Answers.{count_sum};
 ghost use Rattle.far_types.specs.Effects.{widened};
 ghost use Rattle.far_groups.specs.CountSums.{IsSumOf};
-ghost use Rattle.far_offload.specs.Partials.{values_over, span_in, SpanFits};
+ghost use Rattle.far_offload.specs.Partials.{values_over, min_max_in, MinMaxFits};
 
 use crate::column::{Column, find};
 use crate::filtering::{value_at, value_beyond};
@@ -12,7 +12,7 @@ use far_types::Spec;
 
 /// A count and a sum with one value more.
 #[inline(always)]
-fn raised(count_sum: (u64, i128), value: i64) -> (u64, i128)
+fn added(count_sum: (u64, i128), value: i64) -> (u64, i128)
     requires few { count_sum.0 < 2 ^ 26 }
     requires sum { IsSumOf count_sum.0 count_sum.1 }
     requires fits { FitsSigned w64 value }
@@ -33,7 +33,7 @@ pub(crate) fn count_sum_of(spec: &Spec, columns: &[Column<'_>], alive: &[bool]) 
     let mut count_sum = (0, 0);
     for place in 0..alive.len() {
         if let Some(value) = value_at(spec, columns, values, place, alive[place]) {
-            count_sum = raised(count_sum, value);
+            count_sum = added(count_sum, value);
         }
     }
     count_sum
@@ -41,28 +41,28 @@ pub(crate) fn count_sum_of(spec: &Spec, columns: &[Column<'_>], alive: &[bool]) 
 
 /// The least and the greatest of some values with one more.
 #[inline(always)]
-pub(crate) fn widened(span: Option<(i64, i64)>, value: i64) -> (i64, i64)
-    requires { SpanFits span }
-    ensures value { result ≡ widened value span }
-    ensures fits { SpanFits (Some result) }
+pub(crate) fn widened(min_max: Option<(i64, i64)>, value: i64) -> (i64, i64)
+    requires { MinMaxFits min_max }
+    ensures value { result ≡ widened value min_max }
+    ensures fits { MinMaxFits (Some result) }
 {
-    match span {
-        Some(span) => (value.min(span.0), value.max(span.1)),
+    match min_max {
+        Some(min_max) => (value.min(min_max.0), value.max(min_max.1)),
         None => (value, value),
     }
 }
 
 /// The least and the greatest of the values that the live and kept places have, where they have one.
-pub(crate) fn span_of(spec: &Spec, columns: &[Column<'_>], alive: &[bool]) -> Option<(i64, i64)>
-    ensures span { result ≡ span_in (values_over spec.now columns.now alive.now) }
-    ensures fits { SpanFits result }
+pub(crate) fn min_max_of(spec: &Spec, columns: &[Column<'_>], alive: &[bool]) -> Option<(i64, i64)>
+    ensures min_max { result ≡ min_max_in (values_over spec.now columns.now alive.now) }
+    ensures fits { MinMaxFits result }
 {
     let values = find(columns, spec.value);
-    let mut span = None;
+    let mut min_max = None;
     for place in 0..alive.len() {
-        if let Some(value) = value_beyond(spec, columns, values, place, alive[place], span) {
-            span = Some(widened(span, value));
+        if let Some(value) = value_beyond(spec, columns, values, place, alive[place], min_max) {
+            min_max = Some(widened(min_max, value));
         }
     }
-    span
+    min_max
 }

@@ -10,7 +10,7 @@ ghost use Rattle.far_types.specs.Lent.{int_cell};
 ghost use Rattle.far_types.specs.Pairs.{key_under};
 ghost use Rattle.far_types.specs.Answers.{extrema};
 ghost use Rattle.far_offload.specs.Columns.{column_of, cell_of, cells_at, AreKeys};
-ghost use Rattle.far_offload.specs.Partials.{pairs_over, SpanFits};
+ghost use Rattle.far_offload.specs.Partials.{pairs_over, MinMaxFits};
 
 use crate::column::{Column, find};
 use crate::filtering::{value_at, value_beyond};
@@ -91,9 +91,9 @@ impl<'a> NumberKeys for &'a [Option<i64>] {
     }
 }
 
-/// What `span_under` gives of a key that is a number, where the key column is of numbers: what the key and the column are is
+/// What `min_max_under` gives of a key that is a number, where the key column is of numbers: what the key and the column are is
 /// decided once for all places.
-fn span_under_number<N: NumberKeys>(
+fn min_max_under_number<N: NumberKeys>(
     spec: &Spec,
     columns: &[Column<'_>],
     alive: &[bool],
@@ -101,65 +101,65 @@ fn span_under_number<N: NumberKeys>(
     number: &i64,
 ) -> Option<(i64, i64)>
     requires { AreKeys columns.now spec.now.key (N.numbers keys.now) }
-    ensures span { result ≡ fin.get (extrema (pairs_over spec.now columns.now alive.now)) (Some (key_of.Int number.now)) }
-    ensures fits { SpanFits result }
+    ensures min_max { result ≡ fin.get (extrema (pairs_over spec.now columns.now alive.now)) (Some (key_of.Int number.now)) }
+    ensures fits { MinMaxFits result }
 {
     let values = find(columns, spec.value);
-    let mut span = None;
+    let mut min_max = None;
     for place in 0..alive.len() {
         if keys.is_at(place, number) {
             if let Some(value) = value_at(spec, columns, values, place, alive[place]) {
-                span = Some(widened(span, value));
+                min_max = Some(widened(min_max, value));
             }
         }
     }
-    span
+    min_max
 }
 
-/// What `span_under` gives of any key.
-fn span_under_key(
+/// What `min_max_under` gives of any key.
+fn min_max_under_key(
     spec: &Spec,
     columns: &[Column<'_>],
     alive: &[bool],
     key: &Option<Key>,
 ) -> Option<(i64, i64)>
-    ensures span { result ≡ fin.get (extrema (pairs_over spec.now columns.now alive.now)) key.now }
-    ensures fits { SpanFits result }
+    ensures min_max { result ≡ fin.get (extrema (pairs_over spec.now columns.now alive.now)) key.now }
+    ensures fits { MinMaxFits result }
 {
     let values = find(columns, spec.value);
     let keys = key_column(columns, spec.key);
-    let mut span = None;
+    let mut min_max = None;
     for place in 0..alive.len() {
         if stands_under(spec, columns, keys, place, key) {
-            if let Some(value) = value_beyond(spec, columns, values, place, alive[place], span) {
-                span = Some(widened(span, value));
+            if let Some(value) = value_beyond(spec, columns, values, place, alive[place], min_max) {
+                min_max = Some(widened(min_max, value));
             }
         }
     }
-    span
+    min_max
 }
 
 /// The least and the greatest value of the live places that stand under a key, where there is one: what the extrema of
 /// `fold` have under it. Allocates nothing.
-pub fn span_under(
+pub fn min_max_under(
     spec: &Spec,
     columns: &[Column<'_>],
     alive: &[bool],
     key: &Option<Key>,
 ) -> Option<(i64, i64)>
-    ensures span { result ≡ fin.get (extrema (pairs_over spec.now columns.now alive.now)) key.now }
-    ensures fits { SpanFits result }
+    ensures min_max { result ≡ fin.get (extrema (pairs_over spec.now columns.now alive.now)) key.now }
+    ensures fits { MinMaxFits result }
 {
     if let (Some(column), Some(Key::Int(number))) = (key_column(columns, spec.key), key) {
         if let Some(numbers) = column.numbers() {
             // With a number for each place, no turn of the loop looks where the numbers end.
             if numbers.len() >= alive.len() {
-                return span_under_number(spec, columns, alive, &numbers, number);
+                return min_max_under_number(spec, columns, alive, &numbers, number);
             }
         }
         if let Some(ints) = column.ints() {
-            return span_under_number(spec, columns, alive, ints, number);
+            return min_max_under_number(spec, columns, alive, ints, number);
         }
     }
-    span_under_key(spec, columns, alive, key)
+    min_max_under_key(spec, columns, alive, key)
 }

@@ -30,7 +30,7 @@ impl Model for History {
 }
 
 impl History {
-    /// A history of no group, with room for all that it will remember. Refused with `NoMemory` (1) alone.
+    /// A history of no group, with space for all that it will remember. Refused with `NoMemory` (1) alone.
     pub fn new(alloc: Global) -> Result<History, Refusal>
         ensures empty { IfOk result (λ history. history ≡ []) }
         ensures memory { IfErr result (λ e. e ≡ Refusal.NoMemory) }

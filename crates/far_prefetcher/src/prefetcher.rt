@@ -25,7 +25,7 @@ impl Model for Prefetcher {
 }
 
 impl Prefetcher {
-    /// A prefetcher of so many columns, of which nothing was seen yet, with room for all that it will remember.
+    /// A prefetcher of so many columns, of which nothing was seen yet, with space for all that it will remember.
     /// Refused with `NoMemory` (1) alone.
     pub fn new(alloc: Global, columns: u32) -> Result<Prefetcher, Refusal>
         ensures unseen { IfOk result (λ prefetcher. prefetcher ≡ replicate columns []) }

@@ -8,7 +8,7 @@ use Rattle.far_types.specs.declared.refusal.Refusal.{Refusal}
 use Rattle.far_types.specs.declared.refusal.Refusal.TheVariants as refusal
 use Rattle.far_types.specs.FirstOf.{first_of}
 use Rattle.far_scopes.specs.declared.object_record.ObjectRecord.{ObjectRecord}
-use Rattle.far_scopes.specs.Movement.{Movement, entry_of}
+use Rattle.far_scopes.specs.Movement.{Movement, record_of}
 use Rattle.far_scopes.specs.Refusing.{absent}
 use Rattle.far_vector.specs.Vector.{Vector}
 use Rattle.far_texts.specs.Texts.{Texts}
@@ -19,12 +19,12 @@ use Rattle.far_rows.specs.Rows.{Rows, AreRows}
 use Rattle.far_rows.specs.Refusing.{told_at, absent_at, absents, absents_from, no_range}
 
 -- the refusal of an object with this name
-told-by : {K : Type 0} (entry : Option (ObjectRecord K)) (name : Name) → option_map (λ e. e.name) entry ≡ Some name → option_map_or (λ e. refusal.Absent e.name.column e.name.group) entry refusal.StaleJob ≡ refusal.Absent name.column name.group
+told-by : {K : Type 0} (object_record : Option (ObjectRecord K)) (name : Name) → option_map (λ e. e.name) object_record ≡ Some name → option_map_or (λ e. refusal.Absent e.name.column e.name.group) object_record refusal.StaleJob ≡ refusal.Absent name.column name.group
 told-by None name is = absurd (none-some name is)
 told-by (Some e) name is = ap (λ (n : Name). refusal.Absent n.column n.group) (same_Some e.name name is)
 
 told : {X K : Type 0} (m : Movement X K) (o : ℕ) (name : Name) → slice_get (names_of m) o ≡ Some name → (absent m o).1 ≡ refusal.Absent name.column name.group
-told m o name is = told-by (entry_of m o) name (sym (slice_get-map (λ e. e.name) m.entries o) ∙ is)
+told m o name is = told-by (record_of m o) name (sym (slice_get-map (λ e. e.name) m.records o) ∙ is)
 
 -- the object of a row group is away, where there is one: the refusal names its column and the row group
 told-of : {X K : Type 0} (m : Movement X K) (column g : ℕ) (objects : List ℕ) → AreNamed (names_of m) column objects → (o : Option ℕ) → slice_get objects g ≡ o

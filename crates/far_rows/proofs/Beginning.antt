@@ -102,8 +102,8 @@ texts-begun size len (c ∷ columns) some not_divides more are =
     rw first refl
 
 -- a table of at most 16 columns and 2^24 places has few enough objects: as many a row group as columns of a kind
-pub few-more : (entries n k size len : ℕ) → entries ≡ n * k → k * size ≡ len → len < 2 ^ 24 → 0 < size → n ≤ 16 → entries + n ≤ 2 ^ 28
-few-more entries n k size len count all below some few =
+pub few-more : (records n k size len : ℕ) → records ≡ n * k → k * size ≡ len → len < 2 ^ 24 → 0 < size → n ≤ 16 → records + n ≤ 2 ^ 28
+few-more records n k size len count all below some few =
     let groups = mul-le-mul_left {m = 1} {n = size} k some in
     let one : k * 1 ≡ k = mul-one k in
     let all_groups = mul-le-mul_left {m = k + 1} {n = 2 ^ 24} n (omega (arith, groups, one, all, below)) in
@@ -117,24 +117,24 @@ are-numbers size len columns shaped same_length k d below = record { shaped = sh
 pub are-texts : (size len : ℕ) (columns : List Texts) → All HasGroups columns → All (λ c. (c.size ≡ size) × (c.len ≡ len)) columns → All (IsTexts size len) columns
 are-texts size len columns grouped same_length k d below = record { grouped = grouped k d below; same_length = same_length k d below }
 
-module _ (size len entries : ℕ) (some : 0 < size) (below : len < 2 ^ 24) (few : entries ≤ 2 ^ 28) where
-  pub numbers-few : (columns : NumberColumns) → length columns ≤ 16 → All (IsNumbers size len) columns → All (λ c. entries ≡ length columns * length c.objects) columns → all_begin columns ≡ true → entries + length columns ≤ 2 ^ 28
+module _ (size len records : ℕ) (some : 0 < size) (below : len < 2 ^ 24) (few : records ≤ 2 ^ 28) where
+  pub numbers-few : (columns : NumberColumns) → length columns ≤ 16 → All (IsNumbers size len) columns → All (λ c. records ≡ length columns * length c.objects) columns → all_begin columns ≡ true → records + length columns ≤ 2 ^ 28
   numbers-few [] small are count begin = omega (arith, few)
   numbers-few (c ∷ columns) small are count begin =
       let n = length (c ∷ columns) in
       let here = All-head (IsNumbers size len) c columns are in
       let full = All-head (λ c. is_full c ≡ true) c columns (AllPass-from_list_all is_full (c ∷ columns) begin) in
       let all : length c.objects * size ≡ len = ap (λ s. length c.objects * s) (sym here.same_length.0) ∙ sym (eqb-true c.len (length c.objects * c.size) full) ∙ here.same_length.1 in
-      few-more entries n (length c.objects) size len (All-head (λ c. entries ≡ n * length c.objects) c columns count) all below some small
+      few-more records n (length c.objects) size len (All-head (λ c. records ≡ n * length c.objects) c columns count) all below some small
 
-  pub texts-few : (columns : List Texts) → length columns ≤ 16 → All (IsTexts size len) columns → All (λ c. entries ≡ length columns * length c.objects) columns → all_texts_begin columns ≡ true → entries + length columns ≤ 2 ^ 28
+  pub texts-few : (columns : List Texts) → length columns ≤ 16 → All (IsTexts size len) columns → All (λ c. records ≡ length columns * length c.objects) columns → all_texts_begin columns ≡ true → records + length columns ≤ 2 ^ 28
   texts-few [] small are count begin = omega (arith, few)
   texts-few (c ∷ columns) small are count begin =
       let n = length (c ∷ columns) in
       let here = All-head (IsTexts size len) c columns are in
       let full = All-head (λ c. begins_group c ≡ true) c columns (AllPass-from_list_all begins_group (c ∷ columns) begin) in
       let all : length c.objects * size ≡ len = ap (λ s. length c.objects * s) (sym here.same_length.0) ∙ sym (eqb-true c.len (length c.objects * c.size) full) ∙ here.same_length.1 in
-      few-more entries n (length c.objects) size len (All-head (λ c. entries ≡ n * length c.objects) c columns count) all below some small
+      few-more records n (length c.objects) size len (All-head (λ c. records ≡ n * length c.objects) c columns count) all below some small
 
 -- neither of two refusals is due
 pub none-of-two : {A : Type 0} (a b : Option A) → option_or a b ≡ None → (a ≡ None) × (b ≡ None)

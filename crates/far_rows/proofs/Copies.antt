@@ -62,8 +62,8 @@ module _ {K : Type 0} (content : K → List ℕ) (r : Rows K) (are : AreRows con
       (subst (λ (list : Option (List ℕ)). IsSomeAnd list (λ l. SpellsTexts l (content t))) (sym there) spelled)
 
   -- the ticket is of the store of the others
-  pub number-here : (is_of : K → List ℕ → Type 0) (name : List ℕ) → AreAt is_of name r → (t : K) → clean_ticket r.number_objects o ≡ Some t → is_of t name
-  number-here is_of name here t clean = subst (λ (ticket : Option K). IfSome ticket (λ k. is_of k name)) (clean-is (dirty r.number_objects o) (ticket_of r.number_objects o) t clean).1 (here.numbers o)
+  pub number-here : (is_of : K → List ℕ → Type 0) (id : List ℕ) → AreAt is_of id r → (t : K) → clean_ticket r.number_objects o ≡ Some t → is_of t id
+  number-here is_of id here t clean = subst (λ (ticket : Option K). IfSome ticket (λ k. is_of k id)) (clean-is (dirty r.number_objects o) (ticket_of r.number_objects o) t clean).1 (here.numbers o)
 
-  pub text-here : (is_of : K → List ℕ → Type 0) (name : List ℕ) → AreAt is_of name r → (t : K) → clean_ticket r.text_objects o ≡ Some t → is_of t name
-  text-here is_of name here t clean = subst (λ (ticket : Option K). IfSome ticket (λ k. is_of k name)) (clean-is (dirty r.text_objects o) (ticket_of r.text_objects o) t clean).1 (here.texts o)
+  pub text-here : (is_of : K → List ℕ → Type 0) (id : List ℕ) → AreAt is_of id r → (t : K) → clean_ticket r.text_objects o ≡ Some t → is_of t id
+  text-here is_of id here t clean = subst (λ (ticket : Option K). IfSome ticket (λ k. is_of k id)) (clean-is (dirty r.text_objects o) (ticket_of r.text_objects o) t clean).1 (here.texts o)

@@ -91,28 +91,28 @@ number-shaped : (size : ℕ) → 1 ≤ size → size ≤ 65536 → (c : Vector (
 number-shaped size low high c empty =
     let none : length c.objects ≡ 0 = ap length empty.objects in
     let nothing : 0 * c.size ≡ 0 = omega arith in
-    let room : length c.objects * c.size ≡ 0 = ap (λ n. n * c.size) none ∙ nothing in
+    let space : length c.objects * c.size ≡ 0 = ap (λ n. n * c.size) none ∙ nothing in
     record {
       some = omega (arith, empty.same_length, low);
       short = omega (arith, empty.same_length, high);
       few = omega (arith, none);
-      rising = λ i j d early within. absurd (omega (arith, none, early, within));
-      enough = omega (arith, empty.len, room);
-      needed = omega (arith, empty.len, empty.same_length, room, low);
+      sorted = λ i j d early within. absurd (omega (arith, none, early, within));
+      enough = omega (arith, empty.len, space);
+      needed = omega (arith, empty.len, empty.same_length, space, low);
     }
 
 text-grouped : (size limit : ℕ) → 1 ≤ size → size ≤ 65536 → limit ≤ 2 ^ 24 → (c : Texts) → IsEmptyTexts size limit c → HasGroups c
 text-grouped size limit low high short c empty =
     let none : length c.objects ≡ 0 = ap length empty.objects in
     let nothing : 0 * c.size ≡ 0 = omega arith in
-    let room : length c.objects * c.size ≡ 0 = ap (λ n. n * c.size) none ∙ nothing in
+    let space : length c.objects * c.size ≡ 0 = ap (λ n. n * c.size) none ∙ nothing in
     record {
       some = omega (arith, empty.same_length, low);
       small = omega (arith, empty.same_length, high);
       short = omega (arith, empty.bound, short);
       few = omega (arith, none);
-      held = omega (arith, empty.len, room);
-      begun = omega (arith, empty.len, empty.same_length, room, low);
+      held = omega (arith, empty.len, space);
+      begun = omega (arith, empty.len, empty.same_length, space, low);
     }
 
 no-objects : (n : ℕ) (objects : List ℕ) → objects ≡ [] → n * length objects ≡ 0

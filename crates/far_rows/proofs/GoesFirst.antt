@@ -7,7 +7,7 @@ use Rattle.far_types.specs.declared.name.Name.{Name}
 use Rattle.far_types.specs.FirstOf.{first_of}
 use Rattle.far_scopes.specs.declared.object_record.ObjectRecord.{ObjectRecord}
 use Rattle.far_scopes.specs.Coldest.{coldest as coldest_in}
-use Rattle.far_scopes.specs.Movement.{Movement, entry_of, is_local, pins_of}
+use Rattle.far_scopes.specs.Movement.{Movement, record_of, is_local, pins_of}
 use Rattle.far_scopes.specs.Recency.{has}
 use Rattle.far_scopes.specs.Refusing.{absent, lend_refusal}
 use Rattle.far_scopes.proofs.ColdestLaws.{coldest-local, coldest-unpinned}
@@ -36,10 +36,10 @@ module _ {X K : Type 0} (m : Movement X K) (ordered : (o : ℕ) → has m.order 
   name-holds o (Some n) at each = each n at
 
   coldest-holds : (found : Option ℕ) → coldest_in m ≡ found → ((o : ℕ) (name : Name) → slice_get (names_of m) o ≡ Some name → is_local m o ≡ true → pins_of m o ≡ 0 → P name)
-      → IfSome (option_and_then (λ o. option_map (λ (entry : ObjectRecord K). entry.name) (entry_of m o)) found) P
+      → IfSome (option_and_then (λ o. option_map (λ (object_record : ObjectRecord K). object_record.name) (record_of m o)) found) P
   coldest-holds None is each = tt
   coldest-holds (Some o) is each =
-      name-holds o (option_map (λ (entry : ObjectRecord K). entry.name) (entry_of m o)) (slice_get-map (λ (entry : ObjectRecord K). entry.name) m.entries o)
+      name-holds o (option_map (λ (object_record : ObjectRecord K). object_record.name) (record_of m o)) (slice_get-map (λ (object_record : ObjectRecord K). object_record.name) m.records o)
       (λ n at. each o n at (coldest-local m ordered (Some o) is) (coldest-unpinned m ordered (Some o) is))
 
 not-away : {X K : Type 0} (m : Movement X K) (o : ℕ) → is_local m o ≡ true → lend_refusal m o ≡ None

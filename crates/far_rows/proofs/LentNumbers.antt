@@ -15,7 +15,7 @@ use Rattle.far_types.specs.FirstOf.{first_of}
 use Rattle.far_scopes.specs.Movement.{Movement, is_local}
 use Rattle.far_scopes.specs.Refusing.{absent, first_absent}
 use Rattle.far_vector.specs.Vector.{Vector}
-use Rattle.far_vector.specs.Pieces.{first_touched, touched_count, touched, pieces_of}
+use Rattle.far_vector.specs.Pieces.{first_overlapped, overlapped_count, touched, pieces_of}
 use Rattle.far_vector.specs.Refusing.{pieces_refusal}
 use Rattle.far_columns.specs.Numbers.{Numbers, numbers_in, with_flags}
 use Rattle.far_scopes.proofs.FirstCases.{first-append}
@@ -73,7 +73,7 @@ module _ {K : Type 0} (content : K → List ℕ) (r : Rows K) (are : AreRows con
   part-refused =
       let cases : ℕ → List (Bool × Refusal) = λ s. map (absent-of r.number_objects c.objects) (touched s from to) in
       let range : ℕ → Bool × Refusal = λ len. (nat_lt to from || nat_lt len to, refusal.OutOfRange) in
-      ap (option_or (first_of (range c.len ∷ []))) (absent-range r.number_objects c.objects (first_touched c.size from) (touched_count c.size from to))
+      ap (option_or (first_of (range c.len ∷ []))) (absent-range r.number_objects c.objects (first_overlapped c.size from) (overlapped_count c.size from to))
       ∙ sym (first-append (range c.len ∷ []) (cases c.size))
       ∙ (λ k. first_of (range (same_length.1 k) ∷ cases (same_length.0 k)))
       ∙ ap (λ (f : ℕ → Bool × Refusal). first_of (no_range r from to ∷ map f (touched r.size from to))) (λ k g. sym (absent-number content r are g i c within read) k)

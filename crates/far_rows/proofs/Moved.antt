@@ -8,7 +8,7 @@ use Rattle.far_vector.proofs.Together.{vectors-stay, elements-stay}
 use Rattle.far_vector.specs.Vector.{Vector}
 use Rattle.far_texts.specs.Texts.{Texts, lists_of, texts_in}
 use Rattle.far_columns.specs.Numbers.{number_lists, numbers_in}
-use Rattle.far_texts.proofs.Beside.{columns-stay, texts-stay}
+use Rattle.far_texts.proofs.Disjoint.{columns-stay, texts-stay}
 use Rattle.far_rows.specs.ColumnIndexes.{columns_of}
 use Rattle.far_rows.specs.Naming.{names_of, AreNamed, AreOwned}
 use Rattle.far_rows.specs.Rows.{Rows, AreRows, cells_of, all_numbers, all_texts}
@@ -93,16 +93,16 @@ module _ {K : Type 0} (content : K → List ℕ) {r : Rows K} where
         ∙ ap (cells_of content) is
 
     -- and tickets of a store stay tickets of it, as those of the objects that moved do
-    pub numbers-kept : (is_of : K → List ℕ → Type 0) (m : Movement (Option ℤ) K) → ((o : ℕ) → number_lists content m o ≡ number_lists content r.number_objects o) → ((name : List ℕ) → AreHere is_of name r.number_objects → AreHere is_of name m) → KeepsCells content is_of now (record r { number_objects = m })
+    pub numbers-kept : (is_of : K → List ℕ → Type 0) (m : Movement (Option ℤ) K) → ((o : ℕ) → number_lists content m o ≡ number_lists content r.number_objects o) → ((id : List ℕ) → AreHere is_of id r.number_objects → AreHere is_of id m) → KeepsCells content is_of now (record r { number_objects = m })
     numbers-kept is_of m lists store = record {
       cells = number-cells m lists;
-      number_store = λ name here. store name (subst (λ (was : Rows K). AreHere is_of name was.number_objects) (sym is) here);
-      text_store = λ name here. subst (λ (was : Rows K). AreHere is_of name was.text_objects) (sym is) here;
+      number_store = λ id here. store id (subst (λ (was : Rows K). AreHere is_of id was.number_objects) (sym is) here);
+      text_store = λ id here. subst (λ (was : Rows K). AreHere is_of id was.text_objects) (sym is) here;
     }
 
-    pub texts-kept : (is_of : K → List ℕ → Type 0) (m : Movement ℕ K) → ((o : ℕ) → lists_of content m o ≡ lists_of content r.text_objects o) → ((name : List ℕ) → AreHere is_of name r.text_objects → AreHere is_of name m) → KeepsCells content is_of now (record r { text_objects = m })
+    pub texts-kept : (is_of : K → List ℕ → Type 0) (m : Movement ℕ K) → ((o : ℕ) → lists_of content m o ≡ lists_of content r.text_objects o) → ((id : List ℕ) → AreHere is_of id r.text_objects → AreHere is_of id m) → KeepsCells content is_of now (record r { text_objects = m })
     texts-kept is_of m lists store = record {
       cells = text-cells m lists;
-      number_store = λ name here. subst (λ (was : Rows K). AreHere is_of name was.number_objects) (sym is) here;
-      text_store = λ name here. store name (subst (λ (was : Rows K). AreHere is_of name was.text_objects) (sym is) here);
+      number_store = λ id here. subst (λ (was : Rows K). AreHere is_of id was.number_objects) (sym is) here;
+      text_store = λ id here. store id (subst (λ (was : Rows K). AreHere is_of id was.text_objects) (sym is) here);
     }

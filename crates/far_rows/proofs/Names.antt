@@ -8,28 +8,28 @@ use Rattle.far_types.specs.declared.refusal.Refusal.{Refusal}
 use Rattle.far_scopes.specs.declared.object_record.ObjectRecord.{ObjectRecord}
 use Rattle.far_scopes.specs.declared.replacement.Replacement.{Replacement}
 use Rattle.far_scopes.specs.Movement.{Movement}
-use Rattle.far_scopes.specs.Effects.{with_entry, with_lens, written, written_all, after_replace, after_replace_all, after_arrive}
+use Rattle.far_scopes.specs.Effects.{with_record, with_lens, written, after_write_all, after_replace, after_replace_all, after_arrive}
 use Rattle.far_scopes.proofs.Places.{cases_option}
 use Rattle.far_scopes.proofs.Outcomes.{by-outcome}
 use Rattle.far_rows.specs.Naming.{names_of}
 
 abbrev names_in : {K : Type 0} → List (ObjectRecord K) → List Name
-names_in entries = map (λ entry. entry.name) entries
+names_in records = map (λ object_record. object_record.name) records
 
 -- another record for an object, of the same name
-pub names-with : {K : Type 0} (entries : List (ObjectRecord K)) (o : ℕ) (change : ObjectRecord K → ObjectRecord K) → ((entry : ObjectRecord K) → (change entry).name ≡ entry.name) → names_in (with_entry entries o change) ≡ names_in entries
-names-with {K} entries o change keeps = elim (cases_option (slice_get entries o)) [
+pub names-with : {K : Type 0} (records : List (ObjectRecord K)) (o : ℕ) (change : ObjectRecord K → ObjectRecord K) → ((object_record : ObjectRecord K) → (change object_record).name ≡ object_record.name) → names_in (with_record records o change) ≡ names_in records
+names-with {K} records o change keeps = elim (cases_option (slice_get records o)) [
   | inl none ↦ rw none refl
-  | inr (entry, is) ↦
-      let named : slice_get (names_in entries) o ≡ Some entry.name = slice_get-map (λ e. e.name) entries o ∙ ap (option_map (λ (e : ObjectRecord K). e.name)) is in
-      rw is (map-set (λ e. e.name) entries o (change entry)
-      ∙ ap (set (names_in entries) o) (keeps entry ∙ sym (get_or_from_slice_get (names_in entries) o entry.name entry.name named))
-      ∙ set-get_or (names_in entries) o entry.name)
+  | inr (object_record, is) ↦
+      let named : slice_get (names_in records) o ≡ Some object_record.name = slice_get-map (λ e. e.name) records o ∙ ap (option_map (λ (e : ObjectRecord K). e.name)) is in
+      rw is (map-set (λ e. e.name) records o (change object_record)
+      ∙ ap (set (names_in records) o) (keeps object_record ∙ sym (get_or_from_slice_get (names_in records) o object_record.name object_record.name named))
+      ∙ set-get_or (names_in records) o object_record.name)
 ]
 
 -- there are as many objects as names
-pub as-many : {X K L : Type 0} (old : Movement X K) (new : Movement X L) → names_of new ≡ names_of old → length new.entries ≡ length old.entries
-as-many old new same = sym (length-map new.entries (λ e. e.name)) ∙ ap length same ∙ length-map old.entries (λ e. e.name)
+pub as-many : {X K L : Type 0} (old : Movement X K) (new : Movement X L) → names_of new ≡ names_of old → length new.records ≡ length old.records
+as-many old new same = sym (length-map new.records (λ e. e.name)) ∙ ap length same ∙ length-map old.records (λ e. e.name)
 
 -- the names stay, where a call that keeps them is done or refused
 pub still-named : {X K A : Type 0} (old new done : Movement X K) (result : Result A Refusal) → OnOk result (new ≡ done) → OnErr result (new ≡ old) → names_of done ≡ names_of old → names_of new ≡ names_of old
@@ -45,22 +45,22 @@ still-named-there old new o list result ok err = by-outcome result ok err (came 
 
 module _ {X K : Type 0} where
   pub names-written : (m : Movement X K) (o : ℕ) → names_of (written m o) ≡ names_of m
-  names-written m o = names-with m.entries o (λ entry. record entry { version = entry.version + 1 }) (λ entry. refl)
+  names-written m o = names-with m.records o (λ object_record. record object_record { version = object_record.version + 1 }) (λ object_record. refl)
 
   pub names-replaced : (m : Movement X K) (o : ℕ) (list : List X) → names_of (after_replace m o list) ≡ names_of m
   names-replaced m o list =
-      names-with (with_entry m.entries o (λ entry. record entry { len = length list })) o (λ entry. record entry { version = entry.version + 1 }) (λ entry. refl)
-      ∙ names-with m.entries o (λ entry. record entry { len = length list }) (λ entry. refl)
+      names-with (with_record m.records o (λ object_record. record object_record { len = length list })) o (λ object_record. record object_record { version = object_record.version + 1 }) (λ object_record. refl)
+      ∙ names-with m.records o (λ object_record. record object_record { len = length list }) (λ object_record. refl)
 
-  names-lens : (entries : List (ObjectRecord K)) (lists : List (Replacement X)) → names_in (with_lens entries lists) ≡ names_in entries
-  names-lens entries [] = refl
-  names-lens entries (r ∷ rs) =
-      let change : ObjectRecord K → ObjectRecord K = λ entry. record entry { len = length r.list.items } in
-      names-lens (with_entry entries r.object change) rs ∙ names-with entries r.object change (λ entry. refl)
+  names-lens : (records : List (ObjectRecord K)) (lists : List (Replacement X)) → names_in (with_lens records lists) ≡ names_in records
+  names-lens records [] = refl
+  names-lens records (r ∷ rs) =
+      let change : ObjectRecord K → ObjectRecord K = λ object_record. record object_record { len = length r.list.items } in
+      names-lens (with_record records r.object change) rs ∙ names-with records r.object change (λ object_record. refl)
 
-  names-written_all : (m : Movement X K) (lists : List (Replacement X)) → names_of (written_all m lists) ≡ names_of m
-  names-written_all m [] = refl
-  names-written_all m (r ∷ rs) = names-written_all (written m r.object) rs ∙ names-written m r.object
+  names-after_write_all : (m : Movement X K) (lists : List (Replacement X)) → names_of (after_write_all m lists) ≡ names_of m
+  names-after_write_all m [] = refl
+  names-after_write_all m (r ∷ rs) = names-after_write_all (written m r.object) rs ∙ names-written m r.object
 
   pub names-replaced_all : (m : Movement X K) (lists : List (Replacement X)) → names_of (after_replace_all m lists) ≡ names_of m
-  names-replaced_all m lists = names-written_all _ lists ∙ names-lens m.entries lists
+  names-replaced_all m lists = names-after_write_all _ lists ∙ names-lens m.records lists

@@ -5,7 +5,7 @@ use Rattle.std.proofs.lemmas.List.{map-append}
 use Rattle.std.proofs.lemmas.Option.{none-some, same_Some}
 use Rattle.far_types.specs.declared.name.Name.{Name}
 use Rattle.far_scopes.specs.Movement.{Movement}
-use Rattle.far_scopes.specs.Effects.{new_entry, after_create}
+use Rattle.far_scopes.specs.Effects.{new_record, after_create}
 use Rattle.far_scopes.proofs.WordPlaces.{slice_get-push_last}
 use Rattle.far_rows.specs.Naming.{names_of, AreNamed}
 
@@ -42,4 +42,4 @@ named-next names column objects named g o at =
     ]
 
 pub names-created : {X K : Type 0} (m : Movement X K) (name : Name) (list : List X) → names_of (after_create m name list) ≡ names_of m ++ name ∷ []
-names-created m name list = map-append (λ entry. entry.name) m.entries (new_entry name (length list) ∷ [])
+names-created m name list = map-append (λ object_record. object_record.name) m.records (new_record name (length list) ∷ [])

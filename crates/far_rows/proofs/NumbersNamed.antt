@@ -82,11 +82,11 @@ module _ {K : Type 0} where
   names-written-in m (c ∷ columns) (x ∷ numbers) not =
       names-written-in (pushed_in m c x) columns numbers (All-tail (λ d. is_full d ≡ false) c columns not) ∙ names-kept m c x (All-head (λ d. is_full d ≡ false) c columns not)
 
-  pub numbers-named : (size len : ℕ) (columns : NumberColumns) → 0 < size → All (IsNumbers size len) columns → (m : Movement (Option ℤ) K) (numbers : Numbers) → length numbers ≡ length columns → All (IsNamed (names_of m)) columns → All (IsNamed (names_of (all_pushed_in m columns numbers))) (all_pushed (length m.entries) columns)
+  pub numbers-named : (size len : ℕ) (columns : NumberColumns) → 0 < size → All (IsNumbers size len) columns → (m : Movement (Option ℤ) K) (numbers : Numbers) → length numbers ≡ length columns → All (IsNamed (names_of m)) columns → All (IsNamed (names_of (all_pushed_in m columns numbers))) (all_pushed (length m.records) columns)
   numbers-named size len columns some are m numbers same_length named = elim (cases_eq (len % size) zero) [
-    | inl divides ↦ named-begun m columns numbers (length m.entries) (sym (length-map m.entries (λ entry. entry.name))) same_length (λ k d below. number-begins size len some divides (get_or columns k d) (are k d below)) named
+    | inl divides ↦ named-begun m columns numbers (length m.records) (sym (length-map m.records (λ object_record. object_record.name))) same_length (λ k d below. number-begins size len some divides (get_or columns k d) (are k d below)) named
     | inr not_divides ↦
         let not : All (λ c. is_full c ≡ false) columns = λ k d below. number-begun size len some not_divides (get_or columns k d) (are k d below) in
-        subst (λ (ns : List Name). All (IsNamed ns) (all_pushed (length m.entries) columns)) (sym (names-written-in m columns numbers not))
-        (all-numbers (λ c. (is_full c ≡ false) × IsNamed (names_of m) c) (IsNamed (names_of m)) (named-still (names_of m)) (length m.entries) columns (λ k d below. (not k d below, named k d below)))
+        subst (λ (ns : List Name). All (IsNamed ns) (all_pushed (length m.records) columns)) (sym (names-written-in m columns numbers not))
+        (all-numbers (λ c. (is_full c ≡ false) × IsNamed (names_of m) c) (IsNamed (names_of m)) (named-still (names_of m)) (length m.records) columns (λ k d below. (not k d below, named k d below)))
   ]

@@ -65,13 +65,13 @@ module _ {K : Type 0} where
       ∙ ap (λ (ns : List Name). ns ++ map next_name columns) (names-made m c x (All-head (λ d. is_full d ≡ true) c columns full))
       ∙ append_assoc (names_of m) (next_name c ∷ []) (map next_name columns)
 
-  pub numbers-owned : (size len : ℕ) (columns : NumberColumns) → 0 < size → All (IsNumbers size len) columns → (m : Movement (Option ℤ) K) (numbers : Numbers) → length numbers ≡ length columns → AreOwned column_of objects_of (names_of m) columns → AreOwned column_of objects_of (names_of (all_pushed_in m columns numbers)) (all_pushed (length m.entries) columns)
+  pub numbers-owned : (size len : ℕ) (columns : NumberColumns) → 0 < size → All (IsNumbers size len) columns → (m : Movement (Option ℤ) K) (numbers : Numbers) → length numbers ≡ length columns → AreOwned column_of objects_of (names_of m) columns → AreOwned column_of objects_of (names_of (all_pushed_in m columns numbers)) (all_pushed (length m.records) columns)
   numbers-owned size len columns some are m numbers same_length owned =
-      let n = length m.entries in
+      let n = length m.records in
       elim (cases_eq (len % size) zero) [
         | inl divides ↦
             let full : All (λ c. is_full c ≡ true) columns = λ k d below. number-begins size len some divides (get_or columns k d) (are k d below) in
-            let count : n ≡ length (names_of m) = sym (length-map m.entries (λ entry. entry.name)) in
+            let count : n ≡ length (names_of m) = sym (length-map m.records (λ object_record. object_record.name)) in
             subst (λ (ns : List Name). AreOwned column_of objects_of ns (all_pushed n columns)) (sym (all-made m columns numbers same_length full))
             (owned-more column_of objects_of (names_of m) columns (all_pushed n columns) (more-begun n columns full) (subst (λ k. HaveNext column_of objects_of k columns (all_pushed n columns)) count (next-begun n columns full)) owned)
         | inr not_divides ↦

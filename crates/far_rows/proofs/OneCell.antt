@@ -13,7 +13,7 @@ use Rattle.far_texts.specs.Texts.{Texts, Lists, IsTextColumn, KeepsOthers, texts
 use Rattle.far_texts.specs.Columns.{AreTextColumns, ChangesColumn}
 use Rattle.far_columns.specs.NumbersTogether.{NumberLists, NumberColumns, AreNumberColumns}
 use Rattle.far_texts.specs.Together.{AreColumns}
-use Rattle.far_texts.proofs.Beside.{columns-after, others-after as texts-after}
+use Rattle.far_texts.proofs.Disjoint.{columns-after, others-after as texts-after}
 
 -- what reads of one is another, and of the others as it was
 pub map-one : {A B : Type 0} (f h : A → B) (xs : List A) (i : ℕ) (y : B) → i < length xs → ((d : A) → h (get_or xs i d) ≡ y) → ((j : ℕ) (d : A) → j ≢ i → j < length xs → h (get_or xs j d) ≡ f (get_or xs j d)) → map h xs ≡ set (map f xs) i y

@@ -90,10 +90,10 @@ module _ {K : Type 0} (content : K → List ℕ) (r : Rows K) (are : AreRows con
         ap (λ (o : Option ℕ). option_map_or (λ p. (written_out r.number_objects p).0) o false) none
 
   -- 24 of the columns of texts
-  texts-written : (values : Values) → length values.texts ≡ length r.texts → (b : Bool) → all_begin r.texts ≡ b → first_of (if b then [] else some_text_written_out r.text_objects (next_forms (lists_of content r.text_objects) (length r.text_objects.entries) r.texts values.texts) ∷ []) ≡ first_of ((list_any (text_written r g) r.texts, refusal.EditsUsedUp) ∷ [])
+  texts-written : (values : Values) → length values.texts ≡ length r.texts → (b : Bool) → all_begin r.texts ≡ b → first_of (if b then [] else some_text_written_out r.text_objects (next_forms (lists_of content r.text_objects) (length r.text_objects.records) r.texts values.texts) ∷ []) ≡ first_of ((list_any (text_written r g) r.texts, refusal.EditsUsedUp) ∷ [])
   texts-written values same_length true is = sym (ap (λ (b : Bool). first_of ((b, refusal.EditsUsedUp) ∷ [])) (texts-none is))
   texts-written values same_length false is =
-      ap (λ (b : Bool). first_of ((b, refusal.EditsUsedUp) ∷ [])) (forms-written r g (lists_of content r.text_objects) (length r.text_objects.entries) r.texts values.texts same_length (λ i c at. each i c at)) where
+      ap (λ (b : Bool). first_of ((b, refusal.EditsUsedUp) ∷ [])) (forms-written r g (lists_of content r.text_objects) (length r.text_objects.records) r.texts values.texts same_length (λ i c at. each i c at)) where
         each : (i : ℕ) (c : Texts) → slice_get r.texts i ≡ Some c → (begins_group c ≡ false) × (slice_get c.objects g ≡ Some (last_object c))
         each i c at =
             let known = text i c at in
@@ -102,20 +102,20 @@ module _ {K : Type 0} (content : K → List ℕ) (r : Rows K) (are : AreRows con
 
   -- 11, 17 and 24 of the columns of texts, of which nothing is away
   texts-tests : (values : Values) → length values.texts ≡ length r.texts → (any_too_long values.texts).0 ≡ false → first_of (absents r g) ≡ None
-      → push_texts_refusal content r.text_objects r.texts values.texts ≡ first_of (any_full (lists_of content r.text_objects) r.texts values.texts ∷ no_space_for_texts r (map (λ form. length form.1) (next_forms (lists_of content r.text_objects) (length r.text_objects.entries) r.texts values.texts)) ∷ (list_any (text_written r g) r.texts, refusal.EditsUsedUp) ∷ [])
+      → push_texts_refusal content r.text_objects r.texts values.texts ≡ first_of (any_full (lists_of content r.text_objects) r.texts values.texts ∷ no_space_for_texts r (map (λ form. length form.1) (next_forms (lists_of content r.text_objects) (length r.text_objects.records) r.texts values.texts)) ∷ (list_any (text_written r g) r.texts, refusal.EditsUsedUp) ∷ [])
   texts-tests values same_length short free =
       let m = r.text_objects in
       let lists : Lists = lists_of content m in
-      let forms = next_forms lists (length m.entries) r.texts values.texts in
+      let forms = next_forms lists (length m.records) r.texts values.texts in
       let full = any_full lists r.texts values.texts in
-      let room = no_space_for_texts r (map (λ (form : ℕ × List ℕ). length form.1) forms) in
+      let space = no_space_for_texts r (map (λ (form : ℕ × List ℕ). length form.1) forms) in
       let later : List (Bool × Refusal) = if all_begin r.texts then [] else some_text_written_out m forms ∷ [] in
       let away : List (Bool × Refusal) = if all_begin r.texts then [] else texts_absent m r.texts in
       let none : All (λ (case : Bool × Refusal). case.0 ≡ false) away = none-of (all_begin r.texts) refl in
-      ap (λ (b : Bool). cond b (Some refusal.TextTooLong) (first_of ((away ++ full ∷ []) ++ room ∷ later))) short
-      ∙ ap first_of (append_assoc away (full ∷ []) (room ∷ later))
-      ∙ skip away (full ∷ room ∷ later) none
-      ∙ ap (λ (last : Option Refusal). cond full.0 (Some refusal.ChunkFull) (cond room.0 (Some refusal.RegionFull) last)) (texts-written values same_length (all_begin r.texts) refl) where
+      ap (λ (b : Bool). cond b (Some refusal.TextTooLong) (first_of ((away ++ full ∷ []) ++ space ∷ later))) short
+      ∙ ap first_of (append_assoc away (full ∷ []) (space ∷ later))
+      ∙ skip away (full ∷ space ∷ later) none
+      ∙ ap (λ (last : Option Refusal). cond full.0 (Some refusal.ChunkFull) (cond space.0 (Some refusal.RegionFull) last)) (texts-written values same_length (all_begin r.texts) refl) where
         none-of : (b : Bool) → all_begin r.texts ≡ b → All (λ (case : Bool × Refusal). case.0 ≡ false) (if b then [] else texts_absent r.text_objects r.texts)
         none-of true is = All-nil (λ (case : Bool × Refusal). case.0 ≡ false)
         none-of false is = texts-here content r are free (all-not content r are is)
@@ -192,11 +192,11 @@ module _ {K : Type 0} (content : K → List ℕ) (r : Rows K) (are : AreRows con
         full : Bool × Refusal
         full = any_full (lists_of content r.text_objects) r.texts values.texts
 
-        room : Bool × Refusal
-        room = no_space_for_texts r (map (λ form. length form.1) (next_forms (lists_of content r.text_objects) (length r.text_objects.entries) r.texts values.texts))
+        space : Bool × Refusal
+        space = no_space_for_texts r (map (λ form. length form.1) (next_forms (lists_of content r.text_objects) (length r.text_objects.records) r.texts values.texts))
 
         later : List (Bool × Refusal)
-        later = full ∷ room ∷ no_space_for_numbers r ∷ some_written_out r g ∷ []
+        later = full ∷ space ∷ no_space_for_numbers r ∷ some_written_out r g ∷ []
 
         by : (due : Option Refusal) → first_of (absents r g) ≡ due → option_or due (option_or (push_texts_refusal content r.text_objects r.texts values.texts) (push_numbers_refusal r.number_objects r.numbers)) ≡ option_or due (first_of later)
         by (Some f) is = refl
@@ -205,5 +205,5 @@ module _ {K : Type 0} (content : K → List ℕ) (r : Rows K) (are : AreRows con
             let numbers = numbers-tests is in
             let kinds = by-kinds r g content are in
             (λ k. option_or (texts k) (numbers k))
-            ∙ in-order full.0 room.0 (no_space_for_numbers r).0 (list_any (text_written r g) r.texts) (list_any (number_written r g) r.numbers) refusal.ChunkFull refusal.RegionFull refusal.EditsUsedUp disjoint
-            ∙ (λ k. first_of (full ∷ room ∷ no_space_for_numbers r ∷ (sym kinds k, refusal.EditsUsedUp) ∷ []))
+            ∙ in-order full.0 space.0 (no_space_for_numbers r).0 (list_any (text_written r g) r.texts) (list_any (number_written r g) r.numbers) refusal.ChunkFull refusal.RegionFull refusal.EditsUsedUp disjoint
+            ∙ (λ k. first_of (full ∷ space ∷ no_space_for_numbers r ∷ (sym kinds k, refusal.EditsUsedUp) ∷ []))

@@ -117,4 +117,4 @@ module _ {K : Type 0} (content : K → List ℕ) (r : Rows K) (are : AreRows con
 
   -- 11 and 17 of an insert are told by the places
   pub push-plain : (limits : Limits) → AreOf limits r → (values : Values) → length values.texts ≡ length r.texts → push_refusal content r values ≡ insert_refusal content limits r values
-  push-plain limits of values same_length = λ k. first_of (append_tests r (insert-full content r are limits of values same_length k) (insert-parts content r are limits of values same_length (length r.text_objects.entries) k))
+  push-plain limits of values same_length = λ k. first_of (append_tests r (insert-full content r are limits of values same_length k) (insert-parts content r are limits of values same_length (length r.text_objects.records) k))

@@ -6,12 +6,12 @@ use Rattle.far_types.specs.declared.name.Name.{Name}
 use Rattle.far_codec.specs.Reading.{ints_meaning}
 use Rattle.far_scopes.specs.declared.object_record.ObjectRecord.{ObjectRecord}
 use Rattle.far_scopes.specs.Movement.{Movement, AreClean}
-use Rattle.far_scopes.specs.Renewal.{renewed_entry, after_renew}
+use Rattle.far_scopes.specs.Renewal.{renewed_record, after_renew}
 use Rattle.far_vector.proofs.Together.{vectors-stay, elements-stay}
 use Rattle.far_vector.specs.Vector.{Vector}
 use Rattle.far_texts.specs.Texts.{Texts, lists_of, texts_in}
 use Rattle.far_columns.specs.Numbers.{number_lists, numbers_in}
-use Rattle.far_texts.proofs.Beside.{columns-stay, texts-stay}
+use Rattle.far_texts.proofs.Disjoint.{columns-stay, texts-stay}
 use Rattle.far_rows.specs.ColumnIndexes.{columns_of}
 use Rattle.far_rows.specs.Naming.{names_of, AreNamed, AreOwned}
 use Rattle.far_rows.specs.Rows.{Rows, AreRows, cells_of}
@@ -19,13 +19,13 @@ use Rattle.far_rows.proofs.Moved.{same-map}
 use Rattle.far_rows.proofs.Names.{as-many}
 
 module _ {K L : Type 0} where
-  entries-named : (entries : List (ObjectRecord K)) (tickets : List (Option L)) → length tickets ≡ length entries → map (λ e. e.name) (map (λ (e : ObjectRecord K × Option L). renewed_entry e.0 e.1) (zip entries tickets)) ≡ map (λ e. e.name) entries
-  entries-named [] tickets same_length = refl
-  entries-named (e ∷ entries) [] same_length = absurd (omega (arith, same_length))
-  entries-named (e ∷ entries) (ticket ∷ tickets) same_length = ap (λ (names : List Name). e.name ∷ names) (entries-named entries tickets (omega (arith, same_length)))
+  records-named : (records : List (ObjectRecord K)) (tickets : List (Option L)) → length tickets ≡ length records → map (λ e. e.name) (map (λ (e : ObjectRecord K × Option L). renewed_record e.0 e.1) (zip records tickets)) ≡ map (λ e. e.name) records
+  records-named [] tickets same_length = refl
+  records-named (e ∷ records) [] same_length = absurd (omega (arith, same_length))
+  records-named (e ∷ records) (ticket ∷ tickets) same_length = ap (λ (names : List Name). e.name ∷ names) (records-named records tickets (omega (arith, same_length)))
 
-  pub renewed-named : {X : Type 0} (m : Movement X K) (tickets : List (Option L)) → length tickets ≡ length m.entries → names_of (after_renew m tickets) ≡ names_of m
-  renewed-named m tickets same_length = entries-named m.entries tickets same_length
+  pub renewed-named : {X : Type 0} (m : Movement X K) (tickets : List (Option L)) → length tickets ≡ length m.records → names_of (after_renew m tickets) ≡ names_of m
+  renewed-named m tickets same_length = records-named m.records tickets same_length
 
   module _ (content : K → List ℕ) (new_content : L → List ℕ) (r : Rows K) (number_objects : Movement (Option ℤ) L) (text_objects : Movement ℕ L) (number_same : (o : ℕ) → number_lists new_content number_objects o ≡ number_lists content r.number_objects o) (text_same : (o : ℕ) → lists_of new_content text_objects o ≡ lists_of content r.text_objects o) where
     pub rows-renewed : AreRows content r → names_of number_objects ≡ names_of r.number_objects → AreClean ints_meaning new_content number_objects → names_of text_objects ≡ names_of r.text_objects → AreClean (λ bytes. bytes) new_content text_objects

@@ -26,7 +26,7 @@ of-local : {A : Type 0} (P Q : List A → Type 0) (local far : Option (List A)) 
 of-local P Q None far has then = (cc)
 of-local P Q (Some list) far has then = then list has
 
-none-listed : {X K : Type 0} (m : Movement X K) (o : ℕ) (P : List X → Type 0) → length m.entries ≡ length m.memory.words → length m.entries ≤ o → IfSome (list_in m.memory o) P
+none-listed : {X K : Type 0} (m : Movement X K) (o : ℕ) (P : List X → Type 0) → length m.records ≡ length m.memory.words → length m.records ≤ o → IfSome (list_in m.memory o) P
 none-listed m o P same_length past = let words = slice_get_past m.memory.words o (omega (arith, same_length, past)) in rw words (cc)
 
 none-there : {A : Type 0} (xs : List A) (o : ℕ) → o < length xs → slice_get xs o ≡ None → ⊥
@@ -34,28 +34,28 @@ none-there [] o within none = absurd (omega (arith, within))
 none-there (x ∷ xs) zero within none = absurd (none-some x (sym none))
 none-there (x ∷ xs) (suc o) within none = none-there xs o (omega (arith, within)) none
 
-named : {X K : Type 0} (m : Movement X K) (o : ℕ) → o < length m.entries → (name : Name) × (slice_get (names_of m) o ≡ Some name)
-named {X} {K} m o within = elim (cases_option (slice_get m.entries o)) [
-  | inl none ↦ absurd (none-there m.entries o within none)
-  | inr (entry, is) ↦ (entry.name, slice_get-map (λ e. e.name) m.entries o ∙ ap (option_map (λ (e : ObjectRecord K). e.name)) is)
+named : {X K : Type 0} (m : Movement X K) (o : ℕ) → o < length m.records → (name : Name) × (slice_get (names_of m) o ≡ Some name)
+named {X} {K} m o within = elim (cases_option (slice_get m.records o)) [
+  | inl none ↦ absurd (none-there m.records o within none)
+  | inr (object_record, is) ↦ (object_record.name, slice_get-map (λ e. e.name) m.records o ∙ ap (option_map (λ (e : ObjectRecord K). e.name)) is)
 ]
 
 module _ {K : Type 0} (content : K → List ℕ) (r : Rows K) (are : AreRows content r) where
-  pub numbers-spelled : length r.number_objects.entries ≡ length r.number_objects.memory.words → (o : ℕ) → IfSome (list_in r.number_objects.memory o) FitsCount
-  numbers-spelled same_length o = elim (cases_lt o (length r.number_objects.entries)) [
+  pub numbers-spelled : length r.number_objects.records ≡ length r.number_objects.memory.words → (o : ℕ) → IfSome (list_in r.number_objects.memory o) FitsCount
+  numbers-spelled same_length o = elim (cases_lt o (length r.number_objects.records)) [
     | inr past ↦ none-listed r.number_objects o FitsCount same_length past
     | inl within ↦
         let name = named r.number_objects o within in
         let owner = are.owned_numbers o name.0 name.1 in
         let c = owner.1 in
         let is = subst (IsVector (number_lists content r.number_objects)) (get_or_from_slice_get r.numbers owner.0 c c owner.2) (are.numbers.all_disjoint.each owner.0 c (slice_get_within r.numbers owner.0 c owner.2)) in
-        let even_sizes = subst (λ (d : Vector (Option ℤ)). (d.size ≡ r.size) × (d.len ≡ length r.alive)) (get_or_from_slice_get r.numbers owner.0 c c owner.2) (are.same_length_numbers owner.0 c (slice_get_within r.numbers owner.0 c owner.2)) in
+        let same_length_sizes = subst (λ (d : Vector (Option ℤ)). (d.size ≡ r.size) × (d.len ≡ length r.alive)) (get_or_from_slice_get r.numbers owner.0 c c owner.2) (are.same_length_numbers owner.0 c (slice_get_within r.numbers owner.0 c owner.2)) in
         let whole = subst (λ p. IsSomeAnd (number_lists content r.number_objects p) (λ list. length list ≡ c.size)) (get_or_from_slice_get c.objects name.0.group o o owner.4) (is.whole name.0.group o (slice_get_within c.objects name.0.group o owner.4)) in
-        of-local (λ list. length list ≡ c.size) FitsCount (list_in r.number_objects.memory o) _ whole (λ list long. omega (arith, long, even_sizes.0, are.small))
+        of-local (λ list. length list ≡ c.size) FitsCount (list_in r.number_objects.memory o) _ whole (λ list long. omega (arith, long, same_length_sizes.0, are.small))
   ]
 
-  pub texts-spelled : length r.text_objects.entries ≡ length r.text_objects.memory.words → (o : ℕ) → IfSome (list_in r.text_objects.memory o) IsTextsForm
-  texts-spelled same_length o = elim (cases_lt o (length r.text_objects.entries)) [
+  pub texts-spelled : length r.text_objects.records ≡ length r.text_objects.memory.words → (o : ℕ) → IfSome (list_in r.text_objects.memory o) IsTextsForm
+  texts-spelled same_length o = elim (cases_lt o (length r.text_objects.records)) [
     | inr past ↦ none-listed r.text_objects o IsTextsForm same_length past
     | inl within ↦
         let name = named r.text_objects o within in

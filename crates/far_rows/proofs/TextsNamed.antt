@@ -11,7 +11,7 @@ use Rattle.far_scopes.specs.Movement.{Movement}
 use Rattle.far_scopes.specs.Effects.{after_create}
 use Rattle.far_texts.specs.Texts.{Texts, Lists}
 use Rattle.far_texts.specs.Effects.{begins_group, group_with_next, pushed}
-use Rattle.far_texts.specs.Together.{AreReplaced, all_begin, all_created, all_pushed, next_forms}
+use Rattle.far_texts.specs.Together.{AreReplaced, all_begin, after_create_all, all_pushed, next_forms}
 use Rattle.far_rows.specs.Naming.{names_of, AreNamed}
 use Rattle.far_rows.proofs.Beginning.{IsTexts, text-begun, texts-begin}
 use Rattle.far_rows.proofs.Grown.{all-texts}
@@ -44,7 +44,7 @@ module _ {K : Type 0} (lists : Lists) where
 
   -- the objects once each has, in order
   abbrev made : Movement ℕ K → ℕ → List Texts → List (Option (List ℕ)) → Movement ℕ K
-  made m n columns texts = all_created m columns (next_forms lists n columns texts)
+  made m n columns texts = after_create_all m columns (next_forms lists n columns texts)
 
   text-extends : (m : Movement ℕ K) (c : Texts) (text : Option (List ℕ)) → Extends (names_of m) (names_of (one m c text))
   text-extends m c text o name at = subst (λ (names : List Name). slice_get names o ≡ Some name) (sym (names-created m (next_name c) (texts_form (group_with_next lists c text)))) (get-before (names_of m) (next_name c ∷ []) o name at)
@@ -76,16 +76,16 @@ module _ {K : Type 0} (lists : Lists) where
   names-kept old new forms (given, is, now) = ap names_of now ∙ names-replaced_all old given
 
   pub texts-named : (size len : ℕ) (columns : List Texts) → 0 < size → All (IsTexts size len) columns → (m now : Movement ℕ K) (texts : List (Option (List ℕ))) → length texts ≡ length columns
-      → (all_begin columns ≡ true → now ≡ all_created m columns (next_forms lists (length m.entries) columns texts))
-      → (all_begin columns ≡ false → AreReplaced m (next_forms lists (length m.entries) columns texts) now)
-      → All (IsNamed (names_of m)) columns → All (IsNamed (names_of now)) (all_pushed (length m.entries) columns)
+      → (all_begin columns ≡ true → now ≡ after_create_all m columns (next_forms lists (length m.records) columns texts))
+      → (all_begin columns ≡ false → AreReplaced m (next_forms lists (length m.records) columns texts) now)
+      → All (IsNamed (names_of m)) columns → All (IsNamed (names_of now)) (all_pushed (length m.records) columns)
   texts-named size len columns some are m now texts same_length begun replaced named = elim (cases_Bool (all_begin columns)) [
     | inl begin ↦
-        subst (λ (objects : Movement ℕ K). All (IsNamed (names_of objects)) (all_pushed (length m.entries) columns)) (sym (begun begin))
-        (named-begun m columns texts (length m.entries) (sym (length-map m.entries (λ entry. entry.name))) same_length (AllPass-from_list_all begins_group columns begin) named)
+        subst (λ (objects : Movement ℕ K). All (IsNamed (names_of objects)) (all_pushed (length m.records) columns)) (sym (begun begin))
+        (named-begun m columns texts (length m.records) (sym (length-map m.records (λ object_record. object_record.name))) same_length (AllPass-from_list_all begins_group columns begin) named)
     | inr not ↦
         let disjoint : len % size ≢ 0 = λ divides. true-not (sym (texts-begin size len columns some divides are) ∙ not) in
         let none : All (λ c. begins_group c ≡ false) columns = λ k d below. text-begun size len some disjoint (get_or columns k d) (are k d below) in
-        subst (λ (ns : List Name). All (IsNamed ns) (all_pushed (length m.entries) columns)) (sym (names-kept m now (next_forms lists (length m.entries) columns texts) (replaced not)))
-        (all-texts (λ c. (begins_group c ≡ false) × IsNamed (names_of m) c) (IsNamed (names_of m)) (named-still (names_of m)) (length m.entries) columns (λ k d below. (none k d below, named k d below)))
+        subst (λ (ns : List Name). All (IsNamed ns) (all_pushed (length m.records) columns)) (sym (names-kept m now (next_forms lists (length m.records) columns texts) (replaced not)))
+        (all-texts (λ c. (begins_group c ≡ false) × IsNamed (names_of m) c) (IsNamed (names_of m)) (named-still (names_of m)) (length m.records) columns (λ k d below. (none k d below, named k d below)))
   ]

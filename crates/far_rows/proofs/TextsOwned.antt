@@ -11,7 +11,7 @@ use Rattle.far_scopes.specs.Movement.{Movement}
 use Rattle.far_scopes.proofs.WordPlaces.{slice_get-push_last}
 use Rattle.far_texts.specs.Texts.{Texts, Lists}
 use Rattle.far_texts.specs.Effects.{begins_group, group_with_next, pushed}
-use Rattle.far_texts.specs.Together.{AreReplaced, all_begin, all_created, all_pushed, next_forms}
+use Rattle.far_texts.specs.Together.{AreReplaced, all_begin, after_create_all, all_pushed, next_forms}
 use Rattle.far_rows.specs.Naming.{names_of, AreOwned}
 use Rattle.far_rows.proofs.Beginning.{IsTexts, text-begun, texts-begin}
 use Rattle.far_rows.proofs.GrownTexts.{begun, longer}
@@ -55,7 +55,7 @@ module _ (n : ℕ) (columns : List Texts) where
       (pushed c (n + i), pushed-at n columns i c at, ap column_of is, λ g o there. ap (λ (d : Texts). slice_get d.objects g) is ∙ there)
 
 module _ {K : Type 0} (lists : Lists) where
-  all-made : (m : Movement ℕ K) (n : ℕ) (columns : List Texts) (texts : List (Option (List ℕ))) → length texts ≡ length columns → names_of (all_created m columns (next_forms lists n columns texts)) ≡ names_of m ++ map next_name columns
+  all-made : (m : Movement ℕ K) (n : ℕ) (columns : List Texts) (texts : List (Option (List ℕ))) → length texts ≡ length columns → names_of (after_create_all m columns (next_forms lists n columns texts)) ≡ names_of m ++ map next_name columns
   all-made m n [] texts same_length = sym (append-nil (names_of m))
   all-made m n (c ∷ columns) [] same_length = absurd (omega (arith, same_length))
   all-made m n (c ∷ columns) (text ∷ texts) same_length =
@@ -64,15 +64,15 @@ module _ {K : Type 0} (lists : Lists) where
       ∙ append_assoc (names_of m) (next_name c ∷ []) (map next_name columns)
 
   pub texts-owned : (size len : ℕ) (columns : List Texts) → 0 < size → All (IsTexts size len) columns → (m now : Movement ℕ K) (texts : List (Option (List ℕ))) → length texts ≡ length columns
-      → (all_begin columns ≡ true → now ≡ all_created m columns (next_forms lists (length m.entries) columns texts))
-      → (all_begin columns ≡ false → AreReplaced m (next_forms lists (length m.entries) columns texts) now)
-      → AreOwned column_of objects_of (names_of m) columns → AreOwned column_of objects_of (names_of now) (all_pushed (length m.entries) columns)
+      → (all_begin columns ≡ true → now ≡ after_create_all m columns (next_forms lists (length m.records) columns texts))
+      → (all_begin columns ≡ false → AreReplaced m (next_forms lists (length m.records) columns texts) now)
+      → AreOwned column_of objects_of (names_of m) columns → AreOwned column_of objects_of (names_of now) (all_pushed (length m.records) columns)
   texts-owned size len columns some are m now texts same_length made replaced owned =
-      let n = length m.entries in
+      let n = length m.records in
       elim (cases_Bool (all_begin columns)) [
         | inl begin ↦
             let full = AllPass-from_list_all begins_group columns begin in
-            let count : n ≡ length (names_of m) = sym (length-map m.entries (λ entry. entry.name)) in
+            let count : n ≡ length (names_of m) = sym (length-map m.records (λ object_record. object_record.name)) in
             subst (λ (ns : List Name). AreOwned column_of objects_of ns (all_pushed n columns)) (sym (ap names_of (made begin) ∙ all-made m n columns texts same_length))
             (owned-more column_of objects_of (names_of m) columns (all_pushed n columns) (more-begun n columns full) (subst (λ k. HaveNext column_of objects_of k columns (all_pushed n columns)) count (next-begun n columns full)) owned)
         | inr not ↦

@@ -10,8 +10,8 @@ use Rattle.far_types.specs.declared.name.Name.{Name}
 use Rattle.far_scopes.specs.declared.object_record.ObjectRecord.{ObjectRecord}
 use Rattle.far_scopes.specs.declared.replacement.Replacement.{Replacement}
 use Rattle.far_scopes.specs.Movement.{Movement, version_of}
-use Rattle.far_scopes.specs.Effects.{new_entry, with_entry, with_lens, after_create, written, written_all, after_replace_all}
-use Rattle.far_scopes.proofs.Framing.{entry-with_other}
+use Rattle.far_scopes.specs.Effects.{new_record, with_record, with_lens, after_create, written, after_write_all, after_replace_all}
+use Rattle.far_scopes.proofs.Framing.{object_record-with_other}
 use Rattle.far_vector.specs.Vector.{Vector, IsShaped, AreDisjoint, object_at}
 use Rattle.far_vector.specs.Effects.{is_full, pushed_in}
 use Rattle.far_columns.specs.Numbers.{Numbers, number_lists}
@@ -19,7 +19,7 @@ use Rattle.far_columns.specs.NumbersTogether.{NumberColumns, AreNumberColumns, a
 use Rattle.far_texts.specs.Texts as texts
 use Rattle.far_texts.specs.Texts.{Texts, Lists, HasGroups, lists_of}
 use Rattle.far_texts.specs.Effects.{begins_group, last_object}
-use Rattle.far_texts.specs.Together.{AreColumns, AreReplaced, all_begin, all_created, given_forms, next_forms}
+use Rattle.far_texts.specs.Together.{AreColumns, AreReplaced, all_begin, after_create_all, given_forms, next_forms}
 use Rattle.far_columns.proofs.NumbersTogether.{pairs-head, pairs-tail}
 use Rattle.far_rows.proofs.Beginning.{IsNumbers, number-begins, number-begun, IsTexts, text-begun, texts-begin}
 use Rattle.far_rows.proofs.TextsNamed.{true-not}
@@ -32,81 +32,81 @@ AreOnce (o ∷ os) = All (λ p. p ≢ o) os × AreOnce os
 module _ {K : Type 0} where
   -- how often an object was written, by its record
   abbrev writes : List (ObjectRecord K) → ℕ → ℕ
-  writes entries o = option_map_or (λ e. e.version) (slice_get entries o) 0
+  writes records o = option_map_or (λ e. e.version) (slice_get records o) 0
 
   abbrev once_more : ObjectRecord K → ObjectRecord K
-  once_more entry = record entry { version = entry.version + 1 }
+  once_more object_record = record object_record { version = object_record.version + 1 }
 
   -- these are written, one after the other
   abbrev raised : List (ObjectRecord K) → List ℕ → List (ObjectRecord K)
-  raised entries [] = entries
-  raised entries (o ∷ os) = raised (with_entry entries o once_more) os
+  raised records [] = records
+  raised records (o ∷ os) = raised (with_record records o once_more) os
 
-  with-later : (e : ObjectRecord K) (entries : List (ObjectRecord K)) (o : ℕ) (change : ObjectRecord K → ObjectRecord K) → with_entry (e ∷ entries) (suc o) change ≡ e ∷ with_entry entries o change
-  with-later e entries o change = found (slice_get entries o) where
-    found : (at : Option (ObjectRecord K)) → option_map_or (λ entry. slice_set (e ∷ entries) (suc o) (change entry)) at (e ∷ entries) ≡ e ∷ option_map_or (λ entry. slice_set entries o (change entry)) at entries
+  with-later : (e : ObjectRecord K) (records : List (ObjectRecord K)) (o : ℕ) (change : ObjectRecord K → ObjectRecord K) → with_record (e ∷ records) (suc o) change ≡ e ∷ with_record records o change
+  with-later e records o change = found (slice_get records o) where
+    found : (at : Option (ObjectRecord K)) → option_map_or (λ object_record. slice_set (e ∷ records) (suc o) (change object_record)) at (e ∷ records) ≡ e ∷ option_map_or (λ object_record. slice_set records o (change object_record)) at records
     found None = refl
-    found (Some entry) = refl
+    found (Some object_record) = refl
 
-  writes-with : (entries : List (ObjectRecord K)) (o : ℕ) → writes (with_entry entries o once_more) o ≤ writes entries o + 1
+  writes-with : (records : List (ObjectRecord K)) (o : ℕ) → writes (with_record records o once_more) o ≤ writes records o + 1
   writes-with [] o = omega arith
-  writes-with (e ∷ entries) zero = omega arith
-  writes-with (e ∷ entries) (suc o) =
-      let later : writes (with_entry (e ∷ entries) (suc o) once_more) (suc o) ≡ writes (with_entry entries o once_more) o = ap (λ l. writes l (suc o)) (with-later e entries o once_more) in
-      omega (arith, later, writes-with entries o)
+  writes-with (e ∷ records) zero = omega arith
+  writes-with (e ∷ records) (suc o) =
+      let later : writes (with_record (e ∷ records) (suc o) once_more) (suc o) ≡ writes (with_record records o once_more) o = ap (λ l. writes l (suc o)) (with-later e records o once_more) in
+      omega (arith, later, writes-with records o)
 
-  writes-other : (entries : List (ObjectRecord K)) (o p : ℕ) → p ≢ o → writes (with_entry entries o once_more) p ≡ writes entries p
-  writes-other entries o p other = ap (λ at. option_map_or (λ e. e.version) at 0) (entry-with_other entries o once_more p other)
+  writes-other : (records : List (ObjectRecord K)) (o p : ℕ) → p ≢ o → writes (with_record records o once_more) p ≡ writes records p
+  writes-other records o p other = ap (λ at. option_map_or (λ e. e.version) at 0) (object_record-with_other records o once_more p other)
 
-  writes-len : (entries : List (ObjectRecord K)) (o n p : ℕ) → writes (with_entry entries o (λ entry. record entry { len = n })) p ≡ writes entries p
+  writes-len : (records : List (ObjectRecord K)) (o n p : ℕ) → writes (with_record records o (λ object_record. record object_record { len = n })) p ≡ writes records p
   writes-len [] o n p = refl
-  writes-len (e ∷ entries) zero n zero = refl
-  writes-len (e ∷ entries) zero n (suc p) = refl
-  writes-len (e ∷ entries) (suc o) n zero = ap (λ l. writes l 0) (with-later e entries o (λ entry. record entry { len = n }))
-  writes-len (e ∷ entries) (suc o) n (suc p) = ap (λ l. writes l (suc p)) (with-later e entries o (λ entry. record entry { len = n })) ∙ writes-len entries o n p
+  writes-len (e ∷ records) zero n zero = refl
+  writes-len (e ∷ records) zero n (suc p) = refl
+  writes-len (e ∷ records) (suc o) n zero = ap (λ l. writes l 0) (with-later e records o (λ object_record. record object_record { len = n }))
+  writes-len (e ∷ records) (suc o) n (suc p) = ap (λ l. writes l (suc p)) (with-later e records o (λ object_record. record object_record { len = n })) ∙ writes-len records o n p
 
-  writes-new : (entries : List (ObjectRecord K)) (name : Name) (n p : ℕ) → writes (entries ++ new_entry name n ∷ []) p ≡ writes entries p
+  writes-new : (records : List (ObjectRecord K)) (name : Name) (n p : ℕ) → writes (records ++ new_record name n ∷ []) p ≡ writes records p
   writes-new [] name n zero = refl
   writes-new [] name n (suc p) = refl
-  writes-new (e ∷ entries) name n zero = refl
-  writes-new (e ∷ entries) name n (suc p) = writes-new entries name n p
+  writes-new (e ∷ records) name n zero = refl
+  writes-new (e ∷ records) name n (suc p) = writes-new records name n p
 
-  raised-others : (entries : List (ObjectRecord K)) (os : List ℕ) (p : ℕ) → All (λ o. o ≢ p) os → writes (raised entries os) p ≡ writes entries p
-  raised-others entries [] p others = refl
-  raised-others entries (o ∷ os) p others =
-      raised-others (with_entry entries o once_more) os p (All-tail (λ q. q ≢ p) o os others)
-      ∙ writes-other entries o p (λ same. All-head (λ q. q ≢ p) o os others (sym same))
+  raised-others : (records : List (ObjectRecord K)) (os : List ℕ) (p : ℕ) → All (λ o. o ≢ p) os → writes (raised records os) p ≡ writes records p
+  raised-others records [] p others = refl
+  raised-others records (o ∷ os) p others =
+      raised-others (with_record records o once_more) os p (All-tail (λ q. q ≢ p) o os others)
+      ∙ writes-other records o p (λ same. All-head (λ q. q ≢ p) o os others (sym same))
 
   -- each at most once
-  raised-once : (entries : List (ObjectRecord K)) (os : List ℕ) → AreOnce os → (p : ℕ) → writes (raised entries os) p ≤ writes entries p + 1
-  raised-once entries [] once p = omega arith
-  raised-once entries (o ∷ os) once p = elim (cases_eq p o) [
+  raised-once : (records : List (ObjectRecord K)) (os : List ℕ) → AreOnce os → (p : ℕ) → writes (raised records os) p ≤ writes records p + 1
+  raised-once records [] once p = omega arith
+  raised-once records (o ∷ os) once p = elim (cases_eq p o) [
     | inl same ↦
-        let rest = raised-others (with_entry entries o once_more) os o once.0 in
-        let here = writes-with entries o in
-        let at : writes (raised (with_entry entries o once_more) os) o ≤ writes entries o + 1 = omega (arith, rest, here) in
-        subst (λ q. writes (raised (with_entry entries o once_more) os) q ≤ writes entries q + 1) (sym same) at
+        let rest = raised-others (with_record records o once_more) os o once.0 in
+        let here = writes-with records o in
+        let at : writes (raised (with_record records o once_more) os) o ≤ writes records o + 1 = omega (arith, rest, here) in
+        subst (λ q. writes (raised (with_record records o once_more) os) q ≤ writes records q + 1) (sym same) at
     | inr other ↦
-        let rest = raised-once (with_entry entries o once_more) os once.1 p in
-        let here = writes-other entries o p other in
+        let rest = raised-once (with_record records o once_more) os once.1 p in
+        let here = writes-other records o p other in
         omega (arith, rest, here)
   ]
 
   -- numbers
-  one-written : (m : Movement (Option ℤ) K) (c : Vector (Option ℤ)) (x : Option ℤ) → is_full c ≡ false → (pushed_in m c x).entries ≡ with_entry m.entries (object_at c c.len) once_more
+  one-written : (m : Movement (Option ℤ) K) (c : Vector (Option ℤ)) (x : Option ℤ) → is_full c ≡ false → (pushed_in m c x).records ≡ with_record m.records (object_at c c.len) once_more
   one-written m c x not = rw not refl
 
-  one-made : (m : Movement (Option ℤ) K) (c : Vector (Option ℤ)) (x : Option ℤ) (p : ℕ) → is_full c ≡ true → writes (pushed_in m c x).entries p ≡ writes m.entries p
-  one-made m c x p full = rw full (writes-new m.entries _ _ p)
+  one-made : (m : Movement (Option ℤ) K) (c : Vector (Option ℤ)) (x : Option ℤ) (p : ℕ) → is_full c ≡ true → writes (pushed_in m c x).records p ≡ writes m.records p
+  one-made m c x p full = rw full (writes-new m.records _ _ p)
 
-  all-written : (m : Movement (Option ℤ) K) (columns : NumberColumns) (numbers : Numbers) → length numbers ≡ length columns → All (λ c. is_full c ≡ false) columns → (all_pushed_in m columns numbers).entries ≡ raised m.entries (map (λ c. object_at c c.len) columns)
+  all-written : (m : Movement (Option ℤ) K) (columns : NumberColumns) (numbers : Numbers) → length numbers ≡ length columns → All (λ c. is_full c ≡ false) columns → (all_pushed_in m columns numbers).records ≡ raised m.records (map (λ c. object_at c c.len) columns)
   all-written m [] numbers same_length not = refl
   all-written m (c ∷ columns) [] same_length not = absurd (omega (arith, same_length))
   all-written m (c ∷ columns) (x ∷ numbers) same_length not =
       all-written (pushed_in m c x) columns numbers (omega (arith, same_length)) (All-tail (λ d. is_full d ≡ false) c columns not)
       ∙ ap (λ (l : List (ObjectRecord K)). raised l (map (λ (d : Vector (Option ℤ)). object_at d d.len) columns)) (one-written m c x (All-head (λ d. is_full d ≡ false) c columns not))
 
-  all-made : (m : Movement (Option ℤ) K) (columns : NumberColumns) (numbers : Numbers) (p : ℕ) → All (λ c. is_full c ≡ true) columns → writes (all_pushed_in m columns numbers).entries p ≡ writes m.entries p
+  all-made : (m : Movement (Option ℤ) K) (columns : NumberColumns) (numbers : Numbers) (p : ℕ) → All (λ c. is_full c ≡ true) columns → writes (all_pushed_in m columns numbers).records p ≡ writes m.records p
   all-made m [] numbers p full = refl
   all-made m (c ∷ columns) [] p full = refl
   all-made m (c ∷ columns) (x ∷ numbers) p full =
@@ -142,31 +142,31 @@ module _ {K : Type 0} (content : K → List ℕ) where
         let not : All (λ c. is_full c ≡ false) columns = λ k d below. number-begun size len some not_divides (get_or columns k d) (are k d below) in
         let shaped : All IsShaped columns = λ k d below. (are k d below).shaped in
         let last = map (λ (c : Vector (Option ℤ)). object_at c c.len) columns in
-        subst (λ (l : List (ObjectRecord K)). writes l o ≤ writes m.entries o + 1) (sym (all-written m columns numbers same_length not)) (raised-once m.entries last (numbers-once columns shaped not all_disjoint.all_disjoint.disjoint) o)
+        subst (λ (l : List (ObjectRecord K)). writes l o ≤ writes m.records o + 1) (sym (all-written m columns numbers same_length not)) (raised-once m.records last (numbers-once columns shaped not all_disjoint.all_disjoint.disjoint) o)
   ]
 
 -- texts
 module _ {K : Type 0} where
-  lens-kept : (entries : List (ObjectRecord K)) (lists : List (Replacement ℕ)) (p : ℕ) → writes (with_lens entries lists) p ≡ writes entries p
-  lens-kept entries [] p = refl
-  lens-kept entries (r ∷ rs) p = lens-kept (with_entry entries r.object (λ entry. record entry { len = length r.list.items })) rs p ∙ writes-len entries r.object (length r.list.items) p
+  lens-kept : (records : List (ObjectRecord K)) (lists : List (Replacement ℕ)) (p : ℕ) → writes (with_lens records lists) p ≡ writes records p
+  lens-kept records [] p = refl
+  lens-kept records (r ∷ rs) p = lens-kept (with_record records r.object (λ object_record. record object_record { len = length r.list.items })) rs p ∙ writes-len records r.object (length r.list.items) p
 
-  all-raised : (m : Movement ℕ K) (lists : List (Replacement ℕ)) → (written_all m lists).entries ≡ raised m.entries (map (λ f. f.0) (given_forms lists))
+  all-raised : (m : Movement ℕ K) (lists : List (Replacement ℕ)) → (after_write_all m lists).records ≡ raised m.records (map (λ f. f.0) (given_forms lists))
   all-raised m [] = refl
   all-raised m (r ∷ rs) = all-raised (written m r.object) rs
 
   replaced-once : (m : Movement ℕ K) (lists : List (Replacement ℕ)) → AreOnce (map (λ f. f.0) (given_forms lists)) → (p : ℕ) → version_of (after_replace_all m lists) p ≤ version_of m p + 1
   replaced-once m lists once p =
       let objects = map (λ (f : ℕ × List ℕ). f.0) (given_forms lists) in
-      let lens = lens-kept m.entries lists p in
-      let after = raised-once (with_lens m.entries lists) objects once p in
-      let same : writes (after_replace_all m lists).entries p ≡ writes (raised (with_lens m.entries lists) objects) p = ap (λ l. writes l p) (all-raised _ lists) in
+      let lens = lens-kept m.records lists p in
+      let after = raised-once (with_lens m.records lists) objects once p in
+      let same : writes (after_replace_all m lists).records p ≡ writes (raised (with_lens m.records lists) objects) p = ap (λ l. writes l p) (all-raised _ lists) in
       omega (arith, lens, after, same)
 
-  texts-made : (m : Movement ℕ K) (columns : List Texts) (forms : List (ℕ × List ℕ)) (p : ℕ) → version_of (all_created m columns forms) p ≡ version_of m p
+  texts-made : (m : Movement ℕ K) (columns : List Texts) (forms : List (ℕ × List ℕ)) (p : ℕ) → version_of (after_create_all m columns forms) p ≡ version_of m p
   texts-made m [] forms p = refl
   texts-made m (c ∷ columns) [] p = refl
-  texts-made m (c ∷ columns) (form ∷ forms) p = texts-made (after_create m record { column = c.column; group = length c.objects } form.1) columns forms p ∙ writes-new m.entries _ _ p
+  texts-made m (c ∷ columns) (form ∷ forms) p = texts-made (after_create m record { column = c.column; group = length c.objects } form.1) columns forms p ∙ writes-new m.records _ _ p
 
 next-objects : (lists : Lists) (n : ℕ) (columns : List Texts) (texts : List (Option (List ℕ))) → length texts ≡ length columns → All (λ c. begins_group c ≡ false) columns → map (λ f. f.0) (next_forms lists n columns texts) ≡ map last_object columns
 next-objects lists n [] texts same_length not = refl
@@ -197,29 +197,29 @@ texts-once (c ∷ columns) has not disjoint = (
 
 module _ {K : Type 0} (content : K → List ℕ) (size len : ℕ) (columns : List Texts) (some : 0 < size) (are : All (IsTexts size len) columns) (m now : Movement ℕ K) (all_disjoint : AreColumns (lists_of content m) columns) where
   pub text-versions : (texts : List (Option (List ℕ))) → length texts ≡ length columns
-      → (all_begin columns ≡ true → now ≡ all_created m columns (next_forms (lists_of content m) (length m.entries) columns texts))
-      → (all_begin columns ≡ false → AreReplaced m (next_forms (lists_of content m) (length m.entries) columns texts) now)
+      → (all_begin columns ≡ true → now ≡ after_create_all m columns (next_forms (lists_of content m) (length m.records) columns texts))
+      → (all_begin columns ≡ false → AreReplaced m (next_forms (lists_of content m) (length m.records) columns texts) now)
       → (o : ℕ) → version_of now o ≤ version_of m o + 1
   text-versions texts same_length made replaced o = elim (cases_Bool (all_begin columns)) [
     | inl begin ↦
-        let forms = next_forms (lists_of content m) (length m.entries) columns texts in
+        let forms = next_forms (lists_of content m) (length m.records) columns texts in
         omega (arith, ap (λ (objects : Movement ℕ K). version_of objects o) (made begin), texts-made m columns forms o)
     | inr not ↦
-        let forms = next_forms (lists_of content m) (length m.entries) columns texts in
+        let forms = next_forms (lists_of content m) (length m.records) columns texts in
         let disjoint : len % size ≢ 0 = λ divides. true-not (sym (texts-begin size len columns some divides are) ∙ not) in
         let none : All (λ c. begins_group c ≡ false) columns = λ k d below. text-begun size len some disjoint (get_or columns k d) (are k d below) in
         let grouped : All HasGroups columns = λ k d below. (are k d below).grouped in
         let given = replaced not in
-        let once = subst AreOnce (sym (ap (map (λ (f : ℕ × List ℕ). f.0)) given.1 ∙ next-objects (lists_of content m) (length m.entries) columns texts same_length none)) (texts-once columns grouped none all_disjoint.all_disjoint.disjoint) in
+        let once = subst AreOnce (sym (ap (map (λ (f : ℕ × List ℕ). f.0)) given.1 ∙ next-objects (lists_of content m) (length m.records) columns texts same_length none)) (texts-once columns grouped none all_disjoint.all_disjoint.disjoint) in
         omega (arith, ap (λ (objects : Movement ℕ K). version_of objects o) given.2, replaced-once m given.0 once o)
   ]
 
 -- one object is written
 pub written-once : {X K : Type 0} (m : Movement X K) (o p : ℕ) → version_of (written m o) p ≤ version_of m p + 1
-written-once m o p = raised-once m.entries (o ∷ []) (All-nil (λ q. q ≢ o), (cc)) p
+written-once m o p = raised-once m.records (o ∷ []) (All-nil (λ q. q ≢ o), (cc)) p
 
-pub replaced-version : {X K : Type 0} (m : Movement X K) (o n p : ℕ) → writes (with_entry (with_entry m.entries o (λ entry. record entry { len = n })) o once_more) p ≤ version_of m p + 1
+pub replaced-version : {X K : Type 0} (m : Movement X K) (o n p : ℕ) → writes (with_record (with_record m.records o (λ object_record. record object_record { len = n })) o once_more) p ≤ version_of m p + 1
 replaced-version m o n p =
-    let entries = with_entry m.entries o (λ entry. record entry { len = n }) in
-    let more = raised-once entries (o ∷ []) (All-nil (λ q. q ≢ o), (cc)) p in
-    omega (arith, more, writes-len m.entries o n p)
+    let records = with_record m.records o (λ object_record. record object_record { len = n }) in
+    let more = raised-once records (o ∷ []) (All-nil (λ q. q ≢ o), (cc)) p in
+    omega (arith, more, writes-len m.records o n p)

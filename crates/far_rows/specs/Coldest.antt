@@ -4,14 +4,14 @@ use Rattle.std.specs.Option.{option_and_then, option_or}
 use Rattle.far_types.specs.declared.name.Name.{Name}
 use Rattle.far_log.specs.RegionState.{space_of, capacity_of}
 use Rattle.far_scopes.specs.Coldest.{coldest as coldest_in}
-use Rattle.far_scopes.specs.Movement.{Movement, entry_of, pins_of}
+use Rattle.far_scopes.specs.Movement.{Movement, record_of, pins_of}
 use Rattle.far_rows.specs.declared.object.Object.{Object}
 use Rattle.far_rows.specs.declared.object.Object.TheVariants as object
 use Rattle.far_rows.specs.Rows.{Rows}
 
 -- the name that the coldest of some objects bears
 abbrev pub coldest_name : {X K : Type 0} → Movement X K → Option Name
-coldest_name m = option_and_then (λ o. option_map (λ entry. entry.name) (entry_of m o)) (coldest_in m)
+coldest_name m = option_and_then (λ o. option_map (λ object_record. object_record.name) (record_of m o)) (coldest_in m)
 
 module _ {K : Type 0} (r : Rows K) where
   -- whether the objects of numbers have no more space, in proportion to their capacity, than those of texts

@@ -19,9 +19,9 @@ module _ {K : Type 0} (content : K → List ℕ) (old : Rows K) where
     -- each column has a cell more
     pub cells : cells_of content new ≡ with_row (cells_of content old) (row_of old.column_indexes values)
     -- each column has an element more: the last objects are written, or where a row group begins new ones are made
-    pub numbers : new.numbers ≡ all_pushed (length old.number_objects.entries) old.numbers
+    pub numbers : new.numbers ≡ all_pushed (length old.number_objects.records) old.numbers
     pub number_objects : new.number_objects ≡ all_pushed_in old.number_objects old.numbers values.numbers
-    pub texts : new.texts ≡ all_texts_pushed (length old.text_objects.entries) old.texts
+    pub texts : new.texts ≡ all_texts_pushed (length old.text_objects.records) old.texts
     pub text_objects : TextsMoved content old values.texts new.text_objects
 
   -- a value was put in a column of a place
@@ -34,8 +34,8 @@ module _ {K : Type 0} (content : K → List ℕ) (old : Rows K) where
 -- what an edit leaves alone, accepted or not
 pub record KeepsObjects {K : Type 0} (is_of : K → List ℕ → Type 0) (old new : Rows K) : Type 0 where
   -- tickets of a store stay tickets of it
-  pub number_store : (name : List ℕ) → AreHere is_of name old.number_objects → AreHere is_of name new.number_objects
-  pub text_store : (name : List ℕ) → AreHere is_of name old.text_objects → AreHere is_of name new.text_objects
+  pub number_store : (id : List ℕ) → AreHere is_of id old.number_objects → AreHere is_of id new.number_objects
+  pub text_store : (id : List ℕ) → AreHere is_of id old.text_objects → AreHere is_of id new.text_objects
   -- no object is written twice
   pub number_versions : (o : ℕ) → version_of new.number_objects o ≤ version_of old.number_objects o + 1
   pub text_versions : (o : ℕ) → version_of new.text_objects o ≤ version_of old.text_objects o + 1

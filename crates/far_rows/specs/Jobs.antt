@@ -39,9 +39,9 @@ of_either (Texts a) = a
 
 module _ {K : Type 0} where
   -- every ticket of the rows is of the store with this id
-  pub record AreAt (is_of : K → List ℕ → Type 0) (name : List ℕ) (r : Rows K) : Type 0 where
-    pub numbers : AreHere is_of name r.number_objects
-    pub texts : AreHere is_of name r.text_objects
+  pub record AreAt (is_of : K → List ℕ → Type 0) (id : List ℕ) (r : Rows K) : Type 0 where
+    pub numbers : AreHere is_of id r.number_objects
+    pub texts : AreHere is_of id r.text_objects
 
   module _ (content : K → List ℕ) where
     -- an evacuation that was carried: the far store has its form
@@ -106,7 +106,7 @@ module _ {K : Type 0} where
     IsEvacAccepted (Numbers carried) = IsCommittable number_of ints_form r.number_objects carried
     IsEvacAccepted (Texts carried) = IsCommittable number_of (λ bytes. bytes) r.text_objects carried
 
-    -- a carried fetch is accepted where there is room
+    -- a carried fetch is accepted where there is space
     abbrev pub IsFetchAccepted : ByKind (CarriedFetch K) (CarriedFetch K) → Type 0
     IsFetchAccepted (Numbers fetched) = IsInstallable number_of SpellsNumbers r.number_objects fetched
     IsFetchAccepted (Texts fetched) = IsInstallable number_of SpellsTexts r.text_objects fetched

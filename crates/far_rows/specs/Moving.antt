@@ -26,8 +26,8 @@ module _ {K : Type 0} where
 
   -- there is such an object
   abbrev pub IsInUse : Rows K → Object → Type 0
-  IsInUse r (object.Number o) = o < length r.number_objects.entries
-  IsInUse r (object.Text o) = o < length r.text_objects.entries
+  IsInUse r (object.Number o) = o < length r.number_objects.records
+  IsInUse r (object.Text o) = o < length r.text_objects.records
 
   -- an object is pinned once more
   abbrev pub after_pin : Rows K → Object → Rows K
@@ -49,8 +49,8 @@ module _ {K : Type 0} where
     -- each column has the cells that it had
     pub cells : cells_of content new ≡ cells_of content old
     -- tickets of a store stay tickets of it
-    pub number_store : (name : List ℕ) → AreHere is_of name old.number_objects → AreHere is_of name new.number_objects
-    pub text_store : (name : List ℕ) → AreHere is_of name old.text_objects → AreHere is_of name new.text_objects
+    pub number_store : (id : List ℕ) → AreHere is_of id old.number_objects → AreHere is_of id new.number_objects
+    pub text_store : (id : List ℕ) → AreHere is_of id old.text_objects → AreHere is_of id new.text_objects
 
   -- its pins are used up
   abbrev pub pins_used : Rows K → Object → Bool × Refusal

@@ -7,7 +7,7 @@ use Rattle.far_rows.specs.declared.column_index.ColumnIndex.TheVariants as colum
 
 -- the name of each object
 abbrev pub names_of : {X K : Type 0} → Movement X K → List Name
-names_of m = map (λ entry. entry.name) m.entries
+names_of m = map (λ object_record. object_record.name) m.records
 
 -- the objects of a column's row groups bear its number and theirs
 abbrev pub AreNamed : List Name → ℕ → List ℕ → Type 0

@@ -79,11 +79,11 @@ module _ {K : Type 0} (r : Rows K) where
   abbrev pub begins : Bool
   begins = length r.alive % r.size == 0
 
-  -- text objects of these lengths, placed in order, find no room
+  -- text objects of these lengths, placed in order, find no space
   abbrev pub no_space_for_texts : List ℕ → Bool × Refusal
   no_space_for_texts lengths = (not (fit_in_order (spaces_of r.text_objects.memory.state) lengths), refusal.RegionFull)
 
-  -- where a row group begins: its objects of numbers, placed in order, find no room
+  -- where a row group begins: its objects of numbers, placed in order, find no space
   abbrev pub no_space_for_numbers : Bool × Refusal
   no_space_for_numbers = (begins && not (fit_in_order (spaces_of r.number_objects.memory.state) (replicate (length r.numbers) r.size)), refusal.RegionFull)
 
@@ -97,7 +97,7 @@ module _ {K : Type 0} (r : Rows K) where
   some_written_out g = (list_any (is_written_out g) r.column_indexes, refusal.EditsUsedUp)
 
   -- the tests of an appended row: an object of its row group is away; a text object would be too long; the text objects that
-  -- it writes, which have these lengths, find no room; or its objects of numbers; an object was written too often
+  -- it writes, which have these lengths, find no space; or its objects of numbers; an object was written too often
   abbrev pub append_tests : Bool → List ℕ → List (Bool × Refusal)
   append_tests too_long lengths =
       let g : ℕ = length r.alive / r.size
@@ -107,4 +107,4 @@ module _ {K : Type 0} (r : Rows K) where
 abbrev pub push_refusal : {K : Type 0} → (K → List ℕ) → Rows K → Values → Option Refusal
 push_refusal content r values =
     let lists : Lists = lists_of content r.text_objects
-    in first_of (append_tests r (any_full lists r.texts values.texts).0 (map (λ form. length form.1) (next_forms lists (length r.text_objects.entries) r.texts values.texts)))
+    in first_of (append_tests r (any_full lists r.texts values.texts).0 (map (λ form. length form.1) (next_forms lists (length r.text_objects.records) r.texts values.texts)))

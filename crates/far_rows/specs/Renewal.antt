@@ -9,9 +9,9 @@ pub record RowsTickets (L : Type 0) : Type 0 where
   pub texts : List (Option L)
 
 -- each of these tickets is one of the store with this id
-pub record AreTicketsAt {L : Type 0} (is_of : L → List ℕ → Type 0) (name : List ℕ) (tickets : RowsTickets L) : Type 0 where
-  pub numbers : AreTicketsHere is_of name tickets.numbers
-  pub texts : AreTicketsHere is_of name tickets.texts
+pub record AreTicketsAt {L : Type 0} (is_of : L → List ℕ → Type 0) (id : List ℕ) (tickets : RowsTickets L) : Type 0 where
+  pub numbers : AreTicketsHere is_of id tickets.numbers
+  pub texts : AreTicketsHere is_of id tickets.texts
 
 module _ {K L : Type 0} where
   -- these tickets renew the rows: those of each kind renew its objects

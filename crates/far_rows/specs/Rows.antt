@@ -8,7 +8,7 @@ use Rattle.far_vector.specs.Vector.{IsShaped}
 use Rattle.far_texts.specs.Texts.{Texts, HasGroups, lists_of, texts_in}
 use Rattle.far_columns.specs.Numbers.{Numbers, number_lists, numbers_in}
 use Rattle.far_columns.specs.NumbersTogether.{NumberColumns, AreNumberColumns}
-use Rattle.far_texts.specs.Together.{AreColumns, AreReplaced, all_begin, all_created, next_forms}
+use Rattle.far_texts.specs.Together.{AreColumns, AreReplaced, all_begin, after_create_all, next_forms}
 use Rattle.far_rows.specs.declared.column_index.ColumnIndex.{ColumnIndex}
 use Rattle.far_rows.specs.declared.column_index.ColumnIndex.TheVariants as column_index
 use Rattle.far_rows.specs.ColumnIndexes.{AreColumnIndexes, columns_of}
@@ -59,8 +59,8 @@ module _ {K : Type 0} where
       pub grouped : All HasGroups r.texts
       pub same_length_numbers : All (λ c. (c.size ≡ r.size) × (c.len ≡ length r.alive)) r.numbers
       pub same_length_texts : All (λ c. (c.size ≡ r.size) × (c.len ≡ length r.alive)) r.texts
-      pub number_objects : All (λ c. length r.number_objects.entries ≡ length r.numbers * length c.objects) r.numbers
-      pub text_objects : All (λ c. length r.text_objects.entries ≡ length r.texts * length c.objects) r.texts
+      pub number_objects : All (λ c. length r.number_objects.records ≡ length r.numbers * length c.objects) r.numbers
+      pub text_objects : All (λ c. length r.text_objects.records ≡ length r.texts * length c.objects) r.texts
       pub numbered : AreNumbered r.column_indexes (map (λ c. c.column) r.numbers) (map (λ c. c.column) r.texts)
       pub placed_numbers : ArePlaced r.column_indexes (λ i. column_index.Number i) (map (λ c. c.column) r.numbers)
       pub placed_texts : ArePlaced r.column_indexes (λ i. column_index.Text i) (map (λ c. c.column) r.texts)
@@ -74,5 +74,5 @@ module _ {K : Type 0} where
   -- the objects of texts once each column of texts has got one of these: new ones where row groups begin, else the last of
   -- each with another form, all of which were placed before an old one was dropped
   pub record TextsMoved (content : K → List ℕ) (r : Rows K) (texts : List (Option (List ℕ))) (now : Movement ℕ K) : Type 0 where
-    pub begun : all_begin r.texts ≡ true → now ≡ all_created r.text_objects r.texts (next_forms (lists_of content r.text_objects) (length r.text_objects.entries) r.texts texts)
-    pub replaced : all_begin r.texts ≡ false → AreReplaced r.text_objects (next_forms (lists_of content r.text_objects) (length r.text_objects.entries) r.texts texts) now
+    pub begun : all_begin r.texts ≡ true → now ≡ after_create_all r.text_objects r.texts (next_forms (lists_of content r.text_objects) (length r.text_objects.records) r.texts texts)
+    pub replaced : all_begin r.texts ≡ false → AreReplaced r.text_objects (next_forms (lists_of content r.text_objects) (length r.text_objects.records) r.texts texts) now

@@ -1,5 +1,5 @@
 mod Walking
 mod Sized
-mod Laid
+mod Layouts
 mod Told
 mod Found

@@ -10,5 +10,5 @@ with-list None P R here then = absurd here
 with-list (Some bytes) P R here then = then bytes refl
 
 -- the object of a row group of texts is in use
-pub text-in-use : {K : Type 0} (content : K → List ℕ) (spelled : List ℕ → List ℕ → Type 0) (m : Movement ℕ K) (c : Texts) → IsTextColumn (lists_of content m) c → (group o : ℕ) → slice_get c.objects group ≡ Some o → AreTracked (λ bytes. bytes) content spelled m → o < length m.entries
-text-in-use content spelled m c is group o at tracked = with-list (lists_of content m o) (IsGroupForm c group) (o < length m.entries) (is.each group o at) (λ bytes here. in-use (λ b. b) content spelled m tracked o bytes here)
+pub text-in-use : {K : Type 0} (content : K → List ℕ) (spelled : List ℕ → List ℕ → Type 0) (m : Movement ℕ K) (c : Texts) → IsTextColumn (lists_of content m) c → (group o : ℕ) → slice_get c.objects group ≡ Some o → AreTracked (λ bytes. bytes) content spelled m → o < length m.records
+text-in-use content spelled m c is group o at tracked = with-list (lists_of content m o) (IsGroupForm c group) (o < length m.records) (is.each group o at) (λ bytes here. in-use (λ b. b) content spelled m tracked o bytes here)

@@ -56,18 +56,18 @@ at-least (suc n) order each =
     omega (arith, rest, length-without order n there)
 
 module _ {X K : Type 0} (meaning : List ℕ → List X) (content : K → List ℕ) (spelled : List X → List ℕ → Type 0) (m : Movement X K) (tracked : AreTracked meaning content spelled m) where
-  below : (o : ℕ) → has m.order o ≡ true → o < length m.entries
+  below : (o : ℕ) → has m.order o ≡ true → o < length m.records
   below o there = subst (λ n. o < n) (sym tracked.same_length) (place-within m.memory.words o (some-true (place_of m.memory.words o) (sym (tracked.ordered o) ∙ there)))
 
   -- every object is local exactly if as many are in the order of use as there are
-  pub all-local : (length m.order ≡ length m.entries) ↔ ((o : ℕ) → o < length m.entries → is_local m o ≡ true)
+  pub all-local : (length m.order ≡ length m.records) ↔ ((o : ℕ) → o < length m.records → is_local m o ≡ true)
   all-local = (each-local, as-many)
     where
-      each-local : length m.order ≡ length m.entries → (o : ℕ) → o < length m.entries → is_local m o ≡ true
-      each-local full o within = sym (tracked.ordered o) ∙ each-there (length m.entries) m.order tracked.once below full o within
+      each-local : length m.order ≡ length m.records → (o : ℕ) → o < length m.records → is_local m o ≡ true
+      each-local full o within = sym (tracked.ordered o) ∙ each-there (length m.records) m.order tracked.once below full o within
 
-      as-many : ((o : ℕ) → o < length m.entries → is_local m o ≡ true) → length m.order ≡ length m.entries
+      as-many : ((o : ℕ) → o < length m.records → is_local m o ≡ true) → length m.order ≡ length m.records
       as-many local =
-          let low = at-least (length m.entries) m.order (λ o within. tracked.ordered o ∙ local o within) in
-          let high = at-most (length m.entries) m.order tracked.once below in
+          let low = at-least (length m.records) m.order (λ o within. tracked.ordered o ∙ local o within) in
+          let high = at-most (length m.records) m.order tracked.once below in
           omega (arith, low, high)

@@ -10,7 +10,7 @@ use Rattle.far_pointer.specs.declared.pointer.Pointer.TheVariants.{Local, Remote
 use Rattle.far_scopes.specs.declared.object_record.ObjectRecord.{ObjectRecord}
 use Rattle.far_scopes.specs.Recency.{has}
 use Rattle.far_scopes.specs.Memory.{Memory, at_of, place_of, list_in, ChangesList}
-use Rattle.far_scopes.specs.Movement.{Movement, word_of, entry_of, is_local, list_of, AreClean, IsTracked, AreTracked}
+use Rattle.far_scopes.specs.Movement.{Movement, word_of, record_of, is_local, list_of, AreClean, IsTracked, AreTracked}
 use Rattle.far_scopes.proofs.WordPlaces.{slice_get-set_same, slice_get-set_other}
 use Rattle.far_scopes.proofs.RecencyLaws.{has-cons_same, has-cons_other}
 use Rattle.far_scopes.proofs.Tracked.{Others, clean-one, lists-kept, each-one}
@@ -35,18 +35,18 @@ not-within (x ∷ xs) (suc i) within none = not-within xs i (omega (arith, withi
 
 module _ {X K : Type 0} (meaning : List ℕ → List X) (content : K → List ℕ) (spelled : List X → List ℕ → Type 0) (m : Movement X K) (tracked : AreTracked meaning content spelled m) (o : ℕ) where
   -- an object that is away comes back with the list that its ticket means
-  module _ (within : o < length m.entries) (list : List X) (away : is_local m o ≡ false) (means : list_of meaning content m o ≡ Some list) where
-    abbrev entry-there : (e : ObjectRecord K) × (entry_of m o ≡ Some e)
-    entry-there = elim (cases_option (entry_of m o)) [
-      | inl none ↦ absurd (not-within m.entries o within none)
+  module _ (within : o < length m.records) (list : List X) (away : is_local m o ≡ false) (means : list_of meaning content m o ≡ Some list) where
+    abbrev object_record-there : (e : ObjectRecord K) × (record_of m o ≡ Some e)
+    object_record-there = elim (cases_option (record_of m o)) [
+      | inl none ↦ absurd (not-within m.records o within none)
       | inr some ↦ some
     ]
 
-    abbrev entry : ObjectRecord K
-    entry = entry-there.0
+    abbrev object_record : ObjectRecord K
+    object_record = object_record-there.0
 
-    was : entry_of m o ≡ Some entry
-    was = entry-there.1
+    was : record_of m o ≡ Some object_record
+    was = object_record-there.1
 
     its-word : o < length m.memory.words
     its-word = subst (λ n. o < n) tracked.same_length within
@@ -57,18 +57,18 @@ module _ {X K : Type 0} (meaning : List ℕ → List X) (content : K → List �
     list-was : list_in m.memory o ≡ None
     list-was = rw word-was refl
 
-    ticket-was : option_map (λ ticket. meaning (content ticket)) entry.ticket ≡ Some list
+    ticket-was : option_map (λ ticket. meaning (content ticket)) object_record.ticket ≡ Some list
     ticket-was = rw (← means, list-was, was) refl
 
-    long-was : (ticket : Option K) → option_map (λ k. meaning (content k)) ticket ≡ Some list → IsSomeAnd ticket (λ k. length (meaning (content k)) ≡ entry.len) → length list ≡ entry.len
+    long-was : (ticket : Option K) → option_map (λ k. meaning (content k)) ticket ≡ Some list → IsSomeAnd ticket (λ k. length (meaning (content k)) ≡ object_record.len) → length list ≡ object_record.len
     long-was None is h = cc
     long-was (Some k) is h = let same : Some (meaning (content k)) ≡ Some list = is in cc
 
-    pub long-back : length list ≡ entry.len
-    long-back = long-was entry.ticket ticket-was ((tracked.each o Remote entry word-was was).away refl).1
+    pub long-back : length list ≡ object_record.len
+    long-back = long-was object_record.ticket ticket-was ((tracked.each o Remote object_record word-was was).away refl).1
 
     pub some-back : 0 < length list
-    some-back = subst (λ n. 0 < n) (sym long-back) (tracked.each o Remote entry word-was was).some
+    some-back = subst (λ n. 0 < n) (sym long-back) (tracked.each o Remote object_record word-was was).some
 
     module _ (memory : Memory X) (at : At) (words : memory.words ≡ slice_set m.memory.words o (Local at false true true)) (change : ChangesList (list_in m.memory) (list_in memory) o (Some list)) where
       -- the objects once it is back
@@ -82,7 +82,7 @@ module _ {X K : Type 0} (meaning : List ℕ → List X) (content : K → List �
       words-back p ne = rw words (slice_get-set_other m.memory.words o p (Local at false true true) ne)
 
       others-back : Others meaning content m back o
-      others-back = record { words = words-back; entries = λ p ne. refl; lists = change.others }
+      others-back = record { words = words-back; records = λ p ne. refl; lists = change.others }
 
       pub lists-back : (p : ℕ) → list_of meaning content back p ≡ list_of meaning content m p
       lists-back = lists-kept meaning content m back o others-back (rw (change.here, means) refl)
@@ -96,9 +96,9 @@ module _ {X K : Type 0} (meaning : List ℕ → List X) (content : K → List �
         | inr ne ↦ has-cons_other m.order o p ne ∙ tracked.ordered p ∙ rw (words-back p ne) refl
       ]
 
-      tracked-one-back : IsTracked meaning content spelled m.max_writes m.leavings (Local at false true true) (Some list) entry
+      tracked-one-back : IsTracked meaning content spelled m.max_writes m.leavings (Local at false true true) (Some list) object_record
       tracked-one-back =
-          let old = tracked.each o Remote entry word-was was in
+          let old = tracked.each o Remote object_record word-was was in
           record { version = old.version; left = old.left; some = old.some; long = long-back; away = λ is. cc; copy = old.copy; far = old.far }
 
       pub tracked-back : AreTracked meaning content spelled back
@@ -107,7 +107,7 @@ module _ {X K : Type 0} (meaning : List ℕ → List X) (content : K → List �
         few = tracked.few;
         each = each-one meaning content m back o others-back spelled tracked refl refl
             (λ word e w there. rw change.here (subst (λ (k : Pointer). IsTracked meaning content spelled m.max_writes m.leavings k (Some list) e) (some-one (word_of back o) w word-back)
-            (subst (IsTracked meaning content spelled m.max_writes m.leavings (Local at false true true) (Some list)) (some-one (entry_of m o) there was) tracked-one-back)));
+            (subst (IsTracked meaning content spelled m.max_writes m.leavings (Local at false true true) (Some list)) (some-one (record_of m o) there was) tracked-one-back)));
         once = (tracked.ordered o ∙ away, tracked.once);
         ordered = ordered-back;
       }

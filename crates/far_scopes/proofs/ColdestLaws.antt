@@ -106,7 +106,7 @@ module _ {X K : Type 0} (m : Movement X K) where
     order-step is = is ∙ ap (λ l. l ++ seen) keys-step ∙ append_assoc (keys_of rest) (pair.0 ∷ []) seen
 
     -- it has a number
-    pub last-within : {meaning : List ℕ → List X} {content : K → List ℕ} {spelled : List X → List ℕ → Type 0} → AreTracked meaning content spelled m → m.order ≡ keys_of left ++ seen → pair.0 < length m.entries
+    pub last-within : {meaning : List ℕ → List X} {content : K → List ℕ} {spelled : List X → List ℕ → Type 0} → AreTracked meaning content spelled m → m.order ≡ keys_of left ++ seen → pair.0 < length m.records
     last-within tracked is =
         let there : has m.order pair.0 ≡ true = ap (λ l. has l pair.0) (order-step is) ∙ list_any-append (λ p. nat_eq pair.0 p) (keys_of rest) (pair.0 ∷ seen) ∙ ap (λ b. has (keys_of rest) pair.0 || b) (has-cons_same seen pair.0) ∙ or_comm (has (keys_of rest) pair.0) true in
         subst (λ n. pair.0 < n) (sym tracked.same_length) (place-within m.memory.words pair.0 (some-true (place_of m.memory.words pair.0) (sym (tracked.ordered pair.0) ∙ there)))

@@ -13,15 +13,15 @@ use Rattle.far_pointer.specs.Layout.{with_hot, with_at}
 use Rattle.std.specs.declared.result.Result.TheVariants.{Ok}
 use Rattle.far_types.specs.declared.refusal.Refusal.{Refusal}
 use Rattle.far_log.specs.RegionState.{Part, RegionState, IsLayoutFrom, list_at, segment_of, part_of, IsRegion}
-use Rattle.far_log.specs.Effects.{laid_from, list_or_none, gathered, IsOrder, Compacts}
+use Rattle.far_log.specs.Effects.{layout_from, list_or_none, gathered, IsOrder, Compacts}
 use Rattle.far_log.proofs.Gathers.{some-list}
-use Rattle.far_log.proofs.RegionLaws.{laid-segment, part-there}
+use Rattle.far_log.proofs.RegionLaws.{layout-segment, part-there}
 use Rattle.far_scopes.specs.declared.memory.compaction.SegmentObject.{SegmentObject}
 use Rattle.far_scopes.specs.Memory.{at_of, place_of, list_in, IsMemory}
 use Rattle.far_scopes.specs.Compaction.{hot_first, offset_after, moved_word, IsCompacted}
 use Rattle.far_scopes.specs.SegmentObjects.{AreHotFirst, Settles}
 use Rattle.far_scopes.proofs.Places.{cases_option, same_some, none_or_some, not_some}
-use Rattle.far_scopes.proofs.Rising.{in-read, Rises, rises-before, rises-disjoint}
+use Rattle.far_scopes.proofs.Sorted.{in-read, Rises, rises-before, rises-disjoint}
 use Rattle.far_scopes.proofs.HotFirst.{at-is, order-whole, order-is, objects-there, objects-within, objects-whole, objects-once}
 use Rattle.far_scopes.proofs.Relocated.{own-relocated, lists-relocated}
 
@@ -52,7 +52,7 @@ same-index xs i j disjoint first second same = elim (cases_lt i j) [
 module _ {X : Type 0} where
   -- the k-th part of an order begins behind those before it
   after-is : (parts : List (Part X)) (from : ℕ) (order : List ℕ) (k : ℕ) → AllPairs (λ o p. o ≢ p) order → k < length order
-      → from + offset_after parts order (get_or order k 0) ≡ get_or (map (λ p. p.offset) (laid_from from (map (list_or_none parts) order))) k 0
+      → from + offset_after parts order (get_or order k 0) ≡ get_or (map (λ p. p.offset) (layout_from from (map (list_or_none parts) order))) k 0
   after-is parts from [] k once lt = absurd (omega (arith, lt))
   after-is parts from (o ∷ order) zero once lt = rw (eq-eqb o o refl) (omega arith)
   after-is parts from (o ∷ order) (suc k) once lt =
@@ -63,10 +63,10 @@ module _ {X : Type 0} where
   after-at parts order k once lt = omega (arith, after-is parts 0 order k once lt)
 
   -- lists that have elements begin at numbers that rise
-  rises-picked : (pick : ℕ → List X) (from : ℕ) (order : List ℕ) → ((k : ℕ) → k < length order → 0 < length (pick (get_or order k 0))) → Rises from (map (λ p. p.offset) (laid_from from (map pick order)))
+  rises-picked : (pick : ℕ → List X) (from : ℕ) (order : List ℕ) → ((k : ℕ) → k < length order → 0 < length (pick (get_or order k 0))) → Rises from (map (λ p. p.offset) (layout_from from (map pick order)))
   rises-picked pick from [] h = tt
   rises-picked pick from (o ∷ order) h =
-      (omega arith, rises-before (from + 1) (from + length (pick o)) (map (λ p. p.offset) (laid_from (from + length (pick o)) (map pick order))) (omega (arith, h zero (omega arith))) (rises-picked pick (from + length (pick o)) order (λ k lt. h (suc k) (omega (arith, lt)))))
+      (omega arith, rises-before (from + 1) (from + length (pick o)) (map (λ p. p.offset) (layout_from (from + length (pick o)) (map pick order))) (omega (arith, h zero (omega arith))) (rises-picked pick (from + length (pick o)) order (λ k lt. h (suc k) (omega (arith, lt)))))
 
   module _ (parts : List (Part X)) (order : List ℕ) (from to : ℕ) where
     -- where a list lies that lay at a location
@@ -159,12 +159,12 @@ module _ {X : Type 0} (words : List Pointer) (state state' : RegionState X) (m :
   offset-at : (k : ℕ) → k < length order → offset_after source order (get_or order k 0) ≡ get_or offsets k 0
   offset-at k lt = after-at source order k listed.once lt ∙ ap (λ l. get_or l k 0) (sym compacts.offsets_are)
 
-  length-laid : (start : ℕ) (xss : List (List X)) → length (laid_from start xss) ≡ length xss
-  length-laid start [] = refl
-  length-laid start (xs ∷ xss) = ap suc (length-laid (start + length xs) xss)
+  length-layout : (start : ℕ) (xss : List (List X)) → length (layout_from start xss) ≡ length xss
+  length-layout start [] = refl
+  length-layout start (xs ∷ xss) = ap suc (length-layout (start + length xs) xss)
 
   pub offsets-long : length offsets ≡ length order
-  offsets-long = ap (λ (l : List ℕ). length l) compacts.offsets_are ∙ length-map (gathered source order) (λ p. p.offset) ∙ length-laid 0 (map (list_or_none source) order) ∙ length-map order (list_or_none source)
+  offsets-long = ap (λ (l : List ℕ). length l) compacts.offsets_are ∙ length-map (gathered source order) (λ p. p.offset) ∙ length-layout 0 (map (list_or_none source) order) ∙ length-map order (list_or_none source)
 
   -- no part lies in the segment that was empty
   not-target : (at : At) → IsSome (part_of state at) → at.segment ≢ to
@@ -185,7 +185,7 @@ module _ {X : Type 0} (words : List Pointer) (state state' : RegionState X) (m :
   offsets-disjoint : from < length state → AllPairs (λ o p. o ≢ p) offsets
   offsets-disjoint there =
       rw compacts.offsets_are (rises-disjoint 0 (map (λ p. p.offset) (gathered source order)) (rises-picked (list_or_none source) 0 order
-      (λ k lt. some-list 0 (segment_of state from).size source (get_or order k 0) (laid-segment state from m.region there) (All-get_or (λ offset. IsSome (list_at source offset)) order k 0 lt listed.listed))))
+      (λ k lt. some-list 0 (segment_of state from).size source (get_or order k 0) (layout-segment state from m.region there) (All-get_or (λ offset. IsSome (list_at source offset)) order k 0 lt listed.listed))))
 
   once : (q r : At) → IsSome (part_of state q) → IsSome (part_of state r) → moved q ≡ moved r → q ≡ r
   once q r one other same = elim (cases_eq q.segment from) [
@@ -243,22 +243,22 @@ module _ {X : Type 0} (words : List Pointer) (state : RegionState X) (m : IsMemo
   abbrev order : List ℕ
   order = map (λ (f : SegmentObject). f.offset) objects
 
-  laid : IsLayoutFrom 0 parts (segment_of state from).size
-  laid = laid-segment state from m.region within
+  layout : IsLayoutFrom 0 parts (segment_of state from).size
+  layout = layout-segment state from m.region within
 
   in-order : order ≡ hot_first record { words = words; state = state } from
-  in-order = order-is words state from laid m.own objects are
+  in-order = order-is words state from layout m.own objects are
 
   -- what the region is asked to move
   pub order-listed : IsOrder parts order
-  order-listed = rw in-order (order-whole words state from laid)
+  order-listed = rw in-order (order-whole words state from layout)
 
   -- what the words are asked to say
   pub within-words : All (λ (f : SegmentObject). f.object < length words) objects
-  within-words = objects-within words state from laid m.own objects are
+  within-words = objects-within words state from layout m.own objects are
 
   pub once-each : AllPairs (λ o p. o ≢ p) (map (λ (f : SegmentObject). f.object) objects)
-  once-each = objects-once words state from laid m.own objects are
+  once-each = objects-once words state from layout m.own objects are
 
   module _ (state' : RegionState X) (to : ℕ) (offsets : List ℕ) (compacts : Compacts state state' from to order offsets) (sound : IsRegion state') where
     pub long-enough : length offsets ≡ length objects
@@ -266,7 +266,7 @@ module _ {X : Type 0} (words : List Pointer) (state : RegionState X) (m : IsMemo
 
     module _ (new : List Pointer) (settled : Settles words new objects to offsets (length objects)) where
       settled-words : new ≡ map (moved_word parts order from to) words
-      settled-words = words-settled parts order from to words new objects offsets settled refl order-listed.once compacts.offsets_are (objects-there words state from laid m.own objects are) (objects-whole words state from laid m.own objects are)
+      settled-words = words-settled parts order from to words new objects offsets settled refl order-listed.once compacts.offsets_are (objects-there words state from layout m.own objects are) (objects-whole words state from layout m.own objects are)
 
       pub compacted-done : Done words new state state' from
       compacted-done = record {

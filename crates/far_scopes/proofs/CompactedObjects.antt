@@ -62,14 +62,14 @@ module _ {X K : Type 0} (meaning : List ℕ → List X) (content : K → List �
   tracked-changed spelled tracked = record {
     same_length = tracked.same_length ∙ sym (ap (λ (l : List Pointer). length l) words ∙ length-map m.memory.words change);
     few = tracked.few;
-    each = λ o word entry now was.
+    each = λ o word object_record now was.
         let w = word-was o word now in
-        let t = tracked.each o w.0 entry w.1 was in
+        let t = tracked.each o w.0 object_record w.1 was in
         record {
           version = t.version;
           left = t.left;
           some = t.some;
-          long = subst (λ l. IfSome l (λ xs. length xs ≡ entry.len)) (sym (lists o)) t.long;
+          long = subst (λ l. IfSome l (λ xs. length xs ≡ object_record.len)) (sym (lists o)) t.long;
           away = λ is. t.away (away-kept change keeps w.0 (sym w.2 ∙ is));
           copy = ap has_copy w.2 ∙ keeps.copy w.0 ∙ t.copy;
           far = t.far;

@@ -3,7 +3,7 @@ use Rattle.std.proofs.Common.{◌≡◌, ℕ, false, inl, inr, List, Option, Som
 use Rattle.std.specs.Prelude.{option_map, IfSome, IsSomeAnd}
 use Rattle.std.specs.Option.{option_or}
 use Rattle.far_scopes.specs.Memory.{list_in}
-use Rattle.far_scopes.specs.Movement.{Movement, word_of, entry_of, dirty, ticket_of, AreClean, AreTracked}
+use Rattle.far_scopes.specs.Movement.{Movement, word_of, record_of, dirty, ticket_of, AreClean, AreTracked}
 use Rattle.far_scopes.proofs.Places.{cases_option}
 
 module _ {X K : Type 0} (meaning : List ℕ → List X) (content : K → List ℕ) (spelled : List X → List ℕ → Type 0) where
@@ -14,10 +14,10 @@ module _ {X K : Type 0} (meaning : List ℕ → List X) (content : K → List �
   pub copied : (m : Movement X K) → AreTracked meaning content spelled m → AreClean meaning content m → (o : ℕ) (list : List X) → dirty m o ≡ false → list_in m.memory o ≡ Some list → IsSomeAnd (ticket_of m o) (λ k. spelled list (content k))
   copied m tracked clean o list is here =
       let told : Some list ≡ option_map (λ k. meaning (content k)) (ticket_of m o) = sym (ap (λ l. option_or l (option_map (λ k. meaning (content k)) (ticket_of m o))) here) ∙ clean o is in
-      elim (cases_option (entry_of m o)) [
+      elim (cases_option (record_of m o)) [
         | inl none ↦ absurd (let never : Some list ≡ None = told ∙ rw none refl in cc)
-        | inr (entry, e) ↦ elim (cases_option (word_of m o)) [
+        | inr (object_record, e) ↦ elim (cases_option (word_of m o)) [
           | inl none ↦ absurd (let never : Some list ≡ None = sym here ∙ rw none refl in cc)
-          | inr (word, w) ↦ rw e (copied-one entry.ticket list (told ∙ rw e refl) (tracked.each o word entry w e).far)
+          | inr (word, w) ↦ rw e (copied-one object_record.ticket list (told ∙ rw e refl) (tracked.each o word object_record w e).far)
         ]
       ]

@@ -11,7 +11,7 @@ use Rattle.far_codec.specs.Spelling.{IsSpelled}
 use Rattle.far_scopes.specs.declared.object_record.ObjectRecord.{ObjectRecord}
 use Rattle.far_scopes.specs.Recency.{has, without}
 use Rattle.far_scopes.specs.Memory.{Memory, list_in, ChangesList}
-use Rattle.far_scopes.specs.Movement.{Movement, word_of, entry_of, is_local, pins_of, leavings_of, list_of, AreClean, IsTracked, AreTracked}
+use Rattle.far_scopes.specs.Movement.{Movement, word_of, record_of, is_local, pins_of, leavings_of, list_of, AreClean, IsTracked, AreTracked}
 use Rattle.far_scopes.proofs.WordPlaces.{word-read, list-within, slice_get-set_same, slice_get-set_other}
 use Rattle.far_scopes.proofs.RecencyLaws.{has-without_same, has-without_other, once-without}
 use Rattle.far_scopes.proofs.Tracked.{Others, clean-one, lists-kept, each-one}
@@ -35,7 +35,7 @@ reads-spelled meaning in_range has_spelling spelling reads_back bytes list is = 
 
 module _ {X K : Type 0} (meaning : List ℕ → List X) (content : K → List ℕ) (spelled : List X → List ℕ → Type 0) (m : Movement X K) (tracked : AreTracked meaning content spelled m) (o : ℕ) where
   -- an object that is local with a list that this ticket spells goes away
-  module _ (entry : ObjectRecord K) (read : entry ≡ get_or m.entries o entry) (ticket : K) (reads : (list : List X) → spelled list (content ticket) → meaning (content ticket) ≡ list) (copied : IsSomeAnd (list_in m.memory o) (λ list. spelled list (content ticket))) where
+  module _ (object_record : ObjectRecord K) (read : object_record ≡ get_or m.records o object_record) (ticket : K) (reads : (list : List X) → spelled list (content ticket) → meaning (content ticket) ≡ list) (copied : IsSomeAnd (list_in m.memory o) (λ list. spelled list (content ticket))) where
     found : (list : List X) × (list_in m.memory o ≡ Some list) × spelled list (content ticket)
     found = some-with (λ list. spelled list (content ticket)) (list_in m.memory o) copied
 
@@ -48,22 +48,22 @@ module _ {X K : Type 0} (meaning : List ℕ → List X) (content : K → List �
     there-word : o < length m.memory.words
     there-word = list-within m.memory o (is-some (list_in m.memory o) found.1)
 
-    there : o < length m.entries
+    there : o < length m.records
     there = subst (λ n. o < n) (sym tracked.same_length) there-word
 
-    pub entry-was : entry_of m o ≡ Some entry
-    entry-was = word-read m.entries o entry there read
+    pub object_record-was : record_of m o ≡ Some object_record
+    object_record-was = word-read m.records o object_record there read
 
     abbrev left-behind : ObjectRecord K
-    left-behind = record entry { leavings = entry.leavings + 1; ticket = Some ticket }
+    left-behind = record object_record { leavings = object_record.leavings + 1; ticket = Some ticket }
 
     module _ (memory : Memory X) (words : memory.words ≡ slice_set m.memory.words o Remote) (change : ChangesList (list_in m.memory) (list_in memory) o None) where
       -- the objects once it is gone
       abbrev gone : Movement X K
-      gone = record m { memory = memory; entries = slice_set m.entries o left-behind; order = without m.order o }
+      gone = record m { memory = memory; records = slice_set m.records o left-behind; order = without m.order o }
 
-      entry-gone : entry_of gone o ≡ Some left-behind
-      entry-gone = slice_get-set_same m.entries o left-behind there
+      object_record-gone : record_of gone o ≡ Some left-behind
+      object_record-gone = slice_get-set_same m.records o left-behind there
 
       word-gone : word_of gone o ≡ Some Remote
       word-gone = rw words (slice_get-set_same m.memory.words o Remote there-word)
@@ -72,10 +72,10 @@ module _ {X K : Type 0} (meaning : List ℕ → List X) (content : K → List �
       words-gone p ne = rw words (slice_get-set_other m.memory.words o p Remote ne)
 
       others-gone : Others meaning content m gone o
-      others-gone = record { words = words-gone; entries = λ p ne. slice_get-set_other m.entries o p left-behind ne; lists = change.others }
+      others-gone = record { words = words-gone; records = λ p ne. slice_get-set_other m.records o p left-behind ne; lists = change.others }
 
       pub lists-gone : (p : ℕ) → list_of meaning content gone p ≡ list_of meaning content m p
-      lists-gone = lists-kept meaning content m gone o others-gone (rw (change.here, entry-gone, found.1) (ap Some means))
+      lists-gone = lists-kept meaning content m gone o others-gone (rw (change.here, object_record-gone, found.1) (ap Some means))
 
       pub clean-gone : AreClean meaning content m → AreClean meaning content gone
       clean-gone clean = clean-one meaning content m gone o others-gone clean (λ c. rw change.here refl)
@@ -90,26 +90,26 @@ module _ {X K : Type 0} (meaning : List ℕ → List X) (content : K → List �
         tracked-one-gone : IsTracked meaning content spelled m.max_writes m.leavings Remote None left-behind
         tracked-one-gone =
             let (word, w) = word-there m.memory.words o there-word in
-            let old = tracked.each o word entry w entry-was in
-            let long : length list ≡ entry.len = subst (λ l. IfSome l (λ xs. length xs ≡ entry.len)) found.1 old.long in
-            let fewer : entry.leavings < m.leavings = subst (λ e. option_map_or (λ (x : ObjectRecord K). x.leavings) e 0 < m.leavings) entry-was left in
+            let old = tracked.each o word object_record w object_record-was in
+            let long : length list ≡ object_record.len = subst (λ l. IfSome l (λ xs. length xs ≡ object_record.len)) found.1 old.long in
+            let fewer : object_record.leavings < m.leavings = subst (λ e. option_map_or (λ (x : ObjectRecord K). x.leavings) e 0 < m.leavings) object_record-was left in
             record {
               version = old.version;
               left = omega (arith, fewer);
               some = old.some;
               long = tt;
-              away = λ remote. (subst (λ e. option_map_or (λ (x : ObjectRecord K). x.pins) e 0 ≡ 0) entry-was unpinned, ap (λ l. length l) means ∙ long);
+              away = λ remote. (subst (λ e. option_map_or (λ (x : ObjectRecord K). x.pins) e 0 ≡ 0) object_record-was unpinned, ap (λ l. length l) means ∙ long);
               copy = refl;
               far = rw means found.2;
             }
 
         pub tracked-gone : AreTracked meaning content spelled gone
         tracked-gone = record {
-          same_length = length-set m.entries o left-behind ∙ tracked.same_length ∙ sym (ap (λ l. length l) words ∙ length-set m.memory.words o Remote);
-          few = rw (length-set m.entries o left-behind) tracked.few;
+          same_length = length-set m.records o left-behind ∙ tracked.same_length ∙ sym (ap (λ l. length l) words ∙ length-set m.memory.words o Remote);
+          few = rw (length-set m.records o left-behind) tracked.few;
           each = each-one meaning content m gone o others-gone spelled tracked refl refl
               (λ word e w there. rw change.here (subst (λ (k : Pointer). IsTracked meaning content spelled m.max_writes m.leavings k None e) (some-one (word_of gone o) w word-gone)
-              (subst (IsTracked meaning content spelled m.max_writes m.leavings Remote None) (some-one (entry_of gone o) there entry-gone) tracked-one-gone)));
+              (subst (IsTracked meaning content spelled m.max_writes m.leavings Remote None) (some-one (record_of gone o) there object_record-gone) tracked-one-gone)));
           once = once-without m.order o tracked.once;
           ordered = ordered-gone;
         }

@@ -18,7 +18,7 @@ use Rattle.far_scopes.specs.Memory.{Memory, at_of, place_of, OwnPlaces}
 use Rattle.far_scopes.specs.Compaction.{begins_at, hot_at, offsets_in, hot_first}
 use Rattle.far_scopes.specs.SegmentObjects.{offset_if, offset_of, AreSorted, AreHotFirst}
 use Rattle.far_scopes.proofs.Places.{cases_option, same_some, none_or_some}
-use Rattle.far_scopes.proofs.Rising.{in-head, in-tail, in-none, in-cases, in-filter, from-filter, in-read, pairs-append, in-map, from-map, Rises, rises-before, rises-filter, rises-sorted, rises-disjoint, same-rising}
+use Rattle.far_scopes.proofs.Sorted.{in-head, in-tail, in-none, in-cases, in-filter, from-filter, in-read, pairs-append, in-map, from-map, Rises, rises-before, rises-filter, rises-sorted, rises-disjoint, same-sorted}
 use Rattle.far_scopes.proofs.Settling.{disjoint-at}
 
 -- a location is its two numbers
@@ -91,9 +91,9 @@ not-true false e = refl
 
 module _ {X : Type 0} where
   -- the parts of a segment begin at numbers that rise
-  pub rises-laid : (from size : ℕ) (parts : List (Part X)) → IsLayoutFrom from parts size → Rises from (map (λ p. p.offset) parts)
-  rises-laid from size [] h = tt
-  rises-laid from size (p ∷ ps) h = (h.0, rises-before (p.offset + 1) (end_of p) (map (λ p. p.offset) ps) (omega (arith, h.1)) (rises-laid (end_of p) size ps h.2))
+  pub rises-layout : (from size : ℕ) (parts : List (Part X)) → IsLayoutFrom from parts size → Rises from (map (λ p. p.offset) parts)
+  rises-layout from size [] h = tt
+  rises-layout from size (p ∷ ps) h = (h.0, rises-before (p.offset + 1) (end_of p) (map (λ p. p.offset) ps) (omega (arith, h.1)) (rises-layout (end_of p) size ps h.2))
 
   pub offset-some : (parts : List (Part X)) (offset : ℕ) → Contains (map (λ p. p.offset) parts) offset → IsSome (list_at parts offset)
   offset-some [] offset h = absurd (in-none offset h)
@@ -110,7 +110,7 @@ module _ {X : Type 0} where
   some-offset [] offset some = cc
   some-offset (p ∷ ps) offset some = first-or-rest p ps offset (eqb p.offset offset) refl (some-offset ps offset) some
 
-  module _ (words : List Pointer) (state : RegionState X) (from : ℕ) (laid : IsLayoutFrom 0 (segment_of state from).parts (segment_of state from).size) where
+  module _ (words : List Pointer) (state : RegionState X) (from : ℕ) (layout : IsLayoutFrom 0 (segment_of state from).parts (segment_of state from).size) where
     abbrev here : Memory X
     here = record { words = words; state = state }
 
@@ -131,7 +131,7 @@ module _ {X : Type 0} where
     -- a compaction lists the parts of the segment, each once
     pub order-whole : IsOrder (segment_of state from).parts (hot_first here from)
     order-whole =
-        let up = rises-laid 0 (segment_of state from).size (segment_of state from).parts laid in
+        let up = rises-layout 0 (segment_of state from).size (segment_of state from).parts layout in
         record {
           listed = All-append (λ offset. IsSome (list_at (segment_of state from).parts offset)) (filter hot-from offsets) (filter cold-from offsets)
               (λ k d lt. offset-some (segment_of state from).parts (get_or (filter hot-from offsets) k d) (from-filter hot-from offsets (get_or (filter hot-from offsets) k d) (in-read (filter hot-from offsets) k d lt)).0)
@@ -187,11 +187,11 @@ module _ {X : Type 0} where
             (own.disjoint (get_or objects i none).object (get_or objects j none).object record { segment = from; offset = (get_or objects j none).offset } (one ∙ ap (λ (n : ℕ). let at : At = record { segment = from; offset = n } in Some at) offset) two)
 
         -- where they begin, in the words of the region
-        rising-is : (passes : ℕ → Bool) → ((offset : ℕ) → passes offset ≡ true → hot-from offset ≡ h) → ((offset : ℕ) → hot-from offset ≡ h → passes offset ≡ true) → map (λ (f : SegmentObject). f.offset) objects ≡ filter passes offsets
-        rising-is passes to back =
-            same-rising 0 (map (λ (f : SegmentObject). f.offset) objects) (filter passes offsets)
-            (rises-sorted (map (λ (f : SegmentObject). f.offset) objects) are.rising offsets-disjoint)
-            (rises-filter passes 0 offsets (rises-laid 0 (segment_of state from).size (segment_of state from).parts laid))
+        sorted-is : (passes : ℕ → Bool) → ((offset : ℕ) → passes offset ≡ true → hot-from offset ≡ h) → ((offset : ℕ) → hot-from offset ≡ h → passes offset ≡ true) → map (λ (f : SegmentObject). f.offset) objects ≡ filter passes offsets
+        sorted-is passes to back =
+            same-sorted 0 (map (λ (f : SegmentObject). f.offset) objects) (filter passes offsets)
+            (rises-sorted (map (λ (f : SegmentObject). f.offset) objects) are.sorted offsets-disjoint)
+            (rises-filter passes 0 offsets (rises-layout 0 (segment_of state from).size (segment_of state from).parts layout))
             (λ offset in-it.
             let w = from-map (λ (f : SegmentObject). f.offset) objects offset in-it in
             let v = there w.0 w.1 in
@@ -207,8 +207,8 @@ module _ {X : Type 0} where
         -- their offsets are the order of the compaction
         pub order-is : map (λ (f : SegmentObject). f.offset) objects ≡ hot_first here from
         order-is =
-            let one = rising-is true are.hot are.first hot-from (λ offset e. e) (λ offset e. e) in
-            let two = rising-is false are.others are.rest cold-from (λ offset e. not-true (hot-from offset) e) (λ offset e. ap not e) in
+            let one = sorted-is true are.hot are.first hot-from (λ offset e. e) (λ offset e. e) in
+            let two = sorted-is false are.others are.rest cold-from (λ offset e. not-true (hot-from offset) e) (λ offset e. ap not e) in
             ap (map (λ (f : SegmentObject). f.offset)) are.joined ∙ map-append (λ (f : SegmentObject). f.offset) are.hot are.others ∙ ap (λ l. l ++ map (λ (f : SegmentObject). f.offset) are.others) one ∙ ap (λ l. filter hot-from offsets ++ l) two
 
         pub objects-there : (found : SegmentObject) → Contains objects found → place_of words found.object ≡ Some record { segment = from; offset = found.offset }

@@ -1,5 +1,5 @@
 pub mod Places
-pub mod Rising
+pub mod Sorted
 pub mod ObjectLists
 pub mod Settling
 pub mod Relocated
@@ -21,7 +21,7 @@ pub mod Overwritten
 pub mod Pins
 pub mod Listed
 pub mod Written
-pub mod Comings
+pub mod Creations
 pub mod Copies
 pub mod Framing
 pub mod ListsKept

@@ -27,11 +27,11 @@ ok-goes false rest r is = refl
 module _ {X K : Type 0} where
   -- a pin leaves the names as they are
   absent-pinned : (m : Movement X K) (o p : ℕ) → (absent (after_pin m o) p).1 ≡ (absent m p).1
-  absent-pinned m o p = elim (cases_option (slice_get m.entries o)) [
+  absent-pinned m o p = elim (cases_option (slice_get m.records o)) [
     | inl none ↦ rw none refl
-    | inr (entry, is) ↦ elim (cases_eq p o) [
-      | inl same ↦ rw (same, is, slice_get-set_same m.entries o record entry { pins = entry.pins + 1 } (slice_get_within m.entries o entry is)) refl
-      | inr ne ↦ rw (is, slice_get-set_other m.entries o p record entry { pins = entry.pins + 1 } ne) refl
+    | inr (object_record, is) ↦ elim (cases_eq p o) [
+      | inl same ↦ rw (same, is, slice_get-set_same m.records o record object_record { pins = object_record.pins + 1 } (slice_get_within m.records o object_record is)) refl
+      | inr ne ↦ rw (is, slice_get-set_other m.records o p record object_record { pins = object_record.pins + 1 } ne) refl
     ]
   ]
 

@@ -67,9 +67,9 @@ module _ (words : List Pointer) (segment : ℕ) (hot : Bool) where
         (IsDistinct-from_AllPairs Decides-eqb (map (λ (f : SegmentObject). f.object) found) h.once));
   }
 
--- objects by rising offset
-pub rising-mapped : (objects : List SegmentObject) → IsNonDecreasingBy (λ f. f.offset) objects → IsNonDecreasing (map (λ (f : SegmentObject). f.offset) objects)
-rising-mapped objects h = λ i j d le lt.
+-- objects by ascending offset
+pub sorted-mapped : (objects : List SegmentObject) → IsNonDecreasingBy (λ f. f.offset) objects → IsNonDecreasing (map (λ (f : SegmentObject). f.offset) objects)
+sorted-mapped objects h = λ i j d le lt.
     let none : SegmentObject = record { object = 0; offset = 0 } in
     let within : j < length objects = omega (arith, lt, length-map objects (λ (f : SegmentObject). f.offset)) in
     omega (arith, h i j none le within, get_or-map (λ (f : SegmentObject). f.offset) objects i none d (omega (arith, le, within)), get_or-map (λ (f : SegmentObject). f.offset) objects j none d within)

@@ -74,15 +74,15 @@ module _ {X K : Type 0} (meaning : List ℕ → List X) (content : K → List �
   tracked-overwritten tracked = record {
     same_length = tracked.same_length;
     few = tracked.few;
-    each = λ p word entry w e. let t = tracked.each p word entry w e in
-        record { version = t.version; left = t.left; some = t.some; long = still-long (list_in (overwritten_in m.memory o i ws) p) (list_in m.memory p) entry.len (long-list m.memory o i ws p) t.long; away = t.away; copy = t.copy; far = t.far };
+    each = λ p word object_record w e. let t = tracked.each p word object_record w e in
+        record { version = t.version; left = t.left; some = t.some; long = still-long (list_in (overwritten_in m.memory o i ws) p) (list_in m.memory p) object_record.len (long-list m.memory o i ws p) t.long; away = t.away; copy = t.copy; far = t.far };
     once = tracked.once;
     ordered = tracked.ordered;
   }
 
   module _ (now : List X) (change : ChangesList (list_in m.memory) (list_in (overwritten_in m.memory o i ws)) o (Some now)) where
     others : Others meaning content m (overwritten m o i ws) o
-    others = record { words = λ p ne. refl; entries = λ p ne. refl; lists = change.others }
+    others = record { words = λ p ne. refl; records = λ p ne. refl; lists = change.others }
 
     pub list-overwritten : ChangesList (list_of meaning content m) (list_of meaning content (overwritten m o i ws)) o (Some now)
     list-overwritten = list-one meaning content m (overwritten m o i ws) o others (Some now) (ap (λ l. option_or l (option_map (λ ticket. meaning (content ticket)) (ticket_of m o))) change.here)

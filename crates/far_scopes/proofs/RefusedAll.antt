@@ -12,7 +12,7 @@ use Rattle.far_scopes.specs.declared.object_record.ObjectRecord.{ObjectRecord}
 use Rattle.far_types.specs.FirstOf.{first_of}
 use Rattle.far_scopes.specs.declared.replacement.Replacement.{Replacement}
 use Rattle.far_scopes.specs.Memory.{place_of}
-use Rattle.far_scopes.specs.Movement.{Movement, entry_of, is_local}
+use Rattle.far_scopes.specs.Movement.{Movement, record_of, is_local}
 use Rattle.far_scopes.specs.Refusing.{first_absent, any_written_out, replace_all_refusal}
 use Rattle.far_scopes.specs.Replacing.{no_space_for_all}
 use Rattle.far_scopes.proofs.WordPlaces.{some-true}
@@ -41,7 +41,7 @@ pub err-handed : {A : Type 0} (r : Result A Refusal) (given : Refusal) (P : Refu
 err-handed (Ok x) given P known h = absurd h
 err-handed (Err e) given P known h = subst P (sym h) known
 
--- the refusals in their order: those of room and of writes come where all listed objects are local
+-- the refusals in their order: those of space and of writes come where all listed objects are local
 pub refusal-is : {X K : Type 0} (m : Movement X K) (lists : List (Replacement X)) (checked : Option Refusal) → first_absent m (map (λ r. r.object) lists) ≡ None → checked ≡ first_of (any_written_out m lists ∷ [])
     → replace_all_refusal m lists ≡ option_or (first_of (no_space_for_all m.memory.state lists ∷ [])) checked
 refusal-is m lists checked here is = rw (here, is) (two-first (no_space_for_all m.memory.state lists) (any_written_out m lists))
@@ -55,7 +55,7 @@ checked-free None checked free = free
 checked-free (Some r) checked free = cc
 
 -- an object that is away is no lack of memory
-name-no-memory : {K : Type 0} (entry : Option (ObjectRecord K)) (e : Refusal) → Some (option_map_or (λ (x : ObjectRecord K). refusal.Absent x.name.column x.name.group) entry refusal.StaleJob) ≡ Some e → e ≡ refusal.NoMemory → ⊥
+name-no-memory : {K : Type 0} (object_record : Option (ObjectRecord K)) (e : Refusal) → Some (option_map_or (λ (x : ObjectRecord K). refusal.Absent x.name.column x.name.group) object_record refusal.StaleJob) ≡ Some e → e ≡ refusal.NoMemory → ⊥
 name-no-memory None e told memory = cc
 name-no-memory (Some x) e told memory = cc
 
@@ -63,5 +63,5 @@ pub absent-no-memory : {X K : Type 0} (m : Movement X K) (objects : List ℕ) (e
 absent-no-memory m [] e is memory = cc
 absent-no-memory m (o ∷ objects) e is memory = elim (cases_Bool (is_local m o)) [
   | inl here ↦ absent-no-memory m objects e (sym (rw here refl) ∙ is) memory
-  | inr away ↦ name-no-memory (entry_of m o) e (sym (rw away refl) ∙ is) memory
+  | inr away ↦ name-no-memory (record_of m o) e (sym (rw away refl) ∙ is) memory
 ]

@@ -16,7 +16,7 @@ use Rattle.far_scopes.specs.Memory.{at_of}
 use Rattle.far_scopes.specs.Placing.{spot, with_new}
 use Rattle.far_scopes.specs.Movement.{has_copy}
 use Rattle.far_scopes.specs.Replacing.{with_place, AreListedOnce, IsUnlisted, moved_all}
-use Rattle.far_scopes.specs.Effects.{with_entry, with_lens}
+use Rattle.far_scopes.specs.Effects.{with_record, with_lens}
 use Rattle.far_scopes.proofs.Places.{cases_option}
 use Rattle.far_scopes.proofs.WordPlaces.{slice_get-set_same, slice_get-set_other}
 
@@ -81,18 +81,18 @@ both-placed words o to p old (inr (word, now, was, is, moved)) = elim (cases_eq 
 -- a record with another length
 module _ {K : Type 0} where
   abbrev pub len_of : ℕ → ObjectRecord K → ObjectRecord K
-  len_of n entry = record entry { len = n }
+  len_of n object_record = record object_record { len = n }
 
-  entry-other : (entries : List (ObjectRecord K)) (o n p : ℕ) → p ≢ o → slice_get (with_entry entries o (len_of n)) p ≡ slice_get entries p
-  entry-other entries o n p ne = elim (cases_option (slice_get entries o)) [
+  object_record-other : (records : List (ObjectRecord K)) (o n p : ℕ) → p ≢ o → slice_get (with_record records o (len_of n)) p ≡ slice_get records p
+  object_record-other records o n p ne = elim (cases_option (slice_get records o)) [
     | inl none ↦ rw none refl
-    | inr (entry, is) ↦ rw is (slice_get-set_other entries o p (len_of n entry) ne)
+    | inr (object_record, is) ↦ rw is (slice_get-set_other records o p (len_of n object_record) ne)
   ]
 
-  entry-same : (entries : List (ObjectRecord K)) (o n : ℕ) → slice_get (with_entry entries o (len_of n)) o ≡ option_map (len_of n) (slice_get entries o)
-  entry-same entries o n = elim (cases_option (slice_get entries o)) [
+  object_record-same : (records : List (ObjectRecord K)) (o n : ℕ) → slice_get (with_record records o (len_of n)) o ≡ option_map (len_of n) (slice_get records o)
+  object_record-same records o n = elim (cases_option (slice_get records o)) [
     | inl none ↦ rw none none
-    | inr (entry, is) ↦ rw is (slice_get-set_same entries o (len_of n entry) (slice_get_within entries o entry is))
+    | inr (object_record, is) ↦ rw is (slice_get-set_same records o (len_of n object_record) (slice_get_within records o object_record is))
   ]
 
 module _ {X : Type 0} where
@@ -107,33 +107,33 @@ module _ {X : Type 0} where
   once-tail r rs once i j d lt within = once (suc i) (suc j) d (omega (arith, lt)) (omega (arith, within))
 
   module _ {K : Type 0} where
-    pub length-lens : (entries : List (ObjectRecord K)) (rs : List (Replacement X)) → length (with_lens entries rs) ≡ length entries
-    length-lens entries [] = refl
-    length-lens entries (r ∷ rs) = length-lens (with_entry entries r.object (len_of (length r.list.items))) rs ∙ elim (cases_option (slice_get entries r.object)) [
+    pub length-lens : (records : List (ObjectRecord K)) (rs : List (Replacement X)) → length (with_lens records rs) ≡ length records
+    length-lens records [] = refl
+    length-lens records (r ∷ rs) = length-lens (with_record records r.object (len_of (length r.list.items))) rs ∙ elim (cases_option (slice_get records r.object)) [
       | inl none ↦ rw none refl
-      | inr (entry, is) ↦ rw is (length-set entries r.object (len_of (length r.list.items) entry))
+      | inr (object_record, is) ↦ rw is (length-set records r.object (len_of (length r.list.items) object_record))
     ]
 
     -- the record of an object that is not listed stays
-    pub lens-other : (entries : List (ObjectRecord K)) (rs : List (Replacement X)) (p : ℕ) → IsUnlisted rs p → slice_get (with_lens entries rs) p ≡ slice_get entries p
-    lens-other entries [] p un = refl
-    lens-other entries (r ∷ rs) p un =
-        lens-other (with_entry entries r.object (len_of (length r.list.items))) rs p (All-tail (λ (s : Replacement X). p ≢ s.object) r rs un)
-        ∙ entry-other entries r.object (length r.list.items) p (All-head (λ (s : Replacement X). p ≢ s.object) r rs un)
+    pub lens-other : (records : List (ObjectRecord K)) (rs : List (Replacement X)) (p : ℕ) → IsUnlisted rs p → slice_get (with_lens records rs) p ≡ slice_get records p
+    lens-other records [] p un = refl
+    lens-other records (r ∷ rs) p un =
+        lens-other (with_record records r.object (len_of (length r.list.items))) rs p (All-tail (λ (s : Replacement X). p ≢ s.object) r rs un)
+        ∙ object_record-other records r.object (length r.list.items) p (All-head (λ (s : Replacement X). p ≢ s.object) r rs un)
 
     -- an object is not listed, or has a list, of which all holds that holds of listed ones, and its record says its length
     pub listed : (P : ℕ → List X → Type 0) (rs : List (Replacement X)) → AreListedOnce rs → All (λ r. P r.object r.list.items) rs → (p : ℕ)
-        → IsUnlisted rs p ⊎ ((list : List X) × P p list × ((entries : List (ObjectRecord K)) → slice_get (with_lens entries rs) p ≡ option_map (len_of (length list)) (slice_get entries p)))
+        → IsUnlisted rs p ⊎ ((list : List X) × P p list × ((records : List (ObjectRecord K)) → slice_get (with_lens records rs) p ≡ option_map (len_of (length list)) (slice_get records p)))
     listed P [] once all p = inl (All-nil (λ (s : Replacement X). p ≢ s.object))
     listed P (r ∷ rs) once all p = elim (cases_eq p r.object) [
       | inl same ↦ inr (
         r.list.items,
         subst (λ k. P k r.list.items) (sym same) (All-head (λ (s : Replacement X). P s.object s.list.items) r rs all),
-        λ entries.
-            rw same (lens-other (with_entry entries r.object (len_of (length r.list.items))) rs r.object (once-head r rs once) ∙ entry-same entries r.object (length r.list.items)),
+        λ records.
+            rw same (lens-other (with_record records r.object (len_of (length r.list.items))) rs r.object (once-head r rs once) ∙ object_record-same records r.object (length r.list.items)),
       )
       | inr ne ↦ elim (listed P rs (once-tail r rs once) (All-tail (λ (s : Replacement X). P s.object s.list.items) r rs all) p) [
         | inl un ↦ inl (All-cons (λ (s : Replacement X). p ≢ s.object) r rs ne un)
-        | inr (list, holds, lens) ↦ inr (list, holds, λ entries. lens (with_entry entries r.object (len_of (length r.list.items))) ∙ ap (option_map (len_of (length list))) (entry-other entries r.object (length r.list.items) p ne))
+        | inr (list, holds, lens) ↦ inr (list, holds, λ records. lens (with_record records r.object (len_of (length r.list.items))) ∙ ap (option_map (len_of (length list))) (object_record-other records r.object (length r.list.items) p ne))
       ]
     ]

@@ -13,39 +13,39 @@ use Rattle.far_log.specs.RegionState.{part_of}
 use Rattle.far_scopes.specs.declared.object_record.ObjectRecord.{ObjectRecord}
 use Rattle.far_scopes.specs.Memory.{at_of, place_of, list_in}
 use Rattle.far_scopes.specs.Movement.{Movement, is_local, dirty, ticket_of, list_of, AreClean, AreHere, IsTracked, AreTracked}
-use Rattle.far_scopes.specs.Renewal.{renewed_word, renewed_entry, after_renew, ticket_in, Renews, AreTicketsHere}
+use Rattle.far_scopes.specs.Renewal.{renewed_word, renewed_record, after_renew, ticket_in, Renews, AreTicketsHere}
 use Rattle.far_scopes.proofs.Places.{none_or_some, same_some}
 use Rattle.far_scopes.proofs.WordPlaces.{some-true}
 use Rattle.far_scopes.proofs.RenewedWords.{place-renewed, list-renewed}
 
 module _ {K L : Type 0} where
-  abbrev pub entries-renewed : List (ObjectRecord K) → List (Option L) → List (ObjectRecord L)
-  entries-renewed entries tickets = map (λ (e : ObjectRecord K × Option L). renewed_entry e.0 e.1) (zip entries tickets)
+  abbrev pub records-renewed : List (ObjectRecord K) → List (Option L) → List (ObjectRecord L)
+  records-renewed records tickets = map (λ (e : ObjectRecord K × Option L). renewed_record e.0 e.1) (zip records tickets)
 
   -- where one of two lists of one length is spent, no record is left
-  pub none-left : (entries : List (ObjectRecord K)) (tickets : List (Option L)) → length entries ≡ length tickets → (length entries ≡ 0) ⊎ (length tickets ≡ 0) → entries-renewed entries tickets ≡ []
+  pub none-left : (records : List (ObjectRecord K)) (tickets : List (Option L)) → length records ≡ length tickets → (length records ≡ 0) ⊎ (length tickets ≡ 0) → records-renewed records tickets ≡ []
   none-left [] tickets same_length spent = refl
-  none-left (e ∷ entries) [] same_length spent = refl
-  none-left (e ∷ entries) (t ∷ tickets) same_length (inl spent) = absurd (omega (arith, spent))
-  none-left (e ∷ entries) (t ∷ tickets) same_length (inr spent) = absurd (omega (arith, spent))
+  none-left (e ∷ records) [] same_length spent = refl
+  none-left (e ∷ records) (t ∷ tickets) same_length (inl spent) = absurd (omega (arith, spent))
+  none-left (e ∷ records) (t ∷ tickets) same_length (inr spent) = absurd (omega (arith, spent))
 
-  length-renewed : (entries : List (ObjectRecord K)) (tickets : List (Option L)) → length tickets ≡ length entries → length (entries-renewed entries tickets) ≡ length entries
+  length-renewed : (records : List (ObjectRecord K)) (tickets : List (Option L)) → length tickets ≡ length records → length (records-renewed records tickets) ≡ length records
   length-renewed [] tickets same_length = refl
-  length-renewed (e ∷ entries) [] same_length = absurd (omega (arith, same_length))
-  length-renewed (e ∷ entries) (t ∷ tickets) same_length = ap suc (length-renewed entries tickets (omega (arith, same_length)))
+  length-renewed (e ∷ records) [] same_length = absurd (omega (arith, same_length))
+  length-renewed (e ∷ records) (t ∷ tickets) same_length = ap suc (length-renewed records tickets (omega (arith, same_length)))
 
-  entry-renewed : (entries : List (ObjectRecord K)) (tickets : List (Option L)) (o : ℕ) → length tickets ≡ length entries → slice_get (entries-renewed entries tickets) o ≡ option_map (λ e. renewed_entry e (ticket_in tickets o)) (slice_get entries o)
-  entry-renewed [] tickets o same_length = refl
-  entry-renewed (e ∷ entries) [] o same_length = absurd (omega (arith, same_length))
-  entry-renewed (e ∷ entries) (t ∷ tickets) zero same_length = refl
-  entry-renewed (e ∷ entries) (t ∷ tickets) (suc o) same_length = entry-renewed entries tickets o (omega (arith, same_length))
+  object_record-renewed : (records : List (ObjectRecord K)) (tickets : List (Option L)) (o : ℕ) → length tickets ≡ length records → slice_get (records-renewed records tickets) o ≡ option_map (λ e. renewed_record e (ticket_in tickets o)) (slice_get records o)
+  object_record-renewed [] tickets o same_length = refl
+  object_record-renewed (e ∷ records) [] o same_length = absurd (omega (arith, same_length))
+  object_record-renewed (e ∷ records) (t ∷ tickets) zero same_length = refl
+  object_record-renewed (e ∷ records) (t ∷ tickets) (suc o) same_length = object_record-renewed records tickets o (omega (arith, same_length))
 
-  ticket-renewed : (entries : List (ObjectRecord K)) (tickets : List (Option L)) (o : ℕ) → length tickets ≡ length entries → option_and_then (λ (e : ObjectRecord L). e.ticket) (slice_get (entries-renewed entries tickets) o) ≡ ticket_in tickets o
+  ticket-renewed : (records : List (ObjectRecord K)) (tickets : List (Option L)) (o : ℕ) → length tickets ≡ length records → option_and_then (λ (e : ObjectRecord L). e.ticket) (slice_get (records-renewed records tickets) o) ≡ ticket_in tickets o
   ticket-renewed [] [] o same_length = refl
   ticket-renewed [] (t ∷ tickets) o same_length = absurd (omega (arith, same_length))
-  ticket-renewed (e ∷ entries) [] o same_length = absurd (omega (arith, same_length))
-  ticket-renewed (e ∷ entries) (t ∷ tickets) zero same_length = refl
-  ticket-renewed (e ∷ entries) (t ∷ tickets) (suc o) same_length = ticket-renewed entries tickets o (omega (arith, same_length))
+  ticket-renewed (e ∷ records) [] o same_length = absurd (omega (arith, same_length))
+  ticket-renewed (e ∷ records) (t ∷ tickets) zero same_length = refl
+  ticket-renewed (e ∷ records) (t ∷ tickets) (suc o) same_length = ticket-renewed records tickets o (omega (arith, same_length))
 
 map-twice : {A B C : Type 0} (f : A → B) (g : B → C) (o : Option A) → option_map (λ x. g (f x)) o ≡ option_map g (option_map f o)
 map-twice f g None = refl
@@ -71,26 +71,26 @@ module _ {K L : Type 0} (content : K → List ℕ) (content' : L → List ℕ) w
 
 module _ {X K L : Type 0} (meaning : List ℕ → List X) (content : K → List ℕ) (content' : L → List ℕ) (spelled : List X → List ℕ → Type 0) where
   -- what holds of one object
-  one-renewed : (max_writes leavings : ℕ) (word : Pointer) (list : Option (List X)) (entry : ObjectRecord K) (ticket : Option L) → IsTracked meaning content spelled max_writes leavings word list entry
-      → option_map content' ticket ≡ cond (is_some (at_of word)) None (option_map content entry.ticket) → IsTracked meaning content' spelled max_writes leavings (renewed_word word) list (renewed_entry entry ticket)
-  one-renewed max_writes leavings (Local at dirty hot far) list entry None t is = record { version = t.version; left = t.left; some = t.some; long = t.long; away = λ remote. cc; copy = refl; far = tt }
-  one-renewed max_writes leavings (Local at dirty hot far) list entry (Some k) t is = cc
-  one-renewed max_writes leavings Remote list entry ticket t is = record {
+  one-renewed : (max_writes leavings : ℕ) (word : Pointer) (list : Option (List X)) (object_record : ObjectRecord K) (ticket : Option L) → IsTracked meaning content spelled max_writes leavings word list object_record
+      → option_map content' ticket ≡ cond (is_some (at_of word)) None (option_map content object_record.ticket) → IsTracked meaning content' spelled max_writes leavings (renewed_word word) list (renewed_record object_record ticket)
+  one-renewed max_writes leavings (Local at dirty hot far) list object_record None t is = record { version = t.version; left = t.left; some = t.some; long = t.long; away = λ remote. cc; copy = refl; far = tt }
+  one-renewed max_writes leavings (Local at dirty hot far) list object_record (Some k) t is = cc
+  one-renewed max_writes leavings Remote list object_record ticket t is = record {
     version = t.version;
     left = t.left;
     some = t.some;
     long = t.long;
-    away = λ remote. ((t.away refl).0, and-some content content' (λ bytes. length (meaning bytes) ≡ entry.len) entry.ticket ticket is (t.away refl).1);
-    copy = t.copy ∙ both-some content content' entry.ticket ticket is;
-    far = if-some content content' (λ bytes. spelled (meaning bytes) bytes) entry.ticket ticket is t.far;
+    away = λ remote. ((t.away refl).0, and-some content content' (λ bytes. length (meaning bytes) ≡ object_record.len) object_record.ticket ticket is (t.away refl).1);
+    copy = t.copy ∙ both-some content content' object_record.ticket ticket is;
+    far = if-some content content' (λ bytes. spelled (meaning bytes) bytes) object_record.ticket ticket is t.far;
   }
 
   module _ (m : Movement X K) (tickets : List (Option L)) (renews : Renews content content' m tickets) where
-    pub here-renewed : (is_of : L → List ℕ → Type 0) (name : List ℕ) → AreTicketsHere is_of name tickets → AreHere is_of name (after_renew m tickets)
-    here-renewed is_of name here o = rw (ticket-renewed m.entries tickets o renews.same_length) (here o)
+    pub here-renewed : (is_of : L → List ℕ → Type 0) (id : List ℕ) → AreTicketsHere is_of id tickets → AreHere is_of id (after_renew m tickets)
+    here-renewed is_of id here o = rw (ticket-renewed m.records tickets o renews.same_length) (here o)
 
     meant-renewed : (o : ℕ) → option_map (λ k. meaning (content' k)) (ticket_of (after_renew m tickets) o) ≡ cond (is_local m o) None (option_map (λ k. meaning (content k)) (ticket_of m o))
-    meant-renewed o = ap (option_map (λ k. meaning (content' k))) (ticket-renewed m.entries tickets o renews.same_length) ∙ map-twice content' meaning (ticket_in tickets o) ∙ ap (option_map meaning) (renews.each o) ∙ through (is_local m o)
+    meant-renewed o = ap (option_map (λ k. meaning (content' k))) (ticket-renewed m.records tickets o renews.same_length) ∙ map-twice content' meaning (ticket_in tickets o) ∙ ap (option_map meaning) (renews.each o) ∙ through (is_local m o)
       where
         through : (b : Bool) → option_map meaning (cond b None (option_map content (ticket_of m o))) ≡ cond b None (option_map (λ k. meaning (content k)) (ticket_of m o))
         through true = refl
@@ -122,11 +122,11 @@ module _ {X K L : Type 0} (meaning : List ℕ → List X) (content : K → List 
 
     pub tracked-renewed : AreTracked meaning content spelled m → AreTracked meaning content' spelled (after_renew m tickets)
     tracked-renewed tracked = record {
-      same_length = length-renewed m.entries tickets renews.same_length ∙ tracked.same_length ∙ sym (length-map m.memory.words renewed_word);
-      few = rw (length-renewed m.entries tickets renews.same_length) tracked.few;
-      each = λ o word entry w e.
+      same_length = length-renewed m.records tickets renews.same_length ∙ tracked.same_length ∙ sym (length-map m.memory.words renewed_word);
+      few = rw (length-renewed m.records tickets renews.same_length) tracked.few;
+      each = λ o word object_record w e.
           let (word', w', same) = was renewed_word (slice_get m.memory.words o) _ word (slice_get-map renewed_word m.memory.words o) w in
-          let (entry', e', is) = was (λ x. renewed_entry x (ticket_in tickets o)) (slice_get m.entries o) _ entry (entry-renewed m.entries tickets o renews.same_length) e in
+          let (entry', e', is) = was (λ x. renewed_record x (ticket_in tickets o)) (slice_get m.records o) _ object_record (object_record-renewed m.records tickets o renews.same_length) e in
           let content-is : option_map content' (ticket_in tickets o) ≡ cond (is_some (at_of word')) None (option_map content entry'.ticket) = renews.each o ∙ ap (λ w. cond (is_some (option_and_then at_of w)) None (option_map content (ticket_of m o))) w' ∙ ap (λ x. cond (is_some (at_of word')) None (option_map content (option_and_then (λ (r : ObjectRecord K). r.ticket) x))) e' in
           rw (same, is, list-renewed m.memory o) (one-renewed m.max_writes m.leavings word' (list_in m.memory o) entry' (ticket_in tickets o) (tracked.each o word' entry' w' e') content-is);
       once = tracked.once;

@@ -30,15 +30,15 @@ module _ {K L : Type 0} (content : K → List ℕ) (content' : L → List ℕ) w
       | inr ne ↦ ap (λ t. option_map content' (option_and_then (λ x. x) t)) (slice_get-push_other tickets ticket p ne) ∙ before p (let other : p ≡ o → ⊥ = λ same. ne (same ∙ sym long) in omega (arith, within, other))
     ]
 
-    none-past : (tickets : List (Option L)) (p : ℕ) → length tickets ≤ p → length m.entries ≤ p → Renewed tickets p
-    none-past tickets p past gone = rw (slice_get_past tickets p past, slice_get_past m.entries p gone) (either (is_local m p))
+    none-past : (tickets : List (Option L)) (p : ℕ) → length tickets ≤ p → length m.records ≤ p → Renewed tickets p
+    none-past tickets p past gone = rw (slice_get_past tickets p past, slice_get_past m.records p gone) (either (is_local m p))
       where
         either : (b : Bool) → (let none : Option (List ℕ) = None in none ≡ cond b None none)
         either true = refl
         either false = refl
 
     -- all of them
-    pub renews-all : (tickets : List (Option L)) (o : ℕ) → length tickets ≡ o → length m.entries ≡ o → ((p : ℕ) → p < o → Renewed tickets p) → Renews content content' m tickets
+    pub renews-all : (tickets : List (Option L)) (o : ℕ) → length tickets ≡ o → length m.records ≡ o → ((p : ℕ) → p < o → Renewed tickets p) → Renews content content' m tickets
     renews-all tickets o long all before = record {
       same_length = long ∙ sym all;
       each = λ p. elim (cases_lt p o) [
@@ -47,8 +47,8 @@ module _ {K L : Type 0} (content : K → List ℕ) (content' : L → List ℕ) w
       ];
     }
 
-pub here-push : {L : Type 0} (is_of : L → List ℕ → Type 0) (name : List ℕ) (tickets : List (Option L)) (ticket : Option L) → AreTicketsHere is_of name tickets → IfSome ticket (λ t. is_of t name) → AreTicketsHere is_of name (tickets ++ ticket ∷ [])
-here-push is_of name tickets ticket here one p = elim (cases_eq p (length tickets)) [
+pub here-push : {L : Type 0} (is_of : L → List ℕ → Type 0) (id : List ℕ) (tickets : List (Option L)) (ticket : Option L) → AreTicketsHere is_of id tickets → IfSome ticket (λ t. is_of t id) → AreTicketsHere is_of id (tickets ++ ticket ∷ [])
+here-push is_of id tickets ticket here one p = elim (cases_eq p (length tickets)) [
   | inl last ↦ rw (last, slice_get-push_last tickets ticket) one
   | inr ne ↦ rw (slice_get-push_other tickets ticket p ne) (here p)
 ]

@@ -12,7 +12,7 @@ use Rattle.far_scopes.specs.declared.object_record.ObjectRecord.{ObjectRecord}
 use Rattle.far_scopes.specs.Recency.{has}
 use Rattle.far_scopes.specs.Memory.{Memory, at_of, list_in, ChangesList}
 use Rattle.far_scopes.specs.Placing.{spot, replaced as replaced_in}
-use Rattle.far_scopes.specs.Movement.{Movement, has_copy, word_of, entry_of, is_local, dirty, version_of, list_of, AreClean, IsTracked, AreTracked}
+use Rattle.far_scopes.specs.Movement.{Movement, has_copy, word_of, record_of, is_local, dirty, version_of, list_of, AreClean, IsTracked, AreTracked}
 use Rattle.far_scopes.specs.Refusing.{absent, written_out, write_refusal, replace_refusal}
 use Rattle.far_scopes.specs.Effects.{written}
 use Rattle.far_scopes.proofs.WordPlaces.{word-read, slice_get-set_same, slice_get-set_other}
@@ -38,10 +38,10 @@ copy-at Remote to = refl
 true-false : (b : Bool) → b ≡ true → b ≡ false → ⊥
 true-false b one other = cc
 
-module _ {X K : Type 0} (meaning : List ℕ → List X) (content : K → List ℕ) (spelled : List X → List ℕ → Type 0) (m : Movement X K) (tracked : AreTracked meaning content spelled m) (o : ℕ) (within : o < length m.entries) (entry : ObjectRecord K) (read : entry ≡ get_or m.entries o entry) (list : List X) (free : replace_refusal m o (length list) ≡ None)
+module _ {X K : Type 0} (meaning : List ℕ → List X) (content : K → List ℕ) (spelled : List X → List ℕ → Type 0) (m : Movement X K) (tracked : AreTracked meaning content spelled m) (o : ℕ) (within : o < length m.records) (object_record : ObjectRecord K) (read : object_record ≡ get_or m.records o object_record) (list : List X) (free : replace_refusal m o (length list) ≡ None)
     (memory : Memory X) (is : memory ≡ replaced_in m.memory o list) (change : ChangesList (list_in m.memory) (list_in memory) o (Some list)) where
-  pub entry-was : entry_of m o ≡ Some entry
-  entry-was = word-read m.entries o entry within read
+  pub object_record-was : record_of m o ≡ Some object_record
+  object_record-was = word-read m.records o object_record within read
 
   its-word : o < length m.memory.words
   its-word = subst (λ k. o < k) tracked.same_length within
@@ -63,14 +63,14 @@ module _ {X K : Type 0} (meaning : List ℕ → List X) (content : K → List �
   words-are = ap (λ k. k.words) is ∙ rw word-was refl
 
   abbrev now : ObjectRecord K
-  now = record entry { len = length list }
+  now = record object_record { len = length list }
 
   -- the objects once the list is another, before the object is marked as written
   abbrev mid : Movement X K
-  mid = record m { memory = memory; entries = slice_set m.entries o now }
+  mid = record m { memory = memory; records = slice_set m.records o now }
 
-  entry-mid : entry_of mid o ≡ Some now
-  entry-mid = slice_get-set_same m.entries o now within
+  object_record-mid : record_of mid o ≡ Some now
+  object_record-mid = slice_get-set_same m.records o now within
 
   word-mid : word_of mid o ≡ Some (with_at word to)
   word-mid = rw words-are (slice_get-set_same m.memory.words o (with_at word to) its-word)
@@ -78,11 +78,11 @@ module _ {X K : Type 0} (meaning : List ℕ → List X) (content : K → List �
   words-mid : (p : ℕ) → p ≢ o → word_of mid p ≡ word_of m p
   words-mid p ne = rw words-are (slice_get-set_other m.memory.words o p (with_at word to) ne)
 
-  entries-mid : (p : ℕ) → p ≢ o → entry_of mid p ≡ entry_of m p
-  entries-mid p ne = slice_get-set_other m.entries o p now ne
+  records-mid : (p : ℕ) → p ≢ o → record_of mid p ≡ record_of m p
+  records-mid p ne = slice_get-set_other m.records o p now ne
 
   others-mid : Others meaning content m mid o
-  others-mid = record { words = words-mid; entries = entries-mid; lists = change.others }
+  others-mid = record { words = words-mid; records = records-mid; lists = change.others }
 
   local-mid : is_local mid o ≡ true
   local-mid = ap (λ w. is_some (option_and_then at_of w)) word-mid ∙ local-at word to its-place
@@ -95,22 +95,22 @@ module _ {X K : Type 0} (meaning : List ℕ → List X) (content : K → List �
 
   tracked-one-mid : 0 < length list → IsTracked meaning content spelled m.max_writes m.leavings (with_at word to) (Some list) now
   tracked-one-mid some =
-      let old = tracked.each o word entry word-was entry-was in
+      let old = tracked.each o word object_record word-was object_record-was in
       record { version = old.version; left = old.left; some = some; long = refl; away = λ gone. absurd (not-remote (with_at word to) (local-at word to its-place) gone); copy = copy-at word to ∙ old.copy; far = old.far }
 
   pub tracked-mid : 0 < length list → AreTracked meaning content spelled mid
   tracked-mid some = record {
-    same_length = length-set m.entries o now ∙ tracked.same_length ∙ sym (ap (λ l. length l) words-are ∙ length-set m.memory.words o (with_at word to));
-    few = rw (length-set m.entries o now) tracked.few;
+    same_length = length-set m.records o now ∙ tracked.same_length ∙ sym (ap (λ l. length l) words-are ∙ length-set m.memory.words o (with_at word to));
+    few = rw (length-set m.records o now) tracked.few;
     each = each-one meaning content m mid o others-mid spelled tracked refl refl
         (λ w e ws es. rw change.here (subst (λ (k : Pointer). IsTracked meaning content spelled m.max_writes m.leavings k (Some list) e) (some-one (word_of mid o) ws word-mid)
-        (subst (IsTracked meaning content spelled m.max_writes m.leavings (with_at word to) (Some list)) (some-one (entry_of mid o) es entry-mid) (tracked-one-mid some))));
+        (subst (IsTracked meaning content spelled m.max_writes m.leavings (with_at word to) (Some list)) (some-one (record_of mid o) es object_record-mid) (tracked-one-mid some))));
     once = tracked.once;
     ordered = ordered-mid;
   }
 
   version-mid : version_of mid o ≡ version_of m o
-  version-mid = rw (entry-mid, entry-was) refl
+  version-mid = rw (object_record-mid, object_record-was) refl
 
   pub free-mid : write_refusal mid o ≡ None
   free-mid = two-none (absent mid o).0 (written_out mid o).0 (absent mid o).1 (written_out mid o).1 (ap not local-mid) (ap (λ v. not (nat_lt v m.max_writes)) version-mid ∙ (free-parts m o (length list) free).1)
@@ -125,7 +125,7 @@ module _ {X K : Type 0} (meaning : List ℕ → List X) (content : K → List �
     others-new : ((p : ℕ) → list_in new.memory p ≡ list_in memory p) → Others meaning content m new o
     others-new parts = record {
       words = λ p ne. ap (λ k. word_of k p) marks ∙ words-other memory o (λ w. with_hot (with_dirty w) true) at-dirty_hot p ne ∙ words-mid p ne;
-      entries = λ p ne. ap (λ k. entry_of k p) marks ∙ rw entry-mid (slice_get-set_other (slice_set m.entries o now) o p (record now { version = now.version + 1 }) ne) ∙ entries-mid p ne;
+      records = λ p ne. ap (λ k. record_of k p) marks ∙ rw object_record-mid (slice_get-set_other (slice_set m.records o now) o p (record now { version = now.version + 1 }) ne) ∙ records-mid p ne;
       lists = λ p ne. parts p ∙ change.others p ne;
     }
 

@@ -59,8 +59,8 @@ module _ {X : Type 0} (place place' : ℕ → Option At) (part part' : At → Op
   pub list-taken : option_and_then part' (place' o) ≡ option_and_then part (place last)
   list-taken = ap (option_and_then part') is ∙ parts to to_not_at ∙ sym (ap (option_and_then part) lay)
 
-  pub lists-beside : (p : ℕ) → p ≢ o → p ≢ last → option_and_then part' (place' p) ≡ option_and_then part (place p)
-  lists-beside p ne ne' = elim (cases_option (place p)) [
+  pub lists-elsewhere : (p : ℕ) → p ≢ o → p ≢ last → option_and_then part' (place' p) ≡ option_and_then part (place p)
+  lists-elsewhere p ne ne' = elim (cases_option (place p)) [
     | inl none ↦ ap (option_and_then part') (others p ne ne' ∙ none) ∙ sym (ap (option_and_then part) none)
     | inr (q, here) ↦ ap (option_and_then part') (others p ne ne' ∙ here) ∙ parts q (not_at p q ne here) ∙ sym (ap (option_and_then part) here)
   ]

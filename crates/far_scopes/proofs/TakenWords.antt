@@ -11,7 +11,7 @@ use Rattle.far_scopes.specs.Memory.{Memory, at_of, place_of, list_in, IsMemory}
 use Rattle.far_scopes.specs.Replacing.{taken_over}
 use Rattle.far_scopes.proofs.WordPlaces.{word-read, place-read, place-set_same, place-set_other, place-push_last, place-push_other, place-end, last-of}
 use Rattle.far_scopes.proofs.MemoryLaws.{at-moved}
-use Rattle.far_scopes.proofs.TakenOver.{own-taken, list-taken, lists-beside}
+use Rattle.far_scopes.proofs.TakenOver.{own-taken, list-taken, lists-elsewhere}
 
 module _ {X : Type 0} (rest words : List Pointer) (last word : Pointer) (is : words ≡ rest ++ last ∷ []) (state state' : RegionState X) (m : IsMemory words state)
     (o : ℕ) (lt : o < length words - 1) (to at : At) (lies : at_of last ≡ Some to) (read : word ≡ get_or rest o word) (here : at_of word ≡ Some at) where
@@ -55,4 +55,4 @@ module _ {X : Type 0} (rest words : List Pointer) (last word : Pointer) (is : wo
     list-here = rw (last-of words rest last is) (list-taken (place_of words) (place_of words') (part_of state) (part_of state') m.own o (length rest) not-last at to was lay now gone others change.here change.others)
 
     pub lists-others : (p : ℕ) → p ≢ o → p ≢ length words - 1 → list_in record { words = words'; state = state' } p ≡ list_in record { words = words; state = state } p
-    lists-others p ne ne' = lists-beside (place_of words) (place_of words') (part_of state) (part_of state') m.own o (length rest) not-last at to was lay now gone others change.here change.others p ne (λ e. ne' (e ∙ sym (last-of words rest last is)))
+    lists-others p ne ne' = lists-elsewhere (place_of words) (place_of words') (part_of state) (part_of state') m.own o (length rest) not-last at to was lay now gone others change.here change.others p ne (λ e. ne' (e ∙ sym (last-of words rest last is)))

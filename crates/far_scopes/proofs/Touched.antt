@@ -9,7 +9,7 @@ use Rattle.far_scopes.specs.declared.object_record.ObjectRecord.{ObjectRecord}
 use Rattle.far_scopes.specs.Recency.{used}
 use Rattle.far_scopes.specs.Memory.{at_of, list_in}
 use Rattle.far_scopes.specs.Placing.{heated, marked}
-use Rattle.far_scopes.specs.Movement.{Movement, has_copy, entry_of, is_local, dirty, list_of, AreClean, AreTracked}
+use Rattle.far_scopes.specs.Movement.{Movement, has_copy, record_of, is_local, dirty, list_of, AreClean, AreTracked}
 use Rattle.far_scopes.proofs.RecencyLaws.{has-used, once-used}
 use Rattle.far_scopes.proofs.MemoryLaws.{at-dirty_hot, at-hot}
 use Rattle.far_scopes.proofs.Tracked.{Others, clean-one, each-one}
@@ -65,15 +65,15 @@ module _ {X K : Type 0} (meaning : List ℕ → List X) (content : K → List �
     touched_m = record m { memory = heated m.memory o; order = used m.order o }
 
     others-touched : Others meaning content m touched_m o
-    others-touched = record { words = words-other m.memory o heat at-hot; entries = λ p ne. refl; lists = λ p ne. lists p }
+    others-touched = record { words = words-other m.memory o heat at-hot; records = λ p ne. refl; lists = λ p ne. lists p }
 
     pub tracked-touched : AreTracked meaning content spelled touched_m
     tracked-touched = record {
       same_length = tracked.same_length ∙ sym (words-length m.memory o heat at-hot);
       few = tracked.few;
       each = each-one meaning content m touched_m o others-touched spelled tracked refl refl
-          (λ word entry now was. let w = words-same m.memory o heat at-hot word now in let t = tracked.each o w.0 entry w.1 was in
-          record { version = t.version; left = t.left; some = t.some; long = subst (λ l. IfSome l (λ xs. length xs ≡ entry.len)) (sym (lists o)) t.long; away = λ is. t.away (remote-hot w.0 (sym w.2 ∙ is)); copy = ap has_copy w.2 ∙ copy-hot w.0 ∙ t.copy; far = t.far });
+          (λ word object_record now was. let w = words-same m.memory o heat at-hot word now in let t = tracked.each o w.0 object_record w.1 was in
+          record { version = t.version; left = t.left; some = t.some; long = subst (λ l. IfSome l (λ xs. length xs ≡ object_record.len)) (sym (lists o)) t.long; away = λ is. t.away (remote-hot w.0 (sym w.2 ∙ is)); copy = ap has_copy w.2 ∙ copy-hot w.0 ∙ t.copy; far = t.far });
       once = once-used m.order o tracked.once;
       ordered = λ p. has-used m.order o p ∙ tracked.ordered p ∙ sym (ap is_some (places-kept m.memory o heat at-hot p));
     }
@@ -91,20 +91,20 @@ module _ {X K : Type 0} (meaning : List ℕ → List X) (content : K → List �
     clean-touched clean = clean-one meaning content m touched_m o others-touched clean (λ c. rw (lists o) (clean o (sym dirty-touched ∙ c)))
 
   -- it is written
-  module _ (entry : ObjectRecord K) (was : entry_of m o ≡ Some entry) (local : is_local m o ≡ true) (left : entry.version < m.max_writes) (lists : (p : ℕ) → list_in (marked m.memory o) p ≡ list_in m.memory p) where
+  module _ (object_record : ObjectRecord K) (was : record_of m o ≡ Some object_record) (local : is_local m o ≡ true) (left : object_record.version < m.max_writes) (lists : (p : ℕ) → list_in (marked m.memory o) p ≡ list_in m.memory p) where
     abbrev mark : Pointer → Pointer
     mark word = with_hot (with_dirty word) true
 
     abbrev now : ObjectRecord K
-    now = record entry { version = entry.version + 1 }
+    now = record object_record { version = object_record.version + 1 }
 
     abbrev pub written_m : Movement X K
-    written_m = record m { memory = marked m.memory o; entries = slice_set m.entries o now; order = used m.order o }
+    written_m = record m { memory = marked m.memory o; records = slice_set m.records o now; order = used m.order o }
 
     pub tracked-written : AreTracked meaning content spelled written_m
-    tracked-written = tracked-changed meaning content spelled m tracked o entry now was (marked m.memory o) (used m.order o) (words-other m.memory o mark at-dirty_hot) lists (words-length m.memory o mark at-dirty_hot) (once-used m.order o tracked.once)
+    tracked-written = tracked-changed meaning content spelled m tracked o object_record now was (marked m.memory o) (used m.order o) (words-other m.memory o mark at-dirty_hot) lists (words-length m.memory o mark at-dirty_hot) (once-used m.order o tracked.once)
         (λ p. has-used m.order o p ∙ tracked.ordered p ∙ sym (ap is_some (places-kept m.memory o mark at-dirty_hot p)))
-        (λ word is. let w = words-same m.memory o mark at-dirty_hot word is in let t = tracked.each o w.0 entry w.1 was in
+        (λ word is. let w = words-same m.memory o mark at-dirty_hot word is in let t = tracked.each o w.0 object_record w.1 was in
         record { version = omega (arith, left); left = t.left; some = t.some; long = t.long; away = λ gone. t.away (remote-mark w.0 (sym w.2 ∙ gone)); copy = ap has_copy w.2 ∙ copy-mark w.0 ∙ t.copy; far = t.far })
 
     pub dirty-written : dirty written_m o ≡ true
@@ -114,10 +114,10 @@ module _ {X K : Type 0} (meaning : List ℕ → List X) (content : K → List �
     ]
 
     pub clean-written : AreClean meaning content m → AreClean meaning content written_m
-    clean-written = clean-changed meaning content spelled m tracked o entry now was (marked m.memory o) (used m.order o) (words-other m.memory o mark at-dirty_hot) lists refl (λ clean. absurd (true-is-not-false (dirty written_m o) dirty-written clean))
+    clean-written = clean-changed meaning content spelled m tracked o object_record now was (marked m.memory o) (used m.order o) (words-other m.memory o mark at-dirty_hot) lists refl (λ clean. absurd (true-is-not-false (dirty written_m o) dirty-written clean))
 
     pub lists-same : (p : ℕ) → list_of meaning content written_m p ≡ list_of meaning content m p
-    lists-same = lists-changed meaning content spelled m tracked o entry now was (marked m.memory o) (used m.order o) (words-other m.memory o mark at-dirty_hot) lists refl
+    lists-same = lists-changed meaning content spelled m tracked o object_record now was (marked m.memory o) (used m.order o) (words-other m.memory o mark at-dirty_hot) lists refl
 
     pub local-still : is_local written_m o ≡ true
     local-still = ap is_some (places-kept m.memory o mark at-dirty_hot o) ∙ local

@@ -12,7 +12,7 @@ use Rattle.far_scopes.specs.Recency.{has, Once}
 use Rattle.far_scopes.specs.Placing.{with_word}
 use Rattle.far_scopes.proofs.Places.{cases_option, none_or_some}
 use Rattle.far_scopes.specs.Memory.{Memory, at_of, place_of, list_in}
-use Rattle.far_scopes.specs.Movement.{Movement, word_of, entry_of, dirty, list_of, AreClean, IsTracked, AreTracked}
+use Rattle.far_scopes.specs.Movement.{Movement, word_of, record_of, dirty, list_of, AreClean, IsTracked, AreTracked}
 use Rattle.far_scopes.proofs.WordPlaces.{slice_get-set_other, slice_get-set_same}
 use Rattle.far_scopes.proofs.Tracked.{Others, clean-one, lists-kept, each-one}
 
@@ -23,59 +23,59 @@ pub true-or-false : (b : Bool) → not b ≡ false → b ≡ false → ⊥
 true-or-false true local away = cc
 true-or-false false local away = cc
 
-module _ {X K : Type 0} (meaning : List ℕ → List X) (content : K → List ℕ) (spelled : List X → List ℕ → Type 0) (m : Movement X K) (tracked : AreTracked meaning content spelled m) (o : ℕ) (entry now : ObjectRecord K) (was : entry_of m o ≡ Some entry) where
+module _ {X K : Type 0} (meaning : List ℕ → List X) (content : K → List ℕ) (spelled : List X → List ℕ → Type 0) (m : Movement X K) (tracked : AreTracked meaning content spelled m) (o : ℕ) (object_record now : ObjectRecord K) (was : record_of m o ≡ Some object_record) where
   -- the records once that of object o is another
   abbrev pub entries' : List (ObjectRecord K)
-  entries' = slice_set m.entries o now
+  entries' = slice_set m.records o now
 
-  pub entry-same : slice_get entries' o ≡ Some now
-  entry-same = slice_get-set_same m.entries o now (slice_get_within m.entries o entry was)
+  pub object_record-same : slice_get entries' o ≡ Some now
+  object_record-same = slice_get-set_same m.records o now (slice_get_within m.records o object_record was)
 
-  pub entry-other : (p : ℕ) → p ≢ o → slice_get entries' p ≡ slice_get m.entries p
-  entry-other p ne = slice_get-set_other m.entries o p now ne
+  pub object_record-other : (p : ℕ) → p ≢ o → slice_get entries' p ≡ slice_get m.records p
+  object_record-other p ne = slice_get-set_other m.records o p now ne
 
   abbrev ticket-in : Option (ObjectRecord K) → Option K
   ticket-in e = option_and_then (λ (x : ObjectRecord K). x.ticket) e
 
-  pub ticket-same : now.ticket ≡ entry.ticket → ticket-in (slice_get entries' o) ≡ ticket-in (slice_get m.entries o)
-  ticket-same same = ap ticket-in entry-same ∙ same ∙ sym (ap ticket-in was)
+  pub ticket-same : now.ticket ≡ object_record.ticket → ticket-in (slice_get entries' o) ≡ ticket-in (slice_get m.records o)
+  ticket-same same = ap ticket-in object_record-same ∙ same ∙ sym (ap ticket-in was)
 
   -- the local memory and the order of use change too, but neither goes the object nor comes
   module _ (memory : Memory X) (order : List ℕ) (words : (p : ℕ) → p ≢ o → slice_get memory.words p ≡ slice_get m.memory.words p) (lists : (p : ℕ) → list_in memory p ≡ list_in m.memory p) where
     abbrev pub changed : Movement X K
-    changed = record m { memory = memory; entries = entries'; order = order }
+    changed = record m { memory = memory; records = entries'; order = order }
 
     pub others : Others meaning content m changed o
-    others = record { words = words; entries = entry-other; lists = λ p ne. lists p }
+    others = record { words = words; records = object_record-other; lists = λ p ne. lists p }
 
-    pub lists-changed : now.ticket ≡ entry.ticket → (p : ℕ) → list_of meaning content changed p ≡ list_of meaning content m p
+    pub lists-changed : now.ticket ≡ object_record.ticket → (p : ℕ) → list_of meaning content changed p ≡ list_of meaning content m p
     lists-changed same = lists-kept meaning content m changed o others (rw (lists o, ticket-same same) refl)
 
-    pub clean-changed : now.ticket ≡ entry.ticket → (dirty changed o ≡ false → dirty m o ≡ false) → AreClean meaning content m → AreClean meaning content changed
+    pub clean-changed : now.ticket ≡ object_record.ticket → (dirty changed o ≡ false → dirty m o ≡ false) → AreClean meaning content m → AreClean meaning content changed
     clean-changed same marks clean = clean-one meaning content m changed o others clean (λ c. rw (lists o, ticket-same same) (clean o (marks c)))
 
     pub tracked-changed : length memory.words ≡ length m.memory.words → Once order → ((p : ℕ) → has order p ≡ is_some (place_of memory.words p))
         → ((word : Pointer) → slice_get memory.words o ≡ Some word → IsTracked meaning content spelled m.max_writes m.leavings word (list_in m.memory o) now) → AreTracked meaning content spelled changed
     tracked-changed same_length once ordered here = record {
-      same_length = length-set m.entries o now ∙ tracked.same_length ∙ sym same_length;
-      few = rw (length-set m.entries o now) tracked.few;
+      same_length = length-set m.records o now ∙ tracked.same_length ∙ sym same_length;
+      few = rw (length-set m.records o now) tracked.few;
       each = each-one meaning content m changed o others spelled tracked refl refl
-          (λ word e w is. subst (IsTracked meaning content spelled m.max_writes m.leavings word (list_in memory o)) (some-one (slice_get entries' o) is entry-same) (subst (λ l. IsTracked meaning content spelled m.max_writes m.leavings word l now) (sym (lists o)) (here word w)));
+          (λ word e w is. subst (IsTracked meaning content spelled m.max_writes m.leavings word (list_in memory o)) (some-one (slice_get entries' o) is object_record-same) (subst (λ l. IsTracked meaning content spelled m.max_writes m.leavings word l now) (sym (lists o)) (here word w)));
       once = once;
       ordered = ordered;
     }
 
   -- only its record changes
-  pub tracked-recorded : ((word : Pointer) → word_of m o ≡ Some word → IsTracked meaning content spelled m.max_writes m.leavings word (list_in m.memory o) now) → AreTracked meaning content spelled record m { entries = entries' }
+  pub tracked-recorded : ((word : Pointer) → word_of m o ≡ Some word → IsTracked meaning content spelled m.max_writes m.leavings word (list_in m.memory o) now) → AreTracked meaning content spelled record m { records = entries' }
   tracked-recorded here = tracked-changed m.memory m.order (λ p ne. refl) (λ p. refl) refl tracked.once tracked.ordered here
 
-  pub clean-recorded : now.ticket ≡ entry.ticket → AreClean meaning content m → AreClean meaning content record m { entries = entries' }
+  pub clean-recorded : now.ticket ≡ object_record.ticket → AreClean meaning content m → AreClean meaning content record m { records = entries' }
   clean-recorded same = clean-changed m.memory m.order (λ p ne. refl) (λ p. refl) same (λ c. c)
 
 -- the same object with more pins or less, if it is local
-pub tracked-pins : {X K : Type 0} (meaning : List ℕ → List X) (content : K → List ℕ) (spelled : List X → List ℕ → Type 0) (max_writes leavings : ℕ) (word : Pointer) (list : Option (List X)) (entry : ObjectRecord K) (pins : ℕ)
-    → IsTracked meaning content spelled max_writes leavings word list entry → (word ≡ Remote → pins ≡ 0) → IsTracked meaning content spelled max_writes leavings word list record entry { pins = pins }
-tracked-pins meaning content spelled max_writes leavings word list entry pins t away =
+pub tracked-pins : {X K : Type 0} (meaning : List ℕ → List X) (content : K → List ℕ) (spelled : List X → List ℕ → Type 0) (max_writes leavings : ℕ) (word : Pointer) (list : Option (List X)) (object_record : ObjectRecord K) (pins : ℕ)
+    → IsTracked meaning content spelled max_writes leavings word list object_record → (word ≡ Remote → pins ≡ 0) → IsTracked meaning content spelled max_writes leavings word list record object_record { pins = pins }
+tracked-pins meaning content spelled max_writes leavings word list object_record pins t away =
     record { version = t.version; left = t.left; some = t.some; long = t.long; away = λ is. (away is, (t.away is).1); copy = t.copy; far = t.far }
 
 -- the words once one of them is marked as it is used or written: which objects are local stays

@@ -9,12 +9,12 @@ use Rattle.far_pointer.specs.declared.pointer.Pointer.{Pointer}
 use Rattle.far_pointer.specs.declared.pointer.Pointer.TheVariants.{Local}
 use Rattle.far_log.specs.RegionState.{Part, SegmentState, RegionState, IsLayout, fill_of, list_at, segment_of, target_of, IsRegion}
 use Rattle.far_log.specs.Effects.{with_part, without_part}
-use Rattle.far_log.proofs.Laid.{no-list-at-fill}
-use Rattle.far_log.proofs.RegionLaws.{laid-segment}
+use Rattle.far_log.proofs.Layouts.{no-list-at-fill}
+use Rattle.far_log.proofs.RegionLaws.{layout-segment}
 use Rattle.far_scopes.specs.Memory.{Memory}
 use Rattle.far_scopes.specs.Placing.{spot, with_new, without_at, added, removed}
 use Rattle.far_scopes.specs.Movement.{Movement}
-use Rattle.far_scopes.specs.Effects.{new_entry, after_create, after_uncreate}
+use Rattle.far_scopes.specs.Effects.{new_record, after_create, after_uncreate}
 use Rattle.far_scopes.proofs.WordPlaces.{last-of, take-last, place-push_last}
 use Rattle.far_scopes.proofs.RecencyLaws.{without-cons}
 
@@ -38,10 +38,10 @@ module _ {X : Type 0} where
   ]
 
   part-dropped : (s : SegmentState X) (list : List X) → IsLayout s → without_part (with_part s list) (fill_of s) ≡ s
-  part-dropped s list laid =
+  part-dropped s list layout =
       let q : Part X = record { offset = fill_of s; list = list } in
       let rest : filter (λ p. not (nat_eq p.offset (fill_of s))) (s.parts ++ q ∷ []) ≡ s.parts =
-      filter-append (λ p. not (nat_eq p.offset (fill_of s))) s.parts (q ∷ []) ∙ rw (eq-eqb (fill_of s) (fill_of s) refl, filter-free s.parts (fill_of s) (no-list-at-fill 0 s.size s.parts laid)) (append-nil s.parts) in
+      filter-append (λ p. not (nat_eq p.offset (fill_of s))) s.parts (q ∷ []) ∙ rw (eq-eqb (fill_of s) (fill_of s) refl, filter-free s.parts (fill_of s) (no-list-at-fill 0 s.size s.parts layout)) (append-nil s.parts) in
       ap (λ (parts : List (Part X)). let t : SegmentState X = record { parts = parts; size = s.size } in t) rest
 
   state-back : (state : RegionState X) (list : List X) → IsRegion state → without_at (with_new state list) (Some (spot state (length list))) ≡ state
@@ -49,7 +49,7 @@ module _ {X : Type 0} where
       let k : ℕ = unwrap_or (target_of state (length list)) 0 in
       let none : SegmentState X = record { parts = []; size = 0 } in
       elim (cases_lt k (length state)) [
-        | inl within ↦ rw (get_or-set_same state k (with_part (segment_of state k) list) none within, part-dropped (segment_of state k) list (laid-segment state k region within))
+        | inl within ↦ rw (get_or-set_same state k (with_part (segment_of state k) list) none within, part-dropped (segment_of state k) list (layout-segment state k region within))
             (set-twice state k (with_part (segment_of state k) list) (segment_of state k) ∙ set-get_or state k none)
         | inr past ↦ set-twice state k _ _ ∙ set-past state k _ past
       ]
@@ -63,5 +63,5 @@ module _ {X : Type 0} where
 -- all objects, where it is so of the local memory
 pub uncreated-created : {X K : Type 0} (m : Movement X K) (name : Name) (list : List X) → removed (added m.memory list) ≡ m.memory → after_uncreate (after_create m name list) ≡ m
 uncreated-created {K = K} m name list back =
-    let entry = new_entry {K = K} name (length list) in
-    rw (back, take-last (m.entries ++ entry ∷ []) m.entries entry refl, last-of (m.entries ++ entry ∷ []) m.entries entry refl, without-cons m.order (length m.entries)) refl
+    let object_record = new_record {K = K} name (length list) in
+    rw (back, take-last (m.records ++ object_record ∷ []) m.records object_record refl, last-of (m.records ++ object_record ∷ []) m.records object_record refl, without-cons m.order (length m.records)) refl

@@ -6,7 +6,7 @@ use Rattle.std.proofs.lemmas.List.{length-take-le}
 use Rattle.std.proofs.lemmas.Option.{slice_get_past}
 use Rattle.far_scopes.specs.Recency.{has, without}
 use Rattle.far_scopes.specs.Memory.{Memory, list_in, ChangesList}
-use Rattle.far_scopes.specs.Movement.{Movement, ChangesObject, word_of, entry_of, is_local, list_of, AreClean, AreHere, AreTracked}
+use Rattle.far_scopes.specs.Movement.{Movement, ChangesObject, word_of, record_of, is_local, list_of, AreClean, AreHere, AreTracked}
 use Rattle.far_scopes.proofs.Framing.{here-one}
 use Rattle.far_scopes.proofs.RecencyLaws.{has-without_same, has-without_other, once-without}
 use Rattle.far_scopes.proofs.Tracked.{Others, clean-one, list-one, each-one}
@@ -36,10 +36,10 @@ module _ {X K : Type 0} (meaning : List ℕ → List X) (content : K → List �
     (words : memory.words ≡ take (length m.memory.words - 1) m.memory.words) (change : ChangesList (list_in m.memory) (list_in memory) (length m.memory.words - 1) None) where
   -- the objects once the last is unmade
   abbrev without_last : Movement X K
-  without_last = record m { memory = memory; entries = take (length m.entries - 1) m.entries; order = without m.order (length m.entries - 1) }
+  without_last = record m { memory = memory; records = take (length m.records - 1) m.records; order = without m.order (length m.records - 1) }
 
   abbrev last : ℕ
-  last = length m.entries - 1
+  last = length m.records - 1
 
   last-is : last ≡ length m.memory.words - 1
   last-is = ap (λ n. n - 1) tracked.same_length
@@ -50,8 +50,8 @@ module _ {X K : Type 0} (meaning : List ℕ → List X) (content : K → List �
   no-word : word_of without_last last ≡ None
   no-word = rw (words, last-is) (take-same (length m.memory.words - 1) m.memory.words)
 
-  no-entry : entry_of without_last last ≡ None
-  no-entry = take-same last m.entries
+  no-object_record : record_of without_last last ≡ None
+  no-object_record = take-same last m.records
 
   words-other : (p : ℕ) → p ≢ last → word_of without_last p ≡ word_of m p
   words-other p ne = rw words (cut-other m.memory.words p (before p ne))
@@ -59,16 +59,16 @@ module _ {X K : Type 0} (meaning : List ℕ → List X) (content : K → List �
   others-unmade : Others meaning content m without_last last
   others-unmade = record {
     words = words-other;
-    entries = cut-other m.entries;
+    records = cut-other m.records;
     lists = λ p ne. change.others p (before p ne);
   }
 
   pub lists-unmade : ChangesList (list_of meaning content m) (list_of meaning content without_last) last None
-  lists-unmade = list-one meaning content m without_last last others-unmade None (rw (last-is, change.here) (rw (← last-is, no-entry) refl))
+  lists-unmade = list-one meaning content m without_last last others-unmade None (rw (last-is, change.here) (rw (← last-is, no-object_record) refl))
 
   pub clean-unmade : AreClean meaning content m → AreClean meaning content without_last
   clean-unmade clean = clean-one meaning content m without_last last others-unmade clean
-      (λ c. lists-unmade.here ∙ rw no-entry refl)
+      (λ c. lists-unmade.here ∙ rw no-object_record refl)
 
   ordered-unmade : (p : ℕ) → has (without m.order last) p ≡ is_local without_last p
   ordered-unmade p = elim (cases_eq p last) [
@@ -81,16 +81,16 @@ module _ {X K : Type 0} (meaning : List ℕ → List X) (content : K → List �
 
   pub tracked-unmade : AreTracked meaning content spelled without_last
   tracked-unmade = record {
-    same_length = cut-length m.entries ∙ last-is ∙ sym (ap (λ l. length l) words ∙ cut-length m.memory.words);
-    few = rw (cut-length m.entries) (omega (arith, tracked.few));
+    same_length = cut-length m.records ∙ last-is ∙ sym (ap (λ l. length l) words ∙ cut-length m.memory.words);
+    few = rw (cut-length m.records) (omega (arith, tracked.few));
     each = each-one meaning content m without_last last others-unmade spelled tracked refl refl
-        (λ word e w is. absurd (no_some (entry_of without_last last) no-entry is));
+        (λ word e w is. absurd (no_some (record_of without_last last) no-object_record is));
     once = once-without m.order last tracked.once;
     ordered = ordered-unmade;
   }
 
   pub changes-unmade : ChangesObject m without_last last
-  changes-unmade = record { words = others-unmade.words; entries = others-unmade.entries }
+  changes-unmade = record { words = others-unmade.words; records = others-unmade.records }
 
-  pub here-unmade : (is_of : K → List ℕ → Type 0) (name : List ℕ) → AreHere is_of name m → AreHere is_of name without_last
-  here-unmade is_of name here = here-one is_of name m without_last last changes-unmade here (rw no-entry tt)
+  pub here-unmade : (is_of : K → List ℕ → Type 0) (id : List ℕ) → AreHere is_of id m → AreHere is_of id without_last
+  here-unmade is_of id here = here-one is_of id m without_last last changes-unmade here (rw no-object_record tt)

@@ -7,8 +7,8 @@ use Rattle.far_pointer.specs.declared.pointer.At.{At}
 use Rattle.far_pointer.specs.declared.pointer.Pointer.{Pointer}
 use Rattle.far_log.specs.RegionState.{Part, RegionState, list_at, segment_of, part_of}
 use Rattle.far_log.specs.Effects.{written, written_at, overwritten, WritesPart}
-use Rattle.far_log.proofs.Laid.{laid-written}
-use Rattle.far_log.proofs.RegionLaws.{region-set, laid-segment, part-there}
+use Rattle.far_log.proofs.Layouts.{layout-written}
+use Rattle.far_log.proofs.RegionLaws.{region-set, layout-segment, part-there}
 use Rattle.far_scopes.specs.Memory.{place_of, list_in, ChangesList, IsMemory}
 use Rattle.far_scopes.specs.Placing.{overwritten as overwritten_in}
 use Rattle.far_scopes.proofs.Places.{own-same, lists-written}
@@ -47,7 +47,7 @@ module _ {X : Type 0} where
 
     pub memory-written : (i : ℕ) (ws : List X) → IsMemory words (written_at state at i ws)
     memory-written i ws = record {
-      region = region-set state at.segment (written (segment_of state at.segment) (at.offset + i) ws) m.region within refl (laid-written (segment_of state at.segment) (at.offset + i) ws (laid-segment state at.segment m.region within));
+      region = region-set state at.segment (written (segment_of state at.segment) (at.offset + i) ws) m.region within refl (layout-written (segment_of state at.segment) (at.offset + i) ws (layout-segment state at.segment m.region within));
       own = own-same (place_of words) (place_of words) (part_of state) (part_of (written_at state at i ws)) m.own (λ p. refl)
           (λ q. some-is (part_of (written_at state at i ws) q) (part_of state q) (kept-part state at i ws q within))
           (λ q. some-is (part_of state q) (part_of (written_at state at i ws) q) (sym (kept-part state at i ws q within)));

@@ -19,11 +19,11 @@ abbrev pub hot_at : List Pointer → At → Bool
 hot_at words here = list_any (λ word. begins_at here word && is_hot word) words
 
 module _ {X : Type 0} where
-  -- where the parts of a segment begin, by rising offset
+  -- where the parts of a segment begin, by ascending offset
   abbrev pub offsets_in : RegionState X → ℕ → List ℕ
   offsets_in state segment = map (λ p. p.offset) (segment_of state segment).parts
 
-  -- the order of a compaction: where the parts of hot objects begin, then where the others do, each by rising offset
+  -- the order of a compaction: where the parts of hot objects begin, then where the others do, each by ascending offset
   abbrev pub hot_first : Memory X → ℕ → List ℕ
   hot_first memory segment =
       let hot : ℕ → Bool = λ offset. hot_at memory.words record { segment = segment; offset = offset }

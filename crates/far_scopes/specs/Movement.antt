@@ -17,13 +17,13 @@ pub record Movement (X K : Type 0) : Type 0 where
   pub max_writes : ℕ
   pub leavings : ℕ
   pub memory : Memory X
-  pub entries : List (ObjectRecord K)
+  pub records : List (ObjectRecord K)
   pub order : List ℕ
 
 -- every object but o has the word and the record that it had
 pub record ChangesObject {X K : Type 0} (old new : Movement X K) (o : ℕ) : Type 0 where
   pub words : (p : ℕ) → p ≢ o → slice_get new.memory.words p ≡ slice_get old.memory.words p
-  pub entries : (p : ℕ) → p ≢ o → slice_get new.entries p ≡ slice_get old.entries p
+  pub records : (p : ℕ) → p ≢ o → slice_get new.records p ≡ slice_get old.records p
 
 -- whether the far store has a copy, however old
 abbrev pub has_copy : Pointer → Bool
@@ -34,8 +34,8 @@ module _ {X K : Type 0} where
   abbrev pub word_of : Movement X K → ℕ → Option Pointer
   word_of m o = slice_get m.memory.words o
 
-  abbrev pub entry_of : Movement X K → ℕ → Option (ObjectRecord K)
-  entry_of m o = slice_get m.entries o
+  abbrev pub record_of : Movement X K → ℕ → Option (ObjectRecord K)
+  record_of m o = slice_get m.records o
 
   abbrev pub is_local : Movement X K → ℕ → Bool
   is_local m o = is_some (place_of m.memory.words o)
@@ -48,20 +48,20 @@ module _ {X K : Type 0} where
   hot m o = option_map_or is_hot (word_of m o) false
 
   abbrev pub version_of : Movement X K → ℕ → ℕ
-  version_of m o = option_map_or (λ e. e.version) (entry_of m o) 0
+  version_of m o = option_map_or (λ e. e.version) (record_of m o) 0
 
   abbrev pub leavings_of : Movement X K → ℕ → ℕ
-  leavings_of m o = option_map_or (λ e. e.leavings) (entry_of m o) 0
+  leavings_of m o = option_map_or (λ e. e.leavings) (record_of m o) 0
 
   abbrev pub pins_of : Movement X K → ℕ → ℕ
-  pins_of m o = option_map_or (λ e. e.pins) (entry_of m o) 0
+  pins_of m o = option_map_or (λ e. e.pins) (record_of m o) 0
 
   abbrev pub ticket_of : Movement X K → ℕ → Option K
-  ticket_of m o = option_and_then (λ e. e.ticket) (entry_of m o)
+  ticket_of m o = option_and_then (λ e. e.ticket) (record_of m o)
 
   -- each ticket is one of the store with this id
   abbrev pub AreHere : (K → List ℕ → Type 0) → List ℕ → Movement X K → Type 0
-  AreHere is_of name m = (o : ℕ) → IfSome (ticket_of m o) (λ ticket. is_of ticket name)
+  AreHere is_of id m = (o : ℕ) → IfSome (ticket_of m o) (λ ticket. is_of ticket id)
 
   module _ (meaning : List ℕ → List X) (content : K → List ℕ) where
     -- what a ticket means
@@ -78,19 +78,19 @@ module _ {X K : Type 0} where
 
     module _ (spelled : List X → List ℕ → Type 0) where
       -- what holds of one object, by its word, its list if it is local, and its record
-      pub record IsTracked (max_writes leavings : ℕ) (word : Pointer) (list : Option (List X)) (entry : ObjectRecord K) : Type 0 where
-        pub version : entry.version ≤ max_writes
-        pub left : entry.leavings ≤ leavings
-        pub some : 0 < entry.len
-        pub long : IfSome list (λ xs. length xs ≡ entry.len)
-        pub away : word ≡ Remote → (entry.pins ≡ 0) × IsSomeAnd entry.ticket (λ ticket. length (meant ticket) ≡ entry.len)
-        pub copy : has_copy word ≡ is_some entry.ticket
-        pub far : IfSome entry.ticket (λ ticket. spelled (meant ticket) (content ticket))
+      pub record IsTracked (max_writes leavings : ℕ) (word : Pointer) (list : Option (List X)) (object_record : ObjectRecord K) : Type 0 where
+        pub version : object_record.version ≤ max_writes
+        pub left : object_record.leavings ≤ leavings
+        pub some : 0 < object_record.len
+        pub long : IfSome list (λ xs. length xs ≡ object_record.len)
+        pub away : word ≡ Remote → (object_record.pins ≡ 0) × IsSomeAnd object_record.ticket (λ ticket. length (meant ticket) ≡ object_record.len)
+        pub copy : has_copy word ≡ is_some object_record.ticket
+        pub far : IfSome object_record.ticket (λ ticket. spelled (meant ticket) (content ticket))
 
       -- what holds of all objects: each has a word and a record, and those in the order of use are the local ones
       pub record AreTracked (m : Movement X K) : Type 0 where
-        pub same_length : length m.entries ≡ length m.memory.words
-        pub few : length m.entries ≤ 2 ^ 28
-        pub each : (o : ℕ) (word : Pointer) (entry : ObjectRecord K) → word_of m o ≡ Some word → entry_of m o ≡ Some entry → IsTracked m.max_writes m.leavings word (list_in m.memory o) entry
+        pub same_length : length m.records ≡ length m.memory.words
+        pub few : length m.records ≤ 2 ^ 28
+        pub each : (o : ℕ) (word : Pointer) (object_record : ObjectRecord K) → word_of m o ≡ Some word → record_of m o ≡ Some object_record → IsTracked m.max_writes m.leavings word (list_in m.memory o) object_record
         pub once : Once m.order
         pub ordered : (o : ℕ) → has m.order o ≡ is_local m o

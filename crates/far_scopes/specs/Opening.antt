@@ -10,6 +10,6 @@ no_objects number limits = record {
   max_writes = limits.max_writes;
   leavings = limits.leavings;
   memory = record { words = []; state = replicate limits.segments record { parts = []; size = limits.size } };
-  entries = [];
+  records = [];
   order = [];
 }

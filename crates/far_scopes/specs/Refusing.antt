@@ -8,7 +8,7 @@ use Rattle.far_types.specs.declared.refusal.Refusal.TheVariants as refusal
 use Rattle.far_types.specs.FirstOf.{first_of}
 use Rattle.far_log.specs.RegionState.{fits_in}
 use Rattle.far_scopes.specs.declared.replacement.Replacement.{Replacement}
-use Rattle.far_scopes.specs.Movement.{Movement, entry_of, is_local, version_of, pins_of}
+use Rattle.far_scopes.specs.Movement.{Movement, record_of, is_local, version_of, pins_of}
 use Rattle.far_scopes.specs.Replacing.{no_space_for_all}
 
 -- the refusal that a call answered
@@ -19,7 +19,7 @@ refusal_in (Err refusal) = Some refusal
 module _ {X K : Type 0} (m : Movement X K) (o : ℕ) where
   -- the object is away
   abbrev pub absent : Bool × Refusal
-  absent = (not (is_local m o), option_map_or (λ e. refusal.Absent e.name.column e.name.group) (entry_of m o) refusal.StaleJob)
+  absent = (not (is_local m o), option_map_or (λ e. refusal.Absent e.name.column e.name.group) (record_of m o) refusal.StaleJob)
 
   -- its writes are used up
   abbrev pub written_out : Bool × Refusal

@@ -19,8 +19,8 @@ renewed_memory memory = record memory { words = map renewed_word memory.words }
 
 module _ {K L : Type 0} where
   -- the record of an object with another ticket, or none
-  abbrev pub renewed_entry : ObjectRecord K → Option L → ObjectRecord L
-  renewed_entry entry ticket = record { name = entry.name; len = entry.len; version = entry.version; leavings = entry.leavings; pins = entry.pins; ticket = ticket }
+  abbrev pub renewed_record : ObjectRecord K → Option L → ObjectRecord L
+  renewed_record object_record ticket = record { name = object_record.name; len = object_record.len; version = object_record.version; leavings = object_record.leavings; pins = object_record.pins; ticket = ticket }
 
   -- the objects under other tickets, listed by object number
   abbrev pub after_renew : {X : Type 0} → Movement X K → List (Option L) → Movement X L
@@ -29,7 +29,7 @@ module _ {K L : Type 0} where
     max_writes = m.max_writes;
     leavings = m.leavings;
     memory = renewed_memory m.memory;
-    entries = map (λ (e : ObjectRecord K × Option L). renewed_entry e.0 e.1) (zip m.entries tickets);
+    records = map (λ (e : ObjectRecord K × Option L). renewed_record e.0 e.1) (zip m.records tickets);
     order = m.order;
   }
 
@@ -39,9 +39,9 @@ ticket_in tickets o = option_and_then (λ ticket. ticket) (slice_get tickets o)
 
 -- these tickets renew the objects: each object that is away has one with the content of its own ticket, a local one none
 pub record Renews {X K L : Type 0} (content : K → List ℕ) (new_content : L → List ℕ) (m : Movement X K) (tickets : List (Option L)) : Type 0 where
-  pub same_length : length tickets ≡ length m.entries
+  pub same_length : length tickets ≡ length m.records
   pub each : (o : ℕ) → option_map new_content (ticket_in tickets o) ≡ (if is_local m o then None else option_map content (ticket_of m o))
 
 -- each of these tickets is one of the store with this id
 abbrev pub AreTicketsHere : {L : Type 0} → (L → List ℕ → Type 0) → List ℕ → List (Option L) → Type 0
-AreTicketsHere is_of name tickets = (o : ℕ) → IfSome (ticket_in tickets o) (λ ticket. is_of ticket name)
+AreTicketsHere is_of id tickets = (o : ℕ) → IfSome (ticket_in tickets o) (λ ticket. is_of ticket id)

@@ -30,11 +30,11 @@ module _ {X : Type 0} where
     pub here : All (λ r. new r.object ≡ Some r.list.items) lists
     pub others : (p : ℕ) → IsUnlisted lists p → new p ≡ old p
 
-  -- the new lists do not find room, placed one after the other
+  -- the new lists do not find space, placed one after the other
   abbrev pub no_space_for_all : RegionState X → List (Replacement X) → Bool × Refusal
   no_space_for_all state lists = (not (fit_in_order (spaces_of state) (map (λ r. length r.list.items) lists)), refusal.RegionFull)
 
-  -- the first of the new lists finds room, where there is one
+  -- the first of the new lists finds space, where there is one
   abbrev pub first_fits : RegionState X → List (Replacement X) → Bool
   first_fits state [] = true
   first_fits state (r ∷ rs) = fits_in state (length r.list.items)
@@ -71,5 +71,5 @@ module _ {X : Type 0} where
       }
 
   -- the list of each object that is clean and not listed is what its ticket means
-  abbrev pub AreCleanBeside : {K : Type 0} → (List ℕ → List X) → (K → List ℕ) → Movement X K → List (Replacement X) → Type 0
-  AreCleanBeside meaning content m lists = (o : ℕ) → IsUnlisted lists o → dirty m o ≡ false → list_of meaning content m o ≡ option_map (meant meaning content) (ticket_of m o)
+  abbrev pub AreCleanElsewhere : {K : Type 0} → (List ℕ → List X) → (K → List ℕ) → Movement X K → List (Replacement X) → Type 0
+  AreCleanElsewhere meaning content m lists = (o : ℕ) → IsUnlisted lists o → dirty m o ≡ false → list_of meaning content m o ≡ option_map (meant meaning content) (ticket_of m o)

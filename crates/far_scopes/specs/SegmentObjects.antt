@@ -24,12 +24,12 @@ pub record AreObjects (words : List Pointer) (segment : ℕ) (hot : Bool) (n : �
   pub whole : (o offset : ℕ) → o < n → offset_of words segment hot o ≡ Some offset → Contains objects record { object = o; offset = offset }
   pub once : AllPairs (λ o p. o ≢ p) (map (λ found. found.object) objects)
 
--- all of them, by rising offset
+-- all of them, by ascending offset
 pub record AreSorted (words : List Pointer) (segment : ℕ) (hot : Bool) (objects : List SegmentObject) : Type 0 where
   pub all : AreObjects words segment hot (length words) objects
-  pub rising : IsNonDecreasing (map (λ found. found.offset) objects)
+  pub sorted : IsNonDecreasing (map (λ found. found.offset) objects)
 
--- the objects whose parts lie in a segment: the hot ones, then the others, each by rising offset
+-- the objects whose parts lie in a segment: the hot ones, then the others, each by ascending offset
 pub record AreHotFirst (words : List Pointer) (segment : ℕ) (objects : List SegmentObject) : Type 0 where
   pub hot : List SegmentObject
   pub others : List SegmentObject

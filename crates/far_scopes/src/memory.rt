@@ -69,7 +69,7 @@ impl<T: Elem> LocalMemory<T> {
 
     /// For the proof: gives that each local object has a part of the region for itself, and that there is no other part.
     #[inline(always)]
-    pub fn known_own(&self)
+    pub fn each_owns_its_part(&self)
         ensures { IsMemory self.now.words self.now.state }
     {
         let _region = &self.region;

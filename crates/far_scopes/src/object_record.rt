@@ -1,6 +1,6 @@
 // What is known of an object beside its word and its list.
 ghost use Rattle.std.specs.Prelude.{◌≡◌};
-ghost use Rattle.far_scopes.specs.Renewal.{renewed_entry};
+ghost use Rattle.far_scopes.specs.Renewal.{renewed_record};
 
 use far_types::Name;
 
@@ -24,7 +24,7 @@ pub struct ObjectRecord<K> {
 impl<K: Drop> ObjectRecord<K> {
     // The record with a ticket of another store, or none.
     pub(crate) fn renewed<L>(self, ticket: Option<L>) -> ObjectRecord<L>
-        ensures { result ≡ renewed_entry self ticket }
+        ensures { result ≡ renewed_record self ticket }
     {
         ObjectRecord {
             name: self.name,

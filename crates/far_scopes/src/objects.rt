@@ -8,7 +8,7 @@ ghost use Rattle.far_scopes.specs.Movement.{AreTracked, word_of, version_of, lea
 ghost use Rattle.far_scopes.specs.Opening.{no_objects};
 
 mod coldest;
-mod coming;
+mod creating;
 mod compacting;
 mod lending;
 mod moving;
@@ -36,7 +36,7 @@ pub struct Objects<T: Elem, S: FarTickets> {
     max_writes: u64,
     leavings: u64,
     memory: LocalMemory<T>,
-    entries: Vec<ObjectRecord<S::Ticket>>,
+    records: Vec<ObjectRecord<S::Ticket>>,
     order: Recency,
 }
 
@@ -48,9 +48,9 @@ impl<T: Elem, S: FarTickets> Model for Objects<T, S> {
     ghost use Rattle.far_codec.specs.Spelling.{IsSpelled};
     ghost use Rattle.far_scopes.specs.Movement.{AreTracked};
 
-    ghost view = { λ a. record { number = a.number; max_writes = a.max_writes; leavings = a.leavings; memory = a.memory; entries = a.entries.items; order = a.order } };
+    ghost view = { λ a. record { number = a.number; max_writes = a.max_writes; leavings = a.leavings; memory = a.memory; records = a.records.items; order = a.order } };
 
-    ghost invariant = { λ a. AreTracked T.meaning S.content (IsSpelled T.in_range T.has_spelling T.spelling) record { number = a.number; max_writes = a.max_writes; leavings = a.leavings; memory = a.memory; entries = a.entries.items; order = a.order } };
+    ghost invariant = { λ a. AreTracked T.meaning S.content (IsSpelled T.in_range T.has_spelling T.spelling) record { number = a.number; max_writes = a.max_writes; leavings = a.leavings; memory = a.memory; records = a.records.items; order = a.order } };
 }
 
 impl<T: Elem, S: FarTickets> Objects<T, S> {
@@ -67,7 +67,7 @@ impl<T: Elem, S: FarTickets> Objects<T, S> {
             max_writes: limits.max_writes,
             leavings: limits.leavings,
             memory: LocalMemory::new(alloc, limits.segments, limits.size)?,
-            entries: Vec::new(alloc),
+            records: Vec::new(alloc),
             order: Recency::new(alloc)?,
         })
     }
@@ -81,13 +81,13 @@ impl<T: Elem, S: FarTickets> Objects<T, S> {
         ensures tracked { AreTracked T.meaning S.content (IsSpelled T.in_range T.has_spelling T.spelling) self.now }
         ensures own { IsMemory self.now.memory.words self.now.memory.state }
     {
-        self.memory.known_own();
+        self.memory.each_owns_its_part();
         self.number
     }
 
     /// The pointer word of an object. Allocates nothing.
     pub fn word(&self, o: u32) -> Word
-        requires { o < length self.now.entries }
+        requires { o < length self.now.records }
         ensures word { word_of self.now o ≡ Some result }
         ensures valid { HasWord result }
     {
@@ -96,34 +96,34 @@ impl<T: Elem, S: FarTickets> Objects<T, S> {
 
     /// How often an object was written. Allocates nothing.
     pub fn version(&self, o: u32) -> u64
-        requires { o < length self.now.entries }
+        requires { o < length self.now.records }
         ensures { result ≡ version_of self.now o }
     {
-        self.entries[o as usize].version
+        self.records[o as usize].version
     }
 
     /// How often an object went away. Allocates nothing.
     pub fn leavings(&self, o: u32) -> u64
-        requires { o < length self.now.entries }
+        requires { o < length self.now.records }
         ensures { result ≡ leavings_of self.now o }
     {
-        self.entries[o as usize].leavings
+        self.records[o as usize].leavings
     }
 
     /// How many pins an object has. Allocates nothing.
     pub fn pins(&self, o: u32) -> u32
-        requires { o < length self.now.entries }
+        requires { o < length self.now.records }
         ensures { result ≡ pins_of self.now o }
     {
-        u32::from(self.entries[o as usize].pins)
+        u32::from(self.records[o as usize].pins)
     }
 
     /// The newest far copy that there is of an object. Allocates nothing.
     pub fn ticket(&self, o: u32) -> Option<&S::Ticket>
-        requires { o < length self.now.entries }
+        requires { o < length self.now.records }
         ensures ticket { option_map (λ ticket. ticket.now) result ≡ ticket_of self.now o }
         ensures copy { is_some result ≡ option_map_or has_copy (word_of self.now o) false }
     {
-        self.entries[o as usize].ticket.as_ref()
+        self.records[o as usize].ticket.as_ref()
     }
 }

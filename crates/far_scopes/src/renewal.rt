@@ -6,12 +6,12 @@ use std::marker::Model;
 /// The far copies that `Objects::renewal` put into another store. Contracts see, by object number, the ticket of each
 /// object that was away, and `None` for each that was local.
 ///
-/// It has the room for the records of the objects too, so that `Objects::renew` allocates nothing.
+/// It has the space for the records of the objects too, so that `Objects::renew` allocates nothing.
 #[derive(Drop)]
 pub struct Renewal<N: FarTickets> {
     pub(crate) tickets: Vec<Option<N::Ticket>>,
-    /// The room: no record, and space for one for each ticket.
-    pub(crate) entries: Vec<ObjectRecord<N::Ticket>>,
+    /// The space: no record, and space for one for each ticket.
+    pub(crate) records: Vec<ObjectRecord<N::Ticket>>,
 }
 
 impl<N: FarTickets> Model for Renewal<N> {
@@ -24,5 +24,5 @@ impl<N: FarTickets> Model for Renewal<N> {
 
     ghost view = { λ r. r.tickets.items };
 
-    ghost invariant = { λ r. (r.entries.items ≡ []) × (length r.tickets.items ≤ vec_capacity r.entries) };
+    ghost invariant = { λ r. (r.records.items ≡ []) × (length r.tickets.items ≤ vec_capacity r.records) };
 }

@@ -11,7 +11,7 @@ use Rattle.far_types.specs.Table.{Table, Registered}
 use Rattle.far_history.specs.Histories.{Planned, IsLegal, replay}
 use Rattle.far_history.specs.declared.view.Entry.{Entry}
 use Rattle.far_shared.specs.Asking.{IsAnswer, AskRefusal}
-use Rattle.far_shared.specs.Fours.{AreLike, AreAlike, FourRefusal, all_rows, left_in_all, spec_at}
+use Rattle.far_shared.specs.Fours.{AreLike, AreAlike, FourRefusal, all_rows, pending_in_all, spec_at}
 use Rattle.far_shared.specs.Stripes.{IsStripe}
 use Rattle.far_shared.proofs.LeftLaws.{four-few, not-past}
 use Rattle.far_shared.proofs.NumberLaws.{if-err}
@@ -22,7 +22,7 @@ gauge-like p log more one other is also =
     (p.gauge, ap (option_map (λ (aggregate : Registered). aggregate.spec)) is.gauge, ap (option_map (λ (aggregate : Registered). aggregate.spec)) also.gauge, is.schema ∙ sym also.schema)
 
 module _ (p : Planned) (zero one two three : List Entry) (t0 t1 t2 t3 : Table) (is0 : IsStripe p zero t0) (is1 : IsStripe p one t1) (is2 : IsStripe p two t2) (is3 : IsStripe p three t3) where
-  gauge-left : left_in_all 0 t0 t1 t2 t3 ≡ 0
+  gauge-left : pending_in_all 0 t0 t1 t2 t3 ≡ 0
   gauge-left = rw is0.gauge (rw is1.gauge (rw is2.gauge (rw is3.gauge refl)))
 
   -- the gauge answers, running out of memory aside
@@ -34,13 +34,13 @@ module _ (p : Planned) (zero one two three : List Entry) (t0 t1 t2 t3 : Table) (
   gauge-answers given (inr (alike, inr past)) = past.1
 
   -- a number of 32 bits tells how many row groups are left
-  pub four-left : (a : ℕ) → left_in_all a t0 t1 t2 t3 < 2 ^ 32
+  pub four-left : (a : ℕ) → pending_in_all a t0 t1 t2 t3 < 2 ^ 32
   four-left a = four-few _ _ _ _ (is0.few a) (is1.few a) (is2.few a) (is3.few a)
 
   stripes-refuse : (a : ℕ) (given : Refusal) → FourRefusal a t0 t1 t2 t3 given → AskRefusal a t0 t1 t2 t3 given
   stripes-refuse a given (inl none) = inl none
   stripes-refuse a given (inr (alike, inl left)) = inr (alike, left)
-  stripes-refuse a given (inr (alike, inr past)) = absurd (not-past (left_in_all a t0 t1 t2 t3) (four-left a) past.0)
+  stripes-refuse a given (inr (alike, inr past)) = absurd (not-past (pending_in_all a t0 t1 t2 t3) (four-left a) past.0)
 
   rows-left : all_rows t0 t1 t2 t3 ≡ all_rows (replay p zero) (replay p one) (replay p two) (replay p three)
   rows-left = rw is0.places (rw is1.places (rw is2.places (rw is3.places refl)))

@@ -10,7 +10,7 @@ use Rattle.far_types.specs.declared.limits.Limits.{Limits}
 use Rattle.far_types.specs.declared.edit.Edit.TheVariants as edit
 use Rattle.far_types.specs.declared.refusal.Refusal.{Refusal}
 use Rattle.far_scopes.specs.Movement.{Movement}
-use Rattle.far_scopes.specs.Effects.{after_create, written, written_all, after_replace_all, with_lens, after_arrive}
+use Rattle.far_scopes.specs.Effects.{after_create, written, after_write_all, after_replace_all, with_lens, after_arrive}
 use Rattle.far_scopes.specs.Replacing.{replaced_all as replaced_all_in}
 use Rattle.far_scopes.specs.declared.replacement.Replacement.{Replacement}
 use Rattle.far_vector.specs.Vector.{Vector}
@@ -20,7 +20,7 @@ use Rattle.far_columns.specs.Numbers.{Numbers, number_lists}
 use Rattle.far_evacuator.specs.Jobs.{CarriedEvacuation, CarriedFetch}
 use Rattle.far_texts.specs.Effects.{set_in as text_set_in}
 use Rattle.far_texts.specs.Texts.{Texts, lists_of}
-use Rattle.far_texts.specs.Together.{all_begin, all_created}
+use Rattle.far_texts.specs.Together.{all_begin, after_create_all}
 use Rattle.far_rows.specs.declared.job.ByKind.{ByKind}
 use Rattle.far_rows.specs.declared.job.ByKind.TheVariants as by_kind
 use Rattle.far_rows.specs.declared.new_cell.NewCell.{NewCell}
@@ -57,12 +57,12 @@ module _ {X K : Type 0} where
   pushed-number : (m : Movement X K) (v : Vector X) (x : X) → (pushed_in m v x).number ≡ m.number
   pushed-number m v x = either-number (is_full v) (after_create m (next_name v) (next_group v x)) (range_written m v v.len (x ∷ [])) m refl refl
 
-  written-number : (m : Movement X K) (lists : List (Replacement X)) → (written_all m lists).number ≡ m.number
+  written-number : (m : Movement X K) (lists : List (Replacement X)) → (after_write_all m lists).number ≡ m.number
   written-number m [] = refl
   written-number m (r ∷ rs) = written-number (written m r.object) rs
 
   replaced-number : (m : Movement X K) (lists : List (Replacement X)) → (after_replace_all m lists).number ≡ m.number
-  replaced-number m lists = written-number (record m { memory = replaced_all_in m.memory lists; entries = with_lens m.entries lists }) lists
+  replaced-number m lists = written-number (record m { memory = replaced_all_in m.memory lists; entries = with_lens m.records lists }) lists
 
 module _ {K : Type 0} where
   all-pushed-number : (m : Movement (Option ℤ) K) (columns : NumberColumns) (numbers : Numbers) → (all_pushed_in m columns numbers).number ≡ m.number
@@ -70,7 +70,7 @@ module _ {K : Type 0} where
   all-pushed-number m (c ∷ columns) [] = refl
   all-pushed-number m (c ∷ columns) (number ∷ numbers) = all-pushed-number (pushed_in m c number) columns numbers ∙ pushed-number m c number
 
-  all-created-number : (m : Movement ℕ K) (columns : List Texts) (forms : List (ℕ × List ℕ)) → (all_created m columns forms).number ≡ m.number
+  all-created-number : (m : Movement ℕ K) (columns : List Texts) (forms : List (ℕ × List ℕ)) → (after_create_all m columns forms).number ≡ m.number
   all-created-number m [] forms = refl
   all-created-number m (c ∷ columns) [] = refl
   all-created-number m (c ∷ columns) (form ∷ forms) = all-created-number (after_create m record { column = c.column; group = length c.objects } form.1) columns forms

@@ -31,10 +31,10 @@ module _ (columns group : ℕ) (some long : Bool) where
   absents-tell r n (s ∷ column_indexes) few = ((λ away. (omega (arith, few), refl)), absents-tell r (n + 1) column_indexes (omega (arith, few)))
 
 module _ {K : Type 0} (s : State K) (column_indexes : length s.rows.column_indexes ≡ length s.table.schema) where
-  room-tells : (e : Edit) (columns group : ℕ) (long : Bool) → long ≡ false → AllTell (IsOfObjects columns group (places_cells s.table.schema e) long) (no_space s e)
-  room-tells (edit.Insert row) columns group long short = ((λ full. (refl, short)), ((λ full. (refl, short)), tt))
-  room-tells (edit.Set p c cell) columns group long short = ((λ full. (first-holds (is_text (slice_get s.table.schema c)) _ full, short)), tt)
-  room-tells (edit.Remove p) columns group long short = tt
+  space-tells : (e : Edit) (columns group : ℕ) (long : Bool) → long ≡ false → AllTell (IsOfObjects columns group (places_cells s.table.schema e) long) (no_space s e)
+  space-tells (edit.Insert row) columns group long short = ((λ full. (refl, short)), ((λ full. (refl, short)), tt))
+  space-tells (edit.Set p c cell) columns group long short = ((λ full. (first-holds (is_text (slice_get s.table.schema c)) _ full, short)), tt)
+  space-tells (edit.Remove p) columns group long short = tt
 
   same-group : (e : Edit) → group_of s e ≡ place_of s.table e / s.table.limits.group
   same-group (edit.Insert row) = refl
@@ -57,7 +57,7 @@ module _ {K : Type 0} (s : State K) (column_indexes : length s.rows.column_index
           let of_objects : Refusal → Type 0 = IsOfObjects (length s.table.schema) (group_of s e) some long in
           told (found-plain of_objects (edit_faults s.table.schema s.table.limits s.table.places e) (absents s.rows (group_of s e)) (no_space s e) _ _ given
           (absents-tell (length s.table.schema) (group_of s e) some long s.rows 0 s.rows.column_indexes (omega (arith, column_indexes)))
-          (λ short. room-tells e (length s.table.schema) (group_of s e) long short) found)
+          (λ short. space-tells e (length s.table.schema) (group_of s e) long short) found)
         where
           told : (edit_refusal s.table e ≡ Some given) ⊎ ((first_of (edit_faults s.table.schema s.table.limits s.table.places e) ≡ None) × IsOfObjects (length s.table.schema) (group_of s e) (places_cells s.table.schema e) (overfills s.table.schema s.table.limits e s.table.places) given) → WhyNot s.table e given
           told (inl plain) = inl plain

@@ -4,12 +4,12 @@ use Rattle.std.proofs.Math.Nat.{div-lt_iff_lt-mul, mul-one}
 use Rattle.std.specs.Prelude.{replicate, slice_get, slice_set}
 use Rattle.far_types.specs.declared.spec.Spec.{Spec}
 use Rattle.far_types.specs.Table.{Table, Registered, groups}
-use Rattle.far_aggregates.specs.Aggregates.{is_left, joined}
-use Rattle.far_aggregates.specs.Scans.{scanned_slot}
+use Rattle.far_aggregates.specs.Aggregates.{is_pending_in, joined}
+use Rattle.far_aggregates.specs.Scans.{scanned_entry}
 use Rattle.far_aggregates.proofs.RegisterLaws.{count-replicate}
 use Rattle.far_aggregates.proofs.ScanLaws.{left-cleared}
 use Rattle.far_table.specs.Watching.{registered_now}
-use Rattle.far_shared.specs.Fours.{left_in}
+use Rattle.far_shared.specs.Fours.{pending_in}
 
 pub zero-least : (n : ℕ) → 0 ≤ n
 zero-least n = omega arith
@@ -45,7 +45,7 @@ groups-few size places some =
     omega (arith, less)
 
 -- of an aggregate that is registered now no more are left
-pub left-registered : (spec : Spec) (table : Table) → 1 ≤ table.limits.group → left_in (Some (registered_now spec table)) ≤ length table.places
+pub left-registered : (spec : Spec) (table : Table) → 1 ≤ table.limits.group → pending_in (Some (registered_now spec table)) ≤ length table.places
 left-registered spec table some =
     subst (λ n. n ≤ length table.places) (sym (count-replicate (groups table.limits.group (length table.places)))) (groups-few table.limits.group (length table.places) some)
 
@@ -53,14 +53,14 @@ abbrev no_aggregate : Option Registered
 no_aggregate = None
 
 -- where nothing is registered, nothing is left
-pub empty-few : (n a : ℕ) → left_in (joined (slice_get (replicate n no_aggregate) a)) ≤ 2 ^ 24
+pub empty-few : (n a : ℕ) → pending_in (joined (slice_get (replicate n no_aggregate) a)) ≤ 2 ^ 24
 empty-few zero a = zero-least (2 ^ 24)
 empty-few (suc n) zero = zero-least (2 ^ 24)
 empty-few (suc n) (suc a) = empty-few n a
 
 -- few are left of each, once another stands under a number of which few are left
-pub set-few : (xs : List (Option Registered)) (a b : ℕ) (x : Option Registered) → left_in x ≤ 2 ^ 24 → ((k : ℕ) → left_in (joined (slice_get xs k)) ≤ 2 ^ 24)
-    → left_in (joined (slice_get (slice_set xs a x) b)) ≤ 2 ^ 24
+pub set-few : (xs : List (Option Registered)) (a b : ℕ) (x : Option Registered) → pending_in x ≤ 2 ^ 24 → ((k : ℕ) → pending_in (joined (slice_get xs k)) ≤ 2 ^ 24)
+    → pending_in (joined (slice_get (slice_set xs a x) b)) ≤ 2 ^ 24
 set-few [] a b x here few = few b
 set-few (y ∷ ys) zero zero x here few = here
 set-few (y ∷ ys) zero (suc b) x here few = few (suc b)
@@ -68,7 +68,7 @@ set-few (y ∷ ys) (suc a) zero x here few = few zero
 set-few (y ∷ ys) (suc a) (suc b) x here few = set-few ys a b x here (λ k. few (suc k))
 
 -- no more are left of any, once one stands under a number of which no more are left
-pub set-fewer : (xs : List (Option Registered)) (a b : ℕ) (x : Option Registered) → left_in x ≤ left_in (joined (slice_get xs a)) → left_in (joined (slice_get (slice_set xs a x) b)) ≤ left_in (joined (slice_get xs b))
+pub set-fewer : (xs : List (Option Registered)) (a b : ℕ) (x : Option Registered) → pending_in x ≤ pending_in (joined (slice_get xs a)) → pending_in (joined (slice_get (slice_set xs a x) b)) ≤ pending_in (joined (slice_get xs b))
 set-fewer [] a b x less = no-more _ _ refl
 set-fewer (y ∷ ys) zero zero x less = less
 set-fewer (y ∷ ys) zero (suc b) x less = no-more _ _ refl
@@ -76,6 +76,6 @@ set-fewer (y ∷ ys) (suc a) zero x less = no-more _ _ refl
 set-fewer (y ∷ ys) (suc a) (suc b) x less = set-fewer ys a b x less
 
 -- a row group that is built in is one less
-pub built-fewer : (aggregate : Option Registered) (g : ℕ) → is_left aggregate g ≡ true → left_in (scanned_slot g aggregate) ≤ left_in aggregate
+pub built-fewer : (aggregate : Option Registered) (g : ℕ) → is_pending_in aggregate g ≡ true → pending_in (scanned_entry g aggregate) ≤ pending_in aggregate
 built-fewer None g left = absurd (let off : false ≡ true = left in cc)
-built-fewer (Some r) g left = one-less _ _ (left-cleared r.unbuilt g left)
+built-fewer (Some r) g left = one-less _ _ (left-cleared r.pending g left)

@@ -19,13 +19,13 @@ use Rattle.far_types.specs.Pairs.{Pair, pair_in, kept, pairs_of}
 use Rattle.far_types.specs.Answers.{ByKey, values_of, count_sum, totals, extrema, total_lines, extrema_lines, or_zero, answer_of, answer_over}
 use Rattle.far_types.specs.Table.{Place, Registered, rows_of}
 use Rattle.far_aggregates.specs.Aggregates.{Answers}
-use Rattle.far_types.specs.Effects.{add_count_sums, join_spans, joined}
+use Rattle.far_types.specs.Effects.{add_count_sums, join_min_maxes, joined}
 use Rattle.far_types.proofs.Grouping.{same}
 use Rattle.far_types.proofs.ByKeyMaps.{HaveDistinctKeys, by_key, sorted_distinct, with_all, with_all-joined}
 use Rattle.far_types.proofs.LineLaws.{keys-ascend, entries-folded}
 use Rattle.far_types.proofs.TotalLaws.{totals-append, extrema-append}
-use Rattle.far_shared.specs.Fours.{IsOf, left_in}
-use Rattle.far_shared.specs.Lines.{count_sums_in, spans_in}
+use Rattle.far_shared.specs.Fours.{IsOf, pending_in}
+use Rattle.far_shared.specs.Lines.{count_sums_in, min_maxes_in}
 
 of_entries : {V : Type 0} (m : ByKey V) → by_key (fin.entries m) ≡ m
 of_entries m = same _ _ (λ q. fin.get-from_entries line_total (fin.entries m) q ∙ sym (fin.get-entries m q))
@@ -62,16 +62,16 @@ with_totals key some others m lines e h =
     ∙ with_map add_count_sums (totals some) (totals others)
     ∙ sym (totals-append some others)
 
-lines_back : (es : List (Option Key × (ℤ × ℤ))) → spans_in (map (λ (entry : Option Key × (ℤ × ℤ)). (entry.0, entry.1.0, entry.1.1)) es) ≡ es
+lines_back : (es : List (Option Key × (ℤ × ℤ))) → min_maxes_in (map (λ (entry : Option Key × (ℤ × ℤ)). (entry.0, entry.1.0, entry.1.1)) es) ≡ es
 lines_back [] = refl
 lines_back (e ∷ es) = ap (λ rest. e ∷ rest) (lines_back es)
 
 -- and to the extrema of some
-pub with_extrema : (some others : List Pair) (m : ByKey (ℤ × ℤ)) (lines : List (Option Key × ℤ × ℤ)) → m ≡ extrema some → lines ≡ extrema_lines (extrema others) → with_all join_spans m (spans_in lines) ≡ extrema (some ++ others)
+pub with_extrema : (some others : List Pair) (m : ByKey (ℤ × ℤ)) (lines : List (Option Key × ℤ × ℤ)) → m ≡ extrema some → lines ≡ extrema_lines (extrema others) → with_all join_min_maxes m (min_maxes_in lines) ≡ extrema (some ++ others)
 with_extrema some others m lines e h =
-    (λ i. with_all join_spans (e i) (spans_in (h i)))
-    ∙ ap (with_all join_spans (extrema some)) (lines_back (fin.entries (extrema others)))
-    ∙ with_map join_spans (extrema some) (extrema others)
+    (λ i. with_all join_min_maxes (e i) (min_maxes_in (h i)))
+    ∙ ap (with_all join_min_maxes (extrema some)) (lines_back (fin.entries (extrema others)))
+    ∙ with_map join_min_maxes (extrema some) (extrema others)
     ∙ sym (extrema-append some others)
 
 pub four_lists : {A : Type 0} (a b c d : List A) → (((([] ++ a) ++ b) ++ c) ++ d) ≡ a ++ (b ++ (c ++ d))
@@ -132,6 +132,6 @@ answers_spec places None spec given e h = absurd h
 answers_spec places (Some r) spec given e h = let same : r.spec ≡ spec = cc in h.1 ∙ ap (λ s. answer_over s (rows_of places)) same
 
 -- and then nothing is left
-pub answers_built : (places : List Place) (aggregate : Option Registered) (given : Answer) → Answers places aggregate given → 0 ≡ left_in aggregate
+pub answers_built : (places : List Place) (aggregate : Option Registered) (given : Answer) → Answers places aggregate given → 0 ≡ pending_in aggregate
 answers_built places None given h = absurd h
 answers_built places (Some r) given h = sym h.0

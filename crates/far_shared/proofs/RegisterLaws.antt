@@ -26,7 +26,7 @@ use Rattle.far_frame.specs.declared.step.Reply.TheVariants as reply
 use Rattle.far_frame.specs.declared.step.Step.TheVariants as step
 use Rattle.far_history.specs.Histories.{Planned, IsLegal}
 use Rattle.far_history.specs.declared.view.Entry.{Entry}
-use Rattle.far_shared.specs.Fours.{left_in}
+use Rattle.far_shared.specs.Fours.{pending_in}
 use Rattle.far_shared.specs.Opening.{IsEmpty}
 use Rattle.far_shared.specs.Plans.{IsPlan}
 use Rattle.far_shared.specs.Stripes.{AreRowsOf, IsStripe, first_registered}
@@ -57,7 +57,7 @@ module _ (p : Planned) (log : List Entry) (table : Table) (is : IsStripe p log t
 
   module _ (a : ℕ) (ne : a ≢ 0) where
     -- whatever stands under another number than the gauge's, of which few row groups are left
-    pub stripe-with : (x : Option Registered) → left_in x ≤ 2 ^ 24 → IsStripe p log (with_aggregate a x table)
+    pub stripe-with : (x : Option Registered) → pending_in x ≤ 2 ^ 24 → IsStripe p log (with_aggregate a x table)
     stripe-with x few = record {
       plan = is.plan;
       schema = is.schema;
@@ -109,7 +109,7 @@ module _ (p : Planned) (is : IsPlan p) where
       none : groups p.limits.group 0 ≡ 0
       none = no-groups p.limits.group (omega (arith, is.limits.group_low))
 
-      gauge-few : left_in (Some (registered_now p.gauge (empty_table p.schema p.limits))) ≤ 2 ^ 24
+      gauge-few : pending_in (Some (registered_now p.gauge (empty_table p.schema p.limits))) ≤ 2 ^ 24
       gauge-few = at-most _ 0 _ (left-registered p.gauge (empty_table p.schema p.limits) is.limits.group_low) (zero-least (2 ^ 24))
 
       opened : IsStripe p [] (registered_at 0 p.gauge (empty_table p.schema p.limits))
@@ -125,7 +125,7 @@ module _ (p : Planned) (is : IsPlan p) where
       }
         where
           registered : Spec → List Bool → Registered
-          registered spec unbuilt = record { spec = spec; registration = 0; unbuilt = unbuilt }
+          registered spec pending = record { spec = spec; registration = 0; pending = pending }
 
   -- the gauge is registered, running out of memory aside
   pub gauge-free : watch_refusal (empty_table p.schema p.limits) p.gauge ≡ None
@@ -155,13 +155,13 @@ module _ {K : Type 0} (content : K → List ℕ) (old new : State K) where
   same-rows : (spec : Spec) (given : Reply) → Accepts content old (step.Watch spec) given new → new.rows ≡ old.rows
   same-rows spec given h = ap (λ (s : LiveState K). s.rows) h.2.changed.state
 
-  module _ (is_of : K → List ℕ → Type 0) (name : List ℕ) (here : AreAt is_of name old.rows) where
+  module _ (is_of : K → List ℕ → Type 0) (id : List ℕ) (here : AreAt is_of id old.rows) where
     -- objects stay where they are
-    pub watched-here : (spec : Spec) (given : Reply) → Accepts content old (step.Watch spec) given new → AreAt is_of name new.rows
-    watched-here spec given h = subst (AreAt is_of name) (sym (same-rows spec given h)) here
+    pub watched-here : (spec : Spec) (given : Reply) → Accepts content old (step.Watch spec) given new → AreAt is_of id new.rows
+    watched-here spec given h = subst (AreAt is_of id) (sym (same-rows spec given h)) here
 
-    pub unwatched-here : (a : ℕ) (given : Reply) → Accepts content old (step.Unwatch a) given new → AreAt is_of name new.rows
-    unwatched-here a given h = subst (AreAt is_of name) (sym (ap (λ (s : LiveState K). s.rows) h.1.changed.state)) here
+    pub unwatched-here : (a : ℕ) (given : Reply) → Accepts content old (step.Unwatch a) given new → AreAt is_of id new.rows
+    unwatched-here a given h = subst (AreAt is_of id) (sym (ap (λ (s : LiveState K). s.rows) h.1.changed.state)) here
 
   module _ (p : Planned) (log : List Entry) (is : IsStripe p log old.table) where
     -- the stripe, once an aggregate is registered
@@ -182,21 +182,21 @@ module _ {K : Type 0} (content : K → List ℕ) (old new : State K) where
         subst (IsStripe p log) (sym (ap (λ (s : LiveState K). s.table) h.1.changed.state)) (stripe-with p log old.table is a ne None (zero-least (2 ^ 24)))
 
     -- whether it is registered or not, the stripe holds
-    pub held-watch : IsLegal p log → (is_of : K → List ℕ → Type 0) (name : List ℕ) → AreAt is_of name old.rows → (n : ℕ) → AreRowsOf p.schema n old.rows → (spec : Spec) (r : Result ℕ Refusal)
+    pub held-watch : IsLegal p log → (is_of : K → List ℕ → Type 0) (id : List ℕ) → AreAt is_of id old.rows → (n : ℕ) → AreRowsOf p.schema n old.rows → (spec : Spec) (r : Result ℕ Refusal)
         → IfOk r (λ a. Accepts content old (step.Watch spec) (reply.Aggregate a) new) → IfErr r (λ e. Refuses old (step.Watch spec) e new)
-        → IsStripe p log new.table × AreAt is_of name new.rows × AreRowsOf p.schema n new.rows
-    held-watch legal is_of name here n of spec (Ok a) done refused =
-        (stripe-watched legal spec (reply.Aggregate a) done, watched-here is_of name here spec (reply.Aggregate a) done, subst (AreRowsOf p.schema n) (sym (same-rows spec (reply.Aggregate a) done)) of)
-    held-watch legal is_of name here n of spec (Err e) done refused =
-        subst (λ (s : State K). IsStripe p log s.table × AreAt is_of name s.rows × AreRowsOf p.schema n s.rows) (sym refused.0) (is, here, of)
+        → IsStripe p log new.table × AreAt is_of id new.rows × AreRowsOf p.schema n new.rows
+    held-watch legal is_of id here n of spec (Ok a) done refused =
+        (stripe-watched legal spec (reply.Aggregate a) done, watched-here is_of id here spec (reply.Aggregate a) done, subst (AreRowsOf p.schema n) (sym (same-rows spec (reply.Aggregate a) done)) of)
+    held-watch legal is_of id here n of spec (Err e) done refused =
+        subst (λ (s : State K). IsStripe p log s.table × AreAt is_of id s.rows × AreRowsOf p.schema n s.rows) (sym refused.0) (is, here, of)
 
-    pub held-unwatch : (is_of : K → List ℕ → Type 0) (name : List ℕ) → AreAt is_of name old.rows → (n : ℕ) → AreRowsOf p.schema n old.rows → (a : ℕ) → a ≢ 0 → (r : Result Unit Refusal)
+    pub held-unwatch : (is_of : K → List ℕ → Type 0) (id : List ℕ) → AreAt is_of id old.rows → (n : ℕ) → AreRowsOf p.schema n old.rows → (a : ℕ) → a ≢ 0 → (r : Result Unit Refusal)
         → OnOk r (Accepts content old (step.Unwatch a) reply.Done new) → IfErr r (λ e. Refuses old (step.Unwatch a) e new)
-        → IsStripe p log new.table × AreAt is_of name new.rows × AreRowsOf p.schema n new.rows
-    held-unwatch is_of name here n of a ne (Ok x) done refused =
-        (stripe-unwatched a reply.Done ne done, unwatched-here is_of name here a reply.Done done, subst (AreRowsOf p.schema n) (sym (ap (λ (s : LiveState K). s.rows) done.1.changed.state)) of)
-    held-unwatch is_of name here n of a ne (Err e) done refused =
-        subst (λ (s : State K). IsStripe p log s.table × AreAt is_of name s.rows × AreRowsOf p.schema n s.rows) (sym refused.0) (is, here, of)
+        → IsStripe p log new.table × AreAt is_of id new.rows × AreRowsOf p.schema n new.rows
+    held-unwatch is_of id here n of a ne (Ok x) done refused =
+        (stripe-unwatched a reply.Done ne done, unwatched-here is_of id here a reply.Done done, subst (AreRowsOf p.schema n) (sym (ap (λ (s : LiveState K). s.rows) done.1.changed.state)) of)
+    held-unwatch is_of id here n of a ne (Err e) done refused =
+        subst (λ (s : State K). IsStripe p log s.table × AreAt is_of id s.rows × AreRowsOf p.schema n s.rows) (sym refused.0) (is, here, of)
 
     -- why it is not registered
     pub refused-watched : (spec : Spec) (given : Refusal) → Refuses old (step.Watch spec) given new → WatchRefusal p.schema spec given
@@ -207,10 +207,10 @@ module _ {K : Type 0} (content : K → List ℕ) (old new : State K) where
     is-fresh = ap (λ (s : State K). s.table) fresh
 
     -- an empty table, once its gauge is registered
-    pub empty-watched : (is_of : K → List ℕ → Type 0) (given : Reply) → ((name : List ℕ) → AreAt is_of name old.rows) → Accepts content old (step.Watch spec) given new → IsEmpty is_of p n new
+    pub empty-watched : (is_of : K → List ℕ → Type 0) (given : Reply) → ((id : List ℕ) → AreAt is_of id old.rows) → Accepts content old (step.Watch spec) given new → IsEmpty is_of p n new
     empty-watched is_of given here h = record {
       stripe = subst (IsStripe p []) (sym table) (stripe-opened p is h.0 (subst (λ (t : Table). lowest_free t ≡ Some h.0) is-fresh h.2.changed.number));
-      here = λ name. watched-here is_of name (here name) spec given h;
+      here = λ id. watched-here is_of id (here id) spec given h;
       rows = subst (AreRowsOf p.schema n) (sym (same-rows spec given h ∙ ap (λ (s : State K). s.rows) fresh)) (empty-of p.schema p.limits n);
     }
       where

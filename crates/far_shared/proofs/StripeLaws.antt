@@ -21,7 +21,7 @@ use Rattle.far_history.specs.Rule.{entry}
 use Rattle.far_history.proofs.Histories.{replay_on-push}
 use Rattle.far_history.proofs.Legal.{schema_stays, limits_stay, few_edits}
 use Rattle.far_shared.specs.Applying.{WhyNot, place_of}
-use Rattle.far_shared.specs.Fours.{left_in}
+use Rattle.far_shared.specs.Fours.{pending_in}
 use Rattle.far_shared.specs.Plans.{IsPlan, is_plain, or_else}
 use Rattle.far_shared.specs.Stripes.{IsStripe, first_registered}
 use Rattle.far_shared.specs.Works.{KeepsRows}
@@ -151,6 +151,6 @@ stripe-kept p log old new kept is = record {
   places = kept.places ∙ is.places;
   edits = kept.edits ∙ is.edits;
   aggregates = kept.aggregates ∙ is.aggregates;
-  gauge = kept.built 0 (ap left_in is.gauge) ∙ is.gauge;
+  gauge = kept.built 0 (ap pending_in is.gauge) ∙ is.gauge;
   few = λ a. at-most _ _ _ (kept.fewer a) (is.few a);
 }

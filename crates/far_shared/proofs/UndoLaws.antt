@@ -110,11 +110,11 @@ module _ {K : Type 0} (content : K → List ℕ) (old new : State K) where
       let is-a : reply.Aggregate a ≡ reply.Aggregate h.0 = h.1 in
       let same : h.0 ≡ a = cc in
       let moved : new ≡ record old { table = registered_at h.0 spec old.table } =
-      λ i. record { table = (h.2.changed.state i).table; rows = (h.2.changed.state i).rows; seen = h.2.seen i } in
+      λ i. record { table = (h.2.changed.state i).table; rows = (h.2.changed.state i).rows; accesses = h.2.accesses i } in
       (subst (λ (n : ℕ). lowest_free old.table ≡ Some n) same h.2.changed.number, ap (held log) moved ∙ ap (λ (n : ℕ). registered n spec (held log old)) same)
 
   -- what is left where an aggregate was to be forgotten, whether there was one or none
   pub forgotten : (a : ℕ) (r : Result Unit Refusal) → OnOk r (Accepts content old (step.Unwatch a) reply.Done new) → IfErr r (λ e. Refuses old (step.Unwatch a) e new) → new ≡ record old { table = with_aggregate a None old.table }
-  forgotten a (Ok x) done refused = λ i. record { table = (done.1.changed.state i).table; rows = (done.1.changed.state i).rows; seen = done.1.seen i }
+  forgotten a (Ok x) done refused = λ i. record { table = (done.1.changed.state i).table; rows = (done.1.changed.state i).rows; accesses = done.1.accesses i }
   forgotten a (Err e) done refused =
       refused.0 ∙ ap (λ (all : List (Option Registered)). record old { table = record old.table { aggregates = all } }) (sym (set-nothing old.table.aggregates a (none-there (joined (slice_get old.table.aggregates a)) e refused.1)))

@@ -29,14 +29,14 @@ pub no-memory : (p : Planned) (schema : List Kind) (spec : Spec) (given : Refusa
 no-memory p schema spec given same free memory = inr (subst (λ kinds. spec_refusal kinds spec ≡ None) same free, inr memory)
 
 module _ {K : Type 0} (content : K → List ℕ) (old new : State K) where
-  module _ (is_of : K → List ℕ → Type 0) (name : List ℕ) (here : AreAt is_of name old.rows) where
-    pub either-here : (spec : Spec) (r : Result ℕ Refusal) → IfOk r (λ a. Accepts content old (step.Watch spec) (reply.Aggregate a) new) → IfErr r (λ e. Refuses old (step.Watch spec) e new) → AreAt is_of name new.rows
-    either-here spec (Ok a) ok err = watched-here content old new is_of name here spec (reply.Aggregate a) ok
-    either-here spec (Err e) ok err = subst (λ (s : State K). AreAt is_of name s.rows) (sym err.0) here
+  module _ (is_of : K → List ℕ → Type 0) (id : List ℕ) (here : AreAt is_of id old.rows) where
+    pub either-here : (spec : Spec) (r : Result ℕ Refusal) → IfOk r (λ a. Accepts content old (step.Watch spec) (reply.Aggregate a) new) → IfErr r (λ e. Refuses old (step.Watch spec) e new) → AreAt is_of id new.rows
+    either-here spec (Ok a) ok err = watched-here content old new is_of id here spec (reply.Aggregate a) ok
+    either-here spec (Err e) ok err = subst (λ (s : State K). AreAt is_of id s.rows) (sym err.0) here
 
-    pub still-here : {A : Type 0} (a : ℕ) (r : Result A Refusal) → OnOk r (Accepts content old (step.Unwatch a) reply.Done new) → IfErr r (λ e. Refuses old (step.Unwatch a) e new) → AreAt is_of name new.rows
-    still-here a (Ok done) ok err = unwatched-here content old new is_of name here a reply.Done ok
-    still-here a (Err e) ok err = subst (λ (s : State K). AreAt is_of name s.rows) (sym err.0) here
+    pub still-here : {A : Type 0} (a : ℕ) (r : Result A Refusal) → OnOk r (Accepts content old (step.Unwatch a) reply.Done new) → IfErr r (λ e. Refuses old (step.Unwatch a) e new) → AreAt is_of id new.rows
+    still-here a (Ok done) ok err = unwatched-here content old new is_of id here a reply.Done ok
+    still-here a (Err e) ok err = subst (λ (s : State K). AreAt is_of id s.rows) (sym err.0) here
 
   module _ (p : Planned) (log : List Entry) (is : IsStripe p log old.table) where
     pub either-stripe : IsLegal p log → (spec : Spec) (r : Result ℕ Refusal) → IfOk r (λ a. Accepts content old (step.Watch spec) (reply.Aggregate a) new) → IfErr r (λ e. Refuses old (step.Watch spec) e new) → IsStripe p log new.table
@@ -64,7 +64,7 @@ module _ {K : Type 0} (content : K → List ℕ) (old new : State K) where
     as-empty = fresh ∙ ap (λ (l : List Kind). empty_state l p.limits n) kinds
 
     -- an empty table, once its gauge is registered
-    pub opened-empty : (is_of : K → List ℕ → Type 0) (given : Reply) → ((name : List ℕ) → AreAt is_of name old.rows) → Accepts content old (step.Watch spec) given new → IsEmpty is_of q n new
+    pub opened-empty : (is_of : K → List ℕ → Type 0) (given : Reply) → ((id : List ℕ) → AreAt is_of id old.rows) → Accepts content old (step.Watch spec) given new → IsEmpty is_of q n new
     opened-empty is_of given here h = subst (λ (r : Planned). IsEmpty is_of r n new) same (empty-watched content old new p is n as-empty spec gauge is_of given here h)
 
     -- that is refused for lack of memory alone

@@ -13,8 +13,8 @@ use Rattle.far_types.specs.FirstOf.{first_of}
 use Rattle.far_scopes.specs.Refusing.{refusal_in}
 use Rattle.far_types.specs.MayRefuse.{MayRefuse}
 use Rattle.far_types.specs.Table.{Table, Registered, is_pending}
-use Rattle.far_aggregates.specs.Aggregates.{is_left, joined}
-use Rattle.far_aggregates.specs.Scans.{scanned_slot}
+use Rattle.far_aggregates.specs.Aggregates.{is_pending_in, joined}
+use Rattle.far_aggregates.specs.Scans.{scanned_entry}
 use Rattle.far_aggregates.proofs.ScannedLaws.{none_left}
 use Rattle.far_rows.specs.declared.column_index.ColumnIndex.{ColumnIndex}
 use Rattle.far_rows.specs.Rows.{Rows}
@@ -27,7 +27,7 @@ use Rattle.far_table.specs.Watching.{aggregate_at, scanned_at, scan_refusal, gro
 use Rattle.far_frame.specs.declared.job.Work.TheVariants as work_of
 use Rattle.far_frame.specs.Jobs.{WorkOf, IsOneOf, Commits, Installs, Merges}
 use Rattle.far_frame.specs.State.{State}
-use Rattle.far_shared.specs.Fours.{left_in}
+use Rattle.far_shared.specs.Fours.{pending_in}
 use Rattle.far_shared.specs.Works.{KeepsRows, begun_kind}
 use Rattle.far_shared.proofs.LeftLaws.{built-fewer, no-more, set-fewer}
 use Rattle.far_shared.proofs.NumberLaws.{given-one, of-one, first-among, may-among}
@@ -41,7 +41,7 @@ same-keeps old new e = record {
   edits = ap (λ (t : Table). t.edits) e;
   aggregates = ap (λ (t : Table). length t.aggregates) e;
   built = λ a none. ap (λ (t : Table). aggregate_at t a) e;
-  fewer = λ a. no-more _ _ (ap (λ (t : Table). left_in (aggregate_at t a)) e);
+  fewer = λ a. no-more _ _ (ap (λ (t : Table). pending_in (aggregate_at t a)) e);
 }
 
 -- what a call says where it is done holds of its result
@@ -57,24 +57,24 @@ get-set_other (y ∷ xs) (suc i) zero x h = refl
 get-set_other (y ∷ xs) (suc i) (suc k) x h = get-set_other xs i k x (λ e. h (ap suc e))
 
 -- an aggregate of which a row group is left is not one of which none is
-some-left : (aggregate : Option Registered) (g : ℕ) → is_left aggregate g ≡ true → left_in aggregate ≡ 0 → ⊥
+some-left : (aggregate : Option Registered) (g : ℕ) → is_pending_in aggregate g ≡ true → pending_in aggregate ≡ 0 → ⊥
 some-left None g h none = (let off : false ≡ true = h in cc)
-some-left (Some r) g h none = (let on : is_pending r.unbuilt g ≡ true = h in let off = none_left r.unbuilt g none in cc)
+some-left (Some r) g h none = (let on : is_pending r.pending g ≡ true = h in let off = none_left r.pending g none in cc)
 
 -- a row group that is left is built in
-pub scanned-keeps : (t : Table) (b g : ℕ) → is_left (aggregate_at t b) g ≡ true → KeepsRows t (scanned_at b g t)
+pub scanned-keeps : (t : Table) (b g : ℕ) → is_pending_in (aggregate_at t b) g ≡ true → KeepsRows t (scanned_at b g t)
 scanned-keeps t b g h = record {
   schema = refl;
   limits = refl;
   places = refl;
   edits = refl;
   aggregates = length-set t.aggregates b _;
-  built = λ a none. ap joined (get-set_other t.aggregates b a _ (λ e. some-left (aggregate_at t b) g h (ap (λ n. left_in (aggregate_at t n)) (sym e) ∙ none)));
-  fewer = λ a. set-fewer t.aggregates b a (scanned_slot g (aggregate_at t b)) (built-fewer (aggregate_at t b) g h);
+  built = λ a none. ap joined (get-set_other t.aggregates b a _ (λ e. some-left (aggregate_at t b) g h (ap (λ n. pending_in (aggregate_at t n)) (sym e) ∙ none)));
+  fewer = λ a. set-fewer t.aggregates b a (scanned_entry g (aggregate_at t b)) (built-fewer (aggregate_at t b) g h);
 }
 
 -- the row group of a build that is accepted was left
-left-some : (o : Option Registered) (g : ℕ) (P : Registered → Type 0) → ((r : Registered) → P r → is_pending r.unbuilt g ≡ true) → IsSomeAnd o P → is_left o g ≡ true
+left-some : (o : Option Registered) (g : ℕ) (P : Registered → Type 0) → ((r : Registered) → P r → is_pending r.pending g ≡ true) → IsSomeAnd o P → is_pending_in o g ≡ true
 left-some None g P f h = absurd h
 left-some (Some r) g P f h = f r h
 
@@ -83,7 +83,7 @@ module _ {K : Type 0} where
   pub merges-keeps : (number_of : K → ℕ) (old : State K) (w : WorkOf K) (new : State K) → Merges number_of old w new → KeepsRows old.table new.table
   merges-keeps number_of old (work_of.Offloaded build) new h =
       subst (KeepsRows old.table) (sym (ap (λ (s : LiveState K). s.table) h.changed.state))
-      (scanned-keeps old.table build.aggregate build.group (left-some (aggregate_at old.table build.aggregate) build.group _ (λ r holds. holds.unbuilt) h.changed.accepted))
+      (scanned-keeps old.table build.aggregate build.group (left-some (aggregate_at old.table build.aggregate) build.group _ (λ r holds. holds.pending) h.changed.accepted))
   merges-keeps number_of old (work_of.Evac evac) new h = absurd h
   merges-keeps number_of old (work_of.Carried carried) new h = absurd h
   merges-keeps number_of old (work_of.Fetch fetch) new h = absurd h
@@ -143,9 +143,9 @@ module _ {K : Type 0} where
     second-free false true q r cases free = refl
     second-free false false q r cases free = absurd (let some : Some r ≡ None = free in cc)
 
-    pub scan-left : (o : Option Registered) (g : ℕ) → scan_refusal s o g ≡ None → is_left o g ≡ true
+    pub scan-left : (o : Option Registered) (g : ℕ) → scan_refusal s o g ≡ None → is_pending_in o g ≡ true
     scan-left None g free = absurd (let some : Some refusal.NoAggregate ≡ None = free in cc)
-    scan-left (Some r) g free = second-free (not (nat_lt g (group_count s.table))) (is_pending r.unbuilt g) refusal.OutOfRange refusal.StaleJob (needed_from s.rows r.spec g 0 s.rows.column_indexes) free
+    scan-left (Some r) g free = second-free (not (nat_lt g (group_count s.table))) (is_pending r.pending g) refusal.OutOfRange refusal.StaleJob (needed_from s.rows r.spec g 0 s.rows.column_indexes) free
 
     -- a scan that is accepted changes no row
     pub scan-keeps : (new : LiveState K) (a g : ℕ) → IsScanned s new a g → KeepsRows s.table new.table
@@ -165,14 +165,14 @@ module _ {K : Type 0} where
     scan-numbers None g e h = of-one (12 ∷ 14 ∷ 20 ∷ 16 ∷ 1 ∷ []) refusal.NoAggregate e refl h
     scan-numbers (Some r) g e h =
         may-among (12 ∷ 14 ∷ 20 ∷ 16 ∷ 1 ∷ []) (scan_refusal s (Some r) g) e
-        (λ due. first-among (12 ∷ 14 ∷ 20 ∷ 16 ∷ 1 ∷ []) ((not (nat_lt g (group_count s.table)), refusal.OutOfRange) ∷ (not (is_pending r.unbuilt g), refusal.StaleJob) ∷ needed_from s.rows r.spec g 0 s.rows.column_indexes) e (refl, (refl, all-needed (12 ∷ 14 ∷ 20 ∷ 16 ∷ 1 ∷ []) refl r.spec g 0 s.rows.column_indexes)) due)
+        (λ due. first-among (12 ∷ 14 ∷ 20 ∷ 16 ∷ 1 ∷ []) ((not (nat_lt g (group_count s.table)), refusal.OutOfRange) ∷ (not (is_pending r.pending g), refusal.StaleJob) ∷ needed_from s.rows r.spec g 0 s.rows.column_indexes) e (refl, (refl, all-needed (12 ∷ 14 ∷ 20 ∷ 16 ∷ 1 ∷ []) refl r.spec g 0 s.rows.column_indexes)) due)
         refl h
 
-    pub offload-numbers : (o : Option Registered) (g : ℕ) (e : Refusal) → is_left o g ≡ true → MayRefuse (offload_refusal s o g) true e → IsOneOf (14 ∷ 20 ∷ 1 ∷ []) e
+    pub offload-numbers : (o : Option Registered) (g : ℕ) (e : Refusal) → is_pending_in o g ≡ true → MayRefuse (offload_refusal s o g) true e → IsOneOf (14 ∷ 20 ∷ 1 ∷ []) e
     offload-numbers None g e on h = absurd (let off : false ≡ true = on in cc)
     offload-numbers (Some r) g e on h =
         may-among (14 ∷ 20 ∷ 1 ∷ []) (offload_refusal s (Some r) g) e
-        (λ due. first-among (14 ∷ 20 ∷ 1 ∷ []) ((not (nat_lt g (group_count s.table)), refusal.OutOfRange) ∷ (not (is_pending r.unbuilt g), refusal.StaleJob) ∷ dirty_from s.rows r.spec g 0 s.rows.column_indexes) e (refl, (refl, all-dirty (14 ∷ 20 ∷ 1 ∷ []) refl r.spec g 0 s.rows.column_indexes)) due)
+        (λ due. first-among (14 ∷ 20 ∷ 1 ∷ []) ((not (nat_lt g (group_count s.table)), refusal.OutOfRange) ∷ (not (is_pending r.pending g), refusal.StaleJob) ∷ dirty_from s.rows r.spec g 0 s.rows.column_indexes) e (refl, (refl, all-dirty (14 ∷ 20 ∷ 1 ∷ []) refl r.spec g 0 s.rows.column_indexes)) due)
         refl h
 
 past-none : {X : Type 0} (xs : List X) (n : ℕ) → length xs ≤ n → is_none (slice_get xs n) ≡ true

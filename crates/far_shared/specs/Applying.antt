@@ -33,8 +33,8 @@ places_cells schema (edit.Insert row) = true
 places_cells schema (edit.Set p c cell) = is_text (slice_get schema c)
 places_cells schema (edit.Remove p) = false
 
--- a refusal that the plain table does not know, since none of its objects is ever away and it has room for all: an object of a column
--- of the schema is away, in the row group that the edit writes; or there is no room for what the edit places, where no text object
+-- a refusal that the plain table does not know, since none of its objects is ever away and it has space for all: an object of a column
+-- of the schema is away, in the row group that the edit writes; or there is no space for what the edit places, where no text object
 -- would be too long
 abbrev pub IsOfObjects : (columns group : ℕ) (places_some is_too_long : Bool) → Refusal → Type 0
 IsOfObjects columns group places_some is_too_long (refusal.Absent c g) = (c < columns) × (g ≡ group)

@@ -8,7 +8,7 @@ use Rattle.far_types.specs.Answers.{answer_over}
 use Rattle.far_types.specs.Table.{Table}
 use Rattle.far_history.specs.Histories.{Planned, IsLegal, replay}
 use Rattle.far_history.specs.declared.view.Entry.{Entry}
-use Rattle.far_shared.specs.Fours.{AreAlike, LeftRefusal, all_rows, left_in_all, spec_at}
+use Rattle.far_shared.specs.Fours.{AreAlike, LeftRefusal, all_rows, pending_in_all, spec_at}
 use Rattle.far_shared.specs.Stripes.{IsStripe}
 
 -- an answer over all rows that four legal histories leave. Under number 0 it is the gauge's
@@ -31,7 +31,7 @@ pub record IsLeft (p : Planned) (table : Table) : Type 0 where
 -- why four stripes do not answer: their aggregates differ, or they are alike and row groups or memory are wanted
 abbrev pub AskRefusal : ℕ → Table → Table → Table → Table → Refusal → Type 0
 AskRefusal a zero one two three given = ((given ≡ refusal.NoAggregate) × ¬ (AreAlike a zero one two three))
-    ⊎ (AreAlike a zero one two three × LeftRefusal (left_in_all a zero one two three) given)
+    ⊎ (AreAlike a zero one two three × LeftRefusal (pending_in_all a zero one two three) given)
 
 -- what four tables that legal histories leave answer under a number: all of them have the same aggregate there with nothing left, and it
 -- is answered over the rows of the four, one table after the other; or that is refused as it is for these four
@@ -42,6 +42,6 @@ pub record IsAsked (p : Planned) (a : ℕ) (result : Result Answer Refusal) : Ty
   pub three : Table
   pub left : IsLeft p zero × IsLeft p one × IsLeft p two × IsLeft p three
   pub alike : OnOk result (AreAlike a zero one two three)
-  pub built : OnOk result (left_in_all a zero one two three ≡ 0)
+  pub built : OnOk result (pending_in_all a zero one two three ≡ 0)
   pub answer : IfOk result (λ answer. IfSome (spec_at zero a) (λ spec. answer ≡ answer_over spec (all_rows zero one two three)))
   pub refused : IfErr result (AskRefusal a zero one two three)

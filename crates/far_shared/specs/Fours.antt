@@ -27,12 +27,12 @@ pub record AreAlike (a : ℕ) (one two three four : Table) : Type 0 where
   pub fourth : AreLike a one four
 
 -- how many row groups are still pending in an aggregate
-abbrev pub left_in : Option Registered → ℕ
-left_in aggregate = option_map_or (λ there. left there.unbuilt) aggregate 0
+abbrev pub pending_in : Option Registered → ℕ
+pending_in aggregate = option_map_or (λ there. left there.pending) aggregate 0
 
 -- how many are in four tables
-abbrev pub left_in_all : ℕ → Table → Table → Table → Table → ℕ
-left_in_all a one two three four = left_in (aggregate_at one a) + left_in (aggregate_at two a) + left_in (aggregate_at three a) + left_in (aggregate_at four a)
+abbrev pub pending_in_all : ℕ → Table → Table → Table → Table → ℕ
+pending_in_all a one two three four = pending_in (aggregate_at one a) + pending_in (aggregate_at two a) + pending_in (aggregate_at three a) + pending_in (aggregate_at four a)
 
 -- the rows of four tables, one table after the other
 abbrev pub all_rows : Table → Table → Table → Table → List (List Cell)
@@ -56,4 +56,4 @@ AnyRefusal some given = LeftRefusal some given ⊎ ((2 ^ 32 ≤ some) × (given 
 -- why any four tables do not answer: their schemas or their aggregates differ, or they are alike and row groups or memory are wanted
 abbrev pub FourRefusal : ℕ → Table → Table → Table → Table → Refusal → Type 0
 FourRefusal a one two three four given = ((given ≡ refusal.NoAggregate) × ¬ (AreAlike a one two three four))
-    ⊎ (AreAlike a one two three four × AnyRefusal (left_in_all a one two three four) given)
+    ⊎ (AreAlike a one two three four × AnyRefusal (pending_in_all a one two three four) given)

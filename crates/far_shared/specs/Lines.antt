@@ -10,5 +10,5 @@ count_sums_in [] = []
 count_sums_in (line ∷ lines) = cond (line.1 == 0) (count_sums_in lines) ((line.0, (line.1, line.2)) ∷ count_sums_in lines)
 
 -- the lines of extrema, each as a key with what stands under it
-abbrev pub spans_in : ExtremaLines → List (Option Key × (ℤ × ℤ))
-spans_in lines = map (λ (line : Option Key × ℤ × ℤ). (line.0, (line.1, line.2))) lines
+abbrev pub min_maxes_in : ExtremaLines → List (Option Key × (ℤ × ℤ))
+min_maxes_in lines = map (λ (line : Option Key × ℤ × ℤ). (line.0, (line.1, line.2))) lines

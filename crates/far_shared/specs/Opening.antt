@@ -20,5 +20,5 @@ AreNamed ids names = (ids.zeroth ≡ names 0) × (ids.first ≡ names 1) × (ids
 -- the table of an empty history, with its gauge, as stripe n. It has no tickets, so they are all of any store
 pub record IsEmpty {K : Type 0} (is_of : K → List ℕ → Type 0) (p : Planned) (n : ℕ) (s : State K) : Type 0 where
   pub stripe : IsStripe p [] s.table
-  pub here : (name : List ℕ) → AreAt is_of name s.rows
+  pub here : (id : List ℕ) → AreAt is_of id s.rows
   pub rows : AreRowsOf p.schema n s.rows

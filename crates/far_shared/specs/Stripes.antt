@@ -8,7 +8,7 @@ use Rattle.far_table.specs.Watching.{aggregate_at}
 use Rattle.far_frame.specs.State.{State}
 use Rattle.far_history.specs.Histories.{Planned, replay}
 use Rattle.far_history.specs.declared.view.Entry.{Entry}
-use Rattle.far_shared.specs.Fours.{left_in}
+use Rattle.far_shared.specs.Fours.{pending_in}
 use Rattle.far_shared.specs.Plans.{IsPlan}
 
 -- what contracts see of a stripe: its history, and its table with its objects and aggregates
@@ -18,7 +18,7 @@ pub record Held (K : Type 0) : Type 0 where
 
 -- an aggregate that was registered first of all, before there was a row: nothing was ever still pending in it
 abbrev pub first_registered : Spec → Registered
-first_registered spec = record { spec = spec; registration = 0; unbuilt = [] }
+first_registered spec = record { spec = spec; registration = 0; pending = [] }
 
 -- the rows of a table with this schema have an index for each column, and their objects bear the number of their stripe
 pub record AreRowsOf {K : Type 0} (schema : List Kind) (n : ℕ) (r : Rows K) : Type 0 where
@@ -42,4 +42,4 @@ pub record IsStripe (p : Planned) (log : List Entry) (table : Table) : Type 0 wh
   pub edits : table.edits ≡ (replay p log).edits
   pub aggregates : length table.aggregates ≡ 32
   pub gauge : aggregate_at table 0 ≡ Some (first_registered p.gauge)
-  pub few : (a : ℕ) → left_in (aggregate_at table a) ≤ 2 ^ 24
+  pub few : (a : ℕ) → pending_in (aggregate_at table a) ≤ 2 ^ 24

@@ -5,7 +5,7 @@ use Rattle.far_types.specs.declared.refusal.Refusal.TheVariants as refusal
 use Rattle.far_types.specs.MayRefuse.{MayRefuse}
 use Rattle.far_types.specs.Table.{Table}
 use Rattle.far_store.specs.Faults.{RefusedBy}
-use Rattle.far_aggregates.specs.Aggregates.{is_left}
+use Rattle.far_aggregates.specs.Aggregates.{is_pending_in}
 use Rattle.far_rows.specs.Jobs.{fetch_refusal}
 use Rattle.far_table.specs.Offloading.{offload_refusal}
 use Rattle.far_table.specs.Watching.{aggregate_at, scan_refusal}
@@ -14,7 +14,7 @@ use Rattle.far_frame.specs.declared.job.JobKind.TheVariants as kind
 use Rattle.far_frame.specs.declared.job.Work.TheVariants as work_of
 use Rattle.far_frame.specs.Jobs.{JobRecord, WorkOf, IsJobAt, IsColdestJob, IsFetchJob, IsOffloadJob, Commits, CommitRefusal, Installs, InstallRefusal, Merges, MergeRefusal}
 use Rattle.far_frame.specs.State.{State, live}
-use Rattle.far_shared.specs.Fours.{left_in}
+use Rattle.far_shared.specs.Fours.{pending_in}
 use Rattle.far_shared.specs.declared.work.Building.{Building}
 use Rattle.far_shared.specs.declared.work.Building.TheVariants as building
 use Rattle.far_shared.specs.declared.work.Report.{Report}
@@ -71,7 +71,7 @@ pub record RefusedFor {A : Type 0} (columns wanted stripe : ℕ) (numbers : List
   pub unknown : wanted ≤ columns → 4 ≤ stripe → IsErrOf result refusal.OutOfRange
   pub known : wanted ≤ columns → stripe < 4 → RefusedBy numbers result
 
--- the rows of a table are as before, with its schema, its limits, its edits and how many aggregates it has room for, and so is each
+-- the rows of a table are as before, with its schema, its limits, its edits and how many aggregates it has space for, and so is each
 -- aggregate of which nothing is left. Of none more is left
 pub record KeepsRows (old new : Table) : Type 0 where
   pub schema : new.schema ≡ old.schema
@@ -79,22 +79,22 @@ pub record KeepsRows (old new : Table) : Type 0 where
   pub places : new.places ≡ old.places
   pub edits : new.edits ≡ old.edits
   pub aggregates : length new.aggregates ≡ length old.aggregates
-  pub built : (a : ℕ) → left_in (aggregate_at old a) ≡ 0 → aggregate_at new a ≡ aggregate_at old a
-  pub fewer : (a : ℕ) → left_in (aggregate_at new a) ≤ left_in (aggregate_at old a)
+  pub built : (a : ℕ) → pending_in (aggregate_at old a) ≡ 0 → aggregate_at new a ≡ aggregate_at old a
+  pub fewer : (a : ℕ) → pending_in (aggregate_at new a) ≤ pending_in (aggregate_at old a)
 
 module _ {K : Type 0} (s : State K) where
   -- no row group of any aggregate is left
   abbrev pub IsAllScanned : Type 0
-  IsAllScanned = (a g : ℕ) → is_left (aggregate_at s.table a) g ≡ false
+  IsAllScanned = (a g : ℕ) → is_pending_in (aggregate_at s.table a) g ≡ false
 
   -- a row group that is left is built in by a job, or none is left
   abbrev pub IsBuildJob : Option (JobRecord K) → Type 0
   IsBuildJob None = IsAllScanned
-  IsBuildJob (Some job) = (a : ℕ) × (g : ℕ) × (is_left (aggregate_at s.table a) g ≡ true) × IsOffloadJob s a g job
+  IsBuildJob (Some job) = (a : ℕ) × (g : ℕ) × (is_pending_in (aggregate_at s.table a) g ≡ true) × IsOffloadJob s a g job
 
   -- why a row group that is left is not built in by a job: the far store does not have what it needs, or memory is wanted
   abbrev pub BuildRefusal : Refusal → Type 0
-  BuildRefusal given = (a : ℕ) × (g : ℕ) × (is_left (aggregate_at s.table a) g ≡ true) × MayRefuse (offload_refusal (live s) (aggregate_at s.table a) g) true given
+  BuildRefusal given = (a : ℕ) × (g : ℕ) × (is_pending_in (aggregate_at s.table a) g ≡ true) × MayRefuse (offload_refusal (live s) (aggregate_at s.table a) g) true given
 
   -- the job that a work begins, or none if there is nothing to do
   abbrev pub Begins : Work → Option (JobRecord K) → Type 0
@@ -111,8 +111,8 @@ module _ {K : Type 0} (s : State K) where
   -- a row group that is left is built in by a scan where it can be, else by a job
   abbrev pub BeginsBuild : Building (JobRecord K) → Type 0
   BeginsBuild building.Nothing = IsAllScanned
-  BeginsBuild (building.Scan a g) = (is_left (aggregate_at s.table a) g ≡ true) × (scan_refusal (live s) (aggregate_at s.table a) g ≡ None)
-  BeginsBuild (building.Offload job) = (a : ℕ) × (g : ℕ) × (is_left (aggregate_at s.table a) g ≡ true) × (is_none (scan_refusal (live s) (aggregate_at s.table a) g) ≡ false) × IsOffloadJob s a g job
+  BeginsBuild (building.Scan a g) = (is_pending_in (aggregate_at s.table a) g ≡ true) × (scan_refusal (live s) (aggregate_at s.table a) g ≡ None)
+  BeginsBuild (building.Offload job) = (a : ℕ) × (g : ℕ) × (is_pending_in (aggregate_at s.table a) g ≡ true) × (is_none (scan_refusal (live s) (aggregate_at s.table a) g) ≡ false) × IsOffloadJob s a g job
 
 module _ {K : Type 0} (number_of : K → ℕ) (content : K → List ℕ) (old : State K) where
   -- a job of this kind is accepted at its end
@@ -127,12 +127,12 @@ module _ {K : Type 0} (number_of : K → ℕ) (content : K → List ℕ) (old : 
   EndRefusal kind.Fetch done given = InstallRefusal number_of old content done given
   EndRefusal kind.Offload done given = MergeRefusal number_of old done given
 
-module _ {K : Type 0} (is_of : K → List ℕ → Type 0) (name : List ℕ) where
+module _ {K : Type 0} (is_of : K → List ℕ → Type 0) (id : List ℕ) where
   -- what a build holds is of the store with this id
   abbrev pub IsBuildingAt : Building (JobRecord K) → Type 0
   IsBuildingAt building.Nothing = Unit {0}
   IsBuildingAt (building.Scan a g) = Unit {0}
-  IsBuildingAt (building.Offload job) = IsJobAt is_of name job
+  IsBuildingAt (building.Offload job) = IsJobAt is_of id job
 
 module _ {K : Type 0} where
   -- what a job does that was begun; none if it was carried

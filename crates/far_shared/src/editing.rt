@@ -31,7 +31,7 @@ fn make<S: FarTickets>(frame: &mut Frame<S>, edit: Edit) -> Result<u32, Refusal>
     ensures place { IfOk result (λ place. place ≡ place_of frame.old.table edit) }
     ensures refused { IfErr result (WhyNot frame.old.table edit) }
     ensures err { OnErr result (frame.new ≡ frame.old) }
-    ensures here { (name : List ℕ) → AreAt S.is_of name frame.old.rows → AreAt S.is_of name frame.new.rows }
+    ensures here { (id : List ℕ) → AreAt S.is_of id frame.old.rows → AreAt S.is_of id frame.new.rows }
     ensures columns { KeepsColumns frame.old.rows frame.new.rows }
 {
     match edit {
@@ -80,7 +80,7 @@ pub(crate) fn change<N: Naming, S: FarTickets>(
     ensures after { IfOk result (λ changed. changed.after ≡ record { edits = edits + 1; count = (folded N.plan.gauge frame.new.table.places).0; sum = (folded N.plan.gauge frame.new.table.places).1 }) }
     ensures refused { IfErr result (WhyNot frame.old.table edit) }
     ensures err { OnErr result (frame.new ≡ frame.old) }
-    ensures here { (name : List ℕ) → AreAt S.is_of name frame.old.rows → AreAt S.is_of name frame.new.rows }
+    ensures here { (id : List ℕ) → AreAt S.is_of id frame.old.rows → AreAt S.is_of id frame.new.rows }
     ensures columns { KeepsColumns frame.old.rows frame.new.rows }
 {
     let place = make(frame, edit)?;

@@ -5,7 +5,7 @@ ghost use Rattle.far_types.specs.declared.spec.Fold.TheVariants as fold;
 ghost use Rattle.far_types.specs.Answers.{answer_over};
 ghost use Rattle.far_types.specs.Table.{rows_of};
 ghost use Rattle.far_table.specs.Watching.{aggregate_at};
-ghost use Rattle.far_shared.specs.Fours.{AreLike, AreAlike, left_in, left_in_all, all_rows, spec_at, IsOf, AnyRefusal, FourRefusal};
+ghost use Rattle.far_shared.specs.Fours.{AreLike, AreAlike, pending_in, pending_in_all, all_rows, spec_at, IsOf, AnyRefusal, FourRefusal};
 
 use crate::merging::{merge_extrema, merge_totals};
 use far_frame::Frame;
@@ -59,7 +59,7 @@ fn are_alike<S: FarTickets>(
 /// How many row groups are still pending in an aggregate of a number, and what it answers; `None` if it cannot.
 fn asked<S: FarTickets>(frame: &Frame<S>, spec: &Spec, a: u32) -> (u32, Option<Answer>)
     requires { spec_at frame.now.table a ≡ Some spec.now }
-    ensures left { result.0 ≡ left_in (aggregate_at frame.now.table a) }
+    ensures left { result.0 ≡ pending_in (aggregate_at frame.now.table a) }
     ensures answer { IfSome result.1 (λ answer. answer ≡ answer_over spec.now (rows_of frame.now.table.places)) }
     ensures kind { IfSome result.1 (IsOf spec.now.fold) }
 {
@@ -157,8 +157,8 @@ fn answer_alike<S: FarTickets>(
     requires three { spec_at three.now.table a ≡ Some spec.now }
     requires four { spec_at four.now.table a ≡ Some spec.now }
     ensures answer { IfOk result (λ answer. answer ≡ answer_over spec.now (all_rows one.now.table two.now.table three.now.table four.now.table)) }
-    ensures built { OnOk result (left_in_all a one.now.table two.now.table three.now.table four.now.table ≡ 0) }
-    ensures refused { IfErr result (AnyRefusal (left_in_all a one.now.table two.now.table three.now.table four.now.table)) }
+    ensures built { OnOk result (pending_in_all a one.now.table two.now.table three.now.table four.now.table ≡ 0) }
+    ensures refused { IfErr result (AnyRefusal (pending_in_all a one.now.table two.now.table three.now.table four.now.table)) }
 {
     let (left_one, answer_one) = asked(one, spec, a);
     let (left_two, answer_two) = asked(two, spec, a);
@@ -193,7 +193,7 @@ pub fn answer_four<S: FarTickets>(
 ) -> Result<Answer, Refusal>
     ensures answer { IfOk result (λ answer. IfSome (spec_at one.now.table a) (λ spec. answer ≡ answer_over spec (all_rows one.now.table two.now.table three.now.table four.now.table))) }
     ensures alike { OnOk result (AreAlike a one.now.table two.now.table three.now.table four.now.table) }
-    ensures built { OnOk result (left_in_all a one.now.table two.now.table three.now.table four.now.table ≡ 0) }
+    ensures built { OnOk result (pending_in_all a one.now.table two.now.table three.now.table four.now.table ≡ 0) }
     ensures refused { IfErr result (FourRefusal a one.now.table two.now.table three.now.table four.now.table) }
 {
     if !are_alike(one, two, three, four, a) {

@@ -8,7 +8,7 @@ ghost use Rattle.far_types.specs.declared.spec.Fold.TheVariants as fold;
 ghost use Rattle.far_types.specs.Keys.{line_cmp};
 ghost use Rattle.far_types.specs.Pairs.{Pair};
 ghost use Rattle.far_types.specs.Answers.{answer_of, totals, extrema, total_lines, extrema_lines, or_zero};
-ghost use Rattle.far_types.specs.Effects.{add_count_sums, join_spans};
+ghost use Rattle.far_types.specs.Effects.{add_count_sums, join_min_maxes};
 ghost use Rattle.far_groups.specs.CountSums.{totals_of};
 
 use far_extrema::GroupExtrema;
@@ -99,20 +99,20 @@ pub(crate) fn merge_totals(
 }
 
 /// A least and a greatest value more under a key. Refused with `NoMemory` (1) alone.
-fn see(spans: &mut GroupExtrema, key: Option<Key>, least: i64, greatest: i64) -> Result<(), Refusal>
-    ensures ok { OnOk result (spans.new ≡ fin.insert spans.old key (option_map_or (λ there. join_spans there (least, greatest)) (fin.get spans.old key) (least, greatest))) }
+fn observe(min_maxes: &mut GroupExtrema, key: Option<Key>, least: i64, greatest: i64) -> Result<(), Refusal>
+    ensures ok { OnOk result (min_maxes.new ≡ fin.insert min_maxes.old key (option_map_or (λ there. join_min_maxes there (least, greatest)) (fin.get min_maxes.old key) (least, greatest))) }
     ensures memory { IfErr result (λ e. e ≡ Refusal.NoMemory) }
 {
-    spans.observe_rows(key, least, greatest)
+    min_maxes.observe_rows(key, least, greatest)
 }
 
 /// The rows of one answer more. Refused with `NoMemory` (1) alone.
-fn add_extrema(spans: &mut GroupExtrema, lines: ExtremaLines) -> Result<(), Refusal>
-    ensures ok { OnOk result ((some : List Pair) → (others : List Pair) → spans.old ≡ extrema some → lines ≡ extrema_lines (extrema others) → spans.new ≡ extrema (some ++ others)) }
+fn add_extrema(min_maxes: &mut GroupExtrema, lines: ExtremaLines) -> Result<(), Refusal>
+    ensures ok { OnOk result ((some : List Pair) → (others : List Pair) → min_maxes.old ≡ extrema some → lines ≡ extrema_lines (extrema others) → min_maxes.new ≡ extrema (some ++ others)) }
     ensures memory { IfErr result (λ e. e ≡ Refusal.NoMemory) }
 {
     for (key, least, greatest) in lines.into_lines() {
-        see(spans, key, least, greatest)?;
+        observe(min_maxes, key, least, greatest)?;
     }
     Ok(())
 }
@@ -128,10 +128,10 @@ pub(crate) fn merge_extrema(
     ensures ok { IfOk result (λ answer. (key : Option ℕ) → (a : List Pair) → (b : List Pair) → (c : List Pair) → (d : List Pair) → one ≡ extrema_lines (extrema a) → two ≡ extrema_lines (extrema b) → three ≡ extrema_lines (extrema c) → four ≡ extrema_lines (extrema d) → answer ≡ answer_of fold.Extrema key (a ++ (b ++ (c ++ d)))) }
     ensures memory { IfErr result (λ e. e ≡ Refusal.NoMemory) }
 {
-    let mut spans = GroupExtrema::new(alloc);
-    add_extrema(&mut spans, one)?;
-    add_extrema(&mut spans, two)?;
-    add_extrema(&mut spans, three)?;
-    add_extrema(&mut spans, four)?;
-    spans.answer(alloc)
+    let mut min_maxes = GroupExtrema::new(alloc);
+    add_extrema(&mut min_maxes, one)?;
+    add_extrema(&mut min_maxes, two)?;
+    add_extrema(&mut min_maxes, three)?;
+    add_extrema(&mut min_maxes, four)?;
+    min_maxes.answer(alloc)
 }

@@ -73,7 +73,7 @@ fn both<A: Drop, B: Drop, T, F: FnOnce(A, B) -> T + Drop>(
 }
 
 /// One thing beside another. Refused with `NoMemory` (1) exactly if the other found no memory.
-fn beside<A: Drop, B: Drop>(one: A, other: Result<B, AllocError>) -> Result<(A, B), Refusal>
+fn with_other<A: Drop, B: Drop>(one: A, other: Result<B, AllocError>) -> Result<(A, B), Refusal>
     ensures one { IfOk result (λ both. both.0 ≡ one) }
     ensures other { IfOk result (λ both. IsOkAnd other (λ y. y ≡ both.1)) }
     ensures memory { IfErr result (λ e. e ≡ Refusal.NoMemory) }
@@ -224,7 +224,7 @@ impl<N: Naming, S: FarTickets> Made<N, S> {
             columns,
             of: PhantomData,
         };
-        match beside(frames, cells.open::<B>(alloc, sessions)) {
+        match with_other(frames, cells.open::<B>(alloc, sessions)) {
             Ok((frames, opened)) => Ok(share(alloc, count, frames, opened)),
             Err(refusal) => Err(refusal),
         }

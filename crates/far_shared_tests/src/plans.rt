@@ -7,7 +7,7 @@ use std::alloc::{AllocError, Global};
 // How many places a row group has.
 pub const GROUP: u32 = 64;
 
-// The limits of each stripe. There is room for all objects of a scene.
+// The limits of each stripe. There is space for all objects of a scene.
 pub const LIMITS: Limits = Limits {
     group: GROUP,
     places: 1_048_576,

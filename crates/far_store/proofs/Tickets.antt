@@ -2,10 +2,10 @@
 use Rattle.std.proofs.Common.{◌≡◌, Ok, Err, Result, IfOk, subst, sym, ◌∙◌, ℕ, slice_index_or, []}
 use Rattle.std.proofs.Math.ListN.{get_or-map}
 use Rattle.boxcar.specs.Table.{Shelves, Where, Shows}
-use Rattle.far_store.specs.Named.{IsOf, bucket_names}
+use Rattle.far_store.specs.StoreState.{IsOf, bucket_ids}
 
 -- a place of a vector is of the store that is told by its buckets
-pub is-of : {T : Type 0} (shelves : Shelves) (place : Where T) → Shows shelves place → IsOf place (bucket_names shelves)
+pub is-of : {T : Type 0} (shelves : Shelves) (place : Where T) → Shows shelves place → IsOf place (bucket_ids shelves)
 is-of shelves place shows = shows ∙ sym (get_or-map (λ bucket. bucket.id) shelves.buckets place.bucket record { id = 0; tag = [] })
 
 -- where a call hands a value on as it was, the answer has what the value had

@@ -1,3 +1,3 @@
 pub mod Failures
-pub mod Named
+pub mod StoreState
 pub mod Faults

@@ -1,6 +1,6 @@
 // The agent: a far store in this process.
 ghost use Rattle.std.specs.Prelude.{◌≡◌, ◌<◌, [], ◌∷◌, IfOk, IfErr, OnOk, OnErr};
-ghost use Rattle.far_store.specs.Named.{IsOf};
+ghost use Rattle.far_store.specs.StoreState.{IsOf};
 ghost use Rattle.far_store.specs.Faults.{RefusedBy};
 
 use crate::Meter;
@@ -15,8 +15,8 @@ use std::sync::Wait;
 /// A far store in this process, over a vector that only grows and that threads share with no lock. It never
 /// fails. Contracts see its id and its capacity.
 ///
-/// Reading never waits. A `put` may: where another thread is just making the room for the next contents, it waits
-/// until that room is there.
+/// Reading never waits. A `put` may: where another thread is just making the space for the next contents, it waits
+/// until that space is there.
 ///
 /// ```
 /// let Ok(store) = AgentStore::new(rt, alloc, STORE_CAPACITY) else {
@@ -41,13 +41,13 @@ pub struct AgentStore<R> {
 }
 
 impl<R> Model for AgentStore<R> {
-    ghost use Rattle.far_store.specs.Named.{Named, named_coded, bucket_names};
+    ghost use Rattle.far_store.specs.StoreState.{StoreState, store_coded, bucket_ids};
 
-    ghost Value = { Named };
+    ghost Value = { StoreState };
 
-    ghost coded = { named_coded };
+    ghost coded = { store_coded };
 
-    ghost view = { λ s. record { name = bucket_names s.contents; capacity = s.capacity } };
+    ghost view = { λ s. record { id = bucket_ids s.contents; capacity = s.capacity } };
 }
 
 impl<R: Drop> AgentStore<R> {
@@ -72,7 +72,7 @@ impl<R: Sync + Drop> FarTickets for AgentStore<R> {
 
     ghost number_of = { λ t. t.index };
 
-    ghost store_id = { λ s. s.name };
+    ghost store_id = { λ s. s.id };
 
     ghost is_of = { IsOf };
 
@@ -104,7 +104,7 @@ impl<R: Sync + Drop> FarRead for AgentStore<R> {
         ticket: &Pushed<Vec<u8>>,
         buffer: &mut Vec<u8>,
     ) -> Result<(), Refusal>
-        requires { IsOf ticket.now self.now.name }
+        requires { IsOf ticket.now self.now.id }
         ensures content { OnOk result (buffer.new.items ≡ ticket.now.value.items) }
         ensures empty { OnErr result (buffer.new.items ≡ []) }
         ensures faultless { meter.new ≡ meter.old }
@@ -123,7 +123,7 @@ impl<R: Sync + Drop + Wait> FarStore for AgentStore<R> {
         meter: &mut Meter,
         bytes: &[u8],
     ) -> Result<Pushed<Vec<u8>>, Refusal>
-        ensures here { IfOk result (λ ticket. IsOf ticket self.now.name) }
+        ensures here { IfOk result (λ ticket. IsOf ticket self.now.id) }
         ensures content { IfOk result (λ ticket. ticket.value.items ≡ bytes.now) }
         ensures number { IfOk result (λ ticket. ticket.index < self.now.capacity) }
         ensures faultless { meter.new ≡ meter.old }

@@ -61,7 +61,7 @@ impl<T: Drop, E> From<AllocFailed<T>> for Failure<E> {
 ///
 ///     ghost engine_id = { λ log. log };
 ///
-///     ghost is_of = { λ key name. (i : ℕ) → IfSome (slice_get key.written.items i) (λ token. slice_get name (key.offset + i) ≡ Some token.of) };
+///     ghost is_of = { λ key id. (i : ℕ) → IfSome (slice_get key.written.items i) (λ token. slice_get id (key.offset + i) ≡ Some token.of) };
 ///
 ///     fn write(&self, alloc: Global, bytes: &[u8]) -> Result<Extent, Failure<LogFull>> {
 ///         let mut written = Vec::with_capacity(alloc, bytes.len())?;

@@ -3,7 +3,7 @@ ghost use Rattle.std.specs.Prelude.{◌≡◌, ◌==◌, ◌+◌, ◌<◌, ◌^�
 ghost use Rattle.std.specs.List.{list_any};
 ghost use Rattle.far_types.specs.Refusals.{number_of};
 ghost use Rattle.far_store.specs.Faults.{faults_of, faults_in, RefusedBy};
-ghost use Rattle.far_store.specs.Named.{IsOf};
+ghost use Rattle.far_store.specs.StoreState.{IsOf};
 
 use crate::Meter;
 use crate::drawn::below;
@@ -22,7 +22,7 @@ use std::sync::Wait;
 /// The store keeps the engine's keys, one for each number. It answers `FarFault` (21) wherever the engine fails, and
 /// counts it. Reading waits only if the engine does; a put may wait for other threads, as an agent's.
 ///
-/// Over a log of five bytes, with room for eight contents:
+/// Over a log of five bytes, with space for eight contents:
 ///
 /// ```
 /// let store = EngineStore::new(rt, alloc, ByteLog::new(alloc, 5)?, 8)?;
@@ -44,7 +44,7 @@ pub struct OfEngine<E> {
 }
 
 impl<E: Engine> Keeps<E::Key> for OfEngine<E> {
-    ghost holds = { λ name _ key. E.is_of key name };
+    ghost holds = { λ id _ key. E.is_of key id };
 }
 
 impl<E: Engine> Names<E> for OfEngine<E> {
@@ -53,13 +53,13 @@ impl<E: Engine> Names<E> for OfEngine<E> {
 
 impl<E: Engine, R> Model for EngineStore<E, R> {
     ghost use Rattle.std.specs.Prelude.{◌≡◌};
-    ghost use Rattle.far_store.specs.Named.{Named, named_coded, bucket_names};
+    ghost use Rattle.far_store.specs.StoreState.{StoreState, store_coded, bucket_ids};
 
-    ghost Value = { Named };
+    ghost Value = { StoreState };
 
-    ghost coded = { named_coded };
+    ghost coded = { store_coded };
 
-    ghost view = { λ s. record { name = bucket_names s.keys; capacity = s.capacity } };
+    ghost view = { λ s. record { id = bucket_ids s.keys; capacity = s.capacity } };
 
     ghost invariant = { λ s. s.keys.tag ≡ E.engine_id s.engine };
 }
@@ -93,7 +93,7 @@ impl<E: Engine, R: Sync + Drop> FarTickets for EngineStore<E, R> {
 
     ghost number_of = { λ t. t.index };
 
-    ghost store_id = { λ s. s.name };
+    ghost store_id = { λ s. s.id };
 
     ghost is_of = { IsOf };
 
@@ -142,7 +142,7 @@ impl<E: Engine, R: Sync + Drop> FarRead for EngineStore<E, R> {
 impl<E: Engine, R: Sync + Drop + Wait> FarStore for EngineStore<E, R> {
     fn put(&self, alloc: Global, meter: &mut Meter, bytes: &[u8]) -> Result<Kept<E>, Refusal>
         requires few { meter.old < 2 ^ 63 }
-        ensures here { IfOk result (λ ticket. IsOf ticket self.now.name) }
+        ensures here { IfOk result (λ ticket. IsOf ticket self.now.id) }
         ensures content { IfOk result (λ ticket. E.written ticket.value ≡ bytes.now) }
         ensures number { IfOk result (λ ticket. ticket.index < self.now.capacity) }
         ensures faults { meter.new ≡ meter.old + faults_in result }

@@ -63,7 +63,7 @@ module _ {K : Type 0} (content : K → List ℕ) (schema : List Kind) (limits : 
     each (column_index.Text i) = none-there (λ o. (written_out held.text_objects o).0) (object_of held (column_index.Text i) g) (not-out limits edits held.text_objects kept.texts_written kept.edits_few left)
 
   next-group : length held.alive / held.size ≡ length t.places / limits.group
-  next-group = λ i. sym (length-places (cells_of content held) held.alive) i / kept.laid.group i
+  next-group = λ i. sym (length-places (cells_of content held) held.alive) i / kept.layout.group i
 
   taken-due : first_of (edit_faults schema limits t.places (edit.Insert (row_of held.column_indexes new_row))) ≡ None → option_or (insert_refusal content limits held new_row) last ≡ edit_due (asked t) (edit.Insert (row_of held.column_indexes new_row))
   taken-due free =

@@ -69,13 +69,13 @@ module _ {K : Type 0} (content : K → List ℕ) (schema : List Kind) (limits : 
   abbrev last : Option Refusal
   last = first_of ((used, refusal.EditsUsedUp) ∷ [])
 
-  -- the text that a set writes finds no room
+  -- the text that a set writes finds no space
   abbrev crowded : Edit → ℕ → ℕ → Bool
   crowded e c g = not (fits_in held.text_objects.memory.state (text_object_length limits c g (places_after e t.places)))
 
-  room-of : (s : ColumnIndex) (e : Edit) (c g o : ℕ) → no_space_alone content limits held e c g (object_in s o) ≡ (is_text (Some (kind_of s)) && crowded e c g, refusal.RegionFull)
-  room-of (column_index.Number i) e c g o = refl
-  room-of (column_index.Text i) e c g o = refl
+  space-of : (s : ColumnIndex) (e : Edit) (c g o : ℕ) → no_space_alone content limits held e c g (object_in s o) ≡ (is_text (Some (kind_of s)) && crowded e c g, refusal.RegionFull)
+  space-of (column_index.Number i) e c g o = refl
+  space-of (column_index.Text i) e c g o = refl
 
   writes-of : (s : ColumnIndex) (o : ℕ) → writes_used content limits held (object_in s o) ≡ ((writes_used content limits held (object_in s o)).0, refusal.EditsUsedUp)
   writes-of (column_index.Number i) o = refl
@@ -96,9 +96,9 @@ module _ {K : Type 0} (content : K → List ℕ) (schema : List Kind) (limits : 
         let there = object-there content held are c s lies p below in
         let at : object_at held c (p / held.size) ≡ Some (object_in s there.0) = ap (option_and_then (λ (u : ColumnIndex). option_map (object_in u) (object_of held u (p / held.size)))) lies ∙ ap (option_map (object_in s)) there.1 in
         let out = (writes_used content limits held (object_in s there.0)).0 in
-        let room : option_map_or (no_space_alone content limits held e c g) (object_at held c (p / held.size)) (false, refusal.StaleJob) ≡ (is_text (slice_get schema c) && crowded e c g, refusal.RegionFull) =
+        let space : option_map_or (no_space_alone content limits held e c g) (object_at held c (p / held.size)) (false, refusal.StaleJob) ≡ (is_text (slice_get schema c) && crowded e c g, refusal.RegionFull) =
         ap (λ (found : Option Object). option_map_or (no_space_alone content limits held e c g) found (false, refusal.StaleJob)) at
-        ∙ room-of s e c g there.0
+        ∙ space-of s e c g there.0
         ∙ (λ i. (is_text (kind-at c s lies i) && crowded e c g, refusal.RegionFull)) in
         let writes : option_map_or (writes_used content limits held) (object_at held c (p / held.size)) (false, refusal.StaleJob) ≡ (out, refusal.EditsUsedUp) =
         ap (λ (found : Option Object). option_map_or (writes_used content limits held) found (false, refusal.StaleJob)) at ∙ writes-of s there.0 in
@@ -110,7 +110,7 @@ module _ {K : Type 0} (content : K → List ℕ) (schema : List Kind) (limits : 
         let tail : option_or (first_of tests) last ≡ first_of end =
         sym (first-behind tests ((used, refusal.EditsUsedUp) ∷ []))
         ∙ ap (λ o. cond over (Some refusal.ChunkFull) (cond full (Some refusal.RegionFull) o)) (last-used out used (not-written s there.0)) in
-        (λ i. option_or (first_of (absents held (p / kept.laid.group i) ++ (overfills (kept.kinds i) limits e t.places, refusal.ChunkFull) ∷ room i ∷ writes i ∷ [])) last)
+        (λ i. option_or (first_of (absents held (p / kept.layout.group i) ++ (overfills (kept.kinds i) limits e t.places, refusal.ChunkFull) ∷ space i ∷ writes i ∷ [])) last)
         ∙ ap (λ o. option_or o last) (first-behind away tests)
         ∙ or-assoc (first_of away) (first_of tests) last
         ∙ ap (option_or (first_of away)) tail

@@ -95,8 +95,8 @@ module _ {K : Type 0} (s : State K) (e : Edit) (free : edit_due s e ≡ None) wh
   pub edits-left : s.table.edits ≢ s.table.limits.edits
   edits-left =
       let here = (free-parts (absents s.rows (group_of s e)) _ parts.1).1 in
-      let room = (free-head (overfills s.table.schema s.table.limits e s.table.places) refusal.ChunkFull _ here).1 in
-      let used = (free-parts (no_space s e) _ room).1 in
+      let space = (free-head (overfills s.table.schema s.table.limits e s.table.places) refusal.ChunkFull _ here).1 in
+      let used = (free-parts (no_space s e) _ space).1 in
       eqb-false s.table.edits s.table.limits.edits (free-head (s.table.edits == s.table.limits.edits) refusal.EditsUsedUp _ used).0
 
   -- and no object of the row group is away

@@ -25,7 +25,7 @@ use Rattle.far_rows.specs.Refusing.{absents}
 use Rattle.far_rows.specs.Setting.{cell_of, kind_in}
 use Rattle.far_aggregates.specs.Pairs.{alive_with}
 use Rattle.far_aggregates.specs.declared.pending.Pending.{Pending}
-use Rattle.far_aggregates.specs.Accumulators.{Slot, Keeps, PlacesFit, registered_of}
+use Rattle.far_aggregates.specs.Accumulators.{RegistryEntry, Keeps, PlacesFit, registered_of}
 use Rattle.far_aggregates.specs.Pending.{AreKept, RetractsAll}
 use Rattle.far_aggregates.proofs.GroupLaws.{length-changed}
 use Rattle.far_table.specs.State.{State, AreChecked}
@@ -47,18 +47,18 @@ none-checked schema (suc n) = (tt, none-checked schema n)
 
 module _ {K : Type 0} where
   -- aggregates that are shown alike
-  pub shown-same : (t : TableRows K) (r : ℕ) (was now : List Slot) → registered_of now ≡ registered_of was → state_of t r now ≡ state_of t r was
+  pub shown-same : (t : TableRows K) (r : ℕ) (was now : List RegistryEntry) → registered_of now ≡ registered_of was → state_of t r now ≡ state_of t r was
   shown-same t r was now same = λ i. record { table = record { schema = t.schema; limits = t.limits; places = t.places; edits = t.edits; registrations = r; aggregates = same i }; rows = t.held }
 
-  pub same-live : (t : TableRows K) (r : ℕ) (was now : List Slot) → registered_of now ≡ registered_of was → IsLive t r was → Keeps t.limits.group t.places now → IsLive t r now
+  pub same-live : (t : TableRows K) (r : ℕ) (was now : List RegistryEntry) → registered_of now ≡ registered_of was → IsLive t r was → Keeps t.limits.group t.places now → IsLive t r now
   same-live t r was now same live kept = record { registrations_few = live.registrations_few; kept = kept; checked = subst (AreChecked t.schema) (sym same) live.checked }
 
   -- another row is taken
-  pub taken-state : (old new : TableRows K) (r : ℕ) (slots : List Slot) → new ≡ record old { new_row = new.new_row } → state_of new r slots ≡ state_of old r slots
-  taken-state old new r slots stays = ap (λ (t : TableRows K). state_of t r slots) stays
+  pub taken-state : (old new : TableRows K) (r : ℕ) (registry : List RegistryEntry) → new ≡ record old { new_row = new.new_row } → state_of new r registry ≡ state_of old r registry
+  taken-state old new r registry stays = ap (λ (t : TableRows K). state_of t r registry) stays
 
-  pub taken-live : (old new : TableRows K) (r : ℕ) (slots : List Slot) → new ≡ record old { new_row = new.new_row } → IsLive old r slots → IsLive new r slots
-  taken-live old new r slots stays live = subst (λ (t : TableRows K). IsLive t r slots) (sym stays) record { registrations_few = live.registrations_few; kept = live.kept; checked = live.checked }
+  pub taken-live : (old new : TableRows K) (r : ℕ) (registry : List RegistryEntry) → new ≡ record old { new_row = new.new_row } → IsLive old r registry → IsLive new r registry
+  taken-live old new r registry stays live = subst (λ (t : TableRows K). IsLive t r registry) (sym stays) record { registrations_few = live.registrations_few; kept = live.kept; checked = live.checked }
 
   -- a call is refused with what is due, and the state that is seen stays
   pub refuses-due : (shown seen after : State K) (e : Edit) (r : Refusal) → shown ≡ seen → after ≡ shown → Some r ≡ edit_due shown e → Refuses (edit_due seen e) true seen r after
@@ -69,21 +69,21 @@ module _ {K : Type 0} where
   refuses-memory shown seen after e r same stays free is = (stays ∙ same, subst (λ (s : State K). MayRefuse (edit_due s e) true r) same (subst (λ (o : Option Refusal). MayRefuse o true r) free (is, refl)))
 
   -- what is kept is that of the places, as the aggregates' calls ask for it
-  pub kept-fit : (t : TableRows K) (r : ℕ) (slots : List Slot) (limits : Limits) → limits ≡ t.limits → AreLimits t.limits → length t.places ≤ t.limits.places → PlacesFit t.places → IsLive t r slots → AreKept limits.group t.places slots
-  kept-fit t r slots limits same bounds few fit live = record { kept = subst (λ (l : Limits). Keeps l.group t.places slots) (sym same) live.kept; few = omega (arith, few, bounds.places_high); fit = fit }
+  pub kept-fit : (t : TableRows K) (r : ℕ) (registry : List RegistryEntry) (limits : Limits) → limits ≡ t.limits → AreLimits t.limits → length t.places ≤ t.limits.places → PlacesFit t.places → IsLive t r registry → AreKept limits.group t.places registry
+  kept-fit t r registry limits same bounds few fit live = record { kept = subst (λ (l : Limits). Keeps l.group t.places registry) (sym same) live.kept; few = omega (arith, few, bounds.places_high); fit = fit }
 
   -- an edit is made
-  pub made-table : (old new : TableRows K) (e : Edit) (r : ℕ) (was now : List Slot) → IsMade old new e → registered_of now ≡ registered_of was → (state_of new r now).table ≡ edited e (state_of old r was).table
+  pub made-table : (old new : TableRows K) (e : Edit) (r : ℕ) (was now : List RegistryEntry) → IsMade old new e → registered_of now ≡ registered_of was → (state_of new r now).table ≡ edited e (state_of old r was).table
   made-table old new e r was now made same = λ i. record { schema = made.schema i; limits = made.limits i; places = made.places i; edits = made.edits i; registrations = r; aggregates = same i }
 
-  pub made-checked : (old new : TableRows K) (e : Edit) (r : ℕ) (was now : List Slot) → IsMade old new e → registered_of now ≡ registered_of was → IsLive old r was → AreChecked new.schema (registered_of now)
+  pub made-checked : (old new : TableRows K) (e : Edit) (r : ℕ) (was now : List RegistryEntry) → IsMade old new e → registered_of now ≡ registered_of was → IsLive old r was → AreChecked new.schema (registered_of now)
   made-checked old new e r was now made same live = subst (λ (kinds : List Kind). AreChecked kinds (registered_of now)) (sym made.schema) (subst (AreChecked old.schema) (sym same) live.checked)
 
-  pub made-live : (old new : TableRows K) (e : Edit) (r : ℕ) (was now : List Slot) → IsMade old new e → registered_of now ≡ registered_of was → IsLive old r was → Keeps new.limits.group new.places now → IsLive new r now
+  pub made-live : (old new : TableRows K) (e : Edit) (r : ℕ) (was now : List RegistryEntry) → IsMade old new e → registered_of now ≡ registered_of was → IsLive old r was → Keeps new.limits.group new.places now → IsLive new r now
   made-live old new e r was now made same live kept = record { registrations_few = live.registrations_few; kept = kept; checked = made-checked old new e r was now made same live }
 
   -- the pairs to retract are retracted from what is kept of the new places
-  pub retracts-after : (old new : TableRows K) (e : Edit) (p : ℕ) (limits : Limits) (now : List Slot) (pending : Pending) → limits ≡ old.limits → IsMade old new e → RetractsAll limits.group (p / limits.group) (places_after e old.places) now pending → RetractsAll new.limits.group (p / new.limits.group) new.places now pending
+  pub retracts-after : (old new : TableRows K) (e : Edit) (p : ℕ) (limits : Limits) (now : List RegistryEntry) (pending : Pending) → limits ≡ old.limits → IsMade old new e → RetractsAll limits.group (p / limits.group) (places_after e old.places) now pending → RetractsAll new.limits.group (p / new.limits.group) new.places now pending
   retracts-after old new e p limits now pending same made retracts =
       let bounds : limits ≡ new.limits = same ∙ sym made.limits in
       subst (λ (l : Limits). RetractsAll l.group (p / l.group) new.places now pending) bounds (subst (λ (ps : List Place). RetractsAll limits.group (p / limits.group) ps now pending) (sym made.places) retracts)
@@ -93,14 +93,14 @@ module _ {K : Type 0} (content : K → List ℕ) (old mid new : TableRows K) (ro
   made : IsMade mid new (edit.Insert row)
   made = subst (λ (cells : List Cell). IsMade mid new (edit.Insert cells)) taken appended.made
 
-  pub inserted : (r : ℕ) (was now : List Slot) → None ≡ edit_due (asked old) (edit.Insert row) → registered_of now ≡ registered_of was → IsEdited content (state_of old r was) (edit.Insert row) (state_of new r now)
+  pub inserted : (r : ℕ) (was now : List RegistryEntry) → None ≡ edit_due (asked old) (edit.Insert row) → registered_of now ≡ registered_of was → IsEdited content (state_of old r was) (edit.Insert row) (state_of new r now)
   inserted r was now free same = record {
     due = sym free;
     table = made-table mid new (edit.Insert row) r was now made same ∙ ap (λ (s : State K). edited (edit.Insert row) s.table) (taken-state old mid r was stays);
     rows = subst (λ (t : TableRows K). (values : Values) × (row_of t.held.column_indexes values ≡ row) × IsPushed content t.held values new.held) stays (mid.new_row, taken, appended.held);
   }
 
-  pub inserted-live : (r : ℕ) (was now : List Slot) → registered_of now ≡ registered_of was → IsLive old r was → Keeps mid.limits.group (places_after (edit.Insert row) mid.places) now → IsLive new r now
+  pub inserted-live : (r : ℕ) (was now : List RegistryEntry) → registered_of now ≡ registered_of was → IsLive old r was → Keeps mid.limits.group (places_after (edit.Insert row) mid.places) now → IsLive new r now
   inserted-live r was now same live kept =
       let bounds : Keeps new.limits.group (places_after (edit.Insert row) mid.places) now = subst (λ (l : Limits). Keeps l.group (places_after (edit.Insert row) mid.places) now) (sym made.limits) kept in
       made-live mid new (edit.Insert row) r was now made same (taken-live old mid r was stays live) (subst (λ (ps : List Place). Keeps new.limits.group ps now) (sym made.places) bounds)
@@ -113,7 +113,7 @@ module _ {K : Type 0} (old new : TableRows K) (p c : ℕ) where
   pub set-inside : (cell : Cell) → IsMade old new (edit.Set p c cell) → p < length old.places → p < length new.places
   set-inside cell made below = let same = ap length made.places ∙ length-changed (with_cell c cell) p old.places in omega (arith, below, same)
 
-  pub put : (content : K → List ℕ) (cell : Cell) (value : NewCell) (r : ℕ) (was now : List Slot) → cell_of value ≡ cell → option_map kind_of (slice_get old.held.column_indexes c) ≡ Some (kind_in value) → IsPut content old new c p value → None ≡ edit_due (asked old) (edit.Set p c cell) → registered_of now ≡ registered_of was → IsEdited content (state_of old r was) (edit.Set p c cell) (state_of new r now)
+  pub put : (content : K → List ℕ) (cell : Cell) (value : NewCell) (r : ℕ) (was now : List RegistryEntry) → cell_of value ≡ cell → option_map kind_of (slice_get old.held.column_indexes c) ≡ Some (kind_in value) → IsPut content old new c p value → None ≡ edit_due (asked old) (edit.Set p c cell) → registered_of now ≡ registered_of was → IsEdited content (state_of old r was) (edit.Set p c cell) (state_of new r now)
   put content cell value r was now is of_kind changed free same = record {
     due = sym free;
     table = made-table old new (edit.Set p c cell) r was now (made-with (cell_of value) cell is changed.made) same;

@@ -18,7 +18,7 @@ use Rattle.far_rows.specs.Rows.{Rows, AreRows}
 use Rattle.far_rows.specs.Refusing.{told_at}
 use Rattle.far_aggregates.specs.Aggregates.{joined}
 use Rattle.far_aggregates.specs.Lending.{IsServed}
-use Rattle.far_aggregates.specs.Scans.{scanned_slot}
+use Rattle.far_aggregates.specs.Scans.{scanned_entry}
 use Rattle.far_table.specs.State.{IsChecked, AreChecked}
 use Rattle.far_table.specs.Groups.{has_column}
 use Rattle.far_table.specs.Watching.{needed_from}
@@ -94,13 +94,13 @@ checked-at schema [] a checked = tt
 checked-at schema (other ∷ rest) zero checked = checked.0
 checked-at schema (other ∷ rest) (suc a) checked = checked-at schema rest a checked.1
 
-built-checked : (schema : List Kind) (g : ℕ) (found : Option Registered) → IsChecked schema found → IsChecked schema (scanned_slot g found)
+built-checked : (schema : List Kind) (g : ℕ) (found : Option Registered) → IsChecked schema found → IsChecked schema (scanned_entry g found)
 built-checked schema g None checked = tt
 built-checked schema g (Some r) checked = checked
 
 -- what is registered may be had over the schema still, whether a row group was built in or not
 pub scanned-checked : {A : Type 0} (schema : List Kind) (aggregates after : List (Option Registered)) (a g : ℕ) (r : Result A Refusal)
-    → OnOk r (after ≡ slice_set aggregates a (scanned_slot g (joined (slice_get aggregates a)))) → OnErr r (after ≡ aggregates) → AreChecked schema aggregates → AreChecked schema after
+    → OnOk r (after ≡ slice_set aggregates a (scanned_entry g (joined (slice_get aggregates a)))) → OnErr r (after ≡ aggregates) → AreChecked schema aggregates → AreChecked schema after
 scanned-checked schema aggregates after a g (Ok x) built same checked = subst (AreChecked schema) (sym built) (checked-put schema aggregates a _ checked (built-checked schema g (joined (slice_get aggregates a)) (checked-at schema aggregates a checked)))
 scanned-checked schema aggregates after a g (Err e) built same checked = subst (AreChecked schema) (sym same) checked
 

@@ -10,7 +10,7 @@ use Rattle.far_types.specs.Bounds.{needs, spec_refusal}
 use Rattle.far_types.specs.Table.{Registered, in_group}
 use Rattle.far_rows.specs.ColumnIndexes.{kind_of}
 use Rattle.far_rows.specs.Rows.{Rows}
-use Rattle.far_aggregates.specs.Aggregates.{is_left}
+use Rattle.far_aggregates.specs.Aggregates.{is_pending_in}
 use Rattle.far_aggregates.specs.Lending.{IsServed}
 use Rattle.far_table.specs.State.{State}
 use Rattle.far_table.specs.Watching.{aggregate_at}
@@ -40,13 +40,13 @@ module _ {K : Type 0} (number_of : K → ℕ) (s : State K) (build : Build K) wh
   module _ (spec : Spec) (registration : ℕ) (r : Bool) (number : build.number ≡ s.rows.number_objects.number) (made : build.registration ≡ registration) (same : build.job.spec ≡ spec)
       (alive : build.job.alive ≡ in_group s.rows.size build.group s.rows.alive) (below : (c : ℕ) → needs spec c ≡ true → c < length s.rows.column_indexes)
       (exact : IsTrue r ↔ AllNeeded (length s.rows.column_indexes) spec (λ c. HaveOneNumber number_of (copy_of s.rows c build.group) (ticket_for build.job.tickets c))) where
-    under : (found : Option Registered) → Some spec ≡ option_map (λ (a : Registered). a.spec) found → Some registration ≡ option_map (λ (a : Registered). a.registration) found → is_left found build.group ≡ true → IsTrue r ↔ IsSomeAnd found (HoldsStill number_of s build)
+    under : (found : Option Registered) → Some spec ≡ option_map (λ (a : Registered). a.spec) found → Some registration ≡ option_map (λ (a : Registered). a.registration) found → is_pending_in found build.group ≡ true → IsTrue r ↔ IsSomeAnd found (HoldsStill number_of s build)
     under None is was left = absurd (none-some spec (sym is))
     under (Some a) is was left = (
       (λ yes. record {
         number = number;
         registered = record { registration = made ∙ same_Some registration a.registration was; spec = same ∙ same_Some spec a.spec is };
-        unbuilt = left;
+        pending = left;
         tickets = λ c wanted. (let needed : needs spec c ≡ true = ap (λ (p : Spec). needs p c) (sym same) ∙ wanted in exact.0 yes c (below c needed) needed);
         alive = alive;
       }),
@@ -54,7 +54,7 @@ module _ {K : Type 0} (number_of : K → ℕ) (s : State K) (build : Build K) wh
     )
 
     -- all else holds still, and it is the tickets that decide
-    pub tickets-decide : Some spec ≡ option_map (λ (a : Registered). a.spec) (aggregate_at s.table build.aggregate) → Some registration ≡ option_map (λ (a : Registered). a.registration) (aggregate_at s.table build.aggregate) → is_left (aggregate_at s.table build.aggregate) build.group ≡ true → IsTrue r ↔ IsMergeable number_of s build
+    pub tickets-decide : Some spec ≡ option_map (λ (a : Registered). a.spec) (aggregate_at s.table build.aggregate) → Some registration ≡ option_map (λ (a : Registered). a.registration) (aggregate_at s.table build.aggregate) → is_pending_in (aggregate_at s.table build.aggregate) build.group ≡ true → IsTrue r ↔ IsMergeable number_of s build
     tickets-decide = under (aggregate_at s.table build.aggregate)
 
 -- the contents are those of the row group

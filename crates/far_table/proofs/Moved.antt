@@ -11,7 +11,7 @@ use Rattle.far_types.specs.declared.refusal.Refusal.{Refusal}
 use Rattle.far_types.specs.declared.refusal.Refusal.TheVariants as refusal
 use Rattle.far_types.specs.Cells.{RowFits}
 use Rattle.far_scopes.specs.declared.object_record.ObjectRecord.{ObjectRecord}
-use Rattle.far_scopes.specs.Effects.{with_entry, after_leave, after_arrive, after_pin as pinned_in, after_unpin as unpinned_in, after_touch as touched_in}
+use Rattle.far_scopes.specs.Effects.{with_record, after_leave, after_arrive, after_pin as pinned_in, after_unpin as unpinned_in, after_touch as touched_in}
 use Rattle.far_scopes.specs.Movement.{Movement, version_of}
 use Rattle.far_evacuator.specs.Jobs.{CarriedEvacuation, CarriedFetch}
 use Rattle.far_texts.specs.Texts.{Texts, lists_of}
@@ -48,34 +48,34 @@ pub record AreStill {K L : Type 0} (old : Rows K) (new : Rows L) : Type 0 where
 
 module _ {K : Type 0} where
   abbrev pub writes : List (ObjectRecord K) → ℕ → ℕ
-  writes entries o = option_map_or (λ e. e.version) (slice_get entries o) 0
+  writes records o = option_map_or (λ e. e.version) (slice_get records o) 0
 
-  with-later : (e : ObjectRecord K) (entries : List (ObjectRecord K)) (o : ℕ) (change : ObjectRecord K → ObjectRecord K) → with_entry (e ∷ entries) (suc o) change ≡ e ∷ with_entry entries o change
-  with-later e entries o change = found (slice_get entries o) where
-    found : (at : Option (ObjectRecord K)) → option_map_or (λ entry. slice_set (e ∷ entries) (suc o) (change entry)) at (e ∷ entries) ≡ e ∷ option_map_or (λ entry. slice_set entries o (change entry)) at entries
+  with-later : (e : ObjectRecord K) (records : List (ObjectRecord K)) (o : ℕ) (change : ObjectRecord K → ObjectRecord K) → with_record (e ∷ records) (suc o) change ≡ e ∷ with_record records o change
+  with-later e records o change = found (slice_get records o) where
+    found : (at : Option (ObjectRecord K)) → option_map_or (λ object_record. slice_set (e ∷ records) (suc o) (change object_record)) at (e ∷ records) ≡ e ∷ option_map_or (λ object_record. slice_set records o (change object_record)) at records
     found None = refl
-    found (Some entry) = refl
+    found (Some object_record) = refl
 
   -- another record for an object, which says that it was written as often
-  writes-with : (entries : List (ObjectRecord K)) (o : ℕ) (change : ObjectRecord K → ObjectRecord K) → ((e : ObjectRecord K) → (change e).version ≡ e.version) → (p : ℕ) → writes (with_entry entries o change) p ≡ writes entries p
+  writes-with : (records : List (ObjectRecord K)) (o : ℕ) (change : ObjectRecord K → ObjectRecord K) → ((e : ObjectRecord K) → (change e).version ≡ e.version) → (p : ℕ) → writes (with_record records o change) p ≡ writes records p
   writes-with [] o change same p = refl
-  writes-with (e ∷ entries) zero change same zero = same e
-  writes-with (e ∷ entries) zero change same (suc p) = refl
-  writes-with (e ∷ entries) (suc o) change same zero = ap (λ l. writes l 0) (with-later e entries o change)
-  writes-with (e ∷ entries) (suc o) change same (suc p) = ap (λ l. writes l (suc p)) (with-later e entries o change) ∙ writes-with entries o change same p
+  writes-with (e ∷ records) zero change same zero = same e
+  writes-with (e ∷ records) zero change same (suc p) = refl
+  writes-with (e ∷ records) (suc o) change same zero = ap (λ l. writes l 0) (with-later e records o change)
+  writes-with (e ∷ records) (suc o) change same (suc p) = ap (λ l. writes l (suc p)) (with-later e records o change) ∙ writes-with records o change same p
 
   module _ {X : Type 0} (m : Movement X K) where
     unwritten : AreAsWritten m m
     unwritten = record { max_writes = refl; versions = λ o. refl }
 
     pinned-unwritten : (o : ℕ) → AreAsWritten m (pinned_in m o)
-    pinned-unwritten o = record { max_writes = refl; versions = writes-with m.entries o (λ e. record e { pins = e.pins + 1 }) (λ e. refl) }
+    pinned-unwritten o = record { max_writes = refl; versions = writes-with m.records o (λ e. record e { pins = e.pins + 1 }) (λ e. refl) }
 
     unpinned-unwritten : (o : ℕ) → AreAsWritten m (unpinned_in m o)
-    unpinned-unwritten o = record { max_writes = refl; versions = writes-with m.entries o (λ e. record e { pins = e.pins - 1 }) (λ e. refl) }
+    unpinned-unwritten o = record { max_writes = refl; versions = writes-with m.records o (λ e. record e { pins = e.pins - 1 }) (λ e. refl) }
 
     departed-unwritten : (o : ℕ) (ticket : K) → AreAsWritten m (after_leave m o ticket)
-    departed-unwritten o ticket = record { max_writes = refl; versions = writes-with m.entries o (λ e. record e { leavings = e.leavings + 1; ticket = Some ticket }) (λ e. refl) }
+    departed-unwritten o ticket = record { max_writes = refl; versions = writes-with m.records o (λ e. record e { leavings = e.leavings + 1; ticket = Some ticket }) (λ e. refl) }
 
   module _ (r : Rows K) where
     number-still : (m : Movement (Option ℤ) K) → AreAsWritten r.number_objects m → AreStill r (record r { number_objects = m })
@@ -149,7 +149,7 @@ module _ {K A : Type 0} (number_of : K → ℕ) (old now : Rows K) where
 
   pub installed-both : (r : Result A Refusal) (content : K → List ℕ) (fetched : ByKind (CarriedFetch K) (CarriedFetch K)) → OnOk r (IsFetchAccepted number_of old fetched) → OnOk r (IsAfterInstall content old fetched now)
       → (IsErrOf r refusal.RegionFull ↔ (IsFetchAccepted number_of old fetched × HasNoSpace content old fetched)) → OnOk r (IsInstalled content number_of fetched old now)
-  installed-both (Ok done) content fetched accepted back full = record { accepted = accepted; room = λ none. not-refused done refusal.RegionFull (full.1 (accepted, none)); back = back }
+  installed-both (Ok done) content fetched accepted back full = record { accepted = accepted; space = λ none. not-refused done refusal.RegionFull (full.1 (accepted, none)); back = back }
   installed-both (Err given) content fetched accepted back full = accepted
 
 module _ {K : Type 0} (content : K → List ℕ) (schema : List Kind) (limits : Limits) (old : Rows K) (new_row : Values) (edits : ℕ) where
@@ -164,7 +164,7 @@ module _ {K : Type 0} (content : K → List ℕ) (schema : List Kind) (limits : 
     still-kept kept = record {
       bounds = kept.bounds;
       kinds = ap (map kind_of) still.column_indexes ∙ kept.kinds;
-      laid = record { group = still.size ∙ kept.laid.group; limit = subst (λ (cs : List Texts). All (λ c. c.limit ≡ limits.text_size) cs) (sym still.texts) kept.laid.limit };
+      layout = record { group = still.size ∙ kept.layout.group; limit = subst (λ (cs : List Texts). All (λ c. c.limit ≡ limits.text_size) cs) (sym still.texts) kept.layout.limit };
       few = omega (arith, ap length still.alive, kept.few);
       edits_few = kept.edits_few;
       numbers_written = written-still old.number_objects now.number_objects still.number_objects kept.numbers_written;

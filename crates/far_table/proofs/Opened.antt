@@ -28,7 +28,7 @@ pub opened-kept : {K : Type 0} (content : K → List ℕ) (schema : List Kind) (
 opened-kept {K = K} content schema limits number bounds n m values default_value ints strings = record {
   bounds = bounds;
   kinds = kinds-opened 0 0 schema;
-  laid = record { group = refl; limit = limits-opened limits.group limits.text_size 0 schema };
+  layout = record { group = refl; limit = limits-opened limits.group limits.text_size 0 schema };
   few = omega arith;
   edits_few = omega arith;
   numbers_written = record { max_writes = refl; versions = λ o. omega arith };

@@ -5,7 +5,7 @@ use Rattle.far_types.specs.declared.cell.Kind.{Kind}
 use Rattle.far_types.specs.declared.limits.Limits.{Limits}
 use Rattle.far_scopes.specs.declared.object_record.ObjectRecord.{ObjectRecord}
 use Rattle.far_scopes.specs.Movement.{Movement}
-use Rattle.far_scopes.specs.Renewal.{Renews, after_renew, renewed_entry}
+use Rattle.far_scopes.specs.Renewal.{Renews, after_renew, renewed_record}
 use Rattle.far_rows.specs.ColumnIndexes.{Values}
 use Rattle.far_rows.specs.Rows.{Rows, cells_of}
 use Rattle.far_rows.specs.Renewal.{RowsTickets, RenewsRows, renewed_rows}
@@ -14,15 +14,15 @@ use Rattle.far_table.specs.Renewing.{renewed_table_rows}
 use Rattle.far_table.proofs.Moved.{AreAsWritten, AreStill, writes, still-kept, still-places}
 
 module _ {K L : Type 0} where
-  writes-renewed : (entries : List (ObjectRecord K)) (tickets : List (Option L)) → length tickets ≡ length entries → (o : ℕ) → writes (map (λ (e : ObjectRecord K × Option L). renewed_entry e.0 e.1) (zip entries tickets)) o ≡ writes entries o
+  writes-renewed : (records : List (ObjectRecord K)) (tickets : List (Option L)) → length tickets ≡ length records → (o : ℕ) → writes (map (λ (e : ObjectRecord K × Option L). renewed_record e.0 e.1) (zip records tickets)) o ≡ writes records o
   writes-renewed [] tickets same_length o = refl
-  writes-renewed (e ∷ entries) [] same_length o = absurd (omega (arith, same_length))
-  writes-renewed (e ∷ entries) (ticket ∷ tickets) same_length zero = refl
-  writes-renewed (e ∷ entries) (ticket ∷ tickets) same_length (suc o) = writes-renewed entries tickets (omega (arith, same_length)) o
+  writes-renewed (e ∷ records) [] same_length o = absurd (omega (arith, same_length))
+  writes-renewed (e ∷ records) (ticket ∷ tickets) same_length zero = refl
+  writes-renewed (e ∷ records) (ticket ∷ tickets) same_length (suc o) = writes-renewed records tickets (omega (arith, same_length)) o
 
   module _ (content : K → List ℕ) (new_content : L → List ℕ) where
     renewed-unwritten : {X : Type 0} (m : Movement X K) (tickets : List (Option L)) → Renews content new_content m tickets → AreAsWritten m (after_renew m tickets)
-    renewed-unwritten m tickets renews = record { max_writes = refl; versions = writes-renewed m.entries tickets renews.same_length }
+    renewed-unwritten m tickets renews = record { max_writes = refl; versions = writes-renewed m.records tickets renews.same_length }
 
     module _ (r : Rows K) (tickets : RowsTickets L) (renews : RenewsRows content new_content r tickets) where
       renewed-still : AreStill r (renewed_rows r tickets)

@@ -10,7 +10,7 @@ use Rattle.far_types.specs.declared.limits.Limits.{Limits}
 use Rattle.far_types.specs.Cells.{CellFits, RowFits}
 use Rattle.far_types.specs.Edits.{changed_at, with_cell, removed}
 use Rattle.far_scopes.specs.declared.replacement.Replacement.{Replacement}
-use Rattle.far_scopes.specs.Effects.{after_create, written, written_all}
+use Rattle.far_scopes.specs.Effects.{after_create, written, after_write_all}
 use Rattle.far_scopes.specs.Movement.{Movement, version_of}
 use Rattle.far_vector.specs.Vector.{Vector}
 use Rattle.far_vector.specs.Effects.{is_full, next_name, next_group, pushed_in, range_written}
@@ -18,7 +18,7 @@ use Rattle.far_texts.specs.Texts.{Texts, lists_of}
 use Rattle.far_texts.specs.Effects.{set_in as text_set_in}
 use Rattle.far_columns.specs.Numbers.{Numbers}
 use Rattle.far_columns.specs.NumbersTogether.{NumberColumns, all_pushed, all_pushed_in}
-use Rattle.far_texts.specs.Together.{all_begin, all_created, next_forms, all_pushed as all_texts_pushed}
+use Rattle.far_texts.specs.Together.{all_begin, after_create_all, next_forms, all_pushed as all_texts_pushed}
 use Rattle.far_rows.specs.declared.new_cell.NewCell.{NewCell}
 use Rattle.far_rows.specs.declared.new_cell.NewCell.TheVariants as new
 use Rattle.far_rows.specs.declared.column_index.ColumnIndex.{ColumnIndex}
@@ -42,18 +42,18 @@ module _ {K : Type 0} where
   numbers-changes m (c ∷ columns) [] = refl
   numbers-changes m (c ∷ columns) (x ∷ numbers) = numbers-changes (pushed_in m c x) columns numbers ∙ one-changes m c x
 
-  made-changes : (m : Movement ℕ K) (columns : List Texts) (forms : List (ℕ × List ℕ)) → (all_created m columns forms).max_writes ≡ m.max_writes
+  made-changes : (m : Movement ℕ K) (columns : List Texts) (forms : List (ℕ × List ℕ)) → (after_create_all m columns forms).max_writes ≡ m.max_writes
   made-changes m [] forms = refl
   made-changes m (c ∷ columns) [] = refl
   made-changes m (c ∷ columns) (form ∷ forms) = made-changes (after_create m record { column = c.column; group = length c.objects } form.1) columns forms
 
-  written-changes : (m : Movement ℕ K) (lists : List (Replacement ℕ)) → (written_all m lists).max_writes ≡ m.max_writes
+  written-changes : (m : Movement ℕ K) (lists : List (Replacement ℕ)) → (after_write_all m lists).max_writes ≡ m.max_writes
   written-changes m [] = refl
   written-changes m (r ∷ rs) = written-changes (written m r.object) rs
 
   texts-changes : (content : K → List ℕ) (r : Rows K) (texts : List (Option (List ℕ))) (now : Movement ℕ K) → TextsMoved content r texts now → now.max_writes ≡ r.text_objects.max_writes
   texts-changes content r texts now moved = elim (cases_Bool (all_begin r.texts)) [
-    | inl begin ↦ ap (λ (m : Movement ℕ K). m.max_writes) (moved.begun begin) ∙ made-changes r.text_objects r.texts (next_forms (lists_of content r.text_objects) (length r.text_objects.entries) r.texts texts)
+    | inl begin ↦ ap (λ (m : Movement ℕ K). m.max_writes) (moved.begun begin) ∙ made-changes r.text_objects r.texts (next_forms (lists_of content r.text_objects) (length r.text_objects.records) r.texts texts)
     | inr begun ↦ (let given = moved.replaced begun in ap (λ (m : Movement ℕ K). m.max_writes) given.2 ∙ written-changes _ given.0)
   ]
 
@@ -78,16 +78,16 @@ module _ {K : Type 0} (content : K → List ℕ) (is_of : K → List ℕ → Typ
   pushed-kept left now pushed keeps few places = record {
     bounds = kept.bounds;
     kinds = ap (map kind_of) pushed.column_indexes ∙ kept.kinds;
-    laid = record {
-      group = pushed.size ∙ kept.laid.group;
-      limit = subst (λ (cs : List Texts). All (λ c. c.limit ≡ limits.text_size) cs) (sym pushed.texts) (texts-limit limits.text_size (length old.text_objects.entries) old.texts kept.laid.limit);
+    layout = record {
+      group = pushed.size ∙ kept.layout.group;
+      limit = subst (λ (cs : List Texts). All (λ c. c.limit ≡ limits.text_size) cs) (sym pushed.texts) (texts-limit limits.text_size (length old.text_objects.records) old.texts kept.layout.limit);
     };
     few = omega (arith, ap length pushed.alive, length-append old.alive (true ∷ []), kept.few, few);
     edits_few = omega (arith, kept.edits_few, left);
     numbers_written = more-written old.number_objects now.number_objects kept.numbers_written (ap (λ (m : Movement (Option ℤ) K). m.max_writes) pushed.number_objects ∙ numbers-changes old.number_objects old.numbers new_row.numbers) keeps.number_versions;
     texts_written = more-written old.text_objects now.text_objects kept.texts_written (texts-changes content old new_row.texts now.text_objects pushed.text_objects) keeps.text_versions;
-    numbers = kept.numbers ∙ sym (ap length pushed.numbers ∙ length-numbers (length old.number_objects.entries) old.numbers);
-    texts = kept.texts ∙ sym (ap length pushed.texts ∙ length-texts (length old.text_objects.entries) old.texts);
+    numbers = kept.numbers ∙ sym (ap length pushed.numbers ∙ length-numbers (length old.number_objects.records) old.numbers);
+    texts = kept.texts ∙ sym (ap length pushed.texts ∙ length-texts (length old.text_objects.records) old.texts);
     fit = subst PlacesFit (sym places) (fit-appended (row_of old.column_indexes new_row) (places_in content old) kept.fit kept.new_row_fit);
     new_row_fit = subst (λ (column_indexes : List ColumnIndex). RowFits (row_of column_indexes new_row)) (sym pushed.column_indexes) kept.new_row_fit;
   }
@@ -122,7 +122,7 @@ module _ {K : Type 0} (content : K → List ℕ) (is_of : K → List ℕ → Typ
       record {
         bounds = kept.bounds;
         kinds = ap (map kind_of) same.column_indexes ∙ kept.kinds;
-        laid = record { group = same.size ∙ kept.laid.group; limit = subst (λ (cs : List Texts). All (λ c. c.limit ≡ limits.text_size) cs) (sym same.texts) kept.laid.limit };
+        layout = record { group = same.size ∙ kept.layout.group; limit = subst (λ (cs : List Texts). All (λ c. c.limit ≡ limits.text_size) cs) (sym same.texts) kept.layout.limit };
         few = omega (arith, ap length same.alive, kept.few);
         edits_few = omega (arith, kept.edits_few, left);
         numbers_written = more-written old.number_objects now.number_objects kept.numbers_written same.number_changes keeps.number_versions;
@@ -137,7 +137,7 @@ module _ {K : Type 0} (content : K → List ℕ) (is_of : K → List ℕ → Typ
   cleared-kept left place places = record {
     bounds = kept.bounds;
     kinds = kept.kinds;
-    laid = record { group = kept.laid.group; limit = kept.laid.limit };
+    layout = record { group = kept.layout.group; limit = kept.layout.limit };
     few = omega (arith, length-set old.alive place false, kept.few);
     edits_few = omega (arith, kept.edits_few, left);
     numbers_written = more-written old.number_objects old.number_objects kept.numbers_written refl (λ o. omega arith);
@@ -153,7 +153,7 @@ module _ {K : Type 0} (content : K → List ℕ) (is_of : K → List ℕ → Typ
   taken-kept next numbers texts fits = record {
     bounds = kept.bounds;
     kinds = kept.kinds;
-    laid = kept.laid;
+    layout = kept.layout;
     few = kept.few;
     edits_few = kept.edits_few;
     numbers_written = kept.numbers_written;

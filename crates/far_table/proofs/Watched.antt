@@ -51,15 +51,15 @@ module _ {K : Type 0} (s : State K) (r : Registered) (g : ℕ) where
   away = needed_from s.rows r.spec g 0 s.rows.column_indexes
 
   pub scan-out : group_count s.table ≤ g → scan_refusal s (Some r) g ≡ Some refusal.OutOfRange
-  scan-out past = let e : nat_lt g (group_count s.table) ≡ false = grind (arith, nat_tests) in ap (λ b. cond (not b) (Some refusal.OutOfRange) (cond (not (is_pending r.unbuilt g)) (Some refusal.StaleJob) (first_of away))) e
+  scan-out past = let e : nat_lt g (group_count s.table) ≡ false = grind (arith, nat_tests) in ap (λ b. cond (not b) (Some refusal.OutOfRange) (cond (not (is_pending r.pending g)) (Some refusal.StaleJob) (first_of away))) e
 
-  scan-in : g < group_count s.table → scan_refusal s (Some r) g ≡ cond (not (is_pending r.unbuilt g)) (Some refusal.StaleJob) (first_of away)
-  scan-in within = let e : nat_lt g (group_count s.table) ≡ true = grind (arith, nat_tests) in ap (λ b. cond (not b) (Some refusal.OutOfRange) (cond (not (is_pending r.unbuilt g)) (Some refusal.StaleJob) (first_of away))) e
+  scan-in : g < group_count s.table → scan_refusal s (Some r) g ≡ cond (not (is_pending r.pending g)) (Some refusal.StaleJob) (first_of away)
+  scan-in within = let e : nat_lt g (group_count s.table) ≡ true = grind (arith, nat_tests) in ap (λ b. cond (not b) (Some refusal.OutOfRange) (cond (not (is_pending r.pending g)) (Some refusal.StaleJob) (first_of away))) e
 
-  pub scan-stale : g < group_count s.table → is_pending r.unbuilt g ≡ false → scan_refusal s (Some r) g ≡ Some refusal.StaleJob
+  pub scan-stale : g < group_count s.table → is_pending r.pending g ≡ false → scan_refusal s (Some r) g ≡ Some refusal.StaleJob
   scan-stale within built = scan-in within ∙ ap (λ b. cond (not b) (Some refusal.StaleJob) (first_of away)) built
 
-  pub scan-left : g < group_count s.table → is_pending r.unbuilt g ≡ true → scan_refusal s (Some r) g ≡ first_of away
+  pub scan-left : g < group_count s.table → is_pending r.pending g ≡ true → scan_refusal s (Some r) g ≡ first_of away
   scan-left within left = scan-in within ∙ ap (λ b. cond (not b) (Some refusal.StaleJob) (first_of away)) left
 
 -- an aggregate that may be had, or none, is put under a number

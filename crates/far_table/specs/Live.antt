@@ -5,7 +5,7 @@ use Rattle.far_types.specs.declared.edit.Edit.TheVariants as edit
 use Rattle.far_types.specs.declared.refusal.Refusal.{Refusal}
 use Rattle.far_types.specs.Edits.{edited}
 use Rattle.far_types.specs.MayRefuse.{MayRefuse}
-use Rattle.far_aggregates.specs.Accumulators.{Slot, Keeps, registered_of}
+use Rattle.far_aggregates.specs.Accumulators.{RegistryEntry, Keeps, registered_of}
 use Rattle.far_rows.specs.declared.new_cell.NewCell.{NewCell}
 use Rattle.far_rows.specs.ColumnIndexes.{Values, kind_of, row_of}
 use Rattle.far_rows.specs.Rows.{Rows}
@@ -17,17 +17,17 @@ use Rattle.far_table.specs.Edits.{edit_due}
 
 module _ {K : Type 0} where
   -- the table of these rows and aggregates
-  abbrev pub state_of : TableRows K → ℕ → List Slot → State K
-  state_of t registrations slots = record {
-    table = record { schema = t.schema; limits = t.limits; places = t.places; edits = t.edits; registrations = registrations; aggregates = registered_of slots };
+  abbrev pub state_of : TableRows K → ℕ → List RegistryEntry → State K
+  state_of t registrations registry = record {
+    table = record { schema = t.schema; limits = t.limits; places = t.places; edits = t.edits; registrations = registrations; aggregates = registered_of registry };
     rows = t.held;
   }
 
   -- what always holds of a table's parts: what is kept is that of its places as they are now
-  pub record IsLive (t : TableRows K) (registrations : ℕ) (slots : List Slot) : Type 0 where
+  pub record IsLive (t : TableRows K) (registrations : ℕ) (registry : List RegistryEntry) : Type 0 where
     pub registrations_few : registrations ≤ 2 ^ 32
-    pub kept : Keeps t.limits.group t.places slots
-    pub checked : AreChecked t.schema (registered_of slots)
+    pub kept : Keeps t.limits.group t.places registry
+    pub checked : AreChecked t.schema (registered_of registry)
 
   -- a call is refused: nothing changes, and this was due, or memory was wanted
   abbrev pub Refuses : Option Refusal → Bool → State K → Refusal → State K → Type 0

@@ -30,7 +30,7 @@ module _ {K : Type 0} where
 
   -- each ticket is of the store with this id
   abbrev pub AreTicketsOf : (K → List ℕ → Type 0) → List ℕ → List (ℕ × K) → Type 0
-  AreTicketsOf is_of name tickets = All (λ ticket. is_of ticket.1 name) tickets
+  AreTicketsOf is_of id tickets = All (λ ticket. is_of ticket.1 id) tickets
 
   -- there are two tickets, and they have one number
   abbrev pub HaveOneNumber : (K → ℕ) → Option K → Option K → Type 0
@@ -49,7 +49,7 @@ module _ {K : Type 0} where
   offload_refusal s None g = Some refusal.NoAggregate
   offload_refusal s (Some aggregate) g = first_of (
       (not (nat_lt g (group_count s.table)), refusal.OutOfRange)
-      ∷ (not (is_pending aggregate.unbuilt g), refusal.StaleJob)
+      ∷ (not (is_pending aggregate.pending g), refusal.StaleJob)
       ∷ dirty_from s.rows aggregate.spec g 0 s.rows.column_indexes)
 
   -- the registration and the specification are those of an aggregate
@@ -71,7 +71,7 @@ module _ {K : Type 0} where
     pub record HoldsStill (aggregate : Registered) : Type 0 where
       pub number : build.number ≡ s.rows.number_objects.number
       pub registered : IsBuildOf build aggregate
-      pub unbuilt : is_pending aggregate.unbuilt build.group ≡ true
+      pub pending : is_pending aggregate.pending build.group ≡ true
       pub tickets : (column : ℕ) → needs build.job.spec column ≡ true → HaveOneNumber number_of (copy_of s.rows column build.group) (ticket_for build.job.tickets column)
       pub alive : build.job.alive ≡ in_group s.rows.size build.group s.rows.alive
 

@@ -41,7 +41,7 @@ module _ {K : Type 0} where
   pub record AreKept (content : K → List ℕ) (schema : List Kind) (limits : Limits) (held : Rows K) (new_row : Values) (edits : ℕ) : Type 0 where
     pub bounds : AreLimits limits
     pub kinds : map kind_of held.column_indexes ≡ schema
-    pub laid : AreOf limits held
+    pub layout : AreOf limits held
     pub few : length held.alive ≤ limits.places
     pub edits_few : edits ≤ limits.edits
     pub numbers_written : AreWritten limits edits held.number_objects

@@ -8,7 +8,7 @@ use Rattle.far_types.specs.Bounds.{needs, spec_refusal}
 use Rattle.far_types.specs.FirstOf.{first_of}
 use Rattle.far_types.specs.Table.{Table, Registered, groups, all_pending, is_pending}
 use Rattle.far_aggregates.specs.Aggregates.{joined, free_from}
-use Rattle.far_aggregates.specs.Scans.{scanned_slot}
+use Rattle.far_aggregates.specs.Scans.{scanned_entry}
 use Rattle.far_rows.specs.declared.column_index.ColumnIndex.{ColumnIndex}
 use Rattle.far_rows.specs.Rows.{Rows}
 use Rattle.far_rows.specs.Refusing.{told_at}
@@ -48,7 +48,7 @@ module _ {K : Type 0} where
   scan_refusal s None g = Some refusal.NoAggregate
   scan_refusal s (Some aggregate) g = first_of (
       (not (nat_lt g (group_count s.table)), refusal.OutOfRange)
-      ∷ (not (is_pending aggregate.unbuilt g), refusal.StaleJob)
+      ∷ (not (is_pending aggregate.pending g), refusal.StaleJob)
       ∷ needed_from s.rows aggregate.spec g 0 s.rows.column_indexes)
 
 -- something stands under a number, or nothing
@@ -57,14 +57,14 @@ with_aggregate a aggregate table = record table { aggregates = slice_set table.a
 
 -- an aggregate that is registered now
 abbrev pub registered_now : Spec → Table → Registered
-registered_now spec table = record { spec = spec; registration = table.registrations; unbuilt = all_pending table.limits.group table.places }
+registered_now spec table = record { spec = spec; registration = table.registrations; pending = all_pending table.limits.group table.places }
 
 abbrev pub registered_at : ℕ → Spec → Table → Table
 registered_at a spec table = record (with_aggregate a (Some (registered_now spec table)) table) { registrations = table.registrations + 1 }
 
 -- a row group less is still pending in the aggregate of a number
 abbrev pub scanned_at : ℕ → ℕ → Table → Table
-scanned_at a g table = with_aggregate a (scanned_slot g (aggregate_at table a)) table
+scanned_at a g table = with_aggregate a (scanned_entry g (aggregate_at table a)) table
 
 module _ {K : Type 0} (old new : State K) where
   -- an aggregate is registered under the lowest free number

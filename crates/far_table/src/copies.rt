@@ -24,7 +24,7 @@ use std::alloc::Global;
 pub(crate) fn copy_of<S: FarTickets>(rows: &Rows<S>, column: u32, group: u32) -> Option<&S::Ticket>
     ensures ticket { option_map (λ ticket. ticket.now) result ≡ copy_of rows.now column group }
     ensures copy { IfSome result (λ ticket. IsCopy S.content rows.now group column ticket.now) }
-    ensures here { (name : List ℕ) → AreAt S.is_of name rows.now → IfSome result (λ ticket. S.is_of ticket.now name) }
+    ensures here { (id : List ℕ) → AreAt S.is_of id rows.now → IfSome result (λ ticket. S.is_of ticket.now id) }
     ensures away { (absent_in rows.now column group).0 ≡ true → IsSome result }
 {
     // For the proof: gives `AreRows`.
@@ -42,7 +42,7 @@ pub(crate) fn away_copy<'a, S: FarTickets>(
     requires inside { column < length rows.now.column_indexes }
     requires begun { group * rows.now.size < length rows.now.alive }
     ensures copy { IfSome result (λ ticket. IsCopy S.content rows.now group column ticket.now) }
-    ensures here { (name : List ℕ) → AreAt S.is_of name rows.now → IfSome result (λ ticket. S.is_of ticket.now name) }
+    ensures here { (id : List ℕ) → AreAt S.is_of id rows.now → IfSome result (λ ticket. S.is_of ticket.now id) }
     ensures all { needs spec.now column ≡ true → has_column record { rows = rows.now; group = group } column ≡ false → IsSome result }
 {
     // For the proof: gives `AreRows`.
@@ -115,7 +115,7 @@ fn needed_copy<'a, S: FarTickets>(
 ) -> Option<&'a S::Ticket>
     ensures ticket { option_map (λ ticket. ticket.now) result ≡ cond (needs spec.now column) (copy_of rows.now column group) None }
     ensures form { IfSome result (λ ticket. IsForm (S.content ticket.now)) }
-    ensures here { (name : List ℕ) → AreAt S.is_of name rows.now → IfSome result (λ ticket. S.is_of ticket.now name) }
+    ensures here { (id : List ℕ) → AreAt S.is_of id rows.now → IfSome result (λ ticket. S.is_of ticket.now id) }
 {
     if !spec.needs(column) {
         return None;

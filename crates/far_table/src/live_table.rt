@@ -58,7 +58,7 @@ impl<S: FarTickets> LiveTable<S> {
     ) -> Result<LiveTable<S>, Refusal>
         ensures ok { IfOk result (λ table. table ≡ empty_state schema limits number) }
         ensures limits { OnOk result (AreLimits limits) }
-        ensures here { IfOk result (λ table. (name : List ℕ) → AreAt S.is_of name table.rows) }
+        ensures here { IfOk result (λ table. (id : List ℕ) → AreAt S.is_of id table.rows) }
         ensures bad { IfErr result (λ e. ((e ≡ Refusal.BadSchema) × ¬ (AreLimits limits)) ⊎ ((e ≡ Refusal.NoMemory) × AreLimits limits)) }
     {
         limits.check()?;
@@ -94,7 +94,7 @@ impl<S: FarTickets> LiveTable<S> {
         ensures ok { OnOk result (IsEdited S.content self.old (edit.Insert row) self.new) }
         ensures place { IfOk result (λ place. place ≡ length self.old.table.places) }
         ensures err { IfErr result (λ e. Refuses (edit_due self.old (edit.Insert row)) true self.old e self.new) }
-        ensures here { (name : List ℕ) → AreAt S.is_of name self.old.rows → AreAt S.is_of name self.new.rows }
+        ensures here { (id : List ℕ) → AreAt S.is_of id self.old.rows → AreAt S.is_of id self.new.rows }
     {
         self.rows.may_insert(row)?;
         let place = self.rows.len();
@@ -121,7 +121,7 @@ impl<S: FarTickets> LiveTable<S> {
     pub fn set(&mut self, column: u32, place: u32, cell: Cell) -> Result<(), Refusal>
         ensures ok { OnOk result (IsEdited S.content self.old (edit.Set place column cell) self.new) }
         ensures err { IfErr result (λ e. Refuses (edit_due self.old (edit.Set place column cell)) true self.old e self.new) }
-        ensures here { (name : List ℕ) → AreAt S.is_of name self.old.rows → AreAt S.is_of name self.new.rows }
+        ensures here { (id : List ℕ) → AreAt S.is_of id self.old.rows → AreAt S.is_of id self.new.rows }
     {
         let value = self.rows.may_set(column, place, cell)?;
         let size = self.rows.limits().group;
@@ -155,7 +155,7 @@ impl<S: FarTickets> LiveTable<S> {
     pub fn remove(&mut self, place: u32) -> Result<(), Refusal>
         ensures ok { OnOk result (IsEdited S.content self.old (edit.Remove place) self.new) }
         ensures err { IfErr result (λ e. Refuses (edit_due self.old (edit.Remove place)) true self.old e self.new) }
-        ensures here { (name : List ℕ) → AreAt S.is_of name self.old.rows → AreAt S.is_of name self.new.rows }
+        ensures here { (id : List ℕ) → AreAt S.is_of id self.old.rows → AreAt S.is_of id self.new.rows }
     {
         let row = self.rows.may_remove(place)?;
         let size = self.rows.limits().group;

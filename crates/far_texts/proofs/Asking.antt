@@ -80,11 +80,11 @@ module _ {K : Type 0} (m : Movement ℕ K) where
   pub last-here : (content : K → List ℕ) (c : Texts) → begins_group c ≡ false → next_length_refusal content m c ≡ None → None ≡ first_of (absent m (last_object c) ∷ [])
   last-here content c begun free = sym (sym (ap (λ (b : Bool). first_of (cond b [] (absent m (last_object c) ∷ []))) begun) ∙ free)
 
--- where the forms find room and row groups are begun, it is left whether the objects may be written
-pub room-longer : (used : Bool × Refusal) (fits begins : Bool) → fits ≡ true → begins ≡ false → first_of (used ∷ []) ≡ first_of ((not fits, RegionFull) ∷ cond begins [] (used ∷ []))
-room-longer used false begins room begun = absurd cc
-room-longer used true true room begun = absurd cc
-room-longer used true false room begun = refl
+-- where the forms find space and row groups are begun, it is left whether the objects may be written
+pub space-longer : (used : Bool × Refusal) (fits begins : Bool) → fits ≡ true → begins ≡ false → first_of (used ∷ []) ≡ first_of ((not fits, RegionFull) ∷ cond begins [] (used ∷ []))
+space-longer used false begins space begun = absurd cc
+space-longer used true true space begun = absurd cc
+space-longer used true false space begun = refl
 
 module _ {K : Type 0} (content : K → List ℕ) (m : Movement ℕ K) (columns : List Texts) (texts : List (Option (List ℕ))) where
   abbrev away : List (Bool × Refusal)

@@ -28,18 +28,18 @@ module _ {K : Type 0} (content : K → List ℕ) (m : Movement ℕ K) (columns :
   pub due-first : (e : Refusal) → Some e ≡ first_of (first_tests content m columns texts) → push_texts_refusal content m columns texts ≡ Some e
   due-first e due = first-append (first_tests content m columns texts) (last_tests content m columns texts) ∙ ap (λ r. option_or r (first_of (last_tests content m columns texts))) (sym due)
 
-  module _ (free : None ≡ first_of (first_tests content m columns texts)) (forms : List (Replacement ℕ)) (is : given_forms forms ≡ next_forms (lists_of content m) (length m.entries) columns texts) where
+  module _ (free : None ≡ first_of (first_tests content m columns texts)) (forms : List (Replacement ℕ)) (is : given_forms forms ≡ next_forms (lists_of content m) (length m.records) columns texts) where
     due-last : push_texts_refusal content m columns texts ≡ first_of (last_tests content m columns texts)
     due-last = first-append (first_tests content m columns texts) (last_tests content m columns texts) ∙ ap (λ r. option_or r (first_of (last_tests content m columns texts))) (sym free)
 
-    lengths : map (λ (form : ℕ × List ℕ). length form.1) (next_forms (lists_of content m) (length m.entries) columns texts) ≡ map (λ (r : Replacement ℕ). length r.list.items) forms
+    lengths : map (λ (form : ℕ × List ℕ). length form.1) (next_forms (lists_of content m) (length m.records) columns texts) ≡ map (λ (r : Replacement ℕ). length r.list.items) forms
     lengths = ap (map (λ (form : ℕ × List ℕ). length form.1)) (sym is) ∙ map-map (λ (form : ℕ × List ℕ). length form.1) (λ (r : Replacement ℕ). (r.object, r.list.items)) forms
 
     -- whether the forms fit, where row groups begin
     module _ (begins : all_begin columns ≡ true) where
       due-begun : push_texts_refusal content m columns texts ≡ first_of ((not (fit_in_order (spaces_of m.memory.state) (map (λ (r : Replacement ℕ). length r.list.items) forms)), RegionFull) ∷ [])
       due-begun = due-last
-          ∙ ap (λ (b : Bool). first_of (no_space_for m (next_forms (lists_of content m) (length m.entries) columns texts) ∷ cond b [] (some_written_out m (next_forms (lists_of content m) (length m.entries) columns texts) ∷ []))) begins
+          ∙ ap (λ (b : Bool). first_of (no_space_for m (next_forms (lists_of content m) (length m.records) columns texts) ∷ cond b [] (some_written_out m (next_forms (lists_of content m) (length m.records) columns texts) ∷ []))) begins
           ∙ ap (λ lens. first_of ((not (fit_in_order (spaces_of m.memory.state) lens), RegionFull) ∷ [])) lengths
 
       pub begun-free : fit_in_order (spaces_of m.memory.state) (map (λ (r : Replacement ℕ). length r.list.items) forms) ≡ true → push_texts_refusal content m columns texts ≡ None
@@ -54,10 +54,10 @@ module _ {K : Type 0} (content : K → List ℕ) (m : Movement ℕ K) (columns :
       due-replaced =
           ap (λ r. option_or r (first_of (no_space_for_all m.memory.state forms ∷ any_written_out m forms ∷ []))) here
           ∙ ap (λ lens. first_of ((not (fit_in_order (spaces_of m.memory.state) lens), RegionFull) ∷ any_written_out m forms ∷ [])) (sym lengths)
-          ∙ ap (λ b. first_of (no_space_for m (next_forms (lists_of content m) (length m.entries) columns texts) ∷ (b, EditsUsedUp) ∷ [])) written
-          ∙ sym (due-last ∙ ap (λ (b : Bool). first_of (no_space_for m (next_forms (lists_of content m) (length m.entries) columns texts) ∷ cond b [] (some_written_out m (next_forms (lists_of content m) (length m.entries) columns texts) ∷ []))) begins)
+          ∙ ap (λ b. first_of (no_space_for m (next_forms (lists_of content m) (length m.records) columns texts) ∷ (b, EditsUsedUp) ∷ [])) written
+          ∙ sym (due-last ∙ ap (λ (b : Bool). first_of (no_space_for m (next_forms (lists_of content m) (length m.records) columns texts) ∷ cond b [] (some_written_out m (next_forms (lists_of content m) (length m.records) columns texts) ∷ []))) begins)
         where
-          written : list_any (λ (r : Replacement ℕ). (written_out m r.object).0) forms ≡ list_any (λ (form : ℕ × List ℕ). (written_out m form.0).0) (next_forms (lists_of content m) (length m.entries) columns texts)
+          written : list_any (λ (r : Replacement ℕ). (written_out m r.object).0) forms ≡ list_any (λ (form : ℕ × List ℕ). (written_out m form.0).0) (next_forms (lists_of content m) (length m.records) columns texts)
           written = sym (any-mapped (λ (form : ℕ × List ℕ). (written_out m form.0).0) (λ (r : Replacement ℕ). (r.object, r.list.items)) forms) ∙ ap (list_any (λ (form : ℕ × List ℕ). (written_out m form.0).0)) is
 
 -- listed objects are local where each may be lent

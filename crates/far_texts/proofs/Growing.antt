@@ -8,7 +8,7 @@ use Rattle.far_types.specs.declared.name.Name.{Name}
 use Rattle.far_scopes.specs.declared.replacement.Replacement.{Replacement}
 use Rattle.far_scopes.specs.Memory.{ChangesList}
 use Rattle.far_scopes.specs.Movement.{Movement}
-use Rattle.far_scopes.specs.Effects.{after_create, new_entry, written, written_all, with_lens, after_replace_all}
+use Rattle.far_scopes.specs.Effects.{after_create, new_record, written, after_write_all, with_lens, after_replace_all}
 use Rattle.far_scopes.specs.Replacing.{replaced_all as replaced_all_in}
 use Rattle.far_scopes.proofs.Pins.{length-with}
 use Rattle.far_scopes.proofs.Relisted.{length-lens}
@@ -21,19 +21,19 @@ use Rattle.far_texts.proofs.Pushing.{pushed-begun}
 abbrev pub AreNumbered : ℕ → List (Replacement ℕ) → Type 0
 AreNumbered n lists = (k : ℕ) (d : Replacement ℕ) → k < length lists → (slice_index_or lists k d).object ≡ n + k
 
-pub count-created : {K : Type 0} (m new : Movement ℕ K) (name : Name) (list : List ℕ) → new ≡ after_create m name list → length new.entries ≡ length m.entries + 1
-count-created m new name list is = ap (λ w. length w.entries) is ∙ length_push m.entries (new_entry name (length list))
+pub count-created : {K : Type 0} (m new : Movement ℕ K) (name : Name) (list : List ℕ) → new ≡ after_create m name list → length new.records ≡ length m.records + 1
+count-created m new name list is = ap (λ w. length w.records) is ∙ length_push m.records (new_record name (length list))
 
 -- objects that get other lists stay as many
-length-written_all : {K : Type 0} (m : Movement ℕ K) (lists : List (Replacement ℕ)) → length (written_all m lists).entries ≡ length m.entries
-length-written_all m [] = refl
-length-written_all m (r ∷ lists) = length-written_all (written m r.object) lists ∙ length-with m.entries r.object (λ entry. record entry { version = entry.version + 1 })
+length-after_write_all : {K : Type 0} (m : Movement ℕ K) (lists : List (Replacement ℕ)) → length (after_write_all m lists).records ≡ length m.records
+length-after_write_all m [] = refl
+length-after_write_all m (r ∷ lists) = length-after_write_all (written m r.object) lists ∙ length-with m.records r.object (λ object_record. record object_record { version = object_record.version + 1 })
 
-pub count-replaced : {K : Type 0} (m new : Movement ℕ K) (lists : List (Replacement ℕ)) → new ≡ after_replace_all m lists → length new.entries ≡ length m.entries
+pub count-replaced : {K : Type 0} (m new : Movement ℕ K) (lists : List (Replacement ℕ)) → new ≡ after_replace_all m lists → length new.records ≡ length m.records
 count-replaced m new lists is =
-    ap (λ w. length w.entries) is
-    ∙ length-written_all (record m { memory = replaced_all_in m.memory lists; entries = with_lens m.entries lists }) lists
-    ∙ length-lens m.entries lists
+    ap (λ w. length w.records) is
+    ∙ length-after_write_all (record m { memory = replaced_all_in m.memory lists; records = with_lens m.records lists }) lists
+    ∙ length-lens m.records lists
 
 pub numbered-rest : (n : ℕ) (r : Replacement ℕ) (rest lists : List (Replacement ℕ)) → lists ≡ r ∷ rest → AreNumbered n lists → AreNumbered (n + 1) rest
 numbered-rest n r rest lists is numbered k d below =

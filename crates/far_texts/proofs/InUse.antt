@@ -10,15 +10,15 @@ use Rattle.far_scopes.specs.Movement.{Movement, AreTracked, list_of, ticket_of, 
 
 module _ {X K : Type 0} (meaning : List ℕ → List X) (content : K → List ℕ) (spelled : List X → List ℕ → Type 0) (m : Movement X K) (tracked : AreTracked meaning content spelled m) where
   -- past the objects there is no list
-  pub no-list : (o : ℕ) → length m.entries ≤ o → list_of meaning content m o ≡ None
+  pub no-list : (o : ℕ) → length m.records ≤ o → list_of meaning content m o ≡ None
   no-list o past =
       let no_word : slice_get m.memory.words o ≡ None = slice_get_past m.memory.words o (omega (arith, tracked.same_length)) in
-      let no_entry : slice_get m.entries o ≡ None = slice_get_past m.entries o past in
+      let no_record : slice_get m.records o ≡ None = slice_get_past m.records o past in
       ap (λ word. option_or (option_and_then (part_of m.memory.state) (option_and_then at_of word)) (option_map (meant meaning content) (ticket_of m o))) no_word
-      ∙ ap (λ entry. option_map (meant meaning content) (option_and_then (λ e. e.ticket) entry)) no_entry
+      ∙ ap (λ object_record. option_map (meant meaning content) (option_and_then (λ e. e.ticket) object_record)) no_record
 
-  pub in-use : (o : ℕ) (list : List X) → list_of meaning content m o ≡ Some list → o < length m.entries
-  in-use o list here = elim (cases_lt o (length m.entries)) [
+  pub in-use : (o : ℕ) (list : List X) → list_of meaning content m o ≡ Some list → o < length m.records
+  in-use o list here = elim (cases_lt o (length m.records)) [
     | inl within ↦ within
     | inr past ↦ absurd (none-some list (sym (no-list o past) ∙ here))
   ]

@@ -6,7 +6,7 @@ pub mod Changed
 pub mod Setting
 pub mod Pushing
 pub mod LentCells
-pub mod Beside
+pub mod Disjoint
 pub mod Begun
 pub mod NextForms
 pub mod OnePushed

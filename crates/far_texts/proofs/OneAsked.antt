@@ -31,25 +31,25 @@ one-fits spaces n = each (lowest_for spaces n)
     each (Some i) = refl
 
 -- the tests of one column among several, and alone
-one-due : (begins short away full fits room used last : Bool) (e f g h i : Refusal) → fits ≡ room → (begins ≡ false → used ≡ last)
+one-due : (begins short away full fits space used last : Bool) (e f g h i : Refusal) → fits ≡ space → (begins ≡ false → used ≡ last)
     → first_of ((short || false, e) ∷ ((cond (begins && true) [] ((away, f) ∷ []) ++ (full || false, g) ∷ []) ++ (not fits, h) ∷ cond (begins && true) [] ((used || false, i) ∷ [])))
-    ≡ first_of (cond begins ((short, e) ∷ (full, g) ∷ (not room, h) ∷ []) ((short, e) ∷ (away, f) ∷ (full, g) ∷ (not room, h) ∷ (last, i) ∷ []))
-one-due true true away full fits room used last e f g h i same none = refl
-one-due true false away true fits room used last e f g h i same none = refl
-one-due true false away false fits room used last e f g h i same none = ap (λ (b : Bool). first_of ((not b, h) ∷ [])) same
-one-due false true away full fits room used last e f g h i same none = refl
-one-due false false true full fits room used last e f g h i same none = refl
-one-due false false false true fits room used last e f g h i same none = refl
-one-due false false false false fits room used last e f g h i same none =
+    ≡ first_of (cond begins ((short, e) ∷ (full, g) ∷ (not space, h) ∷ []) ((short, e) ∷ (away, f) ∷ (full, g) ∷ (not space, h) ∷ (last, i) ∷ []))
+one-due true true away full fits space used last e f g h i same none = refl
+one-due true false away true fits space used last e f g h i same none = refl
+one-due true false away false fits space used last e f g h i same none = ap (λ (b : Bool). first_of ((not b, h) ∷ [])) same
+one-due false true away full fits space used last e f g h i same none = refl
+one-due false false true full fits space used last e f g h i same none = refl
+one-due false false false true fits space used last e f g h i same none = refl
+one-due false false false false fits space used last e f g h i same none =
     ap (λ (b : Bool). first_of ((not b, h) ∷ (used || false, i) ∷ [])) same
-    ∙ ap (λ (b : Bool). first_of ((not room, h) ∷ (b, i) ∷ [])) (or-false used ∙ none refl)
+    ∙ ap (λ (b : Bool). first_of ((not space, h) ∷ (b, i) ∷ [])) (or-false used ∙ none refl)
 
 module _ {K : Type 0} (content : K → List ℕ) (m : Movement ℕ K) where
   alone : (c : Texts) (text : Option (List ℕ)) → push_texts_refusal content m (c ∷ []) (text ∷ []) ≡ push_refusal content m c text
   alone c text =
       let texts = group_with_next (lists_of content m) c text in
       let o = last_object c in
-      let n = length m.entries in
+      let n = length m.records in
       let fits : fit_in_order (spaces_of m.memory.state) (length (texts_form texts) ∷ []) ≡ fits_in m.memory.state (texts_length texts) =
       ap (λ k. fit_in_order (spaces_of m.memory.state) (k ∷ [])) (texts_form_length texts) ∙ one-fits (spaces_of m.memory.state) (texts_length texts) in
       one-due (begins_group c) (text_too_long text).0 (absent m o).0 (chunk_full c texts).0 _ _ (written_out m (object_for c n)).0 (written_out m o).0

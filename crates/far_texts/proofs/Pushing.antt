@@ -165,8 +165,8 @@ module _ {K : Type 0} (content : K → List ℕ) (m : Movement ℕ K) (c : Texts
   push-cases begins =
       let o : ℕ = last_object c in
       let full : Bool × Refusal = chunk_full c next-texts in
-      let room : Bool × Refusal = no_space m o (texts_length next-texts)
-      in cond begins (text_too_long text ∷ full ∷ room ∷ []) (text_too_long text ∷ absent m o ∷ full ∷ room ∷ written_out m o ∷ [])
+      let space : Bool × Refusal = no_space m o (texts_length next-texts)
+      in cond begins (text_too_long text ∷ full ∷ space ∷ []) (text_too_long text ∷ absent m o ∷ full ∷ space ∷ written_out m o ∷ [])
 
   short-by : (begins : Bool) → None ≡ first_of (push-cases begins) → texts_length next-texts ≤ c.limit
   short-by true free = ltb-false c.limit (texts_length next-texts) (none-due (push-cases true) 1 (chunk_full c next-texts) free refl)

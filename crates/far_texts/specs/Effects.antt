@@ -28,7 +28,7 @@ pushed c o = record c { objects = if begins_group c then c.objects ++ o ∷ [] e
 module _ {K : Type 0} (content : K → List ℕ) (m : Movement ℕ K) (c : Texts) where
   -- the object of the next place: the next that is made, where the place begins a row group
   abbrev pub next_object : ℕ
-  next_object = if begins_group c then length m.entries else last_object c
+  next_object = if begins_group c then length m.records else last_object c
 
   -- the objects once the text of a place is another
   abbrev pub set_in : ℕ → Option (List ℕ) → Movement ℕ K

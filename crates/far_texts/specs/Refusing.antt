@@ -43,5 +43,5 @@ module _ {K : Type 0} (content : K → List ℕ) (m : Movement ℕ K) (c : Texts
       let o : ℕ = last_object c in
       let texts : List (Option (List ℕ)) = group_with_next (lists_of content m) c text in
       let full : Bool × Refusal = chunk_full c texts in
-      let room : Bool × Refusal = no_space m o (texts_length texts)
-      in first_of (if begins_group c then text_too_long text ∷ full ∷ room ∷ [] else text_too_long text ∷ absent m o ∷ full ∷ room ∷ written_out m o ∷ [])
+      let space : Bool × Refusal = no_space m o (texts_length texts)
+      in first_of (if begins_group c then text_too_long text ∷ full ∷ space ∷ [] else text_too_long text ∷ absent m o ∷ full ∷ space ∷ written_out m o ∷ [])

@@ -25,7 +25,7 @@ module _ {K : Type 0} where
   abbrev pub absents : Movement ℕ K → List Texts → List (Bool × Refusal)
   absents m columns = map (λ c. absent m (last_object c)) columns
 
-  -- new forms, placed in order, do not find room
+  -- new forms, placed in order, do not find space
   abbrev pub no_space_for : Movement ℕ K → List (ℕ × List ℕ) → Bool × Refusal
   no_space_for m forms = (not (fit_in_order (spaces_of m.memory.state) (map (λ form. length form.1) forms)), refusal.RegionFull)
 
@@ -41,7 +41,7 @@ module _ {K : Type 0} (content : K → List ℕ) (m : Movement ℕ K) (columns :
   -- the tests while the new forms are placed
   abbrev pub last_tests : List (Bool × Refusal)
   last_tests =
-      let forms : List (ℕ × List ℕ) = next_forms (lists_of content m) (length m.entries) columns texts
+      let forms : List (ℕ × List ℕ) = next_forms (lists_of content m) (length m.records) columns texts
       in no_space_for m forms ∷ (if all_begin columns then [] else some_written_out m forms ∷ [])
 
   abbrev pub push_texts_refusal : Option Refusal

@@ -66,10 +66,10 @@ given_forms lists = map (λ r. (r.object, r.list.items)) lists
 
 module _ {K : Type 0} where
   -- the objects once one is made for each column, of the form beside it
-  abbrev pub all_created : Movement ℕ K → List Texts → List (ℕ × List ℕ) → Movement ℕ K
-  all_created m [] forms = m
-  all_created m (c ∷ columns) [] = m
-  all_created m (c ∷ columns) (form ∷ forms) = all_created (after_create m record { column = c.column; group = length c.objects } form.1) columns forms
+  abbrev pub after_create_all : Movement ℕ K → List Texts → List (ℕ × List ℕ) → Movement ℕ K
+  after_create_all m [] forms = m
+  after_create_all m (c ∷ columns) [] = m
+  after_create_all m (c ∷ columns) (form ∷ forms) = after_create_all (after_create m record { column = c.column; group = length c.objects } form.1) columns forms
 
   -- the objects once these have those forms, all of which were placed before an old one was dropped
   abbrev pub AreReplaced : Movement ℕ K → List (ℕ × List ℕ) → Movement ℕ K → Type 0

@@ -9,7 +9,7 @@ use far_types::Refusal;
 use std::sync::Wait;
 
 /// Clears the way for another try of an edit of a stripe that was refused: an object that is away is fetched, and one is sent away
-/// where there is no room. Where that is refused but for memory, the next try may still go through.
+/// where there is no space. Where that is refused but for memory, the next try may still go through.
 ///
 /// Ends with `Memory` where a call is refused memory, and with `Turns` where no other try mends what the edit was refused for.
 pub(crate) fn clear_way<N: Naming, B: Site, S: FarStore, R: Wait>(

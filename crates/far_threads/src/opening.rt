@@ -91,7 +91,7 @@ fn planned<N: Naming + Send + Sync, R: Threads + Wait + Sync>(
 /// read, and the gauge is asked over all stripes. Then the table is closed. Each gauge has read just the rows that its session inserted,
 /// and the answer counts the rows of all sessions.
 ///
-/// A session whose edit meets an object that is away fetches it and tries again; where there is no room it sends an object away and
+/// A session whose edit meets an object that is away fetches it and tries again; where there is no space it sends an object away and
 /// tries again. Ends with `Memory` where a call is refused memory, and with `Turns` where an edit was tried 10,000 times or is refused
 /// for another reason, or if the closed stripes answer otherwise than they did before.
 pub fn run_sessions<R: Threads + Wait + Sync>(

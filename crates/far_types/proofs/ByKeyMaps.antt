@@ -145,9 +145,9 @@ inserted_new join old mid new k q more same_entries same_key absent set =
     ∙ (λ i. fin.insert (by_key (same_entries i)) (same_key i) more)
     ∙ ap (λ o. fin.insert (by_key old) q (with_more join more o)) (sym (nothing _ absent))
 
-together_more : {V : Type 0} (join : V → V → V) (o : Option V) (x : V) → merge_two join o (Some x) ≡ Some (with_more join x o)
-together_more join None x = refl
-together_more join (Some y) x = refl
+merged_more : {V : Type 0} (join : V → V → V) (o : Option V) (x : V) → merge_two join o (Some x) ≡ Some (with_more join x o)
+merged_more join None x = refl
+merged_more join (Some y) x = refl
 
 pub merge_two_none : {V : Type 0} (join : V → V → V) (o : Option V) → merge_two join o None ≡ o
 merge_two_none join None = refl
@@ -165,7 +165,7 @@ moved join m n k x none = same _ _ (λ q.
       | true ↦ λ h.
           let key = same_key q k h in
           ap (merge_two join (Some (with_more join x (fin.get m k)))) (ap (fin.get n) key ∙ none)
-          ∙ sym (together_more join (fin.get m k) x)
+          ∙ sym (merged_more join (fin.get m k) x)
           ∙ ap (λ y. merge_two join (fin.get m y) (Some x)) (sym key)
       | false ↦ λ h. refl
     ] refl
@@ -180,7 +180,7 @@ moved_out join m n k x none = same _ _ (λ q.
     ∙ elim (eq_by_cmp line_cmp q k) as (λ b. eq_by_cmp line_cmp q k ≡ b → merge_two join (fin.get m q) (cond b (Some x) (fin.get n q)) ≡ cond b (Some (with_more join x (fin.get (joined join m n) k))) (fin.get (joined join m n) q)) [
       | true ↦ λ h.
           ap (λ y. merge_two join (fin.get m y) (Some x)) (same_key q k h)
-          ∙ together_more join (fin.get m k) x
+          ∙ merged_more join (fin.get m k) x
           ∙ ap (λ o. Some (with_more join x o)) (sym (get-joined join m n k ∙ ap (merge_two join (fin.get m k)) none ∙ merge_two_none join (fin.get m k)))
       | false ↦ λ h. sym (get-joined join m n q)
     ] refl

@@ -13,7 +13,7 @@ use Rattle.far_types.specs.declared.answer.Answer.TheVariants as answer
 use Rattle.far_types.specs.Keys.{line_cmp}
 use Rattle.far_types.specs.KeyOrder.{line_total}
 use Rattle.far_types.specs.Pairs.{Pair, pairs_of}
-use Rattle.far_types.specs.Answers.{values_of, count_sum, span, or_zero, answer_of, answer_over}
+use Rattle.far_types.specs.Answers.{values_of, count_sum, min_max, or_zero, answer_of, answer_over}
 
 abbrev put_all : {V : Type 0} → List (Option Key × V) → List (Option Key × V)
 put_all [] = []
@@ -32,11 +32,11 @@ put_pairs f ps = put_all (map (λ (p : Pair). (p.0, f (values_of p.0 ps))) ps)
 
 abbrev computed_of : Fold → Option ℕ → List Pair → Answer
 computed_of fold.Totals k ps = answer.Totals (or_zero k (map (λ (e : Option Key × (ℕ × ℤ)). (e.0, e.1.0, e.1.1)) (put_pairs count_sum ps)))
-computed_of fold.Extrema k ps = answer.Extrema (map (λ (e : Option Key × (ℤ × ℤ)). (e.0, e.1.0, e.1.1)) (put_pairs span ps))
+computed_of fold.Extrema k ps = answer.Extrema (map (λ (e : Option Key × (ℤ × ℤ)). (e.0, e.1.0, e.1.1)) (put_pairs min_max ps))
 
 answer_of-computed : (f : Fold) (k : Option ℕ) (ps : List Pair) → answer_of f k ps ≡ computed_of f k ps
 answer_of-computed fold.Totals k ps = ap (λ es. answer.Totals (or_zero k (map (λ (e : Option Key × (ℕ × ℤ)). (e.0, e.1.0, e.1.1)) es))) (entries-from_entries (map (λ (p : Pair). (p.0, count_sum (values_of p.0 ps))) ps))
-answer_of-computed fold.Extrema k ps = ap (λ es. answer.Extrema (map (λ (e : Option Key × (ℤ × ℤ)). (e.0, e.1.0, e.1.1)) es)) (entries-from_entries (map (λ (p : Pair). (p.0, span (values_of p.0 ps))) ps))
+answer_of-computed fold.Extrema k ps = ap (λ es. answer.Extrema (map (λ (e : Option Key × (ℤ × ℤ)). (e.0, e.1.0, e.1.1)) es)) (entries-from_entries (map (λ (p : Pair). (p.0, min_max (values_of p.0 ps))) ps))
 
 abbrev pub computed : Spec → List (List Cell) → Answer
 computed spec rows = computed_of spec.fold spec.key (pairs_of spec rows)

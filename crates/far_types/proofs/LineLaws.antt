@@ -15,7 +15,7 @@ use Rattle.far_types.specs.declared.key.Key.{Key}
 use Rattle.far_types.specs.Keys.{line_cmp}
 use Rattle.far_types.specs.KeyOrder.{line_total}
 use Rattle.far_types.specs.Pairs.{Pair, PairsFit}
-use Rattle.far_types.specs.Answers.{ByKey, is_under, values_of, grouped, count_sum, int_sum, span, least, greatest, totals, total_lines, extrema, extrema_lines}
+use Rattle.far_types.specs.Answers.{ByKey, is_under, values_of, grouped, count_sum, int_sum, min_max, least, greatest, totals, total_lines, extrema, extrema_lines}
 use Rattle.far_types.proofs.Grouping.{own_key, if_any, get-grouped, values_of-cons}
 
 both : (a b : Bool) → T (a && b) → T a × T b
@@ -146,10 +146,10 @@ pub extrema_lines-ascend : (ps : List Pair) → IsStrictlySortedBy line_cmp (map
 extrema_lines-ascend ps = subst (IsStrictlySortedBy line_cmp) (sym (keys-lines (fin.entries (extrema ps)))) (keys-ascend (extrema ps))
 
 pub extrema_lines-occur : (ps : List Pair) (q : Option Key) → list_any (eq_by_cmp line_cmp q) (map (λ (line : Option Key × ℤ × ℤ). line.0) (extrema_lines (extrema ps))) ≡ list_any (is_under q) ps
-extrema_lines-occur ps q = ap (list_any (eq_by_cmp line_cmp q)) (keys-lines (fin.entries (extrema ps))) ∙ keys-occur span ps q
+extrema_lines-occur ps q = ap (list_any (eq_by_cmp line_cmp q)) (keys-lines (fin.entries (extrema ps))) ∙ keys-occur min_max ps q
 
 pub extrema_lines-least : (ps : List Pair) → All (λ (line : Option Key × ℤ × ℤ). line.1 ≡ least (values_of line.0 ps)) (extrema_lines (extrema ps))
-extrema_lines-least ps = lines-all _ (λ (line : Option Key × ℤ × ℤ). line.1 ≡ least (values_of line.0 ps)) (λ e is. ap (λ t. t.0) is.0) (fin.entries (extrema ps)) (entries-folded span ps)
+extrema_lines-least ps = lines-all _ (λ (line : Option Key × ℤ × ℤ). line.1 ≡ least (values_of line.0 ps)) (λ e is. ap (λ t. t.0) is.0) (fin.entries (extrema ps)) (entries-folded min_max ps)
 
 pub extrema_lines-greatest : (ps : List Pair) → All (λ (line : Option Key × ℤ × ℤ). line.2 ≡ greatest (values_of line.0 ps)) (extrema_lines (extrema ps))
-extrema_lines-greatest ps = lines-all _ (λ (line : Option Key × ℤ × ℤ). line.2 ≡ greatest (values_of line.0 ps)) (λ e is. ap (λ t. t.1) is.0) (fin.entries (extrema ps)) (entries-folded span ps)
+extrema_lines-greatest ps = lines-all _ (λ (line : Option Key × ℤ × ℤ). line.2 ≡ greatest (values_of line.0 ps)) (λ e is. ap (λ t. t.1) is.0) (fin.entries (extrema ps)) (entries-folded min_max ps)

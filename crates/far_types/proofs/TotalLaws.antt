@@ -9,13 +9,13 @@ use Rattle.far_types.specs.declared.key.Key.{Key}
 use Rattle.far_types.specs.Keys.{line_cmp}
 use Rattle.far_types.specs.KeyOrder.{line_total}
 use Rattle.far_types.specs.Pairs.{Pair}
-use Rattle.far_types.specs.Answers.{ByKey, values_of, count_sum, span, totals, extrema}
-use Rattle.far_types.specs.Effects.{raised, lowered, widened, with_pair, without_pair, without_value, with_observed, add_count_sums, join_spans, joined_totals, joined_extrema}
+use Rattle.far_types.specs.Answers.{ByKey, values_of, count_sum, min_max, totals, extrema}
+use Rattle.far_types.specs.Effects.{added, subtracted, widened, with_pair, without_pair, without_value, with_observed, add_count_sums, join_min_maxes, joined_totals, joined_extrema}
 use Rattle.far_types.proofs.Grouping.{same, same_key, own_key, if_any, get-grouped, grouped-cons, grouped-among, grouped-append}
-use Rattle.far_types.proofs.Values.{count_sum-cons, count_sum-among, count_sum-append, span-cons, span-among, span-append}
+use Rattle.far_types.proofs.Values.{count_sum-cons, count_sum-among, count_sum-append, min_max-cons, min_max-among, min_max-append}
 
 pub totals-cons : (p : Pair) (ps : List Pair) → totals (p ∷ ps) ≡ with_pair (totals ps) p
-totals-cons p ps = grouped-cons count_sum raised count_sum-cons p ps
+totals-cons p ps = grouped-cons count_sum added count_sum-cons p ps
 
 pub totals-among : (ps : List Pair) (p : Pair) (qs : List Pair) → totals (ps ++ p ∷ qs) ≡ totals (p ∷ (ps ++ qs))
 totals-among ps p qs = grouped-among count_sum count_sum-among ps p qs
@@ -24,13 +24,13 @@ pub totals-append : (ps qs : List Pair) → totals (ps ++ qs) ≡ joined_totals 
 totals-append ps qs = grouped-append count_sum add_count_sums count_sum-append ps qs
 
 pub extrema-cons : (p : Pair) (ps : List Pair) → extrema (p ∷ ps) ≡ with_observed (extrema ps) p
-extrema-cons p ps = grouped-cons span widened span-cons p ps
+extrema-cons p ps = grouped-cons min_max widened min_max-cons p ps
 
 pub extrema-among : (ps : List Pair) (p : Pair) (qs : List Pair) → extrema (ps ++ p ∷ qs) ≡ extrema (p ∷ (ps ++ qs))
-extrema-among ps p qs = grouped-among span span-among ps p qs
+extrema-among ps p qs = grouped-among min_max min_max-among ps p qs
 
 pub extrema-append : (ps qs : List Pair) → extrema (ps ++ qs) ≡ joined_extrema (extrema ps) (extrema qs)
-extrema-append ps qs = grouped-append span join_spans span-append ps qs
+extrema-append ps qs = grouped-append min_max join_min_maxes min_max-append ps qs
 
 -- what was inserted is taken out again
 insert-back : {V : Type 0} (m : ByKey V) (k : Option Key) (x : V) → fin.get m k ≡ None → fin.remove (fin.insert m k x) k ≡ m
@@ -51,8 +51,8 @@ insert-again m k x y some = same _ _ (λ q.
       | false ↦ λ h. refl
     ] refl)
 
-lowered-raised : (v : ℤ) (count_sum : ℕ × ℤ) → lowered v (raised v (Some count_sum)) ≡ count_sum
-lowered-raised v count_sum =
+subtracted-added : (v : ℤ) (count_sum : ℕ × ℤ) → subtracted v (added v (Some count_sum)) ≡ count_sum
+subtracted-added v count_sum =
     let count : count_sum.0 + 1 - 1 ≡ count_sum.0 = omega arith in
     let sum : (count_sum.1 +ℤ v) -ℤ v ≡ count_sum.1 = omega (arith, ints) in
     λ i. (count i, sum i)
@@ -61,14 +61,14 @@ not_last : (n : ℕ) → (suc n + 1 == 1) ≡ false
 not_last n = grind (arith, nat_tests)
 
 -- a value that was added last is taken back
-taken_back : (m : fin.FinMap line_cmp (ℕ × ℤ)) (k : Option Key) (v : ℤ) (vs : List ℤ) → fin.get m k ≡ if_any vs (count_sum vs) → without_value (fin.insert m k (raised v (fin.get m k))) k v (Some (raised v (fin.get m k))) ≡ m
+taken_back : (m : fin.FinMap line_cmp (ℕ × ℤ)) (k : Option Key) (v : ℤ) (vs : List ℤ) → fin.get m k ≡ if_any vs (count_sum vs) → without_value (fin.insert m k (added v (fin.get m k))) k v (Some (added v (fin.get m k))) ≡ m
 taken_back m k v [] h =
-    ap (λ o. without_value (fin.insert m k (raised v o)) k v (Some (raised v o))) h
+    ap (λ o. without_value (fin.insert m k (added v o)) k v (Some (added v o))) h
     ∙ insert-back m k (1, v) h
 taken_back m k v (w ∷ ws) h =
-    ap (λ o. without_value (fin.insert m k (raised v o)) k v (Some (raised v o))) h
-    ∙ ap (λ b. cond b (fin.remove (fin.insert m k (raised v (Some (count_sum (w ∷ ws))))) k) (fin.insert (fin.insert m k (raised v (Some (count_sum (w ∷ ws))))) k (lowered v (raised v (Some (count_sum (w ∷ ws))))))) (not_last (length ws))
-    ∙ ap (λ t. fin.insert (fin.insert m k (raised v (Some (count_sum (w ∷ ws))))) k t) (lowered-raised v (count_sum (w ∷ ws)))
+    ap (λ o. without_value (fin.insert m k (added v o)) k v (Some (added v o))) h
+    ∙ ap (λ b. cond b (fin.remove (fin.insert m k (added v (Some (count_sum (w ∷ ws))))) k) (fin.insert (fin.insert m k (added v (Some (count_sum (w ∷ ws))))) k (subtracted v (added v (Some (count_sum (w ∷ ws))))))) (not_last (length ws))
+    ∙ ap (λ t. fin.insert (fin.insert m k (added v (Some (count_sum (w ∷ ws))))) k t) (subtracted-added v (count_sum (w ∷ ws)))
     ∙ insert-again m k _ (count_sum (w ∷ ws)) h
 
 get_inserted : {V : Type 0} (m : ByKey V) (k : Option Key) (x : V) → fin.get (fin.insert m k x) k ≡ Some x
@@ -77,5 +77,5 @@ get_inserted m k x = fin.get-insert line_total m k x k ∙ ap (λ b. cond b (Som
 pub without_pair-totals : (p : Pair) (ps : List Pair) → without_pair (totals (p ∷ ps)) p ≡ totals ps
 without_pair-totals p ps =
     ap (λ m. without_pair m p) (totals-cons p ps)
-    ∙ ap (without_value (with_pair (totals ps) p) p.0 p.1) (get_inserted (totals ps) p.0 (raised p.1 (fin.get (totals ps) p.0)))
+    ∙ ap (without_value (with_pair (totals ps) p) p.0 p.1) (get_inserted (totals ps) p.0 (added p.1 (fin.get (totals ps) p.0)))
     ∙ taken_back (totals ps) p.0 p.1 (values_of p.0 ps) (get-grouped count_sum ps p.0)

@@ -3,20 +3,20 @@ use Rattle.std.proofs.Common.{◌≡◌, ◌+◌, List, [], ◌∷◌, ◌++◌,
 use Rattle.std.specs.Prelude.{ℤ, pos, ◌+ℤ◌}
 use Rattle.std.specs.Int.{int_min, int_max}
 use Rattle.std.proofs.lemmas.Int.{ints, int_min_is, int_max_is}
-use Rattle.far_types.specs.Answers.{int_sum, picked, count_sum, span}
-use Rattle.far_types.specs.Effects.{raised, widened, add_count_sums, join_spans}
+use Rattle.far_types.specs.Answers.{int_sum, picked, count_sum, min_max}
+use Rattle.far_types.specs.Effects.{added, widened, add_count_sums, join_min_maxes}
 use Rattle.far_types.proofs.Grouping.{if_any}
 
-pub count_sum-cons : (v : ℤ) (vs : List ℤ) → count_sum (v ∷ vs) ≡ raised v (if_any vs (count_sum vs))
+pub count_sum-cons : (v : ℤ) (vs : List ℤ) → count_sum (v ∷ vs) ≡ added v (if_any vs (count_sum vs))
 count_sum-cons v [] = let sum : v +ℤ pos 0 ≡ v = omega (arith, ints) in λ i. (1, sum i)
 count_sum-cons v (w ∷ ws) =
     let count : length (v ∷ w ∷ ws) ≡ length (w ∷ ws) + 1 = omega arith in
     let sum : v +ℤ int_sum (w ∷ ws) ≡ int_sum (w ∷ ws) +ℤ v = omega (arith, ints) in
     λ i. (count i, sum i)
 
-pub span-cons : (v : ℤ) (vs : List ℤ) → span (v ∷ vs) ≡ widened v (if_any vs (span vs))
-span-cons v [] = refl
-span-cons v (w ∷ ws) = refl
+pub min_max-cons : (v : ℤ) (vs : List ℤ) → min_max (v ∷ vs) ≡ widened v (if_any vs (min_max vs))
+min_max-cons v [] = refl
+min_max-cons v (w ∷ ws) = refl
 
 int_sum-among : (vs : List ℤ) (v : ℤ) (ws : List ℤ) → int_sum (vs ++ v ∷ ws) ≡ int_sum (v ∷ (vs ++ ws))
 int_sum-among [] v ws = refl
@@ -67,8 +67,8 @@ max-commutes a b = omega (arith, ints, int_max_is a b, int_max_is b a)
 max-associates : (a b c : ℤ) → int_max (int_max a b) c ≡ int_max a (int_max b c)
 max-associates a b c = omega (arith, ints, int_max_is a b, int_max_is b c, int_max_is (int_max a b) c, int_max_is a (int_max b c))
 
-pub span-among : (vs : List ℤ) (v : ℤ) (ws : List ℤ) → span (vs ++ v ∷ ws) ≡ span (v ∷ (vs ++ ws))
-span-among vs v ws i = (picked-among int_min min-commutes min-associates vs v ws i, picked-among int_max max-commutes max-associates vs v ws i)
+pub min_max-among : (vs : List ℤ) (v : ℤ) (ws : List ℤ) → min_max (vs ++ v ∷ ws) ≡ min_max (v ∷ (vs ++ ws))
+min_max-among vs v ws i = (picked-among int_min min-commutes min-associates vs v ws i, picked-among int_max max-commutes max-associates vs v ws i)
 
-pub span-append : (v : ℤ) (vs : List ℤ) (w : ℤ) (ws : List ℤ) → span ((v ∷ vs) ++ (w ∷ ws)) ≡ join_spans (span (v ∷ vs)) (span (w ∷ ws))
-span-append v vs w ws i = (picked-append int_min min-commutes min-associates v vs w ws i, picked-append int_max max-commutes max-associates v vs w ws i)
+pub min_max-append : (v : ℤ) (vs : List ℤ) (w : ℤ) (ws : List ℤ) → min_max ((v ∷ vs) ++ (w ∷ ws)) ≡ join_min_maxes (min_max (v ∷ vs)) (min_max (w ∷ ws))
+min_max-append v vs w ws i = (picked-append int_min min-commutes min-associates v vs w ws i, picked-append int_max max-commutes max-associates v vs w ws i)

@@ -53,8 +53,8 @@ abbrev pub count_sum : List ℤ → ℕ × ℤ
 count_sum values = (length values, int_sum values)
 
 -- the least value and the greatest
-abbrev pub span : List ℤ → ℤ × ℤ
-span values = (least values, greatest values)
+abbrev pub min_max : List ℤ → ℤ × ℤ
+min_max values = (least values, greatest values)
 
 -- by key, how many values there are and their sum
 abbrev pub Totals : Type 0
@@ -70,7 +70,7 @@ Extrema = ByKey (ℤ × ℤ)
 
 -- the extrema of some pairs
 abbrev pub extrema : List Pair → Extrema
-extrema pairs = grouped span pairs
+extrema pairs = grouped min_max pairs
 
 -- a line of totals: a key, a count and a sum
 abbrev pub TotalLines : Type 0

@@ -44,8 +44,8 @@ one_alone = edited (letters (pos 1) 54) (in_groups_of 1)
 
 -- a set may make an object too long, in a column of texts alone; a removed text keeps its bytes; a row group's text
 -- object is its own; and a text may be too long for any object
-abbrev pub RoomForTexts : Type 0
-RoomForTexts =
+abbrev pub SpaceForTexts : Type 0
+SpaceForTexts =
     (edit_refusal two_texts (letters (pos 3) 45) ≡ Some refusal.ChunkFull)
     × (edit_refusal two_texts (letters (pos 3) 44) ≡ None)
     × (edit_refusal one_text (edit.Set 0 1 (cell.Text (replicate 55 97))) ≡ Some refusal.ChunkFull)

@@ -8,27 +8,27 @@ use Rattle.far_types.specs.Pairs.{Pair}
 use Rattle.far_types.specs.Answers.{ByKey, Totals, Extrema}
 
 -- the count and the sum with one value more
-abbrev pub raised : ℤ → Option (ℕ × ℤ) → ℕ × ℤ
-raised value None = (1, value)
-raised value (Some count_sum) = (count_sum.0 + 1, count_sum.1 +ℤ value)
+abbrev pub added : ℤ → Option (ℕ × ℤ) → ℕ × ℤ
+added value None = (1, value)
+added value (Some count_sum) = (count_sum.0 + 1, count_sum.1 +ℤ value)
 
 -- the count and the sum with one value less, of which there is one at least
-abbrev pub lowered : ℤ → ℕ × ℤ → ℕ × ℤ
-lowered value count_sum = (count_sum.0 - 1, count_sum.1 -ℤ value)
+abbrev pub subtracted : ℤ → ℕ × ℤ → ℕ × ℤ
+subtracted value count_sum = (count_sum.0 - 1, count_sum.1 -ℤ value)
 
--- the span with one value more
+-- the min-max with one value more
 abbrev pub widened : ℤ → Option (ℤ × ℤ) → ℤ × ℤ
 widened value None = (value, value)
-widened value (Some span) = (int_min value span.0, int_max value span.1)
+widened value (Some min_max) = (int_min value min_max.0, int_max value min_max.1)
 
 -- totals with one pair more
 abbrev pub with_pair : Totals → Pair → Totals
-with_pair totals pair = fin.insert totals pair.0 (raised pair.1 (fin.get totals pair.0))
+with_pair totals pair = fin.insert totals pair.0 (added pair.1 (fin.get totals pair.0))
 
 -- totals with one value less under a key, where this stands there. A key whose last value goes is listed no more
 abbrev pub without_value : Totals → Option Key → ℤ → Option (ℕ × ℤ) → Totals
 without_value totals key value None = totals
-without_value totals key value (Some count_sum) = cond (count_sum.0 == 1) (fin.remove totals key) (fin.insert totals key (lowered value count_sum))
+without_value totals key value (Some count_sum) = cond (count_sum.0 == 1) (fin.remove totals key) (fin.insert totals key (subtracted value count_sum))
 
 -- totals with one pair less
 abbrev pub without_pair : Totals → Pair → Totals
@@ -54,8 +54,8 @@ abbrev pub add_count_sums : ℕ × ℤ → ℕ × ℤ → ℕ × ℤ
 add_count_sums one other = (one.0 + other.0, one.1 +ℤ other.1)
 
 -- the lesser of the least, and the greater of the greatest
-abbrev pub join_spans : ℤ × ℤ → ℤ × ℤ → ℤ × ℤ
-join_spans one other = (int_min one.0 other.0, int_max one.1 other.1)
+abbrev pub join_min_maxes : ℤ × ℤ → ℤ × ℤ → ℤ × ℤ
+join_min_maxes one other = (int_min one.0 other.0, int_max one.1 other.1)
 
 -- the totals of two together
 abbrev pub joined_totals : Totals → Totals → Totals
@@ -63,7 +63,7 @@ joined_totals one other = joined add_count_sums one other
 
 -- the extrema of two together
 abbrev pub joined_extrema : Extrema → Extrema → Extrema
-joined_extrema one other = joined join_spans one other
+joined_extrema one other = joined join_min_maxes one other
 
 -- how many pairs stand under a key
 abbrev pub count_in : Option (ℕ × ℤ) → ℕ

@@ -9,7 +9,7 @@ use Rattle.far_types.specs.Table.{Table, empty_table, rows_of}
 use Rattle.far_types.specs.Edits.{edited, edit_refusal}
 use Rattle.far_types.specs.Examples.{a}
 
--- a table of numbers with room for 2 places and 3 edits
+-- a table of numbers with space for 2 places and 3 edits
 abbrev pub small : Table
 small = empty_table (kind.Int ∷ []) (record { group = 4; places = 2; edits = 3; int_segments = 1; int_size = 4; text_segments = 1; text_size = 64 })
 

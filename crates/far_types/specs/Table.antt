@@ -19,7 +19,7 @@ pub record Place : Type 0 where
 pub record Registered : Type 0 where
   pub spec : Spec
   pub registration : ℕ
-  pub unbuilt : List Bool
+  pub pending : List Bool
 
 -- the places, how many edits and registrations were accepted, and the aggregates by number, of which there are 32
 pub record Table : Type 0 where
@@ -65,11 +65,11 @@ all_pending size places = replicate (groups size (length places)) true
 
 -- whether a row group is still pending
 abbrev pub is_pending : List Bool → ℕ → Bool
-is_pending unbuilt g = slice_index_or unbuilt g false
+is_pending pending g = slice_index_or pending g false
 
 -- how many row groups are still pending
 abbrev pub left : List Bool → ℕ
-left unbuilt = count_by (λ flag. flag) unbuilt
+left pending = count_by (λ flag. flag) pending
 
 -- what an aggregate answers over the table's rows as they are now
 abbrev pub answer_now : Spec → Table → Answer

@@ -13,7 +13,7 @@ ghost use Rattle.far_types.specs.Effects.{with_pair, without_pair, with_observed
 ghost use Rattle.far_types.specs.Examples.{OverNoRows, TotalsByKey, ExactSum, LeastAndGreatest, Filtered, WithMissing};
 ghost use Rattle.far_types.specs.RefusalExamples.{UsedUp, FirstRefusal, OverLength};
 ghost use Rattle.far_types.specs.FilterExamples.{Comparisons, TestsOfTexts, AllowedAggregates};
-ghost use Rattle.far_types.specs.EditExamples.{WhatEditsDo, RoomForTexts, OrderOfRefusals, RowGroups};
+ghost use Rattle.far_types.specs.EditExamples.{WhatEditsDo, SpaceForTexts, OrderOfRefusals, RowGroups};
 
 /// What the rows of a table give to an aggregate is what its places give, in order.
 pub fn pairs_follow_the_places()
@@ -73,7 +73,7 @@ pub fn worked_examples()
     ensures tests_of_texts { TestsOfTexts }
     ensures allowed_aggregates { AllowedAggregates }
     ensures what_edits_do { WhatEditsDo }
-    ensures room_for_texts { RoomForTexts }
+    ensures space_for_texts { SpaceForTexts }
     ensures order_of_refusals { OrderOfRefusals }
     ensures row_groups { RowGroups }
 {}

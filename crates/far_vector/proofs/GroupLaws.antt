@@ -10,7 +10,7 @@ use Rattle.far_vector.specs.Effects.{next_group, after_unpush}
 use Rattle.far_vector.proofs.PlacesLaws.{list_at, places-append, places-kept, places-split, before-disjoint, length-before}
 use Rattle.far_vector.proofs.VectorLaws.{length-all}
 use Rattle.far_vector.proofs.WritingLaws.{take-after, drop-after}
-use Rattle.far_vector.proofs.Apart.{vector-kept, elements-kept, untouched}
+use Rattle.far_vector.proofs.Disjoint.{vector-kept, elements-kept, untouched}
 
 module _ {X : Type 0} (v : Vector X) (o : ℕ) where
   -- a vector with the first element of a row group more, whose object is o
@@ -24,7 +24,7 @@ module _ {X : Type 0} (v : Vector X) (o : ℕ) where
         some = shaped.some;
         short = shaped.short;
         few = omega (arith, long, few);
-        rising = all_pairs_push (λ p q. p < q) v.objects o shaped.rising below;
+        sorted = all_pairs_push (λ p q. p < q) v.objects o shaped.sorted below;
         enough = rw long (omega (arith, full, shaped.some));
         needed = rw long (omega (arith, full));
       }
@@ -36,9 +36,9 @@ module _ {X : Type 0} (v : Vector X) (o : ℕ) where
       ap (λ n. get_or (v.objects ++ o ∷ []) n 0) g ∙ get_or_at v.objects o [] 0 (length v.objects) refl
 
 -- the list in which a row group is laid out, with its first element
-pub laid-first : {X : Type 0} (next : List X) (x default_value : X) (size : ℕ) → 0 < size → length next ≡ size → drop 1 next ≡ replicate (size - 1) default_value → set next 0 x ≡ x ∷ replicate (size - 1) default_value
-laid-first [] x default_value size some long rest = absurd (omega (arith, some, long))
-laid-first (y ∷ next) x default_value size some long rest = ap (λ l. x ∷ l) rest
+pub layout-first : {X : Type 0} (next : List X) (x default_value : X) (size : ℕ) → 0 < size → length next ≡ size → drop 1 next ≡ replicate (size - 1) default_value → set next 0 x ≡ x ∷ replicate (size - 1) default_value
+layout-first [] x default_value size some long rest = absurd (omega (arith, some, long))
+layout-first (y ∷ next) x default_value size some long rest = ap (λ l. x ∷ l) rest
 
 module _ {X : Type 0} (old new : ℕ → Option (List X)) (v : Vector X) (shaped : IsShaped v) (is : IsVector old v) (full : v.len ≡ length v.objects * v.size) (o : ℕ) (others : KeepsOthers old new o) (x : X) (has : new o ≡ Some (next_group v x)) (below : All (λ p. p < o) v.objects) where
   same-lists : All (λ p. new p ≡ old p) v.objects
@@ -83,7 +83,7 @@ module _ {X : Type 0} (old new : ℕ → Option (List X)) (v : Vector X) (shaped
   kept-long = length-take-le (length v.objects - 1) v.objects (omega arith)
 
   kept-lists : All (λ p. new p ≡ old p) kept
-  kept-lists k d within = others (get_or kept k d) (before-disjoint v.objects shaped.rising (length v.objects - 1) o last k d within)
+  kept-lists k d within = others (get_or kept k d) (before-disjoint v.objects shaped.sorted (length v.objects - 1) o last k d within)
 
   used-long : length (places old kept) ≡ v.len - 1
   used-long = length-before old v.size v.objects is.whole (length v.objects - 1) o last ∙ (let e : (length v.objects - 1) * v.size ≡ v.len - 1 = omega (arith, alone) in e)
@@ -117,7 +117,7 @@ shaped-unpushed v shaped some alone =
       some = shaped.some;
       short = shaped.short;
       few = omega (arith, long, shaped.few);
-      rising = λ i j d less within. rw (get_or-take (length v.objects - 1) v.objects i d (omega (arith, less, within, long)), get_or-take (length v.objects - 1) v.objects j d (omega (arith, within, long))) (shaped.rising i j d less (omega (arith, within, long)));
+      sorted = λ i j d less within. rw (get_or-take (length v.objects - 1) v.objects i d (omega (arith, less, within, long)), get_or-take (length v.objects - 1) v.objects j d (omega (arith, within, long))) (shaped.sorted i j d less (omega (arith, within, long)));
       enough = rw long (omega (arith, alone));
       needed = rw long (omega (arith, alone, shaped.some));
     }

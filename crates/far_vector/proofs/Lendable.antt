@@ -8,7 +8,7 @@ use Rattle.far_types.specs.FirstOf.{first_of}
 use Rattle.far_scopes.specs.Movement.{Movement, is_local}
 use Rattle.far_scopes.specs.Refusing.{absent, first_absent}
 use Rattle.far_vector.specs.Vector.{Vector, IsShaped, object_at}
-use Rattle.far_vector.specs.Pieces.{first_touched, touched_count}
+use Rattle.far_vector.specs.Pieces.{first_overlapped, overlapped_count}
 use Rattle.far_vector.specs.Refusing.{no_range, crosses, unless_empty, part_refusal, pieces_refusal}
 use Rattle.far_vector.proofs.VectorLaws.{group-within}
 use Rattle.far_vector.proofs.PieceLaws.{g-low, further, one-group, count-step, touched-last, next-group, next-count}
@@ -35,8 +35,8 @@ in-range : {X : Type 0} (v : Vector X) (from to : ℕ) → from ≤ to → to �
 in-range v from to low within = or_from (nat_lt to from) (nat_lt v.len to) (le-ltb to from low) (le-ltb v.len to within)
 
 module _ {X K : Type 0} (m : Movement X K) (v : Vector X) (from to : ℕ) (free : pieces_refusal m v from to ≡ None) where
-  parts : (first_of (no_range v from to ∷ []) ≡ None) × (first_absent m (take (touched_count v.size from to) (drop (first_touched v.size from) v.objects)) ≡ None)
-  parts = option_or-none (first_of (no_range v from to ∷ [])) (first_absent m (take (touched_count v.size from to) (drop (first_touched v.size from) v.objects))) free
+  parts : (first_of (no_range v from to ∷ []) ≡ None) × (first_absent m (take (overlapped_count v.size from to) (drop (first_overlapped v.size from) v.objects)) ≡ None)
+  parts = option_or-none (first_of (no_range v from to ∷ [])) (first_absent m (take (overlapped_count v.size from to) (drop (first_overlapped v.size from) v.objects))) free
 
   pub range-free : (from ≤ to) × (to ≤ v.len)
   range-free =
@@ -50,7 +50,7 @@ module _ {X K : Type 0} (m : Movement X K) (v : Vector X) (from to : ℕ) (free 
     abbrev left : ℕ
     left = (to - 1) / v.size - from / v.size
 
-    listed : take (touched_count v.size from to) (drop (from / v.size) v.objects) ≡ object_at v from ∷ take left (drop (from / v.size + 1) v.objects)
+    listed : take (overlapped_count v.size from to) (drop (from / v.size) v.objects) ≡ object_at v from ∷ take left (drop (from / v.size + 1) v.objects)
     listed = rw (count-step v.size shaped.some from to more, drop_more v.objects (from / v.size) 0 below) refl
 
     both : (is_local m (object_at v from) ≡ true) × (first_absent m (take left (drop (from / v.size + 1) v.objects)) ≡ None)
@@ -69,7 +69,7 @@ module _ {X K : Type 0} (m : Movement X K) (v : Vector X) (from to : ℕ) (free 
     -- and what is left after it
     pub next-free : pieces_refusal m v (min to ((from / v.size + 1) * v.size)) to ≡ None
     next-free =
-        one-free (no_range v (min to ((from / v.size + 1) * v.size)) to).0 (no_range v from to).1 (first_absent m (take (touched_count v.size (min to ((from / v.size + 1) * v.size)) to) (drop (first_touched v.size (min to ((from / v.size + 1) * v.size))) v.objects)))
+        one-free (no_range v (min to ((from / v.size + 1) * v.size)) to).0 (no_range v from to).1 (first_absent m (take (overlapped_count v.size (min to ((from / v.size + 1) * v.size)) to) (drop (first_overlapped v.size (min to ((from / v.size + 1) * v.size))) v.objects)))
         (in-range v (min to ((from / v.size + 1) * v.size)) to (omega arith) range-free.1)
         (elim (cases_lt (from / v.size) ((to - 1) / v.size)) [
           | inl later ↦ rw (next-count v.size shaped.some from to more later, next-group v.size shaped.some from to more later) both.1

@@ -2,7 +2,7 @@ pub mod PlacesLaws
 pub mod VectorLaws
 pub mod WritingLaws
 pub mod GroupLaws
-pub mod Apart
+pub mod Disjoint
 pub mod InUse
 pub mod LastGroup
 pub mod Checked

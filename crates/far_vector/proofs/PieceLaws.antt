@@ -8,7 +8,7 @@ use Rattle.std.proofs.lemmas.List.{length-map, drop-drop}
 use Rattle.std.proofs.lemmas.List.Elements.{All-cons, All-nil}
 use Rattle.std.proofs.lemmas.List.Edits.{between_none, length-between}
 use Rattle.std.proofs.Math.Seq.{take-add}
-use Rattle.far_vector.specs.Pieces.{first_touched, touched_count, touched, piece, pieces_of}
+use Rattle.far_vector.specs.Pieces.{first_overlapped, overlapped_count, touched, piece, pieces_of}
 
 -- a row group is found again from its first place, and from its last
 group-of : (size g a n : ℕ) → a < size → n ≡ g * size + a → n / size ≡ g
@@ -24,8 +24,8 @@ map-range f h a zero same = refl
 map-range f h a (suc n) same = rw (same a (omega arith)) (ap (λ l. h a ∷ l) (map-range f h (a + 1) n (λ k above. same k (omega (arith, above)))))
 
 module _ {X : Type 0} (xs : List X) (size : ℕ) where
-  pub length-pieces : (from to : ℕ) → length (pieces_of xs size from to) ≡ touched_count size from to
-  length-pieces from to = length-map (touched size from to) (piece xs size from to) ∙ length-range (first_touched size from) (touched_count size from to)
+  pub length-pieces : (from to : ℕ) → length (pieces_of xs size from to) ≡ overlapped_count size from to
+  length-pieces from to = length-map (touched size from to) (piece xs size from to) ∙ length-range (first_overlapped size from) (overlapped_count size from to)
 
 module _ (size : ℕ) (some : 0 < size) (from to : ℕ) (more : from < to) where
   abbrev pub g : ℕ
@@ -55,7 +55,7 @@ module _ (size : ℕ) (some : 0 < size) (from to : ℕ) (more : from < to) where
   pub one-group : from / size ≡ (end - 1) / size
   one-group = sym (group-of size g (end - 1 - g * size) (end - 1) (omega (arith, here, below, more)) (omega (arith, here, below, more)))
 
-  pub count : touched_count size from to ≡ (to - 1) / size + 1 - g
+  pub count : overlapped_count size from to ≡ (to - 1) / size + 1 - g
   count = rw (lt-ltb from to more) refl
 
   abbrev pub rest : ℕ
@@ -64,7 +64,7 @@ module _ (size : ℕ) (some : 0 < size) (from to : ℕ) (more : from < to) where
   pub g-low : g ≤ (to - 1) / size
   g-low = le-div g (to - 1) size some (omega (arith, here, more))
 
-  pub count-step : touched_count size from to ≡ suc rest
+  pub count-step : overlapped_count size from to ≡ suc rest
   count-step = count ∙ (let e : (to - 1) / size + 1 - g ≡ suc rest = omega (arith, g-low) in e)
 
   -- the row groups of a part are its first and those of what is left
@@ -87,7 +87,7 @@ module _ (size : ℕ) (some : 0 < size) (from to : ℕ) (more : from < to) where
     pub end-before : end < to
     end-before = omega (arith, end-row, rows, last, more)
 
-    pub next-count : touched_count size end to ≡ rest
+    pub next-count : overlapped_count size end to ≡ rest
     next-count = rw (lt-ltb end to end-before, next-group) (omega arith)
 
 module _ {X : Type 0} (xs : List X) (size : ℕ) (some : 0 < size) where

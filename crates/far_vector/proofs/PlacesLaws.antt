@@ -54,14 +54,14 @@ module _ {X : Type 0} where
       let right : drop j (before ++ (xs ++ after)) ≡ drop e xs ++ after = rw to (drop-append-add before (xs ++ after) e ∙ drop-append-le e xs after inside) in
       rw (left, right) (simp append_assoc)
 
-module _ (objects : List ℕ) (rising : AllPairs (λ o p. o < p) objects) (g o : ℕ) (is : slice_get objects g ≡ Some o) where
+module _ (objects : List ℕ) (sorted : AllPairs (λ o p. o < p) objects) (g o : ℕ) (is : slice_get objects g ≡ Some o) where
   within : g < length objects
   within = slice_get_within objects g o is
 
   pub before-disjoint : All (λ p. p ≢ o) (take g objects)
   before-disjoint k d below same =
       let short : length (take g objects) ≡ g = length-take-le g objects (omega (arith, within)) in
-      let less = rising k g d (omega arith) within in
+      let less = sorted k g d (omega arith) within in
       let here = get_or_from_slice_get objects g o d is in
       let there = get_or-take g objects k d (omega arith) in
       omega (arith, less, here, there, same)
@@ -69,18 +69,18 @@ module _ (objects : List ℕ) (rising : AllPairs (λ o p. o < p) objects) (g o :
   pub after-disjoint : All (λ p. p ≢ o) (drop (suc g) objects)
   after-disjoint k d below same =
       let left = length-drop (suc g) objects in
-      let less = rising g (suc g + k) d (omega arith) (omega arith) in
+      let less = sorted g (suc g + k) d (omega arith) (omega arith) in
       let here = get_or_from_slice_get objects g o d is in
       let there = get_or-drop (suc g) objects k d in
       omega (arith, less, here, there, same)
 
-module _ {X : Type 0} (old new : ℕ → Option (List X)) (objects : List ℕ) (rising : AllPairs (λ o p. o < p) objects) (g o : ℕ) (is : slice_get objects g ≡ Some o) (others : KeepsOthers old new o) where
+module _ {X : Type 0} (old new : ℕ → Option (List X)) (objects : List ℕ) (sorted : AllPairs (λ o p. o < p) objects) (g o : ℕ) (is : slice_get objects g ≡ Some o) (others : KeepsOthers old new o) where
   -- one object's list changes: the places before and after its own are what they were
   pub places-changed : places new objects ≡ places old (take g objects) ++ (list_at new o ++ places old (drop (suc g) objects))
   places-changed =
       places-split new objects g o is
-      ∙ ap (λ l. l ++ (list_at new o ++ places new (drop (suc g) objects))) (places-kept old new (take g objects) (λ k d below. others (get_or (take g objects) k d) (before-disjoint objects rising g o is k d below)))
-      ∙ ap (λ l. places old (take g objects) ++ (list_at new o ++ l)) (places-kept old new (drop (suc g) objects) (λ k d below. others (get_or (drop (suc g) objects) k d) (after-disjoint objects rising g o is k d below)))
+      ∙ ap (λ l. l ++ (list_at new o ++ places new (drop (suc g) objects))) (places-kept old new (take g objects) (λ k d below. others (get_or (take g objects) k d) (before-disjoint objects sorted g o is k d below)))
+      ∙ ap (λ l. places old (take g objects) ++ (list_at new o ++ l)) (places-kept old new (drop (suc g) objects) (λ k d below. others (get_or (drop (suc g) objects) k d) (after-disjoint objects sorted g o is k d below)))
 
 module _ {X : Type 0} (lists : ℕ → Option (List X)) (size : ℕ) (objects : List ℕ) (whole : AreWhole lists size objects) (g o : ℕ) (is : slice_get objects g ≡ Some o) where
   own : IsSomeAnd (lists o) (λ list. length list ≡ size)
@@ -95,13 +95,13 @@ module _ {X : Type 0} (lists : ℕ → Option (List X)) (size : ℕ) (objects : 
       let short : length (take g objects) ≡ g = length-take-le g objects (omega (arith, below)) in
       length-places lists size (take g objects) (All-take (λ p. IsSomeAnd (lists p) (λ list. length list ≡ size)) g objects whole) ∙ ap (λ n. n * size) short
 
-module _ {X : Type 0} (old new : ℕ → Option (List X)) (size : ℕ) (objects : List ℕ) (rising : AllPairs (λ o p. o < p) objects) (whole : AreWhole old size objects) (g o : ℕ) (is : slice_get objects g ≡ Some o) (others : KeepsOthers old new o) where
+module _ {X : Type 0} (old new : ℕ → Option (List X)) (size : ℕ) (objects : List ℕ) (sorted : AllPairs (λ o p. o < p) objects) (whole : AreWhole old size objects) (g o : ℕ) (is : slice_get objects g ≡ Some o) (others : KeepsOthers old new o) where
   -- a range is written into one object's list: so it is into the places
   pub range-places : (a n : ℕ) (range : List X) → length range ≡ n → a + n ≤ size → list_at new o ≡ take a (list_at old o) ++ (range ++ drop (a + n) (list_at old o)) → (i : ℕ) → i ≡ g * size + a → places new objects ≡ take i (places old objects) ++ (range ++ drop (i + length range) (places old objects))
   range-places a n range long fits now i at =
       let same : length (list_at old o) ≡ size = length-own old size objects whole g o is in
       let front : length (places old (take g objects)) ≡ g * size = length-before old size objects whole g o is in
-      places-changed old new objects rising g o is others
+      places-changed old new objects sorted g o is others
       ∙ ap (λ l. places old (take g objects) ++ (l ++ places old (drop (suc g) objects))) now
       ∙ spliced (places old (take g objects)) (list_at old o) (places old (drop (suc g) objects)) range a (a + n) i (i + length range) (omega (arith, same, fits)) (omega (arith, same, fits)) (omega (arith, front, at)) (omega (arith, front, at, long))
       ∙ ap (λ l. take i l ++ (range ++ drop (i + length range) l)) (sym (places-split old objects g o is))

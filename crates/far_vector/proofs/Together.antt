@@ -5,7 +5,7 @@ use Rattle.std.proofs.lemmas.List.Elements.{All-push}
 use Rattle.std.proofs.lemmas.List.Quantifiers.{all_pairs_push}
 use Rattle.far_vector.specs.Vector.{Vector, IsVector, AreDisjoint, elements}
 use Rattle.far_vector.specs.Vectors.{AreVectors, ChangesVector}
-use Rattle.far_vector.proofs.Apart.{vector-kept, elements-kept}
+use Rattle.far_vector.proofs.Disjoint.{vector-kept, elements-kept}
 use Rattle.far_laws.proofs.Several.{each-after, disjoint-after, other, was-all_disjoint}
 
 module _ {X : Type 0} where

@@ -61,7 +61,7 @@ module _ {X : Type 0} (old new : ℕ → Option (List X)) (v : Vector X) (shaped
           | inl same ↦ rw (same, has) (length-written list range (i % v.size) v.size long fits)
           | inr ne ↦ rw (others (get_or v.objects k d) ne) (is.whole k d within)
         ];
-        places = range-places old new v.size v.objects shaped.rising is.whole (i / v.size) o (object-there v shaped i there) others (i % v.size) (length range) range refl fits (rw (has, had) refl) i (place-is v shaped i there);
+        places = range-places old new v.size v.objects shaped.sorted is.whole (i / v.size) o (object-there v shaped i there) others (i % v.size) (length range) range refl fits (rw (has, had) refl) i (place-is v shaped i there);
       }
 
   module _ (range : List X) (writes : WritesPlaces old new v i range) where
@@ -83,7 +83,7 @@ pub one-written : {X : Type 0} (xs : List X) (i : ℕ) (x : X) → i < length xs
 one-written xs i x within = let e : i + length (x ∷ []) ≡ suc i = omega arith in rw e (sym (set_split xs i x within))
 
 -- an element that is written into the first place that is not yet used
-module _ {X : Type 0} (old new : ℕ → Option (List X)) (v : Vector X) (shaped : IsShaped v) (is : IsVector old v) (x : X) (writes : WritesPlaces old new v v.len (x ∷ [])) (room : v.len < length v.objects * v.size) where
+module _ {X : Type 0} (old new : ℕ → Option (List X)) (v : Vector X) (shaped : IsShaped v) (is : IsVector old v) (x : X) (writes : WritesPlaces old new v v.len (x ∷ [])) (space : v.len < length v.objects * v.size) where
   abbrev filled : Vector X
   filled = record v { len = v.len + 1 }
 
@@ -109,4 +109,4 @@ module _ {X : Type 0} (old new : ℕ → Option (List X)) (v : Vector X) (shaped
   }
 
   pub shaped-filled : IsShaped filled
-  shaped-filled = record { some = shaped.some; short = shaped.short; few = shaped.few; rising = shaped.rising; enough = omega (arith, room); needed = omega (arith, shaped.needed) }
+  shaped-filled = record { some = shaped.some; short = shaped.short; few = shaped.few; sorted = shaped.sorted; enough = omega (arith, space); needed = omega (arith, shaped.needed) }

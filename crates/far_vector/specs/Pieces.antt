@@ -3,14 +3,14 @@ use Rattle.std.specs.Prelude.{ℕ, ◌+◌, ◌-◌, ◌*◌, ◌/◌, if◌then
 use Rattle.std.specs.List.{range_with_len}
 
 -- the row groups of some size that hold places `from` up to `to`: the first, and how many
-abbrev pub first_touched : ℕ → ℕ → ℕ
-first_touched size from = from / size
+abbrev pub first_overlapped : ℕ → ℕ → ℕ
+first_overlapped size from = from / size
 
-abbrev pub touched_count : ℕ → ℕ → ℕ → ℕ
-touched_count size from to = if nat_lt from to then (to - 1) / size + 1 - from / size else 0
+abbrev pub overlapped_count : ℕ → ℕ → ℕ → ℕ
+overlapped_count size from to = if nat_lt from to then (to - 1) / size + 1 - from / size else 0
 
 abbrev pub touched : ℕ → ℕ → ℕ → List ℕ
-touched size from to = range_with_len (first_touched size from) (touched_count size from to)
+touched size from to = range_with_len (first_overlapped size from) (overlapped_count size from to)
 
 module _ {X : Type 0} where
   -- what row group g has of the elements `from` up to `to`

@@ -8,7 +8,7 @@ use Rattle.far_scopes.specs.Movement.{Movement, list_of}
 use Rattle.far_scopes.specs.Refusing.{absent, written_out, no_space, write_refusal, first_absent}
 use Rattle.far_vector.specs.Vector.{Vector, object_at, IsVector}
 use Rattle.far_vector.specs.Effects.{is_full}
-use Rattle.far_vector.specs.Pieces.{first_touched, touched_count}
+use Rattle.far_vector.specs.Pieces.{first_overlapped, overlapped_count}
 
 -- whether there is no place from one up to the other
 abbrev pub is_empty : ℕ → ℕ → Bool
@@ -48,11 +48,11 @@ module _ {X K : Type 0} (m : Movement X K) (v : Vector X) where
   -- the refusal that names the first touched row group whose object is away
   abbrev pub pieces_refusal : ℕ → ℕ → Option Refusal
   pieces_refusal from to =
-      option_or (first_of (no_range v from to ∷ [])) (first_absent m (take (touched_count v.size from to) (drop (first_touched v.size from) v.objects)))
+      option_or (first_of (no_range v from to ∷ [])) (first_absent m (take (overlapped_count v.size from to) (drop (first_overlapped v.size from) v.objects)))
 
-  -- an element that begins a row group needs room, another a row group that may be written
+  -- an element that begins a row group needs space, another a row group that may be written
   abbrev pub push_refusal : Option Refusal
-  push_refusal = if is_full v then first_of (no_space m (length m.entries) v.size ∷ []) else write_refusal m (object_at v v.len)
+  push_refusal = if is_full v then first_of (no_space m (length m.records) v.size ∷ []) else write_refusal m (object_at v v.len)
 
 -- the elements `from` up to `to` are there, and their objects are local
 pub record IsLendable {X K : Type 0} (meaning : List ℕ → List X) (content : K → List ℕ) (m : Movement X K) (v : Vector X) (from to : ℕ) : Type 0 where

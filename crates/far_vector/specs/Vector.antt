@@ -18,7 +18,7 @@ module _ {X : Type 0} where
     pub some : 0 < v.size
     pub short : v.size < 2 ^ 32
     pub few : length v.objects ≤ 2 ^ 28
-    pub rising : AllPairs (λ o p. o < p) v.objects
+    pub sorted : AllPairs (λ o p. o < p) v.objects
     pub enough : v.len ≤ length v.objects * v.size
     pub needed : length v.objects * v.size < v.len + v.size
 

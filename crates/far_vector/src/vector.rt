@@ -119,7 +119,7 @@ impl<T: Elem> FarVector<T> {
         ensures object { result.object ≡ object_at self.now i }
         ensures index { result.index ≡ i % self.now.size }
         ensures below { result.index < self.now.size }
-        ensures made { result.object < length objects.now.entries }
+        ensures made { result.object < length objects.now.records }
         ensures list { IsSomeAnd (list_of T.meaning S.content objects.now result.object) (λ list. length list ≡ self.now.size) }
         ensures shaped { IsShaped self.now }
     {
@@ -136,7 +136,7 @@ impl<T: Elem> FarVector<T> {
         ensures object { result.object ≡ object_at self.now self.now.len }
         ensures index { result.index ≡ self.now.len % self.now.size }
         ensures within { self.now.len < length self.now.objects * self.now.size }
-        ensures made { result.object < length objects.now.entries }
+        ensures made { result.object < length objects.now.records }
         ensures list { IsSomeAnd (list_of T.meaning S.content objects.now result.object) (λ list. length list ≡ self.now.size) }
     {
         self.position_in(objects, self.objects.len() - 1, self.len)
@@ -157,7 +157,7 @@ impl<T: Elem> FarVector<T> {
         ensures object { result.object ≡ object_at self.now i }
         ensures index { result.index ≡ i % self.now.size }
         ensures below { result.index < self.now.size }
-        ensures made { result.object < length objects.now.entries }
+        ensures made { result.object < length objects.now.records }
         ensures list { IsSomeAnd (list_of T.meaning S.content objects.now result.object) (λ list. length list ≡ self.now.size) }
         ensures shaped { IsShaped self.now }
     {

@@ -41,13 +41,13 @@ fn observes_all(alloc: Global, group: &mut GroupExtrema) -> Result<bool, Refusal
 
 /// Whether a row and rows from -6 to 3 have the extrema of all.
 fn observes_rows_at_once(alloc: Global, group: &mut GroupExtrema) -> Result<bool, Refusal> {
-    group.observe(None, 5)?;
+    group.see(None, 5)?;
     group.observe_rows(None, -6, 3)?;
     ONE_LINE.are_of(group.answer(alloc))
 }
 
 #[test]
-fn rows_are_seen_one_by_one_or_folded(rt: HostRuntime) {
+fn rows_are_observed_one_by_one_or_folded(rt: HostRuntime) {
     let alloc = rt.alloc();
     let one_by_one = observes_all(alloc, &mut GroupExtrema::new(alloc));
     must_be(&rt, one_by_one, Ok(true));
@@ -60,13 +60,13 @@ fn has_lines_with(
     alloc: Global,
     group: &mut GroupExtrema,
     key: &Option<Key>,
-    span: Option<(i64, i64)>,
+    min_max: Option<(i64, i64)>,
     lines: Lines<'_>,
 ) -> Result<bool, Refusal> {
-    if group.span(key).is_none() {
+    if group.min_max(key).is_none() {
         return Ok(false);
     }
-    group.put_span(key, span);
+    group.put_min_max(key, min_max);
     lines.are_of(group.answer(alloc))
 }
 
@@ -74,7 +74,7 @@ static ONE_LEFT: Lines<'static> = Lines::Extrema(&[(Name::Nobody, 5, 5), (Name::
 
 static NONE_LEFT: Lines<'static> = Lines::Extrema(&[(Name::Nobody, 5, 5)]);
 
-/// Whether a key has the span of the row that is left, and no line once that is gone too.
+/// Whether a key has the min-max of the row that is left, and no line once that is gone too.
 fn loses_its_rows(
     alloc: Global,
     group: &mut GroupExtrema,

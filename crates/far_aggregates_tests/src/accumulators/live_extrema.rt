@@ -178,7 +178,7 @@ impl RowsLeft for Left {
 
     ghost extremes = { λ left. left.0 };
 
-    fn span(&self) -> Option<MinMax> {
+    fn min_max(&self) -> Option<MinMax> {
         self.0
     }
 }
@@ -186,45 +186,45 @@ impl RowsLeft for Left {
 /// Whether what stands under a key of row group 1 follows two rows, of which the second goes, is put to another and follows
 /// one more.
 fn follows_rows(live: &mut LiveExtrema, key: &Option<Key>) -> Result<bool, Refusal> {
-    live.reserve(1);
-    let before = live.span(1, key);
+    live.make_room(1);
+    let before = live.min_max(1, key);
     live.observe_under(1, key, 4)?;
-    let Some(span) = live.span(1, key) else {
+    let Some(min_max) = live.min_max(1, key) else {
         return Ok(false);
     };
-    live.observe_over(1, key, 9, span);
-    if live.span(1, key) != Some((4, 9)) {
+    live.observe_over(1, key, 9, min_max);
+    if live.min_max(1, key) != Some((4, 9)) {
         return Ok(false);
     }
     let left = live.shrink(1, key, 9, &Left(Some((4, 4))));
-    if left != Some((4, 4)) || live.span(1, key) != Some((4, 4)) {
+    if left != Some((4, 4)) || live.min_max(1, key) != Some((4, 4)) {
         return Ok(false);
     }
-    live.put_span(1, key, Some((3, 5)));
+    live.put_min_max(1, key, Some((3, 5)));
     live.observe_under(1, key, -1)?;
-    Ok(before.is_none() && live.span(1, key) == Some((-1, 5)))
+    Ok(before.is_none() && live.min_max(1, key) == Some((-1, 5)))
 }
 
-/// Whether a span follows rows in its own row group, and the row groups around it have nothing under its key.
+/// Whether a min-max follows rows in its own row group, and the row groups around it have nothing under its key.
 fn follows_rows_alone(live: &mut LiveExtrema, key: &Option<Key>) -> Result<bool, Refusal> {
     let follows = follows_rows(live, key)?;
-    Ok(follows && live.span(0, key).is_none() && live.span(2, key).is_none())
+    Ok(follows && live.min_max(0, key).is_none() && live.min_max(2, key).is_none())
 }
 
-fn a_span_follows_rows_alone(alloc: Global) -> Result<bool, Refusal> {
+fn a_min_max_follows_rows_alone(alloc: Global) -> Result<bool, Refusal> {
     let key = key_of(alloc, Name::Word("a"))?;
     follows_rows_alone(&mut LiveExtrema::new(alloc, 0), &key)
 }
 
 #[test]
-fn a_span_follows_a_row_and_is_put_back(rt: HostRuntime) {
-    must_be(&rt, a_span_follows_rows_alone(rt.alloc()), Ok(true));
+fn a_min_max_follows_a_row_and_is_put_back(rt: HostRuntime) {
+    must_be(&rt, a_min_max_follows_rows_alone(rt.alloc()), Ok(true));
 }
 
 /// Whether rows under a key that a row group has are seen without memory, and each call returns what stood there. The first row
 /// alone may be refused for lack of memory.
 fn knows_a_key(live: &mut LiveExtrema, key: &Option<Key>) -> Result<bool, Refusal> {
-    live.reserve(1);
+    live.make_room(1);
     let first = live.observe_under(1, key, 4)?;
     let beyond = live.observe_under(1, key, 9);
     let within = live.observe_under(1, key, 5);

@@ -60,7 +60,7 @@ fn tests_of(alloc: Global, passing: Passing) -> Result<Vec<Test>, Refusal> {
 fn answer_of(alloc: Global, done: &PartialDone) -> Result<Answer, Refusal> {
     match done {
         PartialDone::Totals(live) => live.answer(alloc),
-        PartialDone::Extrema(seen) => seen.answer(alloc),
+        PartialDone::Extrema(observed) => observed.answer(alloc),
     }
 }
 

@@ -7,7 +7,7 @@ use crate::offload::cases::SIX_ROWS;
 use crate::offload::folding::{columns, is_told};
 use crate::offload::rows::{form_of, put_ints};
 use far_extrema::MinMax;
-use far_offload::{OffloadJob, span_under};
+use far_offload::{OffloadJob, min_max_under};
 use far_store::{AgentStore, FarStore, Meter};
 use far_types::{Key, Refusal, Spec, Test};
 use std::alloc::Global;
@@ -62,21 +62,21 @@ fn under_texts_with_a(alloc: Global) -> Result<Spec, Refusal> {
 }
 
 /// The extrema of the six rows under a key.
-fn span_in(alloc: Global, spec: &Spec, key: &Option<Key>) -> Result<Option<MinMax>, Refusal> {
+fn min_max_in(alloc: Global, spec: &Spec, key: &Option<Key>) -> Result<Option<MinMax>, Refusal> {
     let form = form_of(alloc, SIX_ROWS.words)?;
     let columns = columns(SIX_ROWS.numbers, &form);
-    Ok(span_under(spec, &columns, SIX_ROWS.alive, key))
+    Ok(min_max_under(spec, &columns, SIX_ROWS.alive, key))
 }
 
 /// The least and the greatest number of the six rows with this text, of those whose text begins with `a`.
-fn span_of(alloc: Global, word: &'static str) -> Result<Option<MinMax>, Refusal> {
+fn min_max_of(alloc: Global, word: &'static str) -> Result<Option<MinMax>, Refusal> {
     let spec = under_texts_with_a(alloc)?;
     let key = key_of(alloc, Name::Word(word))?;
-    span_in(alloc, &spec, &key)
+    min_max_in(alloc, &spec, &key)
 }
 
 #[test]
-fn a_span_is_that_of_the_live_rows_under_its_key(rt: HostRuntime) {
-    must_be(&rt, span_of(rt.alloc(), "ab"), Ok(Some((3, 3))));
-    must_be(&rt, span_of(rt.alloc(), "b"), Ok(None));
+fn a_min_max_is_that_of_the_live_rows_under_its_key(rt: HostRuntime) {
+    must_be(&rt, min_max_of(rt.alloc(), "ab"), Ok(Some((3, 3))));
+    must_be(&rt, min_max_of(rt.alloc(), "b"), Ok(None));
 }

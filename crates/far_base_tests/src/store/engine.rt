@@ -88,7 +88,7 @@ fn uses_all_of_five<R: Threads + Wait + Sync + Drop>(
 }
 
 #[test]
-fn a_content_that_does_not_fit_into_the_log_leaves_its_room(rt: HostRuntime) {
+fn a_content_that_does_not_fit_into_the_log_leaves_its_space(rt: HostRuntime) {
     must_be(&rt, uses_all_of_five(&rt, rt.alloc()), Ok(true));
 }
 

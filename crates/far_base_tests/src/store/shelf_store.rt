@@ -59,7 +59,7 @@ impl FarTickets for ShelfStore {
 
     ghost store_id = { λ s. map (λ place. place.id) s.places.items };
 
-    ghost is_of = { λ t name. (t.0 < length name) × (t.1 ≡ slice_index name t.0) };
+    ghost is_of = { λ t id. (t.0 < length id) × (t.1 ≡ slice_index id t.0) };
 
     ghost capacity_of = { λ s. vec_len s.places };
 

@@ -6,14 +6,14 @@ ghost use Rattle.far_scopes.specs.Refusing.{refusal_in};
 ghost use Rattle.far_vector.specs.Effects.{after_unpush};
 ghost use Rattle.far_columns.specs.Numbers.{number_lists, numbers_in};
 ghost use Rattle.far_columns.specs.NumbersTogether.{AreNumberColumns, all_begin, all_pushed, all_numbers_with, KeepsNumbers, all_pushed_in, push_numbers_refusal};
-ghost use Rattle.far_columns.specs.NumbersBack.{AreBegunLast, all_uncreated};
+ghost use Rattle.far_columns.specs.NumbersBack.{AreBegunLast, after_uncreate_all};
 
 mod checking;
 mod filling;
 mod groups;
 
 use super::IntColumn;
-use checking::{all_begin, all_here, all_writable, groups_fit, known_shapes};
+use checking::{all_begin, all_here, all_writable, groups_fit, all_are_shaped};
 use far_scopes::Objects;
 use far_store::FarTickets;
 use far_types::Refusal;
@@ -24,7 +24,7 @@ use groups::{begin_groups, unbegin_groups};
 /// refused for memory alone.
 ///
 /// Refused as `push_numbers` is: where row groups begin with `RegionFull` (17) exactly if the new objects, placed one after
-/// the other, do not find room beside all that is there; elsewhere with `Absent` (16) exactly if some column's last object is
+/// the other, do not find space beside all that is there; elsewhere with `Absent` (16) exactly if some column's last object is
 /// away, naming the first such, else with `EditsUsedUp` (24) exactly if some last object was written as often as objects
 /// may be.
 pub fn may_push_numbers<S: FarTickets>(
@@ -35,7 +35,7 @@ pub fn may_push_numbers<S: FarTickets>(
     requires few { length columns.now ≤ 16 }
     ensures { refusal_in result ≡ push_numbers_refusal objects.now columns.now }
 {
-    known_shapes(columns);
+    all_are_shaped(columns);
     if all_begin(columns) {
         return groups_fit(objects, columns);
     }
@@ -47,7 +47,7 @@ pub fn may_push_numbers<S: FarTickets>(
 /// for each column; else the last object of each is written in place.
 ///
 /// Refused, where row groups begin, with `RegionFull` (17) if the new objects, placed one after the other, do not find
-/// room beside all that is there, and with `NoMemory` (1) if an allocation failed, which may come before it is seen that
+/// space beside all that is there, and with `NoMemory` (1) if an allocation failed, which may come before it is seen that
 /// 17 applies. Elsewhere refused with `Absent` (16) exactly if some column's last object is away, naming the first such,
 /// else with `EditsUsedUp` (24) exactly if some last object was written as often as objects may be, and allocates nothing.
 /// Then nothing is changed.
@@ -61,22 +61,22 @@ pub fn push_numbers<S: FarTickets>(
 ) -> Result<(), Refusal>
     requires are { AreNumberColumns (number_lists S.content objects.old) columns.old }
     requires same_length { length numbers.now ≡ length columns.old }
-    requires few { all_begin columns.old ≡ true → length objects.old.entries + length columns.old ≤ 2 ^ 28 }
-    ensures pushed { OnOk result (columns.new ≡ all_pushed (length objects.old.entries) columns.old) }
+    requires few { all_begin columns.old ≡ true → length objects.old.records + length columns.old ≤ 2 ^ 28 }
+    ensures pushed { OnOk result (columns.new ≡ all_pushed (length objects.old.records) columns.old) }
     ensures moved { OnOk result (objects.new ≡ all_pushed_in objects.old columns.old numbers.now) }
     ensures numbers { OnOk result (map (numbers_in S.content objects.new) columns.new ≡ all_numbers_with (number_lists S.content objects.old) columns.old numbers.now) }
     ensures are { AreNumberColumns (number_lists S.content objects.new) columns.new }
     ensures last { OnOk result (all_begin columns.old ≡ true → AreBegunLast objects.new columns.new) }
-    ensures undone { OnOk result (all_begin columns.old ≡ true → (map after_unpush columns.new ≡ columns.old) × (all_uncreated (length columns.old) objects.new ≡ objects.old)) }
-    ensures count { OnOk result (length objects.new.entries ≡ length objects.old.entries + (if all_begin columns.old then length columns.old else 0)) }
+    ensures undone { OnOk result (all_begin columns.old ≡ true → (map after_unpush columns.new ≡ columns.old) × (after_uncreate_all (length columns.old) objects.new ≡ objects.old)) }
+    ensures count { OnOk result (length objects.new.records ≡ length objects.old.records + (if all_begin columns.old then length columns.old else 0)) }
     ensures others { KeepsNumbers (number_lists S.content objects.old) (number_lists S.content objects.new) columns.old columns.new }
     ensures clean { AreClean ints_meaning S.content objects.old → AreClean ints_meaning S.content objects.new }
-    ensures store { (name : List ℕ) → AreHere S.is_of name objects.old → AreHere S.is_of name objects.new }
+    ensures store { (id : List ℕ) → AreHere S.is_of id objects.old → AreHere S.is_of id objects.new }
     ensures free { OnOk result (push_numbers_refusal objects.old columns.old ≡ None) }
     ensures refused { IfErr result (λ e. (push_numbers_refusal objects.old columns.old ≡ Some e) ⊎ ((all_begin columns.old ≡ true) × (e ≡ Refusal.NoMemory))) }
     ensures err { OnErr result ((columns.new ≡ columns.old) × (objects.new ≡ objects.old)) }
 {
-    known_shapes(columns);
+    all_are_shaped(columns);
     if all_begin(columns) {
         return begin_groups(objects, columns, numbers);
     }
@@ -97,16 +97,16 @@ pub fn fill_numbers<S: FarTickets>(
     requires same_length { length numbers.now ≡ length columns.old }
     requires begun { all_begin columns.old ≡ false }
     requires free { push_numbers_refusal objects.old columns.old ≡ None }
-    ensures pushed { columns.new ≡ all_pushed (length objects.old.entries) columns.old }
+    ensures pushed { columns.new ≡ all_pushed (length objects.old.records) columns.old }
     ensures moved { objects.new ≡ all_pushed_in objects.old columns.old numbers.now }
     ensures numbers { map (numbers_in S.content objects.new) columns.new ≡ all_numbers_with (number_lists S.content objects.old) columns.old numbers.now }
     ensures are { AreNumberColumns (number_lists S.content objects.new) columns.new }
-    ensures count { length objects.new.entries ≡ length objects.old.entries }
+    ensures count { length objects.new.records ≡ length objects.old.records }
     ensures others { KeepsNumbers (number_lists S.content objects.old) (number_lists S.content objects.new) columns.old columns.new }
     ensures clean { AreClean ints_meaning S.content objects.old → AreClean ints_meaning S.content objects.new }
-    ensures store { (name : List ℕ) → AreHere S.is_of name objects.old → AreHere S.is_of name objects.new }
+    ensures store { (id : List ℕ) → AreHere S.is_of id objects.old → AreHere S.is_of id objects.new }
 {
-    known_shapes(columns);
+    all_are_shaped(columns);
     fill_places(objects, columns, numbers);
 }
 
@@ -119,12 +119,12 @@ pub fn unpush_numbers<S: FarTickets>(
     requires are { AreNumberColumns (number_lists S.content objects.old) columns.old }
     requires begun { AreBegunLast objects.old columns.old }
     ensures unpushed { columns.new ≡ map after_unpush columns.old }
-    ensures uncreated { objects.new ≡ all_uncreated (length columns.old) objects.old }
+    ensures uncreated { objects.new ≡ after_uncreate_all (length columns.old) objects.old }
     ensures numbers { map (numbers_in S.content objects.new) columns.new ≡ map (λ c. take (c.len - 1) (numbers_in S.content objects.old c)) columns.old }
     ensures are { AreNumberColumns (number_lists S.content objects.new) columns.new }
     ensures others { KeepsNumbers (number_lists S.content objects.old) (number_lists S.content objects.new) columns.old columns.new }
     ensures clean { AreClean ints_meaning S.content objects.old → AreClean ints_meaning S.content objects.new }
-    ensures store { (name : List ℕ) → AreHere S.is_of name objects.old → AreHere S.is_of name objects.new }
+    ensures store { (id : List ℕ) → AreHere S.is_of id objects.old → AreHere S.is_of id objects.new }
 {
     unbegin_groups(objects, columns);
 }

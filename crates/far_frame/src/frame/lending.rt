@@ -8,7 +8,7 @@ ghost use Rattle.far_rows.specs.Moving.{object_refusal};
 ghost use Rattle.far_frame.specs.declared.step.Reply.{Reply};
 ghost use Rattle.far_frame.specs.declared.step.Step.TheVariants as step;
 ghost use Rattle.far_frame.specs.Effects.{Accepts};
-ghost use Rattle.far_frame.specs.Lending.{AreSeen, Gives, lend_refusal, lent_part, next_groups, prefetch_refusal};
+ghost use Rattle.far_frame.specs.Lending.{AreObserved, Gives, lend_refusal, lent_part, next_groups, prefetch_refusal};
 
 use super::Frame;
 use far_store::FarTickets;
@@ -21,8 +21,8 @@ impl<S: FarTickets> Frame<S> {
     /// Refused with `NoColumn` (4), or `OutOfRange` (14) if the row group has no place: the first that applies. Then nothing is
     /// changed.
     pub fn saw(&mut self, column: u32, group: u32) -> Result<(), Refusal>
-        ensures seen { OnOk result (AreSeen column (group ∷ []) self.old self.new) }
-        ensures here { (name : List ℕ) → AreAt S.is_of name self.old.rows → AreAt S.is_of name self.new.rows }
+        ensures accesses { OnOk result (AreObserved column (group ∷ []) self.old self.new) }
+        ensures here { (id : List ℕ) → AreAt S.is_of id self.old.rows → AreAt S.is_of id self.new.rows }
         ensures refused { refusal_in result ≡ object_refusal self.old.rows column group }
         ensures err { OnErr result (self.new ≡ self.old) }
     {
@@ -33,8 +33,8 @@ impl<S: FarTickets> Frame<S> {
 
     /// Records an access to a row group of a column, whether or not there is such a row group. Allocates nothing.
     fn record_access(&mut self, column: u32, group: u32)
-        ensures seen { AreSeen column (group ∷ []) self.old self.new }
-        ensures here { (name : List ℕ) → AreAt S.is_of name self.old.rows → AreAt S.is_of name self.new.rows }
+        ensures accesses { AreObserved column (group ∷ []) self.old self.new }
+        ensures here { (id : List ℕ) → AreAt S.is_of id self.old.rows → AreAt S.is_of id self.new.rows }
     {
         // If there is no such object, none is marked.
         let _used = self.table.touch(column, group);
@@ -43,8 +43,8 @@ impl<S: FarTickets> Frame<S> {
 
     /// Records an access to each row group that has places `from` up to `to` of a column, in order. Allocates nothing.
     pub(crate) fn record_accesses(&mut self, column: u32, from: u32, to: u32)
-        ensures seen { AreSeen column (touched self.old.rows.size from to) self.old self.new }
-        ensures here { (name : List ℕ) → AreAt S.is_of name self.old.rows → AreAt S.is_of name self.new.rows }
+        ensures accesses { AreObserved column (touched self.old.rows.size from to) self.old self.new }
+        ensures here { (id : List ℕ) → AreAt S.is_of id self.old.rows → AreAt S.is_of id self.new.rows }
     {
         let size = self.scope().size();
         let mut place = from as usize;
@@ -86,7 +86,7 @@ impl<S: FarTickets> Frame<S> {
         ensures ok { OnOk result ((given : Reply) × Gives (slice_get self.old.table.schema column) (lent_part self.old.table column from to) given × Accepts S.content self.old (step.Lend column from to) given self.new) }
         ensures refused { refusal_in result ≡ lend_refusal self.old.rows column from to }
         ensures err { OnErr result (self.new ≡ self.old) }
-        ensures here { (name : List ℕ) → AreAt S.is_of name self.old.rows → AreAt S.is_of name self.new.rows }
+        ensures here { (id : List ℕ) → AreAt S.is_of id self.old.rows → AreAt S.is_of id self.new.rows }
     {
         self.may_lend(column, from, to)?;
         self.record_accesses(column, from, to);
@@ -98,7 +98,7 @@ impl<S: FarTickets> Frame<S> {
     ///
     /// Refused with `NoColumn` (4) exactly if there is no such column, else with `NoMemory` (1) alone.
     pub fn proposals(&self, column: u32) -> Result<Vec<u32>, Refusal>
-        ensures found { IfOk result (λ found. found.items ≡ next_groups self.now.table self.now.seen column) }
+        ensures found { IfOk result (λ found. found.items ≡ next_groups self.now.table self.now.accesses column) }
         ensures column { OnOk result (prefetch_refusal self.now.table column ≡ None) }
         ensures refused { IfErr result (MayRefuse (prefetch_refusal self.now.table column) true) }
     {

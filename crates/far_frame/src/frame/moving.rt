@@ -20,7 +20,7 @@ impl<S: FarTickets> Frame<S> {
     /// away, `EditsUsedUp` (24) if it has 65,535 pins: the first that applies. Then nothing is changed.
     pub fn pin(&mut self, column: u32, group: u32) -> Result<(), Refusal>
         ensures pinned { OnOk result (Alters (IsMoved (IsPinned column group)) self.old self.new) }
-        ensures here { (name : List ℕ) → AreAt S.is_of name self.old.rows → AreAt S.is_of name self.new.rows }
+        ensures here { (id : List ℕ) → AreAt S.is_of id self.old.rows → AreAt S.is_of id self.new.rows }
         ensures refused { refusal_in result ≡ pin_refusal self.old.rows column group }
         ensures err { OnErr result (self.new ≡ self.old) }
     {
@@ -33,7 +33,7 @@ impl<S: FarTickets> Frame<S> {
     /// no pin: the first that applies. Then nothing is changed.
     pub fn unpin(&mut self, column: u32, group: u32) -> Result<(), Refusal>
         ensures unpinned { OnOk result (Alters (IsMoved (IsUnpinned column group)) self.old self.new) }
-        ensures here { (name : List ℕ) → AreAt S.is_of name self.old.rows → AreAt S.is_of name self.new.rows }
+        ensures here { (id : List ℕ) → AreAt S.is_of id self.old.rows → AreAt S.is_of id self.new.rows }
         ensures refused { refusal_in result ≡ unpin_refusal self.old.rows column group }
         ensures err { OnErr result (self.new ≡ self.old) }
     {
@@ -134,7 +134,7 @@ impl<S: FarTickets> Frame<S> {
     /// Brings the object of a carried fetch back; each row, aggregate and answer stays.
     ///
     /// Refused with `StaleJob` (20) for any other job, and where what the job rests on does not hold any more: the object is local,
-    /// or was away again since; else with `RegionFull` (17) if it finds no room; else with `NoMemory` (1) alone. Then nothing is
+    /// or was away again since; else with `RegionFull` (17) if it finds no space; else with `NoMemory` (1) alone. Then nothing is
     /// changed.
     pub fn install(&mut self, store: &S, job: &Job<S>) -> Result<(), Refusal>
         requires here { AreAt S.is_of (S.store_id store.now) self.old.rows }
@@ -161,7 +161,7 @@ impl<S: FarTickets> Frame<S> {
     /// one and no other is without parts, else with `NoMemory` (1) alone. Then nothing is changed.
     pub fn compact(&mut self, kind: Kind, segment: u32) -> Result<(), Refusal>
         ensures compacted { OnOk result (Alters (IsMoved (IsCompactedOf kind segment)) self.old self.new) }
-        ensures here { (name : List ℕ) → AreAt S.is_of name self.old.rows → AreAt S.is_of name self.new.rows }
+        ensures here { (id : List ℕ) → AreAt S.is_of id self.old.rows → AreAt S.is_of id self.new.rows }
         ensures missing { IsErrOf result Refusal.OutOfRange ↔ (segments_of kind self.old.rows ≤ segment) }
         ensures full { IsErrOf result Refusal.RegionFull ↔ ((segment < segments_of kind self.old.rows) × HasNoOther kind segment self.old.rows) }
         ensures refused { IfErr result (λ e. (e ≡ Refusal.OutOfRange) ⊎ ((e ≡ Refusal.RegionFull) ⊎ (e ≡ Refusal.NoMemory))) }

@@ -24,7 +24,7 @@ pub(super) fn lend<S: FarTickets>(
     to: u32,
 ) -> Reply
     ensures changes { Changes S.content frame.old (Step.Lend column from to) result frame.new }
-    ensures here { (name : List ℕ) → AreAt S.is_of name frame.old.rows → AreAt S.is_of name frame.new.rows }
+    ensures here { (id : List ℕ) → AreAt S.is_of id frame.old.rows → AreAt S.is_of id frame.new.rows }
 {
     match copied(frame, alloc, column, from, to) {
         Ok(reply) => {

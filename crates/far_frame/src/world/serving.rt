@@ -11,7 +11,7 @@ use far_types::{Edit, Kind, Spec};
 /// Serves an edit.
 pub(super) fn edit<S: FarTickets>(frame: &mut Frame<S>, edit: Edit) -> Reply
     ensures changes { Changes S.content frame.old (Step.Edit edit) result frame.new }
-    ensures here { (name : List ℕ) → AreAt S.is_of name frame.old.rows → AreAt S.is_of name frame.new.rows }
+    ensures here { (id : List ℕ) → AreAt S.is_of id frame.old.rows → AreAt S.is_of id frame.new.rows }
 {
     match edit {
         Edit::Insert(row) => match frame.insert(row) {
@@ -67,7 +67,7 @@ pub(super) fn ask<S: FarTickets>(frame: &Frame<S>, a: u32) -> Reply
 /// Pins an object once more.
 pub(super) fn pin<S: FarTickets>(frame: &mut Frame<S>, column: u32, group: u32) -> Reply
     ensures changes { Changes S.content frame.old (Step.Pin column group) result frame.new }
-    ensures here { (name : List ℕ) → AreAt S.is_of name frame.old.rows → AreAt S.is_of name frame.new.rows }
+    ensures here { (id : List ℕ) → AreAt S.is_of id frame.old.rows → AreAt S.is_of id frame.new.rows }
 {
     Reply::done_or(frame.pin(column, group))
 }
@@ -75,7 +75,7 @@ pub(super) fn pin<S: FarTickets>(frame: &mut Frame<S>, column: u32, group: u32) 
 /// Pins an object once less.
 pub(super) fn unpin<S: FarTickets>(frame: &mut Frame<S>, column: u32, group: u32) -> Reply
     ensures changes { Changes S.content frame.old (Step.Unpin column group) result frame.new }
-    ensures here { (name : List ℕ) → AreAt S.is_of name frame.old.rows → AreAt S.is_of name frame.new.rows }
+    ensures here { (id : List ℕ) → AreAt S.is_of id frame.old.rows → AreAt S.is_of id frame.new.rows }
 {
     Reply::done_or(frame.unpin(column, group))
 }
@@ -83,7 +83,7 @@ pub(super) fn unpin<S: FarTickets>(frame: &mut Frame<S>, column: u32, group: u32
 /// Compacts a segment.
 pub(super) fn compact<S: FarTickets>(frame: &mut Frame<S>, kind: Kind, segment: u32) -> Reply
     ensures changes { Changes S.content frame.old (Step.Compact kind segment) result frame.new }
-    ensures here { (name : List ℕ) → AreAt S.is_of name frame.old.rows → AreAt S.is_of name frame.new.rows }
+    ensures here { (id : List ℕ) → AreAt S.is_of id frame.old.rows → AreAt S.is_of id frame.new.rows }
 {
     Reply::done_or(frame.compact(kind, segment))
 }

@@ -156,7 +156,7 @@ pub struct Aggregate {
     pub watched: Watched,
     pub columns: u32,
     pub registration: u64,
-    pub unbuilt: u32,
+    pub pending: u32,
 }
 
 /// No aggregate.
@@ -165,7 +165,7 @@ pub const FREE: Aggregate = Aggregate {
     watched: TOTALS,
     columns: 0,
     registration: 0,
-    unbuilt: 0,
+    pending: 0,
 };
 
 // What stands under a key: how many values, their sum, the least and the greatest.
@@ -223,7 +223,7 @@ impl Plain {
                     watched,
                     columns: watched.columns(),
                     registration: self.registrations,
-                    unbuilt: bit(self.groups()).wrapping_sub(1),
+                    pending: bit(self.groups()).wrapping_sub(1),
                 };
                 self.registrations = self.registrations.wrapping_add(1);
                 Due::Aggregate(a)
@@ -247,14 +247,14 @@ impl Plain {
     /// A row group is built into an aggregate.
     pub fn build(&mut self, a: u32, group: u32) {
         let aggregate = &mut self.aggregates[a as usize % NUMBERS];
-        aggregate.unbuilt &= !bit(group);
+        aggregate.pending &= !bit(group);
     }
 
     /// Why a row group is not there and still pending in an aggregate.
     pub fn build_refusal(&self, a: u32, group: u32) -> Option<Refusal> {
         if group >= self.groups() {
             self.unknown(a).or(Some(Refusal::OutOfRange))
-        } else if self.aggregate(a).unbuilt & bit(group) == 0 {
+        } else if self.aggregate(a).pending & bit(group) == 0 {
             self.unknown(a).or(Some(Refusal::StaleJob))
         } else {
             None
@@ -278,11 +278,11 @@ impl Plain {
 
     /// An aggregate is asked.
     pub fn ask(&mut self, a: u32) -> Due<'_> {
-        let left = self.aggregate(a).unbuilt.count_ones();
-        let is_left = left > 0;
+        let left = self.aggregate(a).pending.count_ones();
+        let is_pending = left > 0;
         let refusal = self
             .unknown(a)
-            .or(is_left.then_some(Refusal::Building(left)));
+            .or(is_pending.then_some(Refusal::Building(left)));
         self.answer_or(refusal, a)
     }
 

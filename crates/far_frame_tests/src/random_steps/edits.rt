@@ -96,7 +96,7 @@ impl Plain {
         is_long.then_some(Refusal::ChunkFull)
     }
 
-    // Why one more edit is not accepted: its objects find no room, or the edits are used up.
+    // Why one more edit is not accepted: its objects find no space, or the edits are used up.
     fn last_refusal(&self, fits: bool) -> Option<Refusal> {
         let is_last = self.edits >= self.limits.edits;
         (!fits)
@@ -104,7 +104,7 @@ impl Plain {
             .or(is_last.then_some(Refusal::EditsUsedUp))
     }
 
-    // Whether the list that an object gets, once a place has this value, finds room beside all that is there. Numbers get one only where
+    // Whether the list that an object gets, once a place has this value, finds space beside all that is there. Numbers get one only where
     // their row group begins.
     fn reserve_one(&mut self, place: u32, column: u32, value: Value, begins: bool) -> bool {
         let (kind, group) = (kind_of(column), place / SIZE);
@@ -148,7 +148,7 @@ impl Plain {
         }
     }
 
-    // Why a row is not inserted, whatever room there is.
+    // Why a row is not inserted, whatever space there is.
     fn insert_refusal(&self, values: &Values, width: u32) -> Option<Refusal> {
         let is_full = self.len >= PLACES;
         row_refusal(values, width)
@@ -157,7 +157,7 @@ impl Plain {
             .or(self.long_refusal(self.len, values))
     }
 
-    /// A row more. It finds room, where it begins a row group for objects that have no list yet, and is appended.
+    /// A row more. It finds space, where it begins a row group for objects that have no list yet, and is appended.
     pub fn insert(&mut self, values: &Values, width: u32) -> Due<'static> {
         let place = self.len;
         let refusal = self.insert_refusal(values, width);
@@ -193,7 +193,7 @@ impl Plain {
         self.dead(place).or(self.some_away(ALL, place / SIZE))
     }
 
-    // Why a value is not set, whatever room there is.
+    // Why a value is not set, whatever space there is.
     fn set_refusal(&self, place: u32, column: u32, value: Value) -> Option<Refusal> {
         let is_wrong = !is_of_kind(value, kind_of(column));
         let len = self.list_len(column, place / SIZE, place, value);

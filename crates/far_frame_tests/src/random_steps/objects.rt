@@ -46,7 +46,7 @@ pub const NEW: Object = Object {
     ticket: None,
 };
 
-/// The segments of a kind, and the bytes or numbers that each has room for. Those of texts are numbered behind all of numbers.
+/// The segments of a kind, and the bytes or numbers that each has space for. Those of texts are numbered behind all of numbers.
 #[derive(Clone, Copy)]
 struct Region {
     first: u32,
@@ -173,7 +173,7 @@ impl Plain {
         None
     }
 
-    /// Whether the next list of an object finds room, and if it does its room.
+    /// Whether the next list of an object finds space, and if it does its space.
     pub fn reserve(&mut self, o: usize, kind: Kind, len: u32) -> bool {
         let part = self.spot(kind, len);
         self.objects[o % OBJECTS].next = part;

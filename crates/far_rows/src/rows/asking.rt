@@ -42,7 +42,7 @@ impl<S: FarTickets> Rows<S> {
     /// Refused with `Absent` (16) exactly if the row group of the next place is begun and some object of it is away, naming
     /// the first in the order of the columns; else with `ChunkFull` (11) exactly if the form of some column's texts would be
     /// longer than one may be; else with `RegionFull` (17) exactly if new forms, or new objects of numbers, do not find
-    /// room beside all that is there; else with `EditsUsedUp` (24) exactly if the row group is begun and some object of it
+    /// space beside all that is there; else with `EditsUsedUp` (24) exactly if the row group is begun and some object of it
     /// was written as often as objects may be. Where it is not refused, `push` can be refused with `NoMemory` (1) alone.
     pub fn may_push(&self, row: &NewRow) -> Result<(), Refusal>
         requires numbers { length row.now.numbers ≡ length self.now.numbers }

@@ -51,7 +51,7 @@ impl<S: FarTickets> Rows<S> {
         store: &S,
         o: u32,
     ) -> Result<EvacJob<Option<i64>, S>, Refusal>
-        requires within { o < length self.now.number_objects.entries }
+        requires within { o < length self.now.number_objects.records }
         requires here { AreHere S.is_of (S.store_id store.now) self.now.number_objects }
         ensures begun { IfOk result (IsBegun ints_form self.now.number_objects o) }
         ensures here { IfOk result (λ job. IsFormOf S.is_of (S.store_id store.now) job.form) }
@@ -63,7 +63,7 @@ impl<S: FarTickets> Rows<S> {
 
     // Begins to send an object of texts away.
     fn begin_texts(&self, alloc: Global, store: &S, o: u32) -> Result<EvacJob<u8, S>, Refusal>
-        requires within { o < length self.now.text_objects.entries }
+        requires within { o < length self.now.text_objects.records }
         requires here { AreHere S.is_of (S.store_id store.now) self.now.text_objects }
         ensures begun { IfOk result (IsBegun (λ bytes. bytes) self.now.text_objects o) }
         ensures here { IfOk result (λ job. IsFormOf S.is_of (S.store_id store.now) job.form) }

@@ -27,7 +27,7 @@ impl<S: FarTickets> Rows<S> {
     pub fn copy(&self, column: usize, group: u32) -> Option<&S::Ticket>
         ensures ticket { option_map (λ ticket. ticket.now) result ≡ copy_of self.now column group }
         ensures form { IfSome result (λ ticket. IsCopyOf S.content self.now ticket.now column group) }
-        ensures here { (name : List ℕ) → AreAt S.is_of name self.now → IfSome result (λ ticket. S.is_of ticket.now name) }
+        ensures here { (id : List ℕ) → AreAt S.is_of id self.now → IfSome result (λ ticket. S.is_of ticket.now id) }
         ensures away { (absent_in self.now column group).0 ≡ true → IsSome result }
     {
         // It tells what the rows are.
@@ -42,7 +42,7 @@ impl<S: FarTickets> Rows<S> {
 
 // The ticket of an object, if the object is clean. The ticket's content is a far form.
 fn clean_ticket<T: Elem, S: FarTickets>(objects: &Objects<T, S>, o: u32) -> Option<&S::Ticket>
-    requires { o < length objects.now.entries }
+    requires { o < length objects.now.records }
     ensures ticket { option_map (λ ticket. ticket.now) result ≡ clean_ticket objects.now o }
     ensures form { IfSome result (λ ticket. IsSpelled T.in_range T.has_spelling T.spelling (T.meaning (S.content ticket.now)) (S.content ticket.now)) }
     ensures away { is_local objects.now o ≡ false → IsSome result }

@@ -6,7 +6,7 @@ ghost use Rattle.far_vector.specs.Vector.{IsShaped};
 ghost use Rattle.far_texts.specs.Texts.{HasGroups, lists_of, texts_in};
 ghost use Rattle.far_columns.specs.Numbers.{number_lists, numbers_in};
 ghost use Rattle.far_columns.specs.NumbersTogether.{AreNumberColumns, all_begin, all_pushed, all_pushed_in, all_numbers_with, push_numbers_refusal};
-ghost use Rattle.far_texts.specs.Together.{AreColumns, AreReplaced, all_begin as all_texts_begin, all_created, all_pushed as all_texts_pushed, all_texts_with, next_forms};
+ghost use Rattle.far_texts.specs.Together.{AreColumns, AreReplaced, all_begin as all_texts_begin, after_create_all, all_pushed as all_texts_pushed, all_texts_with, next_forms};
 ghost use Rattle.far_texts.specs.RefusingTogether.{push_texts_refusal};
 ghost use Rattle.far_rows.specs.ColumnIndexes.{row_of, with_row};
 ghost use Rattle.far_rows.specs.Rows.{cells_of, TextsMoved};
@@ -25,7 +25,7 @@ use far_types::{Refusal, Text};
 use std::alloc::Global;
 
 // What each column of numbers knows of itself.
-pub(super) fn known_numbers(columns: &[IntColumn])
+pub(super) fn all_are_shaped(columns: &[IntColumn])
     ensures { All IsShaped columns.now }
 {
     for column in columns {
@@ -34,7 +34,7 @@ pub(super) fn known_numbers(columns: &[IntColumn])
 }
 
 // What each column of texts knows of itself.
-pub(super) fn known_texts(columns: &[TextColumn])
+pub(super) fn all_have_groups(columns: &[TextColumn])
     ensures { All HasGroups columns.now }
 {
     for column in columns {
@@ -54,16 +54,16 @@ fn push_all_texts<S: FarTickets>(
 ) -> Result<(), Refusal>
     requires are { AreColumns (lists_of S.content objects.old) columns.old }
     requires same_length { length texts.now ≡ length columns.old }
-    requires few { all_texts_begin columns.old ≡ true → length objects.old.entries + length columns.old ≤ 2 ^ 28 }
+    requires few { all_texts_begin columns.old ≡ true → length objects.old.records + length columns.old ≤ 2 ^ 28 }
     requires free { push_texts_refusal S.content objects.old columns.old texts.now ≡ None }
-    ensures pushed { OnOk result (columns.new ≡ all_texts_pushed (length objects.old.entries) columns.old) }
-    ensures begun { OnOk result (all_texts_begin columns.old ≡ true → objects.new ≡ all_created objects.old columns.old (next_forms (lists_of S.content objects.old) (length objects.old.entries) columns.old texts.now)) }
-    ensures replaced { OnOk result (all_texts_begin columns.old ≡ false → AreReplaced objects.old (next_forms (lists_of S.content objects.old) (length objects.old.entries) columns.old texts.now) objects.new) }
-    ensures count { OnOk result (length objects.new.entries ≡ length objects.old.entries + (if all_texts_begin columns.old then length columns.old else 0)) }
+    ensures pushed { OnOk result (columns.new ≡ all_texts_pushed (length objects.old.records) columns.old) }
+    ensures begun { OnOk result (all_texts_begin columns.old ≡ true → objects.new ≡ after_create_all objects.old columns.old (next_forms (lists_of S.content objects.old) (length objects.old.records) columns.old texts.now)) }
+    ensures replaced { OnOk result (all_texts_begin columns.old ≡ false → AreReplaced objects.old (next_forms (lists_of S.content objects.old) (length objects.old.records) columns.old texts.now) objects.new) }
+    ensures count { OnOk result (length objects.new.records ≡ length objects.old.records + (if all_texts_begin columns.old then length columns.old else 0)) }
     ensures texts { OnOk result (map (texts_in (lists_of S.content objects.new)) columns.new ≡ all_texts_with (lists_of S.content objects.old) columns.old texts.now) }
     ensures are { AreColumns (lists_of S.content objects.new) columns.new }
     ensures clean { AreClean (λ bytes. bytes) S.content objects.old → AreClean (λ bytes. bytes) S.content objects.new }
-    ensures store { (name : List ℕ) → AreHere S.is_of name objects.old → AreHere S.is_of name objects.new }
+    ensures store { (id : List ℕ) → AreHere S.is_of id objects.old → AreHere S.is_of id objects.new }
     ensures memory { IfErr result (λ e. e ≡ Refusal.NoMemory) }
     ensures err { OnErr result ((columns.new ≡ columns.old) × (objects.new ≡ objects.old)) }
 {
@@ -87,29 +87,29 @@ fn push_values<S: FarTickets>(
 ) -> Result<(), Refusal>
     requires numbers_are { AreNumberColumns (number_lists S.content number_objects.old) numbers.old }
     requires texts_are { AreColumns (lists_of S.content text_objects.old) texts.old }
-    requires numbers_even { length row.now.numbers ≡ length numbers.old }
-    requires texts_even { length row.now.texts ≡ length texts.old }
+    requires numbers_same_length { length row.now.numbers ≡ length numbers.old }
+    requires texts_same_length { length row.now.texts ≡ length texts.old }
     requires begin { begins ≡ true → all_begin numbers.old ≡ true }
     requires begun { begins ≡ false → 0 < length numbers.old → all_begin numbers.old ≡ false }
-    requires numbers_few { all_begin numbers.old ≡ true → length number_objects.old.entries + length numbers.old ≤ 2 ^ 28 }
-    requires texts_few { all_texts_begin texts.old ≡ true → length text_objects.old.entries + length texts.old ≤ 2 ^ 28 }
+    requires numbers_few { all_begin numbers.old ≡ true → length number_objects.old.records + length numbers.old ≤ 2 ^ 28 }
+    requires texts_few { all_texts_begin texts.old ≡ true → length text_objects.old.records + length texts.old ≤ 2 ^ 28 }
     requires numbers_free { push_numbers_refusal number_objects.old numbers.old ≡ None }
     requires texts_free { push_texts_refusal S.content text_objects.old texts.old row.now.texts ≡ None }
-    ensures numbers_pushed { OnOk result (numbers.new ≡ all_pushed (length number_objects.old.entries) numbers.old) }
+    ensures numbers_pushed { OnOk result (numbers.new ≡ all_pushed (length number_objects.old.records) numbers.old) }
     ensures numbers_moved { OnOk result (number_objects.new ≡ all_pushed_in number_objects.old numbers.old row.now.numbers) }
-    ensures numbers_count { OnOk result (length number_objects.new.entries ≡ length number_objects.old.entries + (if all_begin numbers.old then length numbers.old else 0)) }
+    ensures numbers_count { OnOk result (length number_objects.new.records ≡ length number_objects.old.records + (if all_begin numbers.old then length numbers.old else 0)) }
     ensures numbers { OnOk result (map (numbers_in S.content number_objects.new) numbers.new ≡ all_numbers_with (number_lists S.content number_objects.old) numbers.old row.now.numbers) }
     ensures numbers_are { AreNumberColumns (number_lists S.content number_objects.new) numbers.new }
     ensures numbers_clean { AreClean ints_meaning S.content number_objects.old → AreClean ints_meaning S.content number_objects.new }
-    ensures numbers_store { (name : List ℕ) → AreHere S.is_of name number_objects.old → AreHere S.is_of name number_objects.new }
-    ensures texts_pushed { OnOk result (texts.new ≡ all_texts_pushed (length text_objects.old.entries) texts.old) }
-    ensures texts_begun { OnOk result (all_texts_begin texts.old ≡ true → text_objects.new ≡ all_created text_objects.old texts.old (next_forms (lists_of S.content text_objects.old) (length text_objects.old.entries) texts.old row.now.texts)) }
-    ensures texts_replaced { OnOk result (all_texts_begin texts.old ≡ false → AreReplaced text_objects.old (next_forms (lists_of S.content text_objects.old) (length text_objects.old.entries) texts.old row.now.texts) text_objects.new) }
-    ensures texts_count { OnOk result (length text_objects.new.entries ≡ length text_objects.old.entries + (if all_texts_begin texts.old then length texts.old else 0)) }
+    ensures numbers_store { (id : List ℕ) → AreHere S.is_of id number_objects.old → AreHere S.is_of id number_objects.new }
+    ensures texts_pushed { OnOk result (texts.new ≡ all_texts_pushed (length text_objects.old.records) texts.old) }
+    ensures texts_begun { OnOk result (all_texts_begin texts.old ≡ true → text_objects.new ≡ after_create_all text_objects.old texts.old (next_forms (lists_of S.content text_objects.old) (length text_objects.old.records) texts.old row.now.texts)) }
+    ensures texts_replaced { OnOk result (all_texts_begin texts.old ≡ false → AreReplaced text_objects.old (next_forms (lists_of S.content text_objects.old) (length text_objects.old.records) texts.old row.now.texts) text_objects.new) }
+    ensures texts_count { OnOk result (length text_objects.new.records ≡ length text_objects.old.records + (if all_texts_begin texts.old then length texts.old else 0)) }
     ensures texts { OnOk result (map (texts_in (lists_of S.content text_objects.new)) texts.new ≡ all_texts_with (lists_of S.content text_objects.old) texts.old row.now.texts) }
     ensures texts_are { AreColumns (lists_of S.content text_objects.new) texts.new }
     ensures texts_clean { AreClean (λ bytes. bytes) S.content text_objects.old → AreClean (λ bytes. bytes) S.content text_objects.new }
-    ensures texts_store { (name : List ℕ) → AreHere S.is_of name text_objects.old → AreHere S.is_of name text_objects.new }
+    ensures texts_store { (id : List ℕ) → AreHere S.is_of id text_objects.old → AreHere S.is_of id text_objects.new }
     ensures memory { IfErr result (λ e. e ≡ Refusal.NoMemory) }
     ensures numbers_err { OnErr result ((numbers.new ≡ numbers.old) × (number_objects.new ≡ number_objects.old)) }
     ensures texts_err { OnErr result ((texts.new ≡ texts.old) × (text_objects.new ≡ text_objects.old)) }
@@ -164,12 +164,12 @@ impl<S: FarTickets> Rows<S> {
         ensures alive { OnOk result (self.new.alive ≡ self.old.alive ++ true ∷ []) }
         ensures column_indexes { self.new.column_indexes ≡ self.old.column_indexes }
         ensures size { self.new.size ≡ self.old.size }
-        ensures numbers { OnOk result (self.new.numbers ≡ all_pushed (length self.old.number_objects.entries) self.old.numbers) }
+        ensures numbers { OnOk result (self.new.numbers ≡ all_pushed (length self.old.number_objects.records) self.old.numbers) }
         ensures number_objects { OnOk result (self.new.number_objects ≡ all_pushed_in self.old.number_objects self.old.numbers row.now.numbers) }
-        ensures texts { OnOk result (self.new.texts ≡ all_texts_pushed (length self.old.text_objects.entries) self.old.texts) }
+        ensures texts { OnOk result (self.new.texts ≡ all_texts_pushed (length self.old.text_objects.records) self.old.texts) }
         ensures text_objects { OnOk result (TextsMoved S.content self.old row.now.texts self.new.text_objects) }
-        ensures number_store { (name : List ℕ) → AreHere S.is_of name self.old.number_objects → AreHere S.is_of name self.new.number_objects }
-        ensures text_store { (name : List ℕ) → AreHere S.is_of name self.old.text_objects → AreHere S.is_of name self.new.text_objects }
+        ensures number_store { (id : List ℕ) → AreHere S.is_of id self.old.number_objects → AreHere S.is_of id self.new.number_objects }
+        ensures text_store { (id : List ℕ) → AreHere S.is_of id self.old.text_objects → AreHere S.is_of id self.new.text_objects }
         ensures number_versions { (o : ℕ) → version_of self.new.number_objects o ≤ version_of self.old.number_objects o + 1 }
         ensures text_versions { (o : ℕ) → version_of self.new.text_objects o ≤ version_of self.old.text_objects o + 1 }
         ensures memory { IfErr result (λ e. e ≡ Refusal.NoMemory) }
@@ -196,8 +196,8 @@ impl<S: FarTickets> Rows<S> {
             self.alive.unpush();
             return Err(refusal);
         }
-        known_numbers(&self.numbers);
-        known_texts(&self.texts);
+        all_are_shaped(&self.numbers);
+        all_have_groups(&self.texts);
         Ok(())
     }
 }

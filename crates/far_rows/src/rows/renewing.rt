@@ -13,7 +13,7 @@ use std::alloc::Global;
 
 impl<S: FarRead> Rows<S> {
     /// Puts the content of each object that is away into another store, those of numbers before those of texts, each by
-    /// rising object number, and makes all room that `renew` needs. The rows stay as they are.
+    /// ascending object number, and makes all space that `renew` needs. The rows stay as they are.
     ///
     /// Refused with `FarFault` (21) if one of the stores fails, exactly if the meter rises, by one; with `FarFull` (22)
     /// where the new one gives out no more numbers; and with `NoMemory` (1). It ends at the first object that is refused;
@@ -46,7 +46,7 @@ impl<S: FarTickets> Rows<S> {
         requires { RenewsRows S.content N.content self renewal }
         ensures renewed { result ≡ renewed_rows self renewal }
         ensures cells { cells_of N.content result ≡ cells_of S.content self }
-        ensures store { (name : List ℕ) → AreTicketsAt N.is_of name renewal → AreAt N.is_of name result }
+        ensures store { (id : List ℕ) → AreTicketsAt N.is_of id renewal → AreAt N.is_of id result }
     {
         let RowsRenewal { numbers, texts } = renewal;
         Rows {

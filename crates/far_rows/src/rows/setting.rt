@@ -29,7 +29,7 @@ impl<S: FarTickets> Rows<S> {
     ///
     /// Refused with `Absent` (16) exactly if some object of the place's row group is away, naming the first in the order of
     /// the columns; else with `ChunkFull` (11) exactly if it is a text whose form would be longer than one may be; else
-    /// with `RegionFull` (17) exactly if it is a text whose form finds no room beside the old one; else with
+    /// with `RegionFull` (17) exactly if it is a text whose form finds no space beside the old one; else with
     /// `EditsUsedUp` (24) exactly if the object was written as often as objects may be. Where it is not refused, `set`
     /// can be refused with `NoMemory` (1) alone, and of a number not at all.
     pub fn may_set(&self, column: usize, place: usize, value: &NewCell) -> Result<(), Refusal>
@@ -98,7 +98,7 @@ impl<S: FarTickets> Rows<S> {
         requires free { value_refusal S.content self.old (column_index.Number i) place (new.Number number) ≡ None }
         ensures moved { self.new ≡ set_in S.content self.old (column_index.Number i) place (new.Number number) }
         ensures numbers { all_numbers S.content self.new ≡ slice_set (all_numbers S.content self.old) i (slice_set (slice_index_or (all_numbers S.content self.old) i []) place number) }
-        ensures store { (name : List ℕ) → AreHere S.is_of name self.old.number_objects → AreHere S.is_of name self.new.number_objects }
+        ensures store { (id : List ℕ) → AreHere S.is_of id self.old.number_objects → AreHere S.is_of id self.new.number_objects }
         ensures versions { (o : ℕ) → version_of self.new.number_objects o ≤ version_of self.old.number_objects o + 1 }
     {
         // It tells what rows are.
@@ -119,7 +119,7 @@ impl<S: FarTickets> Rows<S> {
         requires free { value_refusal S.content self.old (column_index.Text i) place (new.Text text.now) ≡ None }
         ensures moved { OnOk result (self.new ≡ set_in S.content self.old (column_index.Text i) place (new.Text text.now)) }
         ensures texts { OnOk result (all_texts S.content self.new ≡ slice_set (all_texts S.content self.old) i (slice_set (slice_index_or (all_texts S.content self.old) i []) place text.now)) }
-        ensures store { (name : List ℕ) → AreHere S.is_of name self.old.text_objects → AreHere S.is_of name self.new.text_objects }
+        ensures store { (id : List ℕ) → AreHere S.is_of id self.old.text_objects → AreHere S.is_of id self.new.text_objects }
         ensures versions { (o : ℕ) → version_of self.new.text_objects o ≤ version_of self.old.text_objects o + 1 }
         ensures memory { IfErr result (λ e. e ≡ Refusal.NoMemory) }
         ensures err { OnErr result (self.new ≡ self.old) }
@@ -167,8 +167,8 @@ impl<S: FarTickets> Rows<S> {
         requires free { set_refusal S.content self.old column place value.now ≡ None }
         ensures cells { OnOk result (cells_of S.content self.new ≡ with_cell_at (cells_of S.content self.old) column place (cell_of value.now)) }
         ensures moved { OnOk result (IfSome (slice_get self.old.column_indexes column) (λ s. self.new ≡ set_in S.content self.old s place value.now)) }
-        ensures number_store { (name : List ℕ) → AreHere S.is_of name self.old.number_objects → AreHere S.is_of name self.new.number_objects }
-        ensures text_store { (name : List ℕ) → AreHere S.is_of name self.old.text_objects → AreHere S.is_of name self.new.text_objects }
+        ensures number_store { (id : List ℕ) → AreHere S.is_of id self.old.number_objects → AreHere S.is_of id self.new.number_objects }
+        ensures text_store { (id : List ℕ) → AreHere S.is_of id self.old.text_objects → AreHere S.is_of id self.new.text_objects }
         ensures number_versions { (o : ℕ) → version_of self.new.number_objects o ≤ version_of self.old.number_objects o + 1 }
         ensures text_versions { (o : ℕ) → version_of self.new.text_objects o ≤ version_of self.old.text_objects o + 1 }
         ensures number { kind_in value.now ≡ Kind.Int → IsOk result }

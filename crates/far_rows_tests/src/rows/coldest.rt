@@ -122,6 +122,6 @@ static CASES: [Case; 4] = [
 ];
 
 #[test]
-fn the_coldest_object_of_the_kind_with_less_room_goes_first(rt: HostRuntime) -> Result<(), Fail> {
+fn the_coldest_object_of_the_kind_with_less_space_goes_first(rt: HostRuntime) -> Result<(), Fail> {
     play(&rt, rt.alloc(), &CASES)
 }

@@ -18,7 +18,7 @@ pub use writing::row;
 /// The values of a row, in the order of the columns.
 pub type Values = (Cell, Cell, Cell, Cell);
 
-/// Row groups of two places, and room for the objects of two of them.
+/// Row groups of two places, and space for the objects of two of them.
 pub const LIMITS: Limits = Limits {
     group: 2,
     places: 100,
@@ -136,8 +136,8 @@ fn four_columns(alloc: Global) -> Result<Schema, Refusal>
 fn no_rows<S: FarStore>(alloc: Global, limits: &Limits) -> Result<Rows<S>, Refusal>
     ensures numbers { IfOk result (λ rows. length rows.numbers ≡ 2) }
     ensures texts { IfOk result (λ rows. length rows.texts ≡ 2) }
-    ensures number_store { IfOk result (λ rows. (name : List ℕ) → AreHere S.is_of name rows.number_objects) }
-    ensures text_store { IfOk result (λ rows. (name : List ℕ) → AreHere S.is_of name rows.text_objects) }
+    ensures number_store { IfOk result (λ rows. (id : List ℕ) → AreHere S.is_of id rows.number_objects) }
+    ensures text_store { IfOk result (λ rows. (id : List ℕ) → AreHere S.is_of id rows.text_objects) }
 {
     limits.check()?;
     match four_columns(alloc) {

@@ -62,7 +62,7 @@ const PUSHED: &[Step] = &[
     HAS_FOUR,
 ];
 
-/// Two row groups take all room for numbers.
+/// Two row groups take all space for numbers.
 const NO_NUMBERS: &[Step] = &[
     Step::Refuses(Call::MayPush(FIRST), Refusal::RegionFull),
     HAS_FOUR,
@@ -142,6 +142,6 @@ static CASES: [Case; 4] = [
 ];
 
 #[test]
-fn rows_are_pushed_as_far_as_there_is_room(rt: HostRuntime) -> Result<(), Fail> {
+fn rows_are_pushed_as_far_as_there_is_space(rt: HostRuntime) -> Result<(), Fail> {
     play(&rt, rt.alloc(), &CASES)
 }

@@ -8,10 +8,10 @@ use crate::rows::script::{CASE, Call, Case, Step, play};
 use far_types::Refusal;
 use std::test::Fail;
 
-/// What is away is put into the other store, or there is no room for it.
+/// What is away is put into the other store, or there is no space for it.
 const PUT: &[Step] = &[Step::Does(Call::PutAgain)];
 
-const NO_ROOM: &[Step] = &[Step::Refuses(Call::PutAgain, Refusal::FarFull)];
+const NO_SPACE: &[Step] = &[Step::Refuses(Call::PutAgain, Refusal::FarFull)];
 
 const FAULT: &[Step] = &[Step::Refuses(Call::PutAgain, Refusal::FarFault)];
 
@@ -76,19 +76,19 @@ static CASES: [Case; 10] = [
     Case {
         name: "no room for numbers",
         capacity: 0,
-        parts: &[THREE_ROWS, NUMBERS_AWAY, NO_ROOM, NUMBERS_BACK],
+        parts: &[THREE_ROWS, NUMBERS_AWAY, NO_SPACE, NUMBERS_BACK],
         ..CASE
     },
     Case {
         name: "no room for texts",
         capacity: 0,
-        parts: &[THREE_ROWS, TEXTS_AWAY, NO_ROOM, TEXTS_BACK],
+        parts: &[THREE_ROWS, TEXTS_AWAY, NO_SPACE, TEXTS_BACK],
         ..CASE
     },
     Case {
         name: "room for one of two",
         capacity: 1,
-        parts: &[THREE_ROWS, TWO_AWAY, NO_ROOM, TWO_BACK],
+        parts: &[THREE_ROWS, TWO_AWAY, NO_SPACE, TWO_BACK],
         ..CASE
     },
     Case {
@@ -100,7 +100,7 @@ static CASES: [Case; 10] = [
     Case {
         name: "room for three of four",
         capacity: 3,
-        parts: &[THREE_ROWS, EACH_AWAY, NO_ROOM, EACH_BACK],
+        parts: &[THREE_ROWS, EACH_AWAY, NO_SPACE, EACH_BACK],
         ..CASE
     },
     Case {

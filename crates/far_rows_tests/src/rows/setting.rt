@@ -89,7 +89,7 @@ const TOO_LONG: &[Step] = &[
     HAS_FOUR,
 ];
 
-/// A text of 45 letters, of which two take all room for texts.
+/// A text of 45 letters, of which two take all space for texts.
 const LONG: Cell = Text(A, 45);
 
 const TWO_LONG: Values = (LONG, Missing, LONG, Missing);
@@ -99,7 +99,7 @@ const TWO_SEGMENTS: Limits = Limits {
     ..LIMITS
 };
 
-const NO_ROOM: &[Step] = &[
+const NO_SPACE: &[Step] = &[
     Step::Does(Call::Push(TWO_LONG)),
     Step::Refuses(Call::MaySet(2, 0, Text(A, 1)), Refusal::RegionFull),
     Step::Is(Look::Values(0, TWO_LONG)),
@@ -138,7 +138,7 @@ static CASES: [Case; 5] = [
     Case {
         name: "a text without room beside the old one is not set",
         limits: TWO_SEGMENTS,
-        parts: &[NO_ROOM],
+        parts: &[NO_SPACE],
         ..CASE
     },
     Case {

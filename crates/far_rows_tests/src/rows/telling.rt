@@ -14,7 +14,7 @@ use std::alloc::Global;
 
 // The kind of the column that an object of numbers is named by.
 fn number_owner<S: FarTickets>(rows: &Rows<S>, o: u32) -> Option<Kind>
-    requires { o < length rows.now.number_objects.entries }
+    requires { o < length rows.now.number_objects.records }
     ensures { result ≡ Some Kind.Int }
 {
     // It tells whose each object is.
@@ -25,7 +25,7 @@ fn number_owner<S: FarTickets>(rows: &Rows<S>, o: u32) -> Option<Kind>
 
 // Likewise of an object of texts.
 fn text_owner<S: FarTickets>(rows: &Rows<S>, o: u32) -> Option<Kind>
-    requires { o < length rows.now.text_objects.entries }
+    requires { o < length rows.now.text_objects.records }
     ensures { result ≡ Some Kind.Text }
 {
     // It tells whose each object is.
@@ -47,7 +47,7 @@ fn object_begun<S: FarTickets>(rows: &Rows<S>, column: usize, group: u32) -> Res
 
 // How many numbers an object has, if it is local. A far form can have so many.
 fn number_len<S: FarTickets>(rows: &Rows<S>, o: u32) -> Result<u32, Refusal>
-    requires { o < length rows.now.number_objects.entries }
+    requires { o < length rows.now.number_objects.records }
     ensures { IfOk result (λ len. option_map length (list_in rows.now.number_objects.memory o) ≡ Some len) }
 {
     let list = rows.number_objects().lend(o)?;
@@ -56,7 +56,7 @@ fn number_len<S: FarTickets>(rows: &Rows<S>, o: u32) -> Result<u32, Refusal>
 
 // The kind of the values that an object of texts is the far form of, if it is local.
 fn text_kind<S: FarTickets>(rows: &Rows<S>, o: u32) -> Result<Option<Kind>, Refusal>
-    requires { o < length rows.now.text_objects.entries }
+    requires { o < length rows.now.text_objects.records }
     ensures { IfOk result (λ kind. kind ≡ Some Kind.Text) }
 {
     let form = rows.text_objects().lend(o)?;

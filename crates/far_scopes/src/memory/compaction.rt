@@ -43,18 +43,18 @@ impl<T: Elem> LocalMemory<T> {
     }
 }
 
-// The objects whose parts lie in a segment: the hot ones, then the others, each by rising offset.
+// The objects whose parts lie in a segment: the hot ones, then the others, each by ascending offset.
 fn hot_first(alloc: Global, words: &[Word], segment: u32) -> Result<Vec<SegmentObject>, Refusal>
     ensures found { IfOk result (λ found. AreHotFirst words.now segment found.items) }
     ensures memory { IfErr result (λ e. e ≡ Refusal.NoMemory) }
 {
-    let mut found = rising(alloc, words, segment, true)?;
-    found.append(&mut rising(alloc, words, segment, false)?)?;
+    let mut found = sorted(alloc, words, segment, true)?;
+    found.append(&mut sorted(alloc, words, segment, false)?)?;
     Ok(found)
 }
 
-// The objects whose parts lie in a segment and that are hot, or not, as asked for, by rising offset.
-fn rising(
+// The objects whose parts lie in a segment and that are hot, or not, as asked for, by ascending offset.
+fn sorted(
     alloc: Global,
     words: &[Word],
     segment: u32,

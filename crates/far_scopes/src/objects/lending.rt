@@ -19,19 +19,19 @@ impl<T: Elem, S: FarTickets> Objects<T, S> {
     ///
     /// Refused with `Absent` (16) exactly if the object is away.
     pub fn lend(&self, o: u32) -> Result<&[T], Refusal>
-        requires { o < length self.now.entries }
+        requires { o < length self.now.records }
         ensures lent { IfOk result (λ list. list_in self.now.memory o ≡ Some list.now) }
         ensures refused { refusal_in result ≡ lend_refusal self.now o }
     {
         self.here(o)?;
-        Ok(self.memory.lend(o as usize, self.entries[o as usize].len))
+        Ok(self.memory.lend(o as usize, self.records[o as usize].len))
     }
 
     /// Whether an object is local, as its pointer word alone tells. Allocates nothing.
     ///
     /// Refused with `Absent` (16) exactly if the object is away, as `lend` is.
     pub fn here(&self, o: u32) -> Result<(), Refusal>
-        requires { o < length self.now.entries }
+        requires { o < length self.now.records }
         ensures { refusal_in result ≡ lend_refusal self.now o }
     {
         if self.is_away(o) {
@@ -45,11 +45,11 @@ impl<T: Elem, S: FarTickets> Objects<T, S> {
     /// Refused with `Absent` (16) exactly if the object is away, and with `EditsUsedUp` (24) exactly if it is local
     /// and was written as often as objects may be.
     pub fn may_write(&self, o: u32) -> Result<(), Refusal>
-        requires { o < length self.now.entries }
+        requires { o < length self.now.records }
         ensures { refusal_in result ≡ write_refusal self.now o }
     {
         self.here(o)?;
-        if self.entries[o as usize].version >= self.max_writes {
+        if self.records[o as usize].version >= self.max_writes {
             return Err(Refusal::EditsUsedUp);
         }
         Ok(())
@@ -60,17 +60,17 @@ impl<T: Elem, S: FarTickets> Objects<T, S> {
     /// Before it is lent, the object counts as written: it is dirty, hot and used last, and its version is one more. What
     /// the borrow leaves is the object's list, and no other list changes (`alone`).
     pub fn lend_mut(&mut self, o: u32) -> &mut [T]
-        requires within { o < length self.old.entries }
+        requires within { o < length self.old.records }
         requires free { write_refusal self.old o ≡ None }
         ensures* writes_back { sem 𝓛 (lends_written T.row S.row S.Ticket.row T.Elem S.FarTickets self.entry o 0 result) }
         ensures lent { list_in self.old.memory o ≡ Some result.now }
         ensures alone { (list : List T) → length list ≡ length result.now → ChangesList (list_of T.meaning S.content self.old) (list_of T.meaning S.content (overwritten (written self.old o) o 0 list)) o (Some list) }
         ensures clean { (list : List T) → length list ≡ length result.now → AreClean T.meaning S.content self.old → AreClean T.meaning S.content (overwritten (written self.old o) o 0 list) }
         ensures others { (list : List T) → ChangesObject self.old (overwritten (written self.old o) o 0 list) o }
-        ensures store { (list : List T) (name : List ℕ) → AreHere S.is_of name self.old → AreHere S.is_of name (overwritten (written self.old o) o 0 list) }
+        ensures store { (list : List T) (id : List ℕ) → AreHere S.is_of id self.old → AreHere S.is_of id (overwritten (written self.old o) o 0 list) }
     {
         self.mark(o);
-        let len = self.entries[o as usize].len;
+        let len = self.records[o as usize].len;
         let memory = &mut self.memory;
         memory.lend_mut(o as usize, len)
     }
@@ -79,7 +79,7 @@ impl<T: Elem, S: FarTickets> Objects<T, S> {
     ///
     /// The object counts as written, as with `lend_mut`.
     pub fn lend_range_mut(&mut self, o: u32, from: usize, to: usize) -> &mut [T]
-        requires within { o < length self.old.entries }
+        requires within { o < length self.old.records }
         requires free { write_refusal self.old o ≡ None }
         requires ordered { from ≤ to }
         requires there { IsSomeAnd (list_in self.old.memory o) (λ list. to ≤ length list) }
@@ -88,7 +88,7 @@ impl<T: Elem, S: FarTickets> Objects<T, S> {
         ensures alone { IsSomeAnd (list_in self.old.memory o) (λ list. (range : List T) → length range ≡ to - from → ChangesList (list_of T.meaning S.content self.old) (list_of T.meaning S.content (overwritten (written self.old o) o from range)) o (Some (take from list ++ (range ++ drop to list)))) }
         ensures clean { (range : List T) → length range ≡ to - from → AreClean T.meaning S.content self.old → AreClean T.meaning S.content (overwritten (written self.old o) o from range) }
         ensures others { (range : List T) → ChangesObject self.old (overwritten (written self.old o) o from range) o }
-        ensures store { (range : List T) (name : List ℕ) → AreHere S.is_of name self.old → AreHere S.is_of name (overwritten (written self.old o) o from range) }
+        ensures store { (range : List T) (id : List ℕ) → AreHere S.is_of id self.old → AreHere S.is_of id (overwritten (written self.old o) o from range) }
     {
         self.mark(o);
         let memory = &mut self.memory;
@@ -97,7 +97,7 @@ impl<T: Elem, S: FarTickets> Objects<T, S> {
 
     // The object counts as written.
     pub(super) fn mark(&mut self, o: u32)
-        requires within { o < length self.old.entries }
+        requires within { o < length self.old.records }
         requires free { write_refusal self.old o ≡ None }
         ensures written { self.new ≡ written self.old o }
         ensures dirty { dirty self.new o ≡ true }
@@ -108,13 +108,13 @@ impl<T: Elem, S: FarTickets> Objects<T, S> {
     {
         // The word comes last: who lends the object next finds it at hand.
         self.order.touch(o);
-        self.entries[o as usize].version += 1;
+        self.records[o as usize].version += 1;
         self.memory.mark(o as usize);
     }
 
     /// Whether an object is local: its list is in local memory, and may be lent. Allocates nothing.
     pub fn is_local(&self, o: u32) -> bool
-        requires { o < length self.now.entries }
+        requires { o < length self.now.records }
         ensures { result ≡ is_local self.now o }
     {
         match self.memory.word(o as usize).read() {
@@ -125,7 +125,7 @@ impl<T: Elem, S: FarTickets> Objects<T, S> {
 
     // Whether an object is away.
     pub(super) fn is_away(&self, o: u32) -> bool
-        requires { o < length self.now.entries }
+        requires { o < length self.now.records }
         ensures { result ≡ not (is_local self.now o) }
     {
         !self.is_local(o)
@@ -133,10 +133,10 @@ impl<T: Elem, S: FarTickets> Objects<T, S> {
 
     // The refusal that says that an object is away.
     pub(super) fn absent(&self, o: u32) -> Refusal
-        requires { o < length self.now.entries }
+        requires { o < length self.now.records }
         ensures { result ≡ (absent self.now o).1 }
     {
-        let name = self.entries[o as usize].name;
+        let name = self.records[o as usize].name;
         Refusal::Absent {
             column: name.column,
             group: name.group,

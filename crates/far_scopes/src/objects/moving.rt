@@ -27,9 +27,9 @@ impl<T: Elem, S: FarTickets> Objects<T, S> {
         ensures store { AreHere S.is_of (S.store_id store.now) self.old → AreHere S.is_of (S.store_id store.now) self.new }
     {
         self.memory.send_away(o as usize);
-        let entry = &mut self.entries[o as usize];
-        entry.leavings += 1;
-        entry.ticket = Some(store.again(ticket));
+        let object_record = &mut self.records[o as usize];
+        object_record.leavings += 1;
+        object_record.ticket = Some(store.again(ticket));
         self.order.remove(o);
     }
 
@@ -38,14 +38,14 @@ impl<T: Elem, S: FarTickets> Objects<T, S> {
     /// Refused with `RegionFull` (17) exactly if no segment has the space, else with `NoMemory` (1) alone; then nothing
     /// is changed.
     pub fn arrive(&mut self, o: u32, items: &[T]) -> Result<(), Refusal>
-        requires within { o < length self.old.entries }
+        requires within { o < length self.old.records }
         requires away { is_local self.old o ≡ false }
         requires meant { list_of T.meaning S.content self.old o ≡ Some items.now }
         ensures arrived { OnOk result (self.new ≡ after_arrive self.old o items.now) }
         ensures lists { (p : ℕ) → list_of T.meaning S.content self.new p ≡ list_of T.meaning S.content self.old p }
         ensures clean { AreClean T.meaning S.content self.old → AreClean T.meaning S.content self.new }
         ensures others { OnOk result (ChangesObject self.old self.new o) }
-        ensures store { (name : List ℕ) → AreHere S.is_of name self.old → AreHere S.is_of name self.new }
+        ensures store { (id : List ℕ) → AreHere S.is_of id self.old → AreHere S.is_of id self.new }
         ensures full { IsErrOf result Refusal.RegionFull ↔ (fits_in self.old.memory.state (length items.now) ≡ false) }
         ensures refused { IfErr result (λ e. (e ≡ Refusal.RegionFull) ⊎ (e ≡ Refusal.NoMemory)) }
         ensures err { OnErr result (self.new ≡ self.old) }

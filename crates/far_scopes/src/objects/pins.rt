@@ -15,23 +15,23 @@ impl<T: Elem, S: FarTickets> Objects<T, S> {
     /// Refused with `Absent` (16) exactly if the object is away, and with `EditsUsedUp` (24) exactly if it has 65,535
     /// pins; then nothing is changed.
     pub fn pin(&mut self, o: u32) -> Result<(), Refusal>
-        requires { o < length self.old.entries }
+        requires { o < length self.old.records }
         ensures pinned { OnOk result (self.new ≡ after_pin self.old o) }
         ensures lists { (p : ℕ) → list_of T.meaning S.content self.new p ≡ list_of T.meaning S.content self.old p }
         ensures clean { AreClean T.meaning S.content self.old → AreClean T.meaning S.content self.new }
         ensures others { OnOk result (ChangesObject self.old self.new o) }
-        ensures store { (name : List ℕ) → AreHere S.is_of name self.old → AreHere S.is_of name self.new }
+        ensures store { (id : List ℕ) → AreHere S.is_of id self.old → AreHere S.is_of id self.new }
         ensures refused { refusal_in result ≡ pin_refusal self.old o }
         ensures err { OnErr result (self.new ≡ self.old) }
     {
         if self.is_away(o) {
             return Err(self.absent(o));
         }
-        let entry = &mut self.entries[o as usize];
-        if entry.pins == u16::MAX {
+        let object_record = &mut self.records[o as usize];
+        if object_record.pins == u16::MAX {
             return Err(Refusal::EditsUsedUp);
         }
-        entry.pins += 1;
+        object_record.pins += 1;
         Ok(())
     }
 
@@ -39,31 +39,31 @@ impl<T: Elem, S: FarTickets> Objects<T, S> {
     ///
     /// Refused with `NotPinned` (18) exactly if it has no pin; then nothing is changed.
     pub fn unpin(&mut self, o: u32) -> Result<(), Refusal>
-        requires { o < length self.old.entries }
+        requires { o < length self.old.records }
         ensures unpinned { OnOk result (self.new ≡ after_unpin self.old o) }
         ensures lists { (p : ℕ) → list_of T.meaning S.content self.new p ≡ list_of T.meaning S.content self.old p }
         ensures clean { AreClean T.meaning S.content self.old → AreClean T.meaning S.content self.new }
         ensures others { OnOk result (ChangesObject self.old self.new o) }
-        ensures store { (name : List ℕ) → AreHere S.is_of name self.old → AreHere S.is_of name self.new }
+        ensures store { (id : List ℕ) → AreHere S.is_of id self.old → AreHere S.is_of id self.new }
         ensures refused { refusal_in result ≡ unpin_refusal self.old o }
         ensures err { OnErr result (self.new ≡ self.old) }
     {
-        let entry = &mut self.entries[o as usize];
-        if entry.pins == 0 {
+        let object_record = &mut self.records[o as usize];
+        if object_record.pins == 0 {
             return Err(Refusal::NotPinned);
         }
-        entry.pins -= 1;
+        object_record.pins -= 1;
         Ok(())
     }
 
     /// Uses an object: it is hot and used last, if it is local. Allocates nothing.
     pub fn touch(&mut self, o: u32)
-        requires { o < length self.old.entries }
+        requires { o < length self.old.records }
         ensures touched { self.new ≡ after_touch self.old o }
         ensures lists { (p : ℕ) → list_of T.meaning S.content self.new p ≡ list_of T.meaning S.content self.old p }
         ensures clean { AreClean T.meaning S.content self.old → AreClean T.meaning S.content self.new }
         ensures others { ChangesObject self.old self.new o }
-        ensures store { (name : List ℕ) → AreHere S.is_of name self.old → AreHere S.is_of name self.new }
+        ensures store { (id : List ℕ) → AreHere S.is_of id self.old → AreHere S.is_of id self.new }
     {
         self.memory.heat(o as usize);
         self.order.touch(o);

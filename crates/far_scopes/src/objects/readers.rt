@@ -1,7 +1,7 @@
 // What is asked of objects before they move.
 ghost use Rattle.std.specs.Prelude.{◌≡◌, ℕ, ◌<◌, ◌≤◌, ◌↔◌, length, All, Some, IsTrue, true, option_map};
 ghost use Rattle.far_log.specs.RegionState.{fits_in, fit_in_order, spaces_of, space_of, capacity_of};
-ghost use Rattle.far_scopes.specs.Movement.{entry_of, leavings_of, is_local};
+ghost use Rattle.far_scopes.specs.Movement.{record_of, leavings_of, is_local};
 
 use super::Objects;
 use far_codec::Elem;
@@ -11,34 +11,34 @@ use far_types::Name;
 impl<T: Elem, S: FarTickets> Objects<T, S> {
     /// How many objects there are: the numbers below are in use. Allocates nothing.
     pub fn count(&self) -> u32
-        ensures { result ≡ length self.now.entries }
+        ensures { result ≡ length self.now.records }
     {
-        self.entries.len() as u32
+        self.records.len() as u32
     }
 
     /// Whether every object is local. Allocates nothing, and looks at no object: the local ones are those in the order of use.
     pub fn are_all_local(&self) -> bool
-        ensures { IsTrue result ↔ ((o : ℕ) → o < length self.now.entries → is_local self.now o ≡ true) }
+        ensures { IsTrue result ↔ ((o : ℕ) → o < length self.now.records → is_local self.now o ≡ true) }
     {
         let local = self.order.len();
-        let all = self.entries.len();
+        let all = self.records.len();
         local == all
     }
 
     /// How many elements the list of an object has, local or away. Allocates nothing.
     pub fn len(&self, o: u32) -> usize
-        requires { o < length self.now.entries }
-        ensures { option_map (λ entry. entry.len) (entry_of self.now o) ≡ Some result }
+        requires { o < length self.now.records }
+        ensures { option_map (λ object_record. object_record.len) (record_of self.now o) ≡ Some result }
     {
-        self.entries[o as usize].len
+        self.records[o as usize].len
     }
 
     /// The name of an object: the column and the row group that were given to `create`. Allocates nothing.
     pub fn name(&self, o: u32) -> Name
-        requires { o < length self.now.entries }
-        ensures { option_map (λ entry. entry.name) (entry_of self.now o) ≡ Some result }
+        requires { o < length self.now.records }
+        ensures { option_map (λ object_record. object_record.name) (record_of self.now o) ≡ Some result }
     {
-        self.entries[o as usize].name
+        self.records[o as usize].name
     }
 
     /// Whether some segment has the space for a list of so many elements. Allocates nothing.
@@ -76,9 +76,9 @@ impl<T: Elem, S: FarTickets> Objects<T, S> {
 
     /// Whether an object may go away once more: each may as often as was given to `new`. Allocates nothing.
     pub fn may_leave(&self, o: u32) -> bool
-        requires { o < length self.now.entries }
+        requires { o < length self.now.records }
         ensures { IsTrue result ↔ (leavings_of self.now o < self.now.leavings) }
     {
-        self.entries[o as usize].leavings < self.leavings
+        self.records[o as usize].leavings < self.leavings
     }
 }

@@ -12,7 +12,7 @@ use far_types::Refusal;
 use std::alloc::Global;
 
 impl<T: Elem, S: FarRead> Objects<T, S> {
-    /// Puts the content of each object that is away into another store, by rising object number, and makes all room that
+    /// Puts the content of each object that is away into another store, by ascending object number, and makes all space that
     /// `renew` needs. These objects stay as they are.
     ///
     /// Refused with `FarFault` (21) if one of the stores fails, with `FarFull` (22) if the new one gives out no
@@ -32,10 +32,10 @@ impl<T: Elem, S: FarRead> Objects<T, S> {
         ensures faults { meter.new ≡ meter.old + faults_in result }
         ensures refused { RefusedBy (21 ∷ 22 ∷ 1 ∷ []) result }
     {
-        let entries = Vec::with_capacity(alloc, self.entries.len())?;
-        let mut tickets = Vec::with_capacity(alloc, self.entries.len())?;
+        let records = Vec::with_capacity(alloc, self.records.len())?;
+        let mut tickets = Vec::with_capacity(alloc, self.records.len())?;
         let mut buffer = Vec::new(alloc);
-        for o in 0..self.entries.len() as u32 {
+        for o in 0..self.records.len() as u32 {
             let ticket = match self.away_ticket(o) {
                 Some(ticket) => Some(put_again(
                     alloc,
@@ -49,7 +49,7 @@ impl<T: Elem, S: FarRead> Objects<T, S> {
             };
             tickets.push_reserved(ticket);
         }
-        Ok(Renewal { tickets, entries })
+        Ok(Renewal { tickets, records })
     }
 }
 
@@ -62,14 +62,14 @@ impl<T: Elem, S: FarTickets> Objects<T, S> {
         ensures renewed { result ≡ after_renew self renewal }
         ensures lists { (p : ℕ) → list_of T.meaning N.content result p ≡ list_of T.meaning S.content self p }
         ensures clean { AreClean T.meaning N.content result }
-        ensures store { (name : List ℕ) → AreTicketsHere N.is_of name renewal → AreHere N.is_of name result }
+        ensures store { (id : List ℕ) → AreTicketsHere N.is_of id renewal → AreHere N.is_of id result }
     {
         let Renewal {
             tickets,
-            mut entries,
+            mut records,
         } = renewal;
-        for (entry, ticket) in self.entries.into_iter().zip(tickets) {
-            entries.push_reserved(entry.renewed(ticket));
+        for (object_record, ticket) in self.records.into_iter().zip(tickets) {
+            records.push_reserved(object_record.renewed(ticket));
         }
         let mut memory = self.memory;
         memory.forget_copies();
@@ -78,14 +78,14 @@ impl<T: Elem, S: FarTickets> Objects<T, S> {
             max_writes: self.max_writes,
             leavings: self.leavings,
             memory,
-            entries,
+            records,
             order: self.order,
         }
     }
 
     // The ticket of an object that is away; none for a local one.
     fn away_ticket(&self, o: u32) -> Option<&S::Ticket>
-        requires { o < length self.now.entries }
+        requires { o < length self.now.records }
         ensures { option_map (λ ticket. ticket.now) result ≡ (if is_local self.now o then None else ticket_of self.now o) }
     {
         if self.is_away(o) {
@@ -96,7 +96,7 @@ impl<T: Elem, S: FarTickets> Objects<T, S> {
     }
 }
 
-// Puts the content of a ticket into another store. The buffer is room that is used again.
+// Puts the content of a ticket into another store. The buffer is space that is used again.
 fn put_again<S: FarRead, N: FarStore>(
     alloc: Global,
     store: &S,

@@ -3,9 +3,9 @@ ghost use Rattle.std.specs.Prelude.{◌≡◌, ℕ, ◌<◌, ◌⊎◌, List, []
 ghost use Rattle.far_types.specs.FirstOf.{first_of};
 ghost use Rattle.far_scopes.specs.Memory.{ChangesList};
 ghost use Rattle.far_scopes.specs.Movement.{list_of, AreClean, AreHere, ChangesObject};
-ghost use Rattle.far_scopes.specs.Replacing.{AreListedOnce, ChangesLists, AreCleanBeside, first_fits};
+ghost use Rattle.far_scopes.specs.Replacing.{AreListedOnce, ChangesLists, AreCleanElsewhere, first_fits};
 ghost use Rattle.far_scopes.specs.Refusing.{refusal_in, replace_refusal, write_refusal, first_absent, any_written_out, replace_all_refusal};
-ghost use Rattle.far_scopes.specs.Effects.{after_replace, with_lens, written_all, after_replace_all};
+ghost use Rattle.far_scopes.specs.Effects.{after_replace, with_lens, after_write_all, after_replace_all};
 
 use super::Objects;
 use crate::object_record::ObjectRecord;
@@ -23,19 +23,19 @@ impl<T: Elem, S: FarTickets> Objects<T, S> {
     /// `NoMemory` (1) alone; then nothing is changed.
     pub fn replace(&mut self, o: u32, items: &[T]) -> Result<(), Refusal>
         requires some { 0 < length items.now }
-        requires within { o < length self.old.entries }
+        requires within { o < length self.old.records }
         ensures replaced { OnOk result (self.new ≡ after_replace self.old o items.now) }
         ensures list { OnOk result (ChangesList (list_of T.meaning S.content self.old) (list_of T.meaning S.content self.new) o (Some items.now)) }
         ensures clean { AreClean T.meaning S.content self.old → AreClean T.meaning S.content self.new }
         ensures others { OnOk result (ChangesObject self.old self.new o) }
-        ensures store { (name : List ℕ) → AreHere S.is_of name self.old → AreHere S.is_of name self.new }
+        ensures store { (id : List ℕ) → AreHere S.is_of id self.old → AreHere S.is_of id self.new }
         ensures free { OnOk result (replace_refusal self.old o (length items.now) ≡ None) }
         ensures refused { IfErr result (λ e. (replace_refusal self.old o (length items.now) ≡ Some e) ⊎ ((replace_refusal self.old o (length items.now) ≡ None) × (e ≡ Refusal.NoMemory))) }
         ensures err { OnErr result (self.new ≡ self.old) }
     {
         self.may_replace(o, items.len())?;
         self.memory.replace(o as usize, items)?;
-        self.entries[o as usize].len = items.len();
+        self.records[o as usize].len = items.len();
         self.mark(o);
         Ok(())
     }
@@ -46,14 +46,14 @@ impl<T: Elem, S: FarTickets> Objects<T, S> {
     /// with `RegionFull` (17) exactly if no segment has the space, else with `EditsUsedUp` (24) exactly if it was
     /// written as often as objects may be.
     pub fn may_replace(&self, o: u32, len: usize) -> Result<(), Refusal>
-        requires { o < length self.now.entries }
+        requires { o < length self.now.records }
         ensures { refusal_in result ≡ replace_refusal self.now o len }
     {
         self.here(o)?;
         if !self.memory.fits(len) {
             return Err(Refusal::RegionFull);
         }
-        if self.entries[o as usize].version >= self.max_writes {
+        if self.records[o as usize].version >= self.max_writes {
             return Err(Refusal::EditsUsedUp);
         }
         Ok(())
@@ -64,19 +64,19 @@ impl<T: Elem, S: FarTickets> Objects<T, S> {
     /// is the one that was used last. Their tickets stay.
     ///
     /// Refused with `Absent` (16) exactly if a listed object is away, naming the first such; else with `RegionFull`
-    /// (17) if the new parts, placed one after the other, do not find room beside all that is there; else with
+    /// (17) if the new parts, placed one after the other, do not find space beside all that is there; else with
     /// `EditsUsedUp` (24) if some listed object was written as often as objects may be; and with `NoMemory` (1) if a
     /// growth was refused, which may come before it is seen that 17 or 24 applies, but only if the first new part finds
-    /// room. Then nothing is changed.
+    /// space. Then nothing is changed.
     pub fn replace_all(&mut self, lists: &[Replacement<T>]) -> Result<(), Refusal>
         requires some { All (λ r. 0 < length r.list.items) lists.now }
-        requires within { All (λ r. r.object < length self.old.entries) lists.now }
+        requires within { All (λ r. r.object < length self.old.records) lists.now }
         requires once { AreListedOnce lists.now }
         ensures replaced { OnOk result (self.new ≡ after_replace_all self.old lists.now) }
         ensures lists { OnOk result (ChangesLists (list_of T.meaning S.content self.old) (list_of T.meaning S.content self.new) lists.now) }
-        ensures count { length self.new.entries ≡ length self.old.entries }
+        ensures count { length self.new.records ≡ length self.old.records }
         ensures clean { AreClean T.meaning S.content self.old → AreClean T.meaning S.content self.new }
-        ensures store { (name : List ℕ) → AreHere S.is_of name self.old → AreHere S.is_of name self.new }
+        ensures store { (id : List ℕ) → AreHere S.is_of id self.old → AreHere S.is_of id self.new }
         ensures free { OnOk result (replace_all_refusal self.old lists.now ≡ None) }
         ensures refused { IfErr result (λ e. (replace_all_refusal self.old lists.now ≡ Some e) ⊎ ((first_absent self.old (map (λ r. r.object) lists.now) ≡ None) × (e ≡ Refusal.NoMemory))) }
         ensures memory { IfErr result (λ e. e ≡ Refusal.NoMemory → first_fits self.old.memory.state lists.now ≡ true) }
@@ -85,14 +85,14 @@ impl<T: Elem, S: FarTickets> Objects<T, S> {
         self.all_here(lists)?;
         let checked = self.all_writable(lists);
         self.memory.replace_all(lists, checked)?;
-        set_lens(&mut self.entries, lists);
+        set_lens(&mut self.records, lists);
         self.mark_all(lists);
         Ok(())
     }
 
     // Whether listed objects are local; the refusal names the first that is away.
     fn all_here(&self, lists: &[Replacement<T>]) -> Result<(), Refusal>
-        requires { All (λ r. r.object < length self.now.entries) lists.now }
+        requires { All (λ r. r.object < length self.now.records) lists.now }
         ensures { refusal_in result ≡ first_absent self.now (map (λ r. r.object) lists.now) }
     {
         for replacement in lists {
@@ -106,11 +106,11 @@ impl<T: Elem, S: FarTickets> Objects<T, S> {
 
     // Whether listed objects may be written once more.
     fn all_writable(&self, lists: &[Replacement<T>]) -> Result<(), Refusal>
-        requires { All (λ r. r.object < length self.now.entries) lists.now }
+        requires { All (λ r. r.object < length self.now.records) lists.now }
         ensures { refusal_in result ≡ first_of (any_written_out self.now lists.now ∷ []) }
     {
         for replacement in lists {
-            if self.entries[replacement.object as usize].version >= self.max_writes {
+            if self.records[replacement.object as usize].version >= self.max_writes {
                 return Err(Refusal::EditsUsedUp);
             }
         }
@@ -119,13 +119,13 @@ impl<T: Elem, S: FarTickets> Objects<T, S> {
 
     // The listed objects count as written, one after the other.
     fn mark_all(&mut self, lists: &[Replacement<T>])
-        requires within { All (λ r. r.object < length self.old.entries) lists.now }
+        requires within { All (λ r. r.object < length self.old.records) lists.now }
         requires free { All (λ r. write_refusal self.old r.object ≡ None) lists.now }
         requires once { AreListedOnce lists.now }
-        ensures written { self.new ≡ written_all self.old lists.now }
-        ensures count { length self.new.entries ≡ length self.old.entries }
+        ensures written { self.new ≡ after_write_all self.old lists.now }
+        ensures count { length self.new.records ≡ length self.old.records }
         ensures lists { (p : ℕ) → list_of T.meaning S.content self.new p ≡ list_of T.meaning S.content self.old p }
-        ensures clean { AreCleanBeside T.meaning S.content self.old lists.now → AreClean T.meaning S.content self.new }
+        ensures clean { AreCleanElsewhere T.meaning S.content self.old lists.now → AreClean T.meaning S.content self.new }
     {
         for replacement in lists {
             self.mark(replacement.object);
@@ -134,11 +134,11 @@ impl<T: Elem, S: FarTickets> Objects<T, S> {
 }
 
 // Notes how long the lists of listed objects are.
-fn set_lens<T, K>(entries: &mut [ObjectRecord<K>], lists: &[Replacement<T>])
-    requires { All (λ r. r.object < length entries.old) lists.now }
-    ensures { entries.new ≡ with_lens entries.old lists.now }
+fn set_lens<T, K>(records: &mut [ObjectRecord<K>], lists: &[Replacement<T>])
+    requires { All (λ r. r.object < length records.old) lists.now }
+    ensures { records.new ≡ with_lens records.old lists.now }
 {
     for replacement in lists {
-        entries[replacement.object as usize].len = replacement.list.len();
+        records[replacement.object as usize].len = replacement.list.len();
     }
 }

@@ -19,13 +19,13 @@ impl<T: Elem, S: FarTickets> Objects<T, S> {
     /// exactly if none is and one would get more than 65,535 pins; else with `NoMemory` (1) alone. Then nothing is
     /// changed.
     pub fn enter(&mut self, alloc: Global, objects: &[u32]) -> Result<Scope, Refusal>
-        requires within { All (λ o. o < length self.old.entries) objects.now }
+        requires within { All (λ o. o < length self.old.records) objects.now }
         requires few { length objects.now < 2 ^ 32 }
         ensures scope { IfOk result (λ scope. scope ≡ objects.now) }
         ensures pinned { OnOk result (self.new ≡ after_pin_all self.old objects.now) }
         ensures lists { (p : ℕ) → list_of T.meaning S.content self.new p ≡ list_of T.meaning S.content self.old p }
         ensures clean { AreClean T.meaning S.content self.old → AreClean T.meaning S.content self.new }
-        ensures store { (name : List ℕ) → AreHere S.is_of name self.old → AreHere S.is_of name self.new }
+        ensures store { (id : List ℕ) → AreHere S.is_of id self.old → AreHere S.is_of id self.new }
         ensures free { OnOk result (enter_refusal self.old objects.now ≡ None) }
         ensures refused { IfErr result (λ e. (enter_refusal self.old objects.now ≡ Some e) ⊎ ((enter_refusal self.old objects.now ≡ None) × (e ≡ Refusal.NoMemory))) }
         ensures err { OnErr result (self.new ≡ self.old) }
@@ -43,7 +43,7 @@ impl<T: Elem, S: FarTickets> Objects<T, S> {
 
     // Whether listed objects are local; the refusal names the first that is away.
     fn all_local(&self, objects: &[u32]) -> Result<(), Refusal>
-        requires { All (λ o. o < length self.now.entries) objects.now }
+        requires { All (λ o. o < length self.now.records) objects.now }
         ensures { refusal_in result ≡ first_absent self.now objects.now }
     {
         for o in objects {
@@ -56,7 +56,7 @@ impl<T: Elem, S: FarTickets> Objects<T, S> {
 
     // Pins listed objects, which are local, all or none.
     fn pin_all(&mut self, objects: &[u32]) -> Result<(), Refusal>
-        requires within { All (λ o. o < length self.old.entries) objects.now }
+        requires within { All (λ o. o < length self.old.records) objects.now }
         requires local { first_absent self.old objects.now ≡ None }
         ensures pinned { OnOk result (self.new ≡ after_pin_all self.old objects.now) }
         ensures clean { AreClean T.meaning S.content self.old → AreClean T.meaning S.content self.new }
@@ -74,7 +74,7 @@ impl<T: Elem, S: FarTickets> Objects<T, S> {
 
     // Takes the pins back that `pin_all` took.
     fn unpin_all(&mut self, objects: &[u32])
-        requires { All (λ o. o < length self.old.entries) objects.now }
+        requires { All (λ o. o < length self.old.records) objects.now }
         ensures undone { (m : Movement T S.Ticket) → self.old ≡ after_pin_all m objects.now → self.new ≡ m }
     {
         let mut left = objects.len();
@@ -86,11 +86,11 @@ impl<T: Elem, S: FarTickets> Objects<T, S> {
 
     // Takes a pin back that an object has, and answers whether it had one.
     fn take_pin(&mut self, o: u32) -> bool
-        requires { o < length self.old.entries }
+        requires { o < length self.old.records }
         ensures taken { IsTrue result → self.new ≡ after_unpin self.old o }
         ensures none { result ≡ not (pins_of self.old o == 0) }
         ensures kept { result ≡ false → self.new ≡ self.old }
-        ensures long { length self.new.entries ≡ length self.old.entries }
+        ensures long { length self.new.records ≡ length self.old.records }
         ensures clean { AreClean T.meaning S.content self.old → AreClean T.meaning S.content self.new }
     {
         self.unpin(o).is_ok()
@@ -99,12 +99,12 @@ impl<T: Elem, S: FarTickets> Objects<T, S> {
     /// Takes back one pin for each listing of an object in a scope, where there is one, and answers how many that were.
     /// Allocates nothing.
     pub fn close(&mut self, scope: Scope) -> u32
-        requires { All (λ o. o < length self.old.entries) scope }
+        requires { All (λ o. o < length self.old.records) scope }
         ensures closed { self.new ≡ (after_close self.old scope).0 }
         ensures count { result ≡ (after_close self.old scope).1 }
         ensures lists { (p : ℕ) → list_of T.meaning S.content self.new p ≡ list_of T.meaning S.content self.old p }
         ensures clean { AreClean T.meaning S.content self.old → AreClean T.meaning S.content self.new }
-        ensures store { (name : List ℕ) → AreHere S.is_of name self.old → AreHere S.is_of name self.new }
+        ensures store { (id : List ℕ) → AreHere S.is_of id self.old → AreHere S.is_of id self.new }
     {
         let Scope { objects } = scope;
         let mut taken = 0;

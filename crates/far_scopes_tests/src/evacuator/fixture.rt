@@ -131,7 +131,7 @@ fn no_objects<T: Element, S: FarStore>(
     number: u32,
     limits: ObjectLimits,
 ) -> Result<Objects<T, S>, Refusal>
-    ensures here { IfOk result (λ m. (name : List ℕ) → AreHere S.is_of name m) }
+    ensures here { IfOk result (λ m. (id : List ℕ) → AreHere S.is_of id m) }
     ensures clean { IfOk result (AreClean T.meaning S.content) }
 {
     if limits.segments > 8 {
@@ -151,7 +151,7 @@ fn reads_copy<T: Element, S: FarStore>(
     o: u32,
     list: &[T],
 ) -> Result<bool, Refusal>
-    requires within { o < length objects.now.entries }
+    requires within { o < length objects.now.records }
     requires here { AreHere S.is_of (S.store_id store.now) objects.now }
     requires clean { AreClean T.meaning S.content objects.now }
     requires unwritten { dirty objects.now o ≡ false }

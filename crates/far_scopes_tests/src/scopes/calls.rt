@@ -78,7 +78,7 @@ fn create<S: FarTickets>(
     group: u32,
     list: &[i64],
 ) -> Result<(), Refusal>
-    ensures { (name : List ℕ) → AreHere S.is_of name objects.old → AreHere S.is_of name objects.new }
+    ensures { (id : List ℕ) → AreHere S.is_of id objects.old → AreHere S.is_of id objects.new }
 {
     if list.is_empty() || objects.count() >= 8 {
         return Err(WRONG);
@@ -89,7 +89,7 @@ fn create<S: FarTickets>(
 
 /// Unmakes the last object, where there is one, it is local and has no pin.
 fn uncreate<S: FarTickets>(objects: &mut Objects<i64, S>) -> Result<(), Refusal>
-    ensures { (name : List ℕ) → AreHere S.is_of name objects.old → AreHere S.is_of name objects.new }
+    ensures { (id : List ℕ) → AreHere S.is_of id objects.old → AreHere S.is_of id objects.new }
 {
     let count = objects.count();
     if count == 0 {
@@ -136,8 +136,8 @@ fn write_over<S: FarTickets>(
     o: u32,
     list: &[i64],
 ) -> Result<(), Refusal>
-    requires { o < length objects.old.entries }
-    ensures { (name : List ℕ) → AreHere S.is_of name objects.old → AreHere S.is_of name objects.new }
+    requires { o < length objects.old.records }
+    ensures { (id : List ℕ) → AreHere S.is_of id objects.old → AreHere S.is_of id objects.new }
 {
     objects.may_write(o)?;
     let lent = objects.lend_mut(o);
@@ -152,7 +152,7 @@ fn pin_often<S: FarTickets>(
     o: u32,
     times: u32,
 ) -> Result<(), Refusal>
-    ensures { (name : List ℕ) → AreHere S.is_of name objects.old → AreHere S.is_of name objects.new }
+    ensures { (id : List ℕ) → AreHere S.is_of id objects.old → AreHere S.is_of id objects.new }
 {
     for _ in 0..times {
         if o >= objects.count() {
@@ -171,7 +171,7 @@ fn pin_three<S: FarTickets>(
     pins: u32,
     unpins: bool,
 ) -> Result<(), Refusal>
-    ensures { (name : List ℕ) → AreHere S.is_of name objects.old → AreHere S.is_of name objects.new }
+    ensures { (id : List ℕ) → AreHere S.is_of id objects.old → AreHere S.is_of id objects.new }
 {
     let count = objects.count();
     if listed[0] >= count || listed[1] >= count || listed[2] >= count {
@@ -189,9 +189,9 @@ fn pin_together<S: FarTickets>(
     listed: &[u32],
     pins: u32,
 ) -> Result<(), Refusal>
-    requires within { All (λ o. o < length objects.old.entries) listed.now }
+    requires within { All (λ o. o < length objects.old.records) listed.now }
     requires few { length listed.now < 2 ^ 32 }
-    ensures { (name : List ℕ) → AreHere S.is_of name objects.old → AreHere S.is_of name objects.new }
+    ensures { (id : List ℕ) → AreHere S.is_of id objects.old → AreHere S.is_of id objects.new }
 {
     let scope = enter(alloc, objects, listed)?;
     found(objects.close(scope) == pins)
@@ -204,10 +204,10 @@ fn pin_and_unpin<S: FarTickets>(
     listed: &[u32],
     pins: u32,
 ) -> Result<(), Refusal>
-    requires first { first < length objects.old.entries }
-    requires within { All (λ o. o < length objects.old.entries) listed.now }
+    requires first { first < length objects.old.records }
+    requires within { All (λ o. o < length objects.old.records) listed.now }
     requires few { length listed.now < 2 ^ 32 }
-    ensures { (name : List ℕ) → AreHere S.is_of name objects.old → AreHere S.is_of name objects.new }
+    ensures { (id : List ℕ) → AreHere S.is_of id objects.old → AreHere S.is_of id objects.new }
 {
     let scope = enter(alloc, objects, listed)?;
     unpin_one(objects, first);
@@ -216,9 +216,9 @@ fn pin_and_unpin<S: FarTickets>(
 
 /// Takes a pin off an object. There are as many objects as before.
 fn unpin_one<S: FarTickets>(objects: &mut Objects<i64, S>, o: u32)
-    requires within { o < length objects.old.entries }
-    ensures count { length objects.new.entries ≡ length objects.old.entries }
-    ensures store { (name : List ℕ) → AreHere S.is_of name objects.old → AreHere S.is_of name objects.new }
+    requires within { o < length objects.old.records }
+    ensures count { length objects.new.records ≡ length objects.old.records }
+    ensures store { (id : List ℕ) → AreHere S.is_of id objects.old → AreHere S.is_of id objects.new }
 {
     objects.unpin(o).ok();
 }
@@ -229,11 +229,11 @@ fn enter<S: FarTickets>(
     objects: &mut Objects<i64, S>,
     listed: &[u32],
 ) -> Result<Scope, Refusal>
-    requires within { All (λ o. o < length objects.old.entries) listed.now }
+    requires within { All (λ o. o < length objects.old.records) listed.now }
     requires few { length listed.now < 2 ^ 32 }
     ensures scope { IfOk result (λ scope. scope ≡ listed.now) }
-    ensures count { OnOk result (length objects.new.entries ≡ length objects.old.entries) }
-    ensures store { (name : List ℕ) → AreHere S.is_of name objects.old → AreHere S.is_of name objects.new }
+    ensures count { OnOk result (length objects.new.records ≡ length objects.old.records) }
+    ensures store { (id : List ℕ) → AreHere S.is_of id objects.old → AreHere S.is_of id objects.new }
 {
     let scope = objects.enter(alloc, listed)?;
     Ok(scope)
@@ -246,8 +246,8 @@ fn give<S: FarTickets>(
     replacement: Replacement<i64>,
 ) -> Result<(), Refusal>
     requires some { 0 < length replacement.list.items }
-    requires within { replacement.object < length objects.old.entries }
-    ensures store { (name : List ℕ) → AreHere S.is_of name objects.old → AreHere S.is_of name objects.new }
+    requires within { replacement.object < length objects.old.records }
+    ensures store { (id : List ℕ) → AreHere S.is_of id objects.old → AreHere S.is_of id objects.new }
     ensures memory { fits_in objects.old.memory.state (length replacement.list.items) ≡ false → IfErr result (λ e. e ≢ Refusal.NoMemory) }
 {
     objects.replace_all(&[replacement])
@@ -260,7 +260,7 @@ fn give_both<S: FarTickets>(
     second: &[i64],
     first: &[i64],
 ) -> Result<(), Refusal>
-    ensures { (name : List ℕ) → AreHere S.is_of name objects.old → AreHere S.is_of name objects.new }
+    ensures { (id : List ℕ) → AreHere S.is_of id objects.old → AreHere S.is_of id objects.new }
 {
     if second.is_empty() || first.is_empty() || objects.count() < 2 {
         return Err(WRONG);
@@ -306,7 +306,7 @@ fn find<S: FarStore>(
 
 /// Whether an object is so.
 fn is_so_of<S: FarTickets>(objects: &Objects<i64, S>, o: u32, fact: &Fact) -> bool
-    requires { o < length objects.now.entries }
+    requires { o < length objects.now.records }
 {
     let word = objects.word(o);
     match fact {
@@ -332,8 +332,8 @@ fn is_so_of<S: FarTickets>(objects: &Objects<i64, S>, o: u32, fact: &Fact) -> bo
 
 fn is_put_before<S: FarStore>(store: &S, objects: &Objects<i64, S>, o: u32, p: u32) -> bool
     requires here { AreHere S.is_of (S.store_id store.now) objects.now }
-    requires one { o < length objects.now.entries }
-    requires other { p < length objects.now.entries }
+    requires one { o < length objects.now.records }
+    requires other { p < length objects.now.records }
 {
     match (objects.ticket(o), objects.ticket(p)) {
         (Some(one), Some(other)) => store.number(one) < store.number(other),
@@ -343,8 +343,8 @@ fn is_put_before<S: FarStore>(store: &S, objects: &Objects<i64, S>, o: u32, p: u
 
 /// Whether two objects lie at different places, if both are local. So they always do (`places_are_own`).
 fn lie_apart<S: FarTickets>(objects: &Objects<i64, S>, o: u32, p: u32) -> bool
-    requires one { o < length objects.now.entries }
-    requires other { p < length objects.now.entries }
+    requires one { o < length objects.now.records }
+    requires other { p < length objects.now.records }
 {
     places_are_own(objects);
     match (objects.word(o).read(), objects.word(p).read()) {

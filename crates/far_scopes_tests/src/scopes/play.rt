@@ -34,7 +34,7 @@ fn first_wrong<R: Wait + Sync + Copy + Drop>(
     script: &Script,
 ) -> Result<Option<usize>, Refusal> {
     let store = agent(rt, alloc, 4);
-    play_between(alloc, store, agent(rt, alloc, script.room), script)
+    play_between(alloc, store, agent(rt, alloc, script.capacity), script)
 }
 
 // The same over two stores, if they were made. It knows no store, so to take them out of their results costs it little.

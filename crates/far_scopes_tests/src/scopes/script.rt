@@ -15,7 +15,7 @@ pub struct Script {
     /// The get of the far store that fails, counted from 1; 0 is none.
     pub failing_get: u64,
     /// How many contents another store takes, into which the far copies go then.
-    pub room: u64,
+    pub capacity: u64,
     /// Why they do not go at first, once for each time.
     pub refused: &'static [Refusal],
     /// What is played once they went. They are not sent where there is nothing.
@@ -28,7 +28,7 @@ pub const SCRIPT: Script = Script {
     limits: TWO_OF_FOUR,
     lines: &[],
     failing_get: 0,
-    room: 0,
+    capacity: 0,
     refused: &[],
     after: &[],
 };

@@ -1,5 +1,5 @@
 // Worked examples.
-mod coming;
+mod creating;
 mod moving;
 mod staying;
 mod writing;
@@ -9,7 +9,7 @@ use std::test::Fail;
 
 #[test]
 fn objects_that_are_made_and_unmade(rt: HostRuntime) -> Result<(), Fail> {
-    play_all(&rt, rt.alloc(), coming::SCRIPTS)
+    play_all(&rt, rt.alloc(), creating::SCRIPTS)
 }
 
 #[test]

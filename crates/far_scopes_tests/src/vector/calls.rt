@@ -69,7 +69,7 @@ pub fn push<S: FarTickets>(
     x: i64,
 ) -> Result<(), Refusal>
     requires { IsVector (list_of plain_meaning S.content objects.old) vector.old }
-    ensures pushed { OnOk result (vector.new ≡ after_push vector.old (length objects.old.entries)) }
+    ensures pushed { OnOk result (vector.new ≡ after_push vector.old (length objects.old.records)) }
     ensures written { OnOk result (objects.new ≡ pushed_in objects.old vector.old x) }
     ensures is { IsVector (list_of plain_meaning S.content objects.new) vector.new }
 {

@@ -83,7 +83,7 @@ impl<S: FarTickets> LiveTable<S> {
     /// exactly if it has 65,535 pins. Then nothing is changed.
     pub fn pin(&mut self, column: u32, group: u32) -> Result<(), Refusal>
         ensures pinned { OnOk result (IsMoved (IsPinned column group) self.old self.new) }
-        ensures here { (name : List ℕ) → AreAt S.is_of name self.old.rows → AreAt S.is_of name self.new.rows }
+        ensures here { (id : List ℕ) → AreAt S.is_of id self.old.rows → AreAt S.is_of id self.new.rows }
         ensures refused { refusal_in result ≡ pin_refusal self.old.rows column group }
         ensures err { OnErr result (self.new ≡ self.old) }
     {
@@ -96,7 +96,7 @@ impl<S: FarTickets> LiveTable<S> {
     /// of the row group is used; else with `NotPinned` (18) exactly if the object has no pin. Then nothing is changed.
     pub fn unpin(&mut self, column: u32, group: u32) -> Result<(), Refusal>
         ensures unpinned { OnOk result (IsMoved (IsUnpinned column group) self.old self.new) }
-        ensures here { (name : List ℕ) → AreAt S.is_of name self.old.rows → AreAt S.is_of name self.new.rows }
+        ensures here { (id : List ℕ) → AreAt S.is_of id self.old.rows → AreAt S.is_of id self.new.rows }
         ensures refused { refusal_in result ≡ unpin_refusal self.old.rows column group }
         ensures err { OnErr result (self.new ≡ self.old) }
     {
@@ -109,7 +109,7 @@ impl<S: FarTickets> LiveTable<S> {
     /// of the row group is used; then nothing is changed.
     pub fn touch(&mut self, column: u32, group: u32) -> Result<(), Refusal>
         ensures touched { OnOk result (IsMoved (IsTouched column group) self.old self.new) }
-        ensures here { (name : List ℕ) → AreAt S.is_of name self.old.rows → AreAt S.is_of name self.new.rows }
+        ensures here { (id : List ℕ) → AreAt S.is_of id self.old.rows → AreAt S.is_of id self.new.rows }
         ensures refused { refusal_in result ≡ object_refusal self.old.rows column group }
         ensures err { OnErr result (self.new ≡ self.old) }
     {
@@ -137,7 +137,7 @@ impl<S: FarTickets> LiveTable<S> {
     /// one and no other is without parts, else with `NoMemory` (1) alone. Then nothing is changed.
     pub fn compact(&mut self, kind: Kind, segment: u32) -> Result<(), Refusal>
         ensures compacted { OnOk result (IsMoved (IsCompactedOf kind segment) self.old self.new) }
-        ensures here { (name : List ℕ) → AreAt S.is_of name self.old.rows → AreAt S.is_of name self.new.rows }
+        ensures here { (id : List ℕ) → AreAt S.is_of id self.old.rows → AreAt S.is_of id self.new.rows }
         ensures missing { IsErrOf result Refusal.OutOfRange ↔ (segments_of kind self.old.rows ≤ segment) }
         ensures full { IsErrOf result Refusal.RegionFull ↔ ((segment < segments_of kind self.old.rows) × HasNoOther kind segment self.old.rows) }
         ensures refused { IfErr result (λ e. (e ≡ Refusal.OutOfRange) ⊎ ((e ≡ Refusal.RegionFull) ⊎ (e ≡ Refusal.NoMemory))) }

@@ -38,7 +38,7 @@ impl<S: FarTickets> LiveTable<S> {
         if group as usize >= self.rows.groups() {
             return Err(Refusal::OutOfRange);
         }
-        if !self.aggregates.is_left(a, group) {
+        if !self.aggregates.is_pending_in(a, group) {
             return Err(Refusal::StaleJob);
         }
         self.rows.may_scan(spec, group)
@@ -57,7 +57,7 @@ impl<S: FarTickets> LiveTable<S> {
         if group as usize >= self.rows.groups() {
             return Err(Refusal::OutOfRange);
         }
-        if !self.aggregates.is_left(a, group) {
+        if !self.aggregates.is_pending_in(a, group) {
             return Err(Refusal::StaleJob);
         }
         are_copied(self.rows.held(), spec, group)
@@ -148,7 +148,7 @@ impl<S: FarTickets> LiveTable<S> {
             return false;
         }
         let job = &build.job;
-        if !job.spec().is_same(spec) || !self.aggregates.is_left(build.aggregate, build.group) {
+        if !job.spec().is_same(spec) || !self.aggregates.is_pending_in(build.aggregate, build.group) {
             return false;
         }
         an_aggregate_is_served_by_the_columns_of_its_schema();

@@ -12,7 +12,7 @@ use far_types::Refusal;
 
 impl<S: FarRead> LiveTable<S> {
     /// Puts the content of each object that is away into another store, those of numbers before those of texts, each by rising
-    /// object number, and makes all room that `renew` needs. The table stays as it is.
+    /// object number, and makes all space that `renew` needs. The table stays as it is.
     ///
     /// Refused with `FarFault` (21) if one of the stores fails, exactly if the meter rises, by one; with `FarFull` (22) where
     /// the new one gives out no more numbers; and with `NoMemory` (1). It ends at the first object that is refused; what was put
@@ -40,7 +40,7 @@ impl<S: FarTickets> LiveTable<S> {
     pub fn renew<N: FarTickets>(self, renewal: RowsRenewal<N>) -> LiveTable<N>
         requires { RenewsRows S.content N.content self.rows renewal }
         ensures renewed { result ≡ renewed_state self renewal }
-        ensures there { (name : List ℕ) → AreTicketsAt N.is_of name renewal → AreAt N.is_of name result.rows }
+        ensures there { (id : List ℕ) → AreTicketsAt N.is_of id renewal → AreAt N.is_of id result.rows }
     {
         LiveTable {
             alloc: self.alloc,

@@ -1,7 +1,7 @@
 // The aggregates of a table over objects.
 ghost use Rattle.std.specs.Prelude.{◌≡◌, true, false, ℕ, length, option_map, IfOk, IfErr, IfSome, IfNone, OnOk};
 ghost use Rattle.std.specs.Option.{option_copied};
-ghost use Rattle.far_aggregates.specs.Aggregates.{Answers, ask_refusal, is_left};
+ghost use Rattle.far_aggregates.specs.Aggregates.{Answers, ask_refusal, is_pending_in};
 ghost use Rattle.far_aggregates.specs.Readings.{plain_in};
 ghost use Rattle.far_table.specs.Live.{Refuses};
 ghost use Rattle.far_table.specs.Watching.{aggregate_at, watch_refusal, unwatch_refusal, scan_refusal, IsWatched, IsUnwatched, IsScanned};
@@ -69,7 +69,7 @@ impl<S: FarTickets> LiveTable<S> {
         if group as usize >= self.rows.groups() {
             return Err(Refusal::OutOfRange);
         }
-        if !self.aggregates.is_left(a, group) {
+        if !self.aggregates.is_pending_in(a, group) {
             return Err(Refusal::StaleJob);
         }
         self.rows.may_scan(spec, group)?;
@@ -100,8 +100,8 @@ impl<S: FarTickets> LiveTable<S> {
 
     /// An aggregate and a row group that is still pending in it, or `None` if there is none. Allocates nothing.
     pub fn unbuilt(&self) -> Option<(u32, u32)>
-        ensures some { IfSome result (λ at. is_left (aggregate_at self.now.table at.0) at.1 ≡ true) }
-        ensures none { IfNone result ((a : ℕ) → (g : ℕ) → is_left (aggregate_at self.now.table a) g ≡ false) }
+        ensures some { IfSome result (λ at. is_pending_in (aggregate_at self.now.table at.0) at.1 ≡ true) }
+        ensures none { IfNone result ((a : ℕ) → (g : ℕ) → is_pending_in (aggregate_at self.now.table a) g ≡ false) }
     {
         self.aggregates.first_pending()
     }

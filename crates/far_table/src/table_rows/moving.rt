@@ -95,7 +95,7 @@ impl<S: FarTickets> TableRows<S> {
     /// exactly if it has 65,535 pins. Then nothing is changed.
     pub fn pin(&mut self, column: u32, group: u32) -> Result<(), Refusal>
         ensures pinned { OnOk result (AreMoved (IsPinned column group) self.old self.new) }
-        ensures here { (name : List ℕ) → AreAt S.is_of name self.old.held → AreAt S.is_of name self.new.held }
+        ensures here { (id : List ℕ) → AreAt S.is_of id self.old.held → AreAt S.is_of id self.new.held }
         ensures refused { refusal_in result ≡ pin_refusal self.old.held column group }
         ensures err { OnErr result (self.new ≡ self.old) }
     {
@@ -108,7 +108,7 @@ impl<S: FarTickets> TableRows<S> {
     /// of the row group is used; else with `NotPinned` (18) exactly if the object has no pin. Then nothing is changed.
     pub fn unpin(&mut self, column: u32, group: u32) -> Result<(), Refusal>
         ensures unpinned { OnOk result (AreMoved (IsUnpinned column group) self.old self.new) }
-        ensures here { (name : List ℕ) → AreAt S.is_of name self.old.held → AreAt S.is_of name self.new.held }
+        ensures here { (id : List ℕ) → AreAt S.is_of id self.old.held → AreAt S.is_of id self.new.held }
         ensures refused { refusal_in result ≡ unpin_refusal self.old.held column group }
         ensures err { OnErr result (self.new ≡ self.old) }
     {
@@ -121,7 +121,7 @@ impl<S: FarTickets> TableRows<S> {
     /// of the row group is used; then nothing is changed.
     pub fn touch(&mut self, column: u32, group: u32) -> Result<(), Refusal>
         ensures touched { OnOk result (AreMoved (IsTouched column group) self.old self.new) }
-        ensures here { (name : List ℕ) → AreAt S.is_of name self.old.held → AreAt S.is_of name self.new.held }
+        ensures here { (id : List ℕ) → AreAt S.is_of id self.old.held → AreAt S.is_of id self.new.held }
         ensures refused { refusal_in result ≡ object_refusal self.old.held column group }
         ensures err { OnErr result (self.new ≡ self.old) }
     {
@@ -149,7 +149,7 @@ impl<S: FarTickets> TableRows<S> {
     /// one and no other is without parts, else with `NoMemory` (1) alone. Then nothing is changed.
     pub fn compact(&mut self, alloc: Global, kind: Kind, segment: u32) -> Result<(), Refusal>
         ensures compacted { OnOk result (AreMoved (IsCompactedOf kind segment) self.old self.new) }
-        ensures here { (name : List ℕ) → AreAt S.is_of name self.old.held → AreAt S.is_of name self.new.held }
+        ensures here { (id : List ℕ) → AreAt S.is_of id self.old.held → AreAt S.is_of id self.new.held }
         ensures missing { IsErrOf result Refusal.OutOfRange ↔ (segments_of kind self.old.held ≤ segment) }
         ensures full { IsErrOf result Refusal.RegionFull ↔ ((segment < segments_of kind self.old.held) × HasNoOther kind segment self.old.held) }
         ensures refused { IfErr result (λ e. (e ≡ Refusal.OutOfRange) ⊎ ((e ≡ Refusal.RegionFull) ⊎ (e ≡ Refusal.NoMemory))) }

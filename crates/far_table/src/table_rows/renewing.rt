@@ -13,7 +13,7 @@ use std::alloc::Global;
 
 impl<S: FarRead> TableRows<S> {
     /// Puts the content of each object that is away into another store, those of numbers before those of texts, each by rising
-    /// object number, and makes all room that `renew` needs. The rows stay as they are.
+    /// object number, and makes all space that `renew` needs. The rows stay as they are.
     ///
     /// Refused with `FarFault` (21) if one of the stores fails, exactly if the meter rises, by one; with `FarFull` (22) where
     /// the new one gives out no more numbers; and with `NoMemory` (1). It ends at the first object that is refused; what was put
@@ -42,7 +42,7 @@ impl<S: FarTickets> TableRows<S> {
     pub fn renew<N: FarTickets>(self, renewal: RowsRenewal<N>) -> TableRows<N>
         requires { RenewsRows S.content N.content self.held renewal }
         ensures renewed { result ≡ renewed_table_rows self renewal }
-        ensures there { (name : List ℕ) → AreTicketsAt N.is_of name renewal → AreAt N.is_of name result.held }
+        ensures there { (id : List ℕ) → AreTicketsAt N.is_of id renewal → AreAt N.is_of id result.held }
     {
         TableRows {
             schema: self.schema,

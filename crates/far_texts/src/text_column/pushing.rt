@@ -70,11 +70,11 @@ impl TextColumn {
     }
 
     // What is known of the column and of the objects before a text is pushed: the next object's number has no list.
-    pub(super) fn known_before_push<S: FarTickets>(&self, objects: &Objects<u8, S>)
+    pub(super) fn next_object_is_unused<S: FarTickets>(&self, objects: &Objects<u8, S>)
         requires { IsTextColumn (lists_of S.content objects.now) self.now }
-        ensures objects { length self.now.objects ≤ length objects.now.entries }
+        ensures objects { length self.now.objects ≤ length objects.now.records }
         ensures groups { HasGroups self.now }
-        ensures fresh { lists_of S.content objects.now (length objects.now.entries) ≡ None }
+        ensures fresh { lists_of S.content objects.now (length objects.now.records) ≡ None }
     {
         let _number = objects.number();
         let _len = self.len();
@@ -87,14 +87,14 @@ impl TextColumn {
         form: &[u8],
     ) -> Result<(), Refusal>
         requires begins { begins_group self.old ≡ true }
-        requires few { length objects.old.entries < 2 ^ 28 }
-        requires groups { length self.old.objects ≤ length objects.old.entries }
+        requires few { length objects.old.records < 2 ^ 28 }
+        requires groups { length self.old.objects ≤ length objects.old.records }
         requires some { 0 < length form.now }
-        ensures pushed { OnOk result (self.new ≡ pushed self.old (length objects.old.entries)) }
+        ensures pushed { OnOk result (self.new ≡ pushed self.old (length objects.old.records)) }
         ensures created { OnOk result (objects.new ≡ after_create objects.old record { column = self.old.column; group = length self.old.objects } form.now) }
-        ensures list { OnOk result (ChangesList (lists_of S.content objects.old) (lists_of S.content objects.new) (length objects.old.entries) (Some form.now)) }
+        ensures list { OnOk result (ChangesList (lists_of S.content objects.old) (lists_of S.content objects.new) (length objects.old.records) (Some form.now)) }
         ensures clean { AreClean (λ bytes. bytes) S.content objects.old → AreClean (λ bytes. bytes) S.content objects.new }
-        ensures store { (name : List ℕ) → AreHere S.is_of name objects.old → AreHere S.is_of name objects.new }
+        ensures store { (id : List ℕ) → AreHere S.is_of id objects.old → AreHere S.is_of id objects.new }
         ensures space { OnOk result (fits_in objects.old.memory.state (length form.now) ≡ true) }
         ensures refused { IfErr result (λ e. ((e ≡ Refusal.RegionFull) × (fits_in objects.old.memory.state (length form.now) ≡ false)) ⊎ (e ≡ Refusal.NoMemory)) }
         ensures err { OnErr result (objects.new ≡ objects.old) }
@@ -120,11 +120,11 @@ impl TextColumn {
         requires begun { begins_group self.old ≡ false }
         requires is { IsTextColumn (lists_of S.content objects.old) self.old }
         requires some { 0 < length form.now }
-        ensures pushed { OnOk result (self.new ≡ pushed self.old (length objects.old.entries)) }
+        ensures pushed { OnOk result (self.new ≡ pushed self.old (length objects.old.records)) }
         ensures replaced { OnOk result (objects.new ≡ after_replace objects.old (last_object self.old) form.now) }
         ensures list { OnOk result (ChangesList (lists_of S.content objects.old) (lists_of S.content objects.new) (last_object self.old) (Some form.now)) }
         ensures clean { AreClean (λ bytes. bytes) S.content objects.old → AreClean (λ bytes. bytes) S.content objects.new }
-        ensures store { (name : List ℕ) → AreHere S.is_of name objects.old → AreHere S.is_of name objects.new }
+        ensures store { (id : List ℕ) → AreHere S.is_of id objects.old → AreHere S.is_of id objects.new }
         ensures refused { IfErr result (λ e. (replace_refusal objects.old (last_object self.old) (length form.now) ≡ Some e) ⊎ ((replace_refusal objects.old (last_object self.old) (length form.now) ≡ None) × (e ≡ Refusal.NoMemory))) }
         ensures err { OnErr result (objects.new ≡ objects.old) }
         ensures kept { OnErr result (self.new ≡ self.old) }
@@ -150,8 +150,8 @@ impl TextColumn {
         text: &Option<Text>,
     ) -> Result<(), Refusal>
         requires is { IsTextColumn (lists_of S.content objects.old) self.old }
-        requires few { begins_group self.old ≡ true → length objects.old.entries < 2 ^ 28 }
-        ensures pushed { OnOk result (self.new ≡ pushed self.old (length objects.old.entries)) }
+        requires few { begins_group self.old ≡ true → length objects.old.records < 2 ^ 28 }
+        ensures pushed { OnOk result (self.new ≡ pushed self.old (length objects.old.records)) }
         ensures moved { OnOk result (objects.new ≡ pushed_in S.content objects.old self.old text.now) }
         ensures list { OnOk result (ChangesList (lists_of S.content objects.old) (lists_of S.content objects.new) (next_object S.content objects.old self.old) (Some (texts_form (group_with_next (lists_of S.content objects.old) self.old text.now)))) }
         ensures is { IsTextColumn (lists_of S.content objects.new) self.new }
@@ -159,13 +159,13 @@ impl TextColumn {
         ensures others { KeepsOthers (lists_of S.content objects.old) (lists_of S.content objects.new) self.old }
         ensures disjoint { (d : Texts) → IsTextColumn (lists_of S.content objects.old) d → AreDisjoint self.old d → AreDisjoint self.new d }
         ensures clean { AreClean (λ bytes. bytes) S.content objects.old → AreClean (λ bytes. bytes) S.content objects.new }
-        ensures store { (name : List ℕ) → AreHere S.is_of name objects.old → AreHere S.is_of name objects.new }
+        ensures store { (id : List ℕ) → AreHere S.is_of id objects.old → AreHere S.is_of id objects.new }
         ensures free { OnOk result (push_refusal S.content objects.old self.old text.now ≡ None) }
         ensures refused { IfErr result (λ e. (push_refusal S.content objects.old self.old text.now ≡ Some e) ⊎ ((push_refusal S.content objects.old self.old text.now ≡ None) × (e ≡ Refusal.NoMemory))) }
         ensures err { OnErr result ((self.new ≡ self.old) × (objects.new ≡ objects.old)) }
     {
         self.may_push(objects, text)?;
-        self.known_before_push(objects);
+        self.next_object_is_unused(objects);
         let form = self.form_pushed(Vec::new(alloc), objects, text)?;
         if self.begins_group() {
             self.begin_group(objects, &form)

@@ -18,7 +18,7 @@ impl TextColumn {
         requires begun { group < length self.now.objects }
         requires is { IsTextColumn (lists_of S.content objects.now) self.now }
         ensures object { result ≡ slice_index self.now.objects group }
-        ensures used { result < length objects.now.entries }
+        ensures used { result < length objects.now.records }
     {
         // It tells of all objects that one with a list is in use.
         let _number = objects.number();

@@ -86,7 +86,7 @@ impl TextColumn {
         ensures texts { OnOk result (texts_in (lists_of S.content objects.new) self.now ≡ slice_set (texts_in (lists_of S.content objects.old) self.now) place text.now) }
         ensures others { KeepsOthers (lists_of S.content objects.old) (lists_of S.content objects.new) self.now }
         ensures clean { AreClean (λ bytes. bytes) S.content objects.old → AreClean (λ bytes. bytes) S.content objects.new }
-        ensures store { (name : List ℕ) → AreHere S.is_of name objects.old → AreHere S.is_of name objects.new }
+        ensures store { (id : List ℕ) → AreHere S.is_of id objects.old → AreHere S.is_of id objects.new }
         ensures free { OnOk result (set_refusal S.content objects.old self.now place text.now ≡ None) }
         ensures refused { IfErr result (λ e. (set_refusal S.content objects.old self.now place text.now ≡ Some e) ⊎ ((set_refusal S.content objects.old self.now place text.now ≡ None) × (e ≡ Refusal.NoMemory))) }
         ensures err { OnErr result (objects.new ≡ objects.old) }

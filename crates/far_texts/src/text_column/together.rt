@@ -3,7 +3,7 @@ ghost use Rattle.std.specs.Prelude.{◌≡◌, if◌then◌else◌, ◌⊎◌, �
 ghost use Rattle.far_types.specs.FirstOf.{first_of};
 ghost use Rattle.far_scopes.specs.Movement.{AreClean, AreHere};
 ghost use Rattle.far_texts.specs.Texts.{Texts, IsTextColumn, AreDisjoint, lists_of, texts_in};
-ghost use Rattle.far_texts.specs.Together.{AreColumns, all_begin, next_forms, all_pushed, all_texts_with, ChangesTo, KeepsColumns, all_created, AreReplaced};
+ghost use Rattle.far_texts.specs.Together.{AreColumns, all_begin, next_forms, all_pushed, all_texts_with, ChangesTo, KeepsColumns, after_create_all, AreReplaced};
 ghost use Rattle.far_texts.specs.RefusingTogether.{first_tests, push_texts_refusal};
 
 mod asking;
@@ -29,7 +29,7 @@ use std::alloc::Global;
 /// Refused with `TextTooLong` (7) exactly if some text has more than 4,096 bytes, else with `Absent` (16) exactly where
 /// the row groups are begun and some column's last object is away, naming the first such; else with `ChunkFull` (11)
 /// exactly if some new form would be longer than its column's may be; else with `RegionFull` (17) if the new forms,
-/// placed one after the other, do not find room beside all that is there; else with `EditsUsedUp` (24) if the row
+/// placed one after the other, do not find space beside all that is there; else with `EditsUsedUp` (24) if the row
 /// groups are begun and some last object was written as often as objects may be; and with `NoMemory` (1) if an allocation
 /// failed, which may come before it is seen that 17 or 24 applies. Then nothing is changed.
 pub fn push_texts<S: FarTickets>(
@@ -41,18 +41,18 @@ pub fn push_texts<S: FarTickets>(
 ) -> Result<(), Refusal>
     requires are { AreColumns (lists_of S.content objects.old) columns.old }
     requires same_length { length texts.now ≡ length columns.old }
-    requires few { all_begin columns.old ≡ true → length objects.old.entries + length columns.old ≤ 2 ^ 28 }
-    ensures pushed { OnOk result (columns.new ≡ all_pushed (length objects.old.entries) columns.old) }
-    ensures begun { OnOk result (all_begin columns.old ≡ true → objects.new ≡ all_created objects.old columns.old (next_forms (lists_of S.content objects.old) (length objects.old.entries) columns.old texts.now)) }
-    ensures replaced { OnOk result (all_begin columns.old ≡ false → AreReplaced objects.old (next_forms (lists_of S.content objects.old) (length objects.old.entries) columns.old texts.now) objects.new) }
-    ensures count { OnOk result (length objects.new.entries ≡ length objects.old.entries + (if all_begin columns.old then length columns.old else 0)) }
-    ensures lists { OnOk result (ChangesTo (lists_of S.content objects.old) (lists_of S.content objects.new) (next_forms (lists_of S.content objects.old) (length objects.old.entries) columns.old texts.now)) }
+    requires few { all_begin columns.old ≡ true → length objects.old.records + length columns.old ≤ 2 ^ 28 }
+    ensures pushed { OnOk result (columns.new ≡ all_pushed (length objects.old.records) columns.old) }
+    ensures begun { OnOk result (all_begin columns.old ≡ true → objects.new ≡ after_create_all objects.old columns.old (next_forms (lists_of S.content objects.old) (length objects.old.records) columns.old texts.now)) }
+    ensures replaced { OnOk result (all_begin columns.old ≡ false → AreReplaced objects.old (next_forms (lists_of S.content objects.old) (length objects.old.records) columns.old texts.now) objects.new) }
+    ensures count { OnOk result (length objects.new.records ≡ length objects.old.records + (if all_begin columns.old then length columns.old else 0)) }
+    ensures lists { OnOk result (ChangesTo (lists_of S.content objects.old) (lists_of S.content objects.new) (next_forms (lists_of S.content objects.old) (length objects.old.records) columns.old texts.now)) }
     ensures are { AreColumns (lists_of S.content objects.new) columns.new }
     ensures texts { OnOk result (map (texts_in (lists_of S.content objects.new)) columns.new ≡ all_texts_with (lists_of S.content objects.old) columns.old texts.now) }
     ensures others { KeepsColumns (lists_of S.content objects.old) (lists_of S.content objects.new) columns.old }
     ensures disjoint { (d : Texts) → IsTextColumn (lists_of S.content objects.old) d → All (λ c. AreDisjoint c d) columns.old → All (λ c. AreDisjoint c d) columns.new }
     ensures clean { AreClean (λ bytes. bytes) S.content objects.old → AreClean (λ bytes. bytes) S.content objects.new }
-    ensures store { (name : List ℕ) → AreHere S.is_of name objects.old → AreHere S.is_of name objects.new }
+    ensures store { (id : List ℕ) → AreHere S.is_of id objects.old → AreHere S.is_of id objects.new }
     ensures free { OnOk result (push_texts_refusal S.content objects.old columns.old texts.now ≡ None) }
     ensures refused { IfErr result (λ e. (push_texts_refusal S.content objects.old columns.old texts.now ≡ Some e) ⊎ ((first_of (first_tests S.content objects.old columns.old texts.now) ≡ None) × (e ≡ Refusal.NoMemory))) }
     ensures err { OnErr result ((columns.new ≡ columns.old) × (objects.new ≡ objects.old)) }
@@ -74,19 +74,19 @@ pub fn fill_texts<S: FarTickets>(
 ) -> Result<(), Refusal>
     requires are { AreColumns (lists_of S.content objects.old) columns.old }
     requires same_length { length texts.now ≡ length columns.old }
-    requires few { all_begin columns.old ≡ true → length objects.old.entries + length columns.old ≤ 2 ^ 28 }
+    requires few { all_begin columns.old ≡ true → length objects.old.records + length columns.old ≤ 2 ^ 28 }
     requires free { push_texts_refusal S.content objects.old columns.old texts.now ≡ None }
-    ensures pushed { OnOk result (columns.new ≡ all_pushed (length objects.old.entries) columns.old) }
-    ensures begun { OnOk result (all_begin columns.old ≡ true → objects.new ≡ all_created objects.old columns.old (next_forms (lists_of S.content objects.old) (length objects.old.entries) columns.old texts.now)) }
-    ensures replaced { OnOk result (all_begin columns.old ≡ false → AreReplaced objects.old (next_forms (lists_of S.content objects.old) (length objects.old.entries) columns.old texts.now) objects.new) }
-    ensures count { OnOk result (length objects.new.entries ≡ length objects.old.entries + (if all_begin columns.old then length columns.old else 0)) }
-    ensures lists { OnOk result (ChangesTo (lists_of S.content objects.old) (lists_of S.content objects.new) (next_forms (lists_of S.content objects.old) (length objects.old.entries) columns.old texts.now)) }
+    ensures pushed { OnOk result (columns.new ≡ all_pushed (length objects.old.records) columns.old) }
+    ensures begun { OnOk result (all_begin columns.old ≡ true → objects.new ≡ after_create_all objects.old columns.old (next_forms (lists_of S.content objects.old) (length objects.old.records) columns.old texts.now)) }
+    ensures replaced { OnOk result (all_begin columns.old ≡ false → AreReplaced objects.old (next_forms (lists_of S.content objects.old) (length objects.old.records) columns.old texts.now) objects.new) }
+    ensures count { OnOk result (length objects.new.records ≡ length objects.old.records + (if all_begin columns.old then length columns.old else 0)) }
+    ensures lists { OnOk result (ChangesTo (lists_of S.content objects.old) (lists_of S.content objects.new) (next_forms (lists_of S.content objects.old) (length objects.old.records) columns.old texts.now)) }
     ensures are { AreColumns (lists_of S.content objects.new) columns.new }
     ensures texts { OnOk result (map (texts_in (lists_of S.content objects.new)) columns.new ≡ all_texts_with (lists_of S.content objects.old) columns.old texts.now) }
     ensures others { KeepsColumns (lists_of S.content objects.old) (lists_of S.content objects.new) columns.old }
     ensures disjoint { (d : Texts) → IsTextColumn (lists_of S.content objects.old) d → All (λ c. AreDisjoint c d) columns.old → All (λ c. AreDisjoint c d) columns.new }
     ensures clean { AreClean (λ bytes. bytes) S.content objects.old → AreClean (λ bytes. bytes) S.content objects.new }
-    ensures store { (name : List ℕ) → AreHere S.is_of name objects.old → AreHere S.is_of name objects.new }
+    ensures store { (id : List ℕ) → AreHere S.is_of id objects.old → AreHere S.is_of id objects.new }
     ensures memory { IfErr result (λ e. e ≡ Refusal.NoMemory) }
     ensures err { OnErr result ((columns.new ≡ columns.old) × (objects.new ≡ objects.old)) }
 {

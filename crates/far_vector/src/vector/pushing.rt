@@ -55,11 +55,11 @@ impl<T: Elem> FarVector<T> {
     /// changed.
     pub fn push<S: FarTickets>(&mut self, objects: &mut Objects<T, S>, x: T) -> Result<(), Refusal>
         requires is { IsVector (list_of T.meaning S.content objects.old) self.old }
-        requires few { is_full self.old ≡ true → length objects.old.entries < 2 ^ 28 }
-        ensures pushed { OnOk result (self.new ≡ after_push self.old (length objects.old.entries)) }
+        requires few { is_full self.old ≡ true → length objects.old.records < 2 ^ 28 }
+        ensures pushed { OnOk result (self.new ≡ after_push self.old (length objects.old.records)) }
         ensures written { OnOk result (objects.new ≡ pushed_in objects.old self.old x) }
         ensures undone { OnOk result (is_full self.old ≡ true → (after_unpush self.new ≡ self.old) × (after_uncreate objects.new ≡ objects.old)) }
-        ensures last { OnOk result (is_full self.old ≡ true → (is_local objects.new (length objects.old.entries) ≡ true) × (pins_of objects.new (length objects.old.entries) ≡ 0)) }
+        ensures last { OnOk result (is_full self.old ≡ true → (is_local objects.new (length objects.old.records) ≡ true) × (pins_of objects.new (length objects.old.records) ≡ 0)) }
         ensures next { OnOk result (is_full self.old ≡ true → (lens : List ℕ) → fit_in_order (spaces_of objects.old.memory.state) (self.old.size ∷ lens) ≡ fit_in_order (spaces_of objects.new.memory.state) lens) }
         ensures elements { OnOk result (elements (list_of T.meaning S.content objects.new) self.new ≡ elements (list_of T.meaning S.content objects.old) self.old ++ x ∷ []) }
         ensures is { IsVector (list_of T.meaning S.content objects.new) self.new }
@@ -67,7 +67,7 @@ impl<T: Elem> FarVector<T> {
         ensures lists { OnOk result (KeepsOthers (list_of T.meaning S.content objects.old) (list_of T.meaning S.content objects.new) (object_at self.new self.old.len)) }
         ensures others { OnOk result (ChangesObject objects.old objects.new (object_at self.new self.old.len)) }
         ensures clean { AreClean T.meaning S.content objects.old → AreClean T.meaning S.content objects.new }
-        ensures store { (name : List ℕ) → AreHere S.is_of name objects.old → AreHere S.is_of name objects.new }
+        ensures store { (id : List ℕ) → AreHere S.is_of id objects.old → AreHere S.is_of id objects.new }
         ensures free { OnOk result (push_refusal objects.old self.old ≡ None) }
         ensures refused { IfErr result (λ e. (push_refusal objects.old self.old ≡ Some e) ⊎ ((push_refusal objects.old self.old ≡ None) × (is_full self.old ≡ true) × (e ≡ Refusal.NoMemory))) }
         ensures err { OnErr result ((self.new ≡ self.old) × (objects.new ≡ objects.old)) }
@@ -87,22 +87,22 @@ impl<T: Elem> FarVector<T> {
     ) -> Result<(), Refusal>
         requires full { is_full self.old ≡ true }
         requires is { IsVector (list_of T.meaning S.content objects.old) self.old }
-        requires few { length objects.old.entries < 2 ^ 28 }
-        ensures pushed { OnOk result (self.new ≡ record self.old { objects = self.old.objects ++ length objects.old.entries ∷ []; len = self.old.len + 1 }) }
+        requires few { length objects.old.records < 2 ^ 28 }
+        ensures pushed { OnOk result (self.new ≡ record self.old { objects = self.old.objects ++ length objects.old.records ∷ []; len = self.old.len + 1 }) }
         ensures written { OnOk result (objects.new ≡ after_create objects.old (next_name self.old) (next_group self.old x)) }
         ensures undone { OnOk result ((after_unpush self.new ≡ self.old) × (after_uncreate objects.new ≡ objects.old)) }
-        ensures last { OnOk result ((is_local objects.new (length objects.old.entries) ≡ true) × (pins_of objects.new (length objects.old.entries) ≡ 0)) }
+        ensures last { OnOk result ((is_local objects.new (length objects.old.records) ≡ true) × (pins_of objects.new (length objects.old.records) ≡ 0)) }
         ensures next { OnOk result ((lens : List ℕ) → fit_in_order (spaces_of objects.old.memory.state) (self.old.size ∷ lens) ≡ fit_in_order (spaces_of objects.new.memory.state) lens) }
         ensures elements { OnOk result (elements (list_of T.meaning S.content objects.new) self.new ≡ elements (list_of T.meaning S.content objects.old) self.old ++ x ∷ []) }
         ensures is { IsVector (list_of T.meaning S.content objects.new) self.new }
         ensures disjoint { (w : Vector T) → IsVector (list_of T.meaning S.content objects.old) w → AreDisjoint self.old w → IsUntouched (list_of T.meaning S.content objects.old) (list_of T.meaning S.content objects.new) self.new w }
-        ensures object { OnOk result (object_at self.new self.old.len ≡ length objects.old.entries) }
-        ensures lists { OnOk result (KeepsOthers (list_of T.meaning S.content objects.old) (list_of T.meaning S.content objects.new) (length objects.old.entries)) }
-        ensures others { OnOk result (ChangesObject objects.old objects.new (length objects.old.entries)) }
+        ensures object { OnOk result (object_at self.new self.old.len ≡ length objects.old.records) }
+        ensures lists { OnOk result (KeepsOthers (list_of T.meaning S.content objects.old) (list_of T.meaning S.content objects.new) (length objects.old.records)) }
+        ensures others { OnOk result (ChangesObject objects.old objects.new (length objects.old.records)) }
         ensures clean { AreClean T.meaning S.content objects.old → AreClean T.meaning S.content objects.new }
-        ensures store { (name : List ℕ) → AreHere S.is_of name objects.old → AreHere S.is_of name objects.new }
-        ensures free { OnOk result (first_of (no_space objects.old (length objects.old.entries) self.old.size ∷ []) ≡ None) }
-        ensures refused { IfErr result (λ e. (first_of (no_space objects.old (length objects.old.entries) self.old.size ∷ []) ≡ Some e) ⊎ ((first_of (no_space objects.old (length objects.old.entries) self.old.size ∷ []) ≡ None) × (e ≡ Refusal.NoMemory))) }
+        ensures store { (id : List ℕ) → AreHere S.is_of id objects.old → AreHere S.is_of id objects.new }
+        ensures free { OnOk result (first_of (no_space objects.old (length objects.old.records) self.old.size ∷ []) ≡ None) }
+        ensures refused { IfErr result (λ e. (first_of (no_space objects.old (length objects.old.records) self.old.size ∷ []) ≡ Some e) ⊎ ((first_of (no_space objects.old (length objects.old.records) self.old.size ∷ []) ≡ None) × (e ≡ Refusal.NoMemory))) }
         ensures err { OnErr result ((self.new ≡ self.old) × (objects.new ≡ objects.old)) }
     {
         let _ = objects.number();
@@ -127,7 +127,7 @@ impl<T: Elem> FarVector<T> {
         objects: &mut Objects<T, S>,
         x: T,
     ) -> Result<(), Refusal>
-        requires room { is_full self.old ≡ false }
+        requires space { is_full self.old ≡ false }
         requires is { IsVector (list_of T.meaning S.content objects.old) self.old }
         ensures pushed { OnOk result (self.new ≡ record self.old { len = self.old.len + 1 }) }
         ensures written { OnOk result (objects.new ≡ range_written objects.old self.old self.old.len (x ∷ [])) }
@@ -137,7 +137,7 @@ impl<T: Elem> FarVector<T> {
         ensures lists { OnOk result (KeepsOthers (list_of T.meaning S.content objects.old) (list_of T.meaning S.content objects.new) (object_at self.new self.old.len)) }
         ensures others { OnOk result (ChangesObject objects.old objects.new (object_at self.new self.old.len)) }
         ensures clean { AreClean T.meaning S.content objects.old → AreClean T.meaning S.content objects.new }
-        ensures store { (name : List ℕ) → AreHere S.is_of name objects.old → AreHere S.is_of name objects.new }
+        ensures store { (id : List ℕ) → AreHere S.is_of id objects.old → AreHere S.is_of id objects.new }
         ensures refused { refusal_in result ≡ write_refusal objects.old (object_at self.old self.old.len) }
         ensures err { OnErr result ((self.new ≡ self.old) × (objects.new ≡ objects.old)) }
     {
@@ -152,18 +152,18 @@ impl<T: Elem> FarVector<T> {
     pub fn unpush<S: FarTickets>(&mut self, objects: &mut Objects<T, S>)
         requires is { IsVector (list_of T.meaning S.content objects.old) self.old }
         requires alone { self.old.len ≡ (length self.old.objects - 1) * self.old.size + 1 }
-        requires last { slice_get self.old.objects (length self.old.objects - 1) ≡ Some (length objects.old.entries - 1) }
-        requires local { is_local objects.old (length objects.old.entries - 1) ≡ true }
-        requires unpinned { pins_of objects.old (length objects.old.entries - 1) ≡ 0 }
+        requires last { slice_get self.old.objects (length self.old.objects - 1) ≡ Some (length objects.old.records - 1) }
+        requires local { is_local objects.old (length objects.old.records - 1) ≡ true }
+        requires unpinned { pins_of objects.old (length objects.old.records - 1) ≡ 0 }
         ensures unpushed { self.new ≡ after_unpush self.old }
         ensures uncreated { objects.new ≡ after_uncreate objects.old }
         ensures elements { elements (list_of T.meaning S.content objects.new) self.new ≡ take (self.old.len - 1) (elements (list_of T.meaning S.content objects.old) self.old) }
         ensures is { IsVector (list_of T.meaning S.content objects.new) self.new }
         ensures disjoint { (w : Vector T) → IsVector (list_of T.meaning S.content objects.old) w → AreDisjoint self.old w → IsUntouched (list_of T.meaning S.content objects.old) (list_of T.meaning S.content objects.new) self.new w }
-        ensures lists { KeepsOthers (list_of T.meaning S.content objects.old) (list_of T.meaning S.content objects.new) (length objects.old.entries - 1) }
-        ensures others { ChangesObject objects.old objects.new (length objects.old.entries - 1) }
+        ensures lists { KeepsOthers (list_of T.meaning S.content objects.old) (list_of T.meaning S.content objects.new) (length objects.old.records - 1) }
+        ensures others { ChangesObject objects.old objects.new (length objects.old.records - 1) }
         ensures clean { AreClean T.meaning S.content objects.old → AreClean T.meaning S.content objects.new }
-        ensures store { (name : List ℕ) → AreHere S.is_of name objects.old → AreHere S.is_of name objects.new }
+        ensures store { (id : List ℕ) → AreHere S.is_of id objects.old → AreHere S.is_of id objects.new }
     {
         self.objects.pop();
         self.len -= 1;

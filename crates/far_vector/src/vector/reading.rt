@@ -5,7 +5,7 @@ ghost use Rattle.far_types.specs.FirstOf.{first_of};
 ghost use Rattle.far_scopes.specs.Movement.{list_of};
 ghost use Rattle.far_scopes.specs.Refusing.{refusal_in, first_absent};
 ghost use Rattle.far_vector.specs.Vector.{IsShaped, IsVector, elements};
-ghost use Rattle.far_vector.specs.Pieces.{pieces_of, first_touched, touched_count};
+ghost use Rattle.far_vector.specs.Pieces.{pieces_of, first_overlapped, overlapped_count};
 ghost use Rattle.far_vector.specs.Refusing.{no_range, crosses, get_refusal, part_refusal, pieces_refusal};
 
 use super::FarVector;
@@ -124,7 +124,7 @@ impl<T: Elem> FarVector<T> {
     pub(crate) fn groups_between(&self, from: usize, to: usize) -> usize
         requires some { from < to }
         requires there { to ≤ self.now.len }
-        ensures { result ≡ touched_count self.now.size from to }
+        ensures { result ≡ overlapped_count self.now.size from to }
     {
         (to - 1) / self.size + 1 - from / self.size
     }

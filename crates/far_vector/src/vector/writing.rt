@@ -35,7 +35,7 @@ impl<T: Elem> FarVector<T> {
         ensures lists { KeepsOthers (list_of T.meaning S.content objects.old) (list_of T.meaning S.content objects.new) (object_at self.now i) }
         ensures others { ChangesObject objects.old objects.new (object_at self.now i) }
         ensures clean { AreClean T.meaning S.content objects.old → AreClean T.meaning S.content objects.new }
-        ensures store { (name : List ℕ) → AreHere S.is_of name objects.old → AreHere S.is_of name objects.new }
+        ensures store { (id : List ℕ) → AreHere S.is_of id objects.old → AreHere S.is_of id objects.new }
         ensures refused { refusal_in result ≡ set_refusal objects.old self.now i }
         ensures err { OnErr result (objects.new ≡ objects.old) }
     {
@@ -67,7 +67,7 @@ impl<T: Elem> FarVector<T> {
         ensures lists { KeepsOthers (list_of T.meaning S.content objects.old) (list_of T.meaning S.content objects.new) (object_at self.now i) }
         ensures others { ChangesObject objects.old objects.new (object_at self.now i) }
         ensures clean { AreClean T.meaning S.content objects.old → AreClean T.meaning S.content objects.new }
-        ensures store { (name : List ℕ) → AreHere S.is_of name objects.old → AreHere S.is_of name objects.new }
+        ensures store { (id : List ℕ) → AreHere S.is_of id objects.old → AreHere S.is_of id objects.new }
     {
         // It tells that a row group is begun for each element.
         let _len = self.len();
@@ -128,7 +128,7 @@ impl<T: Elem> FarVector<T> {
         ensures lists { (range : List T) → length range ≡ to - from → KeepsOthers (list_of T.meaning S.content objects.old) (list_of T.meaning S.content (range_written objects.old vector.now from range)) (object_at vector.now from) }
         ensures others { (range : List T) → ChangesObject objects.old (range_written objects.old vector.now from range) (object_at vector.now from) }
         ensures clean { (range : List T) → length range ≡ to - from → AreClean T.meaning S.content objects.old → AreClean T.meaning S.content (range_written objects.old vector.now from range) }
-        ensures store { (range : List T) (name : List ℕ) → AreHere S.is_of name objects.old → AreHere S.is_of name (range_written objects.old vector.now from range) }
+        ensures store { (range : List T) (id : List ℕ) → AreHere S.is_of id objects.old → AreHere S.is_of id (range_written objects.old vector.now from range) }
     {
         let begin = from % vector.size;
         let o = vector.writable_at(objects, from);
@@ -143,7 +143,7 @@ impl<T: Elem> FarVector<T> {
         requires within { at.place < length self.now.objects * self.now.size }
         requires object { at.object ≡ object_at self.now at.place }
         requires index { at.index ≡ at.place % self.now.size }
-        requires made { at.object < length objects.old.entries }
+        requires made { at.object < length objects.old.records }
         requires list { IsSomeAnd (list_of T.meaning S.content objects.old at.object) (λ list. length list ≡ self.now.size) }
         requires free { write_refusal objects.old at.object ≡ None }
         ensures written { objects.new ≡ range_written objects.old self.now at.place (x ∷ []) }
@@ -151,7 +151,7 @@ impl<T: Elem> FarVector<T> {
         ensures lists { KeepsOthers (list_of T.meaning S.content objects.old) (list_of T.meaning S.content objects.new) (object_at self.now at.place) }
         ensures others { ChangesObject objects.old objects.new (object_at self.now at.place) }
         ensures clean { AreClean T.meaning S.content objects.old → AreClean T.meaning S.content objects.new }
-        ensures store { (name : List ℕ) → AreHere S.is_of name objects.old → AreHere S.is_of name objects.new }
+        ensures store { (id : List ℕ) → AreHere S.is_of id objects.old → AreHere S.is_of id objects.new }
     {
         // They tell how many elements a row group has, and that the object has its list in local memory.
         let _len = self.len();
@@ -167,7 +167,7 @@ impl<T: Elem> FarVector<T> {
         requires within { i < length self.now.objects * self.now.size }
         requires free { write_refusal objects.now (object_at self.now i) ≡ None }
         ensures object { result ≡ object_at self.now i }
-        ensures made { result < length objects.now.entries }
+        ensures made { result < length objects.now.records }
         ensures list { IsSomeAnd (list_in objects.now.memory result) (λ list. length list ≡ self.now.size) }
     {
         let at = self.position(objects, i);

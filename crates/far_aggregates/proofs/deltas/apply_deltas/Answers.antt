@@ -2,7 +2,7 @@ use Rattle.std.proofs.Common.{◌≡◌, ◌<◌, ◌≤◌, ◌/◌, ◌++◌, 
 use Rattle.std.proofs.lemmas.List.{map_more, take_all, length-map, length-take-le}
 use Rattle.std.proofs.lemmas.Option.{slice_get_read, get_or_from_slice_get}
 use Rattle.far_aggregates.specs.declared.deltas.Delta.{Delta}
-use Rattle.far_aggregates.specs.Accumulators.{Slot}
+use Rattle.far_aggregates.specs.Accumulators.{RegistryEntry}
 use Rattle.far_aggregates.specs.Pairs.{row_gives, Folds}
 use Rattle.far_aggregates.specs.Deltas.{row_delta, added, undo, EachMayUndo}
 use Rattle.far_aggregates.specs.Reserve.{IsReserved}
@@ -16,28 +16,28 @@ pub apply_next-requires-clause-folds : goal.apply_next-requires-clause-folds
 apply_next-requires-clause-folds g c =
     let at = c.args.place / c.args.size in
     let delta = row_delta c.args.size c.args.place (row_gives (g.R.LendCells.cells c.args.row.now)) in
-    let slots = c.args.slots.now in
-    let here = slice_get_read c.loop-i.slots _ c.loop-i.i c.index-slots-i.result refl (omega arith) c.index-slots-i.is in
-    let was = sym (zip_until-here (added at) c.loop-i.i slots (map delta slots)) ∙ ap (λ (l : List Slot). slice_get l c.loop-i.i) (sym c.loop-i.invariant.slots) ∙ here in
-    subst Folds c.index-slots-i.is (c.requires.folds c.loop-i.i c.index-slots-i.result was)
+    let registry = c.args.registry.now in
+    let here = slice_get_read c.loop-i.registry _ c.loop-i.i c.index-registry-i.result refl (omega arith) c.index-registry-i.is in
+    let was = sym (zip_until-here (added at) c.loop-i.i registry (map delta registry)) ∙ ap (λ (l : List RegistryEntry). slice_get l c.loop-i.i) (sym c.loop-i.invariant.registry) ∙ here in
+    subst Folds c.index-registry-i.is (c.requires.folds c.loop-i.i c.index-registry-i.result was)
 
 pub apply_next-requires-clause-reserved : goal.apply_next-requires-clause-reserved
 apply_next-requires-clause-reserved g c =
     let at = c.args.place / c.args.size in
     let delta = row_delta c.args.size c.args.place (row_gives (g.R.LendCells.cells c.args.row.now)) in
-    let slots = c.args.slots.now in
-    let here = slice_get_read c.loop-i.slots _ c.loop-i.i c.index-slots-i.result refl (omega arith) c.index-slots-i.is in
-    let was = sym (zip_until-here (added at) c.loop-i.i slots (map delta slots)) ∙ ap (λ (l : List Slot). slice_get l c.loop-i.i) (sym c.loop-i.invariant.slots) ∙ here in
-    subst (IsReserved at) c.index-slots-i.is (all-get (IsReserved at) slots c.loop-i.i c.index-slots-i.result c.requires.reserved was)
+    let registry = c.args.registry.now in
+    let here = slice_get_read c.loop-i.registry _ c.loop-i.i c.index-registry-i.result refl (omega arith) c.index-registry-i.is in
+    let was = sym (zip_until-here (added at) c.loop-i.i registry (map delta registry)) ∙ ap (λ (l : List RegistryEntry). slice_get l c.loop-i.i) (sym c.loop-i.invariant.registry) ∙ here in
+    subst (IsReserved at) c.index-registry-i.is (all-get (IsReserved at) registry c.loop-i.i c.index-registry-i.result c.requires.reserved was)
 
 pub apply_next-requires-clause-place : goal.apply_next-requires-clause-place
 apply_next-requires-clause-place g c =
     let at = c.args.place / c.args.size in
     let delta = row_delta c.args.size c.args.place (row_gives (g.R.LendCells.cells c.args.row.now)) in
-    let slots = c.args.slots.now in
+    let registry = c.args.registry.now in
     let i = c.loop-i.i in
-    let within : i < length slots = omega (arith, length-zip_until (added at) i slots (map delta slots), ap length c.loop-i.invariant.slots) in
-    let many : length c.loop-i.deltas.items ≡ i = ap length c.loop-i.invariant.deltas ∙ length-map (take i slots) delta ∙ length-take-le i slots (omega arith) in
+    let within : i < length registry = omega (arith, length-zip_until (added at) i registry (map delta registry), ap length c.loop-i.invariant.registry) in
+    let many : length c.loop-i.deltas.items ≡ i = ap length c.loop-i.invariant.deltas ∙ length-map (take i registry) delta ∙ length-take-le i registry (omega arith) in
     let capacity = c.loop-i.invariant.capacity in
     omega arith
 
@@ -45,23 +45,23 @@ pub loop-i-preserved : goal.loop-i-preserved
 loop-i-preserved g c =
     let at = c.args.place / c.args.size in
     let delta = row_delta c.args.size c.args.place (row_gives (g.R.LendCells.cells c.args.row.now)) in
-    let slots = c.args.slots.now in
+    let registry = c.args.registry.now in
     let i = c.loop-i.i in
-    let slot = c.index-slots-i.result in
-    let here = slice_get_read c.loop-i.slots _ i slot refl (omega arith) c.index-slots-i.is in
-    let was = sym (zip_until-here (added at) i slots (map delta slots)) ∙ ap (λ (l : List Slot). slice_get l i) (sym c.loop-i.invariant.slots) ∙ here in
-    let within : i < length slots = omega (arith, length-zip_until (added at) i slots (map delta slots), ap length c.loop-i.invariant.slots) in
+    let entry = c.index-registry-i.result in
+    let here = slice_get_read c.loop-i.registry _ i entry refl (omega arith) c.index-registry-i.is in
+    let was = sym (zip_until-here (added at) i registry (map delta registry)) ∙ ap (λ (l : List RegistryEntry). slice_get l i) (sym c.loop-i.invariant.registry) ∙ here in
+    let within : i < length registry = omega (arith, length-zip_until (added at) i registry (map delta registry), ap length c.loop-i.invariant.registry) in
     record {
-      slots =
-          ap (λ (l : List Slot). slice_set l i c.apply_next.new.slot) c.loop-i.invariant.slots
-          ∙ ap (slice_set (zip_until (added at) i slots (map delta slots)) i) (c.in-Ok.ensures.ok ∙ ap (λ (s : Slot). added at s (delta s)) (sym c.index-slots-i.is))
-          ∙ zip_until-next (added at) i slots (map delta slots) slot (delta slot) was (get-map delta slots i slot was);
+      registry =
+          ap (λ (l : List RegistryEntry). slice_set l i c.apply_next.new.entry) c.loop-i.invariant.registry
+          ∙ ap (slice_set (zip_until (added at) i registry (map delta registry)) i) (c.in-Ok.ensures.ok ∙ ap (λ (s : RegistryEntry). added at s (delta s)) (sym c.index-registry-i.is))
+          ∙ zip_until-next (added at) i registry (map delta registry) entry (delta entry) was (get-map delta registry i entry was);
       capacity = let more = c.in-Ok.ensures.capacity in let capacity = c.loop-i.invariant.capacity in omega arith;
       deltas =
           c.in-Ok.ensures.deltas
-          ∙ ap (λ (s : Slot). c.loop-i.deltas.items ++ delta s ∷ []) (sym c.index-slots-i.is ∙ sym (get_or_from_slice_get slots i slot None was))
-          ∙ ap (λ (l : List (Option Delta)). l ++ delta (get_or slots i None) ∷ []) c.loop-i.invariant.deltas
-          ∙ sym (map_more delta slots i None within);
+          ∙ ap (λ (s : RegistryEntry). c.loop-i.deltas.items ++ delta s ∷ []) (sym c.index-registry-i.is ∙ sym (get_or_from_slice_get registry i entry None was))
+          ∙ ap (λ (l : List (Option Delta)). l ++ delta (get_or registry i None) ∷ []) c.loop-i.invariant.deltas
+          ∙ sym (map_more delta registry i None within);
     }
 
 pub undo_first-requires-clause-may : goal.undo_first-requires-clause-may
@@ -69,59 +69,59 @@ undo_first-requires-clause-may g c =
     let at = c.args.place / c.args.size in
     let gives = row_gives (g.R.LendCells.cells c.args.row.now) in
     let delta = row_delta c.args.size c.args.place gives in
-    let slots = c.args.slots.now in
+    let registry = c.args.registry.now in
     let i = c.loop-i.i in
-    let slot = c.index-slots-i.result in
-    let here = slice_get_read c.loop-i.slots _ i slot refl (omega arith) c.index-slots-i.is in
-    let within : i < length slots = omega (arith, length-zip_until (added at) i slots (map delta slots), ap length c.loop-i.invariant.slots) in
-    let same = ap (slice_set c.loop-i.slots i) (c.in-Err.ensures.err ∙ sym c.index-slots-i.is) ∙ set_same c.loop-i.slots i slot here ∙ c.loop-i.invariant.slots in
-    let may = next-may_undo c.args.size c.args.place gives slots c.requires.folds c.requires.reserved i within c.apply_next.new.deltas.items (c.in-Err.ensures.before ∙ c.loop-i.invariant.deltas) in
-    subst (λ n. EachMayUndo n i (slice_set c.loop-i.slots i c.apply_next.new.slot) c.as_slice.result.now) (sym c.requires.group)
-    (subst (λ (l : List Slot). EachMayUndo at i l c.as_slice.result.now) (sym same) (subst (λ (l : List (Option Delta)). EachMayUndo at i (zip_until (added at) i slots (map delta slots)) l) (sym c.as_slice.ensures.value) may))
+    let entry = c.index-registry-i.result in
+    let here = slice_get_read c.loop-i.registry _ i entry refl (omega arith) c.index-registry-i.is in
+    let within : i < length registry = omega (arith, length-zip_until (added at) i registry (map delta registry), ap length c.loop-i.invariant.registry) in
+    let same = ap (slice_set c.loop-i.registry i) (c.in-Err.ensures.err ∙ sym c.index-registry-i.is) ∙ set_same c.loop-i.registry i entry here ∙ c.loop-i.invariant.registry in
+    let may = next-may_undo c.args.size c.args.place gives registry c.requires.folds c.requires.reserved i within c.apply_next.new.deltas.items (c.in-Err.ensures.before ∙ c.loop-i.invariant.deltas) in
+    subst (λ n. EachMayUndo n i (slice_set c.loop-i.registry i c.apply_next.new.entry) c.as_slice.result.now) (sym c.requires.group)
+    (subst (λ (l : List RegistryEntry). EachMayUndo at i l c.as_slice.result.now) (sym same) (subst (λ (l : List (Option Delta)). EachMayUndo at i (zip_until (added at) i registry (map delta registry)) l) (sym c.as_slice.ensures.value) may))
 
 pub returns-in-Err-clause-err : goal.returns-in-Err-clause-err
 returns-in-Err-clause-err g c =
     let at = c.args.place / c.args.size in
     let gives = row_gives (g.R.LendCells.cells c.args.row.now) in
     let delta = row_delta c.args.size c.args.place gives in
-    let slots = c.args.slots.now in
+    let registry = c.args.registry.now in
     let i = c.loop-i.i in
-    let slot = c.index-slots-i.result in
-    let here = slice_get_read c.loop-i.slots _ i slot refl (omega arith) c.index-slots-i.is in
-    let within : i < length slots = omega (arith, length-zip_until (added at) i slots (map delta slots), ap length c.loop-i.invariant.slots) in
-    let same = ap (slice_set c.loop-i.slots i) (c.in-Err.ensures.err ∙ sym c.index-slots-i.is) ∙ set_same c.loop-i.slots i slot here ∙ c.loop-i.invariant.slots in
+    let entry = c.index-registry-i.result in
+    let here = slice_get_read c.loop-i.registry _ i entry refl (omega arith) c.index-registry-i.is in
+    let within : i < length registry = omega (arith, length-zip_until (added at) i registry (map delta registry), ap length c.loop-i.invariant.registry) in
+    let same = ap (slice_set c.loop-i.registry i) (c.in-Err.ensures.err ∙ sym c.index-registry-i.is) ∙ set_same c.loop-i.registry i entry here ∙ c.loop-i.invariant.registry in
     c.undo_first.ensures
-    ∙ ap (λ n. zip_until (undo n) i (slice_set c.loop-i.slots i c.apply_next.new.slot) c.as_slice.result.now) c.requires.group
-    ∙ ap (λ (l : List Slot). zip_until (undo at) i l c.as_slice.result.now) same
-    ∙ ap (zip_until (undo at) i (zip_until (added at) i slots (map delta slots))) c.as_slice.ensures.value
-    ∙ next-undone c.args.size c.args.place gives slots c.requires.folds c.requires.reserved i within c.apply_next.new.deltas.items (c.in-Err.ensures.before ∙ c.loop-i.invariant.deltas)
+    ∙ ap (λ n. zip_until (undo n) i (slice_set c.loop-i.registry i c.apply_next.new.entry) c.as_slice.result.now) c.requires.group
+    ∙ ap (λ (l : List RegistryEntry). zip_until (undo at) i l c.as_slice.result.now) same
+    ∙ ap (zip_until (undo at) i (zip_until (added at) i registry (map delta registry))) c.as_slice.ensures.value
+    ∙ next-undone c.args.size c.args.place gives registry c.requires.folds c.requires.reserved i within c.apply_next.new.deltas.items (c.in-Err.ensures.before ∙ c.loop-i.invariant.deltas)
 
 pub returns-clause-ok : goal.returns-clause-ok
 returns-clause-ok g c =
     let at = c.args.place / c.args.size in
     let delta = row_delta c.args.size c.args.place (row_gives (g.R.LendCells.cells c.args.row.now)) in
-    let slots = c.args.slots.now in
-    let all = length-zip_until (added at) c.loop-i.i slots (map delta slots) in
-    c.loop-i.invariant.slots ∙ zip_until-all (added at) c.loop-i.i slots (map delta slots) (omega (arith, all, ap length c.loop-i.invariant.slots))
+    let registry = c.args.registry.now in
+    let all = length-zip_until (added at) c.loop-i.i registry (map delta registry) in
+    c.loop-i.invariant.registry ∙ zip_until-all (added at) c.loop-i.i registry (map delta registry) (omega (arith, all, ap length c.loop-i.invariant.registry))
 
 pub returns-clause-may_undo : goal.returns-clause-may_undo
 returns-clause-may_undo g c =
     let at = c.args.place / c.args.size in
     let gives = row_gives (g.R.LendCells.cells c.args.row.now) in
     let delta = row_delta c.args.size c.args.place gives in
-    let slots = c.args.slots.now in
-    let many : length slots ≤ c.loop-i.i = omega (arith, length-zip_until (added at) c.loop-i.i slots (map delta slots), ap length c.loop-i.invariant.slots) in
-    let is = c.loop-i.invariant.deltas ∙ ap (map delta) (take_all c.loop-i.i slots many) in
-    let applied = c.loop-i.invariant.slots ∙ zip_until-all (added at) c.loop-i.i slots (map delta slots) many ∙ ap (zip_all (added at) slots) (sym is) in
-    applied-may_undo c.args.size c.args.place gives slots c.loop-i.slots c.loop-i.deltas.items is applied c.requires.folds c.requires.reserved
+    let registry = c.args.registry.now in
+    let many : length registry ≤ c.loop-i.i = omega (arith, length-zip_until (added at) c.loop-i.i registry (map delta registry), ap length c.loop-i.invariant.registry) in
+    let is = c.loop-i.invariant.deltas ∙ ap (map delta) (take_all c.loop-i.i registry many) in
+    let applied = c.loop-i.invariant.registry ∙ zip_until-all (added at) c.loop-i.i registry (map delta registry) many ∙ ap (zip_all (added at) registry) (sym is) in
+    applied-may_undo c.args.size c.args.place gives registry c.loop-i.registry c.loop-i.deltas.items is applied c.requires.folds c.requires.reserved
 
 pub returns-clause-undo : goal.returns-clause-undo
 returns-clause-undo g c =
     let at = c.args.place / c.args.size in
     let gives = row_gives (g.R.LendCells.cells c.args.row.now) in
     let delta = row_delta c.args.size c.args.place gives in
-    let slots = c.args.slots.now in
-    let many : length slots ≤ c.loop-i.i = omega (arith, length-zip_until (added at) c.loop-i.i slots (map delta slots), ap length c.loop-i.invariant.slots) in
-    let is = c.loop-i.invariant.deltas ∙ ap (map delta) (take_all c.loop-i.i slots many) in
-    let applied = c.loop-i.invariant.slots ∙ zip_until-all (added at) c.loop-i.i slots (map delta slots) many ∙ ap (zip_all (added at) slots) (sym is) in
-    applied-undone c.args.size c.args.place gives slots c.loop-i.slots c.loop-i.deltas.items is applied c.requires.folds c.requires.reserved
+    let registry = c.args.registry.now in
+    let many : length registry ≤ c.loop-i.i = omega (arith, length-zip_until (added at) c.loop-i.i registry (map delta registry), ap length c.loop-i.invariant.registry) in
+    let is = c.loop-i.invariant.deltas ∙ ap (map delta) (take_all c.loop-i.i registry many) in
+    let applied = c.loop-i.invariant.registry ∙ zip_until-all (added at) c.loop-i.i registry (map delta registry) many ∙ ap (zip_all (added at) registry) (sym is) in
+    applied-undone c.args.size c.args.place gives registry c.loop-i.registry c.loop-i.deltas.items is applied c.requires.folds c.requires.reserved

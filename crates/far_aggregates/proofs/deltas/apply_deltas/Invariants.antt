@@ -7,7 +7,7 @@ use Rattle.far_aggregates.proofs.deltas.apply_deltas.Given as goal
 
 abbrev pub invariant-loop-i : goal.invariant-loop-i
 invariant-loop-i g l = record {
-  slots : l.slots ≡ zip_until (added (l.place / l.size)) l.i l.initial.slots (map (row_delta l.size l.place (row_gives (g.R.LendCells.cells l.row))) l.initial.slots);
-  capacity : length l.initial.slots ≤ vec_capacity l.deltas;
-  deltas : l.deltas.items ≡ map (row_delta l.size l.place (row_gives (g.R.LendCells.cells l.row))) (take l.i l.initial.slots);
+  registry : l.registry ≡ zip_until (added (l.place / l.size)) l.i l.initial.registry (map (row_delta l.size l.place (row_gives (g.R.LendCells.cells l.row))) l.initial.registry);
+  capacity : length l.initial.registry ≤ vec_capacity l.deltas;
+  deltas : l.deltas.items ≡ map (row_delta l.size l.place (row_gives (g.R.LendCells.cells l.row))) (take l.i l.initial.registry);
 }

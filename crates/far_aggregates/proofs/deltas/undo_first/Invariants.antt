@@ -4,4 +4,4 @@ use Rattle.far_aggregates.specs.Until.{zip_until}
 use Rattle.far_aggregates.proofs.deltas.undo_first.Given as goal
 
 abbrev pub invariant-loop-i : goal.invariant-loop-i
-invariant-loop-i l = l.slots ≡ zip_until (undo l.group) l.i l.initial.slots l.deltas
+invariant-loop-i l = l.registry ≡ zip_until (undo l.group) l.i l.initial.registry l.deltas

@@ -6,8 +6,8 @@ use Rattle.far_aggregates.proofs.pairs.row_pairs.Goals as goal
 pub next_pair-requires-clause-place : goal.next_pair-requires-clause-place
 next_pair-requires-clause-place g c =
     let change = change_of c.args.size c.args.place (row_gives (g.R.LendCells.cells c.args.row.now)) in
-    let slots = c.args.slots.now in
-    let i = c.loop-slot.slot-index in
-    let many : length c.loop-slot.pairs.items ≡ i = ap length c.loop-slot.invariant.pairs ∙ length-map (take i slots) change ∙ length-take-le i slots (omega arith) in
-    let capacity = c.loop-slot.invariant.capacity in
+    let registry = c.args.registry.now in
+    let i = c.loop-entry.entry-index in
+    let many : length c.loop-entry.pairs.items ≡ i = ap length c.loop-entry.invariant.pairs ∙ length-map (take i registry) change ∙ length-take-le i registry (omega arith) in
+    let capacity = c.loop-entry.invariant.capacity in
     omega arith

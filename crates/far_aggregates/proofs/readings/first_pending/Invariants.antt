@@ -4,4 +4,4 @@ use Rattle.far_aggregates.specs.Aggregates.{joined}
 use Rattle.far_aggregates.proofs.readings.first_pending.Given as goal
 
 abbrev pub invariant-loop-i : goal.invariant-loop-i
-invariant-loop-i l = (k : ℕ) → k < l.i → (g : ℕ) → has_pending g (joined (slice_get l.slots k)) ≡ false
+invariant-loop-i l = (k : ℕ) → k < l.i → (g : ℕ) → has_pending g (joined (slice_get l.registry k)) ≡ false

@@ -1,6 +1,6 @@
 use Rattle.far_types.specs.Table.{in_group}
 use Rattle.far_aggregates.proofs.RecountLaws.{may-merge, merged-scanned}
-use Rattle.far_aggregates.proofs.ScanLaws.{may_scan, slot-scanned}
+use Rattle.far_aggregates.proofs.ScanLaws.{may_scan, entry-scanned}
 use Rattle.far_aggregates.proofs.recounting.merge_next.Goals as goal
 
 pub merge_in-requires : goal.merge_in-requires
@@ -13,5 +13,5 @@ pub returns-clause-kept : goal.returns-clause-kept
 returns-clause-kept c = λ places is kept.
     let a = c.args.aggregate.now in
     let here = in_group c.args.size c.args.number places in
-    slot-scanned c.args.size places a c.args.number c.clear.new.self c.merge_in.new.accumulator c.requires.pending c.requires.size kept c.clear.ensures
+    entry-scanned c.args.size places a c.args.number c.clear.new.self c.merge_in.new.accumulator c.requires.pending c.requires.size kept c.clear.ensures
     (merged-scanned a.spec c.args.number here a.accumulator kept.0 c.args.partial is c.merge_in.new.accumulator c.in_ok-merge_in.ensures.ok)

@@ -6,7 +6,7 @@ use Rattle.far_aggregates.proofs.reserve.reserve_all.Given as goal
 
 abbrev pub invariant-loop-i : goal.invariant-loop-i
 invariant-loop-i l = record {
-  reserved : AreReserved l.group (take l.i l.slots);
-  registered : map registered_in l.slots ≡ map registered_in l.initial.slots;
-  kept : (size : ℕ) → (places : List Place) → Keeps size places l.initial.slots → Keeps size places l.slots;
+  reserved : AreReserved l.group (take l.i l.registry);
+  registered : map registered_in l.registry ≡ map registered_in l.initial.registry;
+  kept : (size : ℕ) → (places : List Place) → Keeps size places l.initial.registry → Keeps size places l.registry;
 }

@@ -4,4 +4,4 @@ use Rattle.far_aggregates.specs.Until.{zip_until}
 use Rattle.far_aggregates.proofs.retract.retract_all.Given as goal
 
 abbrev pub invariant-loop-i : goal.invariant-loop-i
-invariant-loop-i g l = l.slots ≡ zip_until (retracted l.number (g.G.LendGroup.places l.group)) l.i l.initial.slots l.to_retract
+invariant-loop-i g l = l.registry ≡ zip_until (retracted l.number (g.G.LendGroup.places l.group)) l.i l.initial.registry l.to_retract

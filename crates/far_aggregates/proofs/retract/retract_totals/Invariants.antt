@@ -4,4 +4,4 @@ use Rattle.far_aggregates.specs.Until.{zip_until}
 use Rattle.far_aggregates.proofs.retract.retract_totals.Given as goal
 
 abbrev pub invariant-loop-i : goal.invariant-loop-i
-invariant-loop-i l = l.slots ≡ zip_until (retracted 0 []) l.i l.initial.slots l.pairs
+invariant-loop-i l = l.registry ≡ zip_until (retracted 0 []) l.i l.initial.registry l.pairs

@@ -1,7 +1,7 @@
 use Rattle.std.proofs.Common.{◌<◌, sym, ap, ◌∙◌, refl, length, slice_set}
 use Rattle.std.proofs.lemmas.Option.{slice_get_read}
 use Rattle.far_aggregates.specs.Accumulators.{registered_in, registered_of}
-use Rattle.far_aggregates.specs.Scans.{scanned_slot}
+use Rattle.far_aggregates.specs.Scans.{scanned_entry}
 use Rattle.far_aggregates.specs.Aggregates.{joined}
 use Rattle.far_aggregates.proofs.RegisterLaws.{registered-set, registered-like}
 use Rattle.far_aggregates.proofs.ScanLaws.{has-below}
@@ -10,15 +10,15 @@ use Rattle.far_aggregates.proofs.scans.build_at.Goals as goal
 
 pub returns-clause-registered : goal.returns-clause-registered
 returns-clause-registered g c =
-    let slots = c.args.slots.now.items in
-    let l : c.args.a < length slots = has-below slots c.args.number c.args.a c.requires.pending in
-    let here = slice_get_read slots _ c.args.a c.index_mut.result.now refl l c.index_mut.ensures.value in
-    registered-set slots c.args.a c.build_in.new.slot l
-    ∙ ap (slice_set (registered_of slots) c.args.a) (c.in_ok-build_in.ensures.registered ∙ ap (λ s. scanned_slot c.args.number (registered_in s)) (ap joined (sym here)))
+    let registry = c.args.registry.now.items in
+    let l : c.args.a < length registry = has-below registry c.args.number c.args.a c.requires.pending in
+    let here = slice_get_read registry _ c.args.a c.index_mut.result.now refl l c.index_mut.ensures.value in
+    registered-set registry c.args.a c.build_in.new.entry l
+    ∙ ap (slice_set (registered_of registry) c.args.a) (c.in_ok-build_in.ensures.registered ∙ ap (λ s. scanned_entry c.args.number (registered_in s)) (ap joined (sym here)))
 
 pub returns-in_err-build_in-clause-unchanged : goal.returns-in_err-build_in-clause-unchanged
 returns-in_err-build_in-clause-unchanged g c =
-    let slots = c.args.slots.now.items in
-    let l : c.args.a < length slots = has-below slots c.args.number c.args.a c.requires.pending in
-    let here = slice_get_read slots _ c.args.a c.index_mut.result.now refl l c.index_mut.ensures.value in
-    err_any c.from_residual.result (registered-like slots c.args.a c.index_mut.result.now c.build_in.new.slot here c.in_err-build_in.ensures.unchanged)
+    let registry = c.args.registry.now.items in
+    let l : c.args.a < length registry = has-below registry c.args.number c.args.a c.requires.pending in
+    let here = slice_get_read registry _ c.args.a c.index_mut.result.now refl l c.index_mut.ensures.value in
+    err_any c.from_residual.result (registered-like registry c.args.a c.index_mut.result.now c.build_in.new.entry here c.in_err-build_in.ensures.unchanged)

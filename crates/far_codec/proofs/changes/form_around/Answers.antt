@@ -25,13 +25,13 @@ pub returns-clause-form : goal.returns-clause-form
 returns-clause-form c =
     let p = c.args.parts in
     let texts = texts_of p.mask.now (ends_in p.ends.now) p.body.now in
-    is_texts_form c.push_fields.new.form.items (with_text texts c.args.i c.args.text.now) (are_with texts c.args.i c.args.text.now c.requires.texts c.push_fields.ensures.utf8 c.requires.room) (spelled c)
+    is_texts_form c.push_fields.new.form.items (with_text texts c.args.i c.args.text.now) (are_with texts c.args.i c.args.text.now c.requires.texts c.push_fields.ensures.utf8 c.requires.space) (spelled c)
 
 pub returns-clause-texts : goal.returns-clause-texts
 returns-clause-texts c =
     let p = c.args.parts in
     let texts = texts_of p.mask.now (ends_in p.ends.now) p.body.now in
-    texts_meant c.push_fields.new.form.items (with_text texts c.args.i c.args.text.now) (are_with texts c.args.i c.args.text.now c.requires.texts c.push_fields.ensures.utf8 c.requires.room) (spelled c)
+    texts_meant c.push_fields.new.form.items (with_text texts c.args.i c.args.text.now) (are_with texts c.args.i c.args.text.now c.requires.texts c.push_fields.ensures.utf8 c.requires.space) (spelled c)
 
 pub returns-clause-length : goal.returns-clause-length
 returns-clause-length c =

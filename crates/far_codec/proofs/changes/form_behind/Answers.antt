@@ -37,13 +37,13 @@ pub overflow_add-end : goal.overflow_add-end
 overflow_add-end c =
     let p = c.args.parts in
     let n = counts p.mask.now p.ends.now p.body.now c.args.text.now c.requires.parts in
-    omega (arith, n.bytes, ap length c.bytes_in-bytes.ensures.bytes, c.requires.room)
+    omega (arith, n.bytes, ap length c.bytes_in-bytes.ensures.bytes, c.requires.space)
 
 pub overflow_cast-end : goal.overflow_cast-end
 overflow_cast-end c =
     let p = c.args.parts in
     let n = counts p.mask.now p.ends.now p.body.now c.args.text.now c.requires.parts in
-    omega (arith, n.bytes, ap length c.bytes_in-bytes.ensures.bytes, c.requires.room)
+    omega (arith, n.bytes, ap length c.bytes_in-bytes.ensures.bytes, c.requires.space)
 
 spelled : (c : goal.In_ok-extend_from_slice-5) → c.extend_from_slice-5.new.self.items ≡ texts_form (with_text (texts_of c.args.parts.mask.now (ends_in c.args.parts.ends.now) c.args.parts.body.now) (length c.args.parts.ends.now) c.args.text.now)
 spelled c =
@@ -85,14 +85,14 @@ returns-clause-form c =
     let p = c.args.parts in
     let n = length p.ends.now in
     let texts = texts_of p.mask.now (ends_in p.ends.now) p.body.now in
-    is_texts_form c.extend_from_slice-5.new.self.items (with_text texts n c.args.text.now) (are_with texts n c.args.text.now c.requires.texts c.bytes_in-bytes.ensures.utf8 c.requires.room) (spelled c)
+    is_texts_form c.extend_from_slice-5.new.self.items (with_text texts n c.args.text.now) (are_with texts n c.args.text.now c.requires.texts c.bytes_in-bytes.ensures.utf8 c.requires.space) (spelled c)
 
 pub returns-clause-texts : goal.returns-clause-texts
 returns-clause-texts c =
     let p = c.args.parts in
     let n = length p.ends.now in
     let texts = texts_of p.mask.now (ends_in p.ends.now) p.body.now in
-    texts_meant c.extend_from_slice-5.new.self.items (with_text texts n c.args.text.now) (are_with texts n c.args.text.now c.requires.texts c.bytes_in-bytes.ensures.utf8 c.requires.room) (spelled c)
+    texts_meant c.extend_from_slice-5.new.self.items (with_text texts n c.args.text.now) (are_with texts n c.args.text.now c.requires.texts c.bytes_in-bytes.ensures.utf8 c.requires.space) (spelled c)
 
 pub returns-clause-length : goal.returns-clause-length
 returns-clause-length c =

@@ -13,54 +13,54 @@ bounds-form-0 c = let long = form_head c.args.form.now c.requires.form in omega 
 
 pub form_behind-requires-clause-there : goal.form_behind-requires-clause-there
 form_behind-requires-clause-there c =
-    let p = c.known_parts-parts.result in
+    let p = c.form_parts-parts.result in
     let form = c.args.form.now in
     let text = c.args.text.now in
     let texts = texts_meaning form in
-    let known = tells p.mask.now p.ends.now p.body.now texts c.known_parts-parts.ensures.parts c.known_parts-parts.ensures.same in
+    let known = tells p.mask.now p.ends.now p.body.now texts c.form_parts-parts.ensures.parts c.form_parts-parts.ensures.same in
     let there = some_none text (sym c.is_some.ensures ∙ c.if-is_some.true) in
-    ap (list_any is_none) (with_is_next _ texts (length p.ends.now) text c.known_parts-parts.ensures.same known.count) ∙ none_next form text c.requires.form c.if-form-eq1.true there
+    ap (list_any is_none) (with_is_next _ texts (length p.ends.now) text c.form_parts-parts.ensures.same known.count) ∙ none_next form text c.requires.form c.if-form-eq1.true there
 
-pub form_behind-requires-clause-room : goal.form_behind-requires-clause-room
-form_behind-requires-clause-room c =
-    let p = c.known_parts-parts.result in
+pub form_behind-requires-clause-space : goal.form_behind-requires-clause-space
+form_behind-requires-clause-space c =
+    let p = c.form_parts-parts.result in
     let texts = texts_meaning c.args.form.now in
-    let known = tells p.mask.now p.ends.now p.body.now texts c.known_parts-parts.ensures.parts c.known_parts-parts.ensures.same in
-    let changed = with_is_next _ texts (length p.ends.now) c.args.text.now c.known_parts-parts.ensures.same known.count in
-    omega (arith, ap texts_length changed, c.requires.room)
+    let known = tells p.mask.now p.ends.now p.body.now texts c.form_parts-parts.ensures.parts c.form_parts-parts.ensures.same in
+    let changed = with_is_next _ texts (length p.ends.now) c.args.text.now c.form_parts-parts.ensures.same known.count in
+    omega (arith, ap texts_length changed, c.requires.space)
 
 pub returns-then-is_some-clause-texts : goal.returns-then-is_some-clause-texts
 returns-then-is_some-clause-texts c =
-    let p = c.known_parts-parts.result in
+    let p = c.form_parts-parts.result in
     let texts = texts_meaning c.args.form.now in
-    let known = tells p.mask.now p.ends.now p.body.now texts c.known_parts-parts.ensures.parts c.known_parts-parts.ensures.same in
-    rw (sym (with_is_next _ texts (length p.ends.now) c.args.text.now c.known_parts-parts.ensures.same known.count)) c.form_behind.ensures.texts
+    let known = tells p.mask.now p.ends.now p.body.now texts c.form_parts-parts.ensures.parts c.form_parts-parts.ensures.same in
+    rw (sym (with_is_next _ texts (length p.ends.now) c.args.text.now c.form_parts-parts.ensures.same known.count)) c.form_behind.ensures.texts
 
 pub returns-then-is_some-clause-length : goal.returns-then-is_some-clause-length
 returns-then-is_some-clause-length c =
-    let p = c.known_parts-parts.result in
+    let p = c.form_parts-parts.result in
     let texts = texts_meaning c.args.form.now in
-    let known = tells p.mask.now p.ends.now p.body.now texts c.known_parts-parts.ensures.parts c.known_parts-parts.ensures.same in
-    rw (sym (with_is_next _ texts (length p.ends.now) c.args.text.now c.known_parts-parts.ensures.same known.count)) c.form_behind.ensures.length
+    let known = tells p.mask.now p.ends.now p.body.now texts c.form_parts-parts.ensures.parts c.form_parts-parts.ensures.same in
+    rw (sym (with_is_next _ texts (length p.ends.now) c.args.text.now c.form_parts-parts.ensures.same known.count)) c.form_behind.ensures.length
 
-pub form_around-requires-clause-room : goal.form_around-requires-clause-room
-form_around-requires-clause-room c =
-    let p = c.known_parts-parts.result in
+pub form_around-requires-clause-space : goal.form_around-requires-clause-space
+form_around-requires-clause-space c =
+    let p = c.form_parts-parts.result in
     let texts = texts_meaning c.args.form.now in
-    let known = tells p.mask.now p.ends.now p.body.now texts c.known_parts-parts.ensures.parts c.known_parts-parts.ensures.same in
-    let changed = with_is_next _ texts (length p.ends.now) c.args.text.now c.known_parts-parts.ensures.same known.count in
-    omega (arith, ap texts_length changed, c.requires.room)
+    let known = tells p.mask.now p.ends.now p.body.now texts c.form_parts-parts.ensures.parts c.form_parts-parts.ensures.same in
+    let changed = with_is_next _ texts (length p.ends.now) c.args.text.now c.form_parts-parts.ensures.same known.count in
+    omega (arith, ap texts_length changed, c.requires.space)
 
 pub returns-clause-texts : goal.returns-clause-texts
 returns-clause-texts c =
-    let p = c.known_parts-parts.result in
+    let p = c.form_parts-parts.result in
     let texts = texts_meaning c.args.form.now in
-    let known = tells p.mask.now p.ends.now p.body.now texts c.known_parts-parts.ensures.parts c.known_parts-parts.ensures.same in
-    rw (sym (with_is_next _ texts (length p.ends.now) c.args.text.now c.known_parts-parts.ensures.same known.count)) c.form_around.ensures.texts
+    let known = tells p.mask.now p.ends.now p.body.now texts c.form_parts-parts.ensures.parts c.form_parts-parts.ensures.same in
+    rw (sym (with_is_next _ texts (length p.ends.now) c.args.text.now c.form_parts-parts.ensures.same known.count)) c.form_around.ensures.texts
 
 pub returns-clause-length : goal.returns-clause-length
 returns-clause-length c =
-    let p = c.known_parts-parts.result in
+    let p = c.form_parts-parts.result in
     let texts = texts_meaning c.args.form.now in
-    let known = tells p.mask.now p.ends.now p.body.now texts c.known_parts-parts.ensures.parts c.known_parts-parts.ensures.same in
-    rw (sym (with_is_next _ texts (length p.ends.now) c.args.text.now c.known_parts-parts.ensures.same known.count)) c.form_around.ensures.length
+    let known = tells p.mask.now p.ends.now p.body.now texts c.form_parts-parts.ensures.parts c.form_parts-parts.ensures.same in
+    rw (sym (with_is_next _ texts (length p.ends.now) c.args.text.now c.form_parts-parts.ensures.same known.count)) c.form_around.ensures.length

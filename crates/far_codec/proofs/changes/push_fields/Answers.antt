@@ -17,7 +17,7 @@ overflow_cast-end c =
     let texts = texts_of p.mask.now ends p.body.now in
     let i = c.args.i in
     let start = start_is p.mask.now ends p.body.now i c.requires.parts (omega (arith, c.requires.there, length-ends_in p.ends.now)) in
-    omega (arith, c.start_in-start.ensures, start, ap length c.bytes_in-bytes.ensures.bytes, bytes_with texts i (i + 1) c.args.text.now, c.requires.room)
+    omega (arith, c.start_in-start.ensures, start, ap length c.bytes_in-bytes.ensures.bytes, bytes_with texts i (i + 1) c.args.text.now, c.requires.space)
 
 pub push_moved-requires : goal.push_moved-requires
 push_moved-requires c =
@@ -33,10 +33,10 @@ push_moved-requires c =
     let old_end : c.start_in-old_end.result ≡ bytes_before texts after = c.start_in-old_end.ensures ∙ start_is p.mask.now ends p.body.now after c.requires.parts (omega (arith, c.min-after.ensures, length-ends_in words)) in
     let end : c.start_in-start.result + length c.bytes_in-bytes.result.now ≡ bytes_before texts i + length (bytes_of text) = omega (arith, c.start_in-start.ensures, start, ap length c.bytes_in-bytes.ensures.bytes) in
     let back = behind_is texts i after (omega (arith, c.requires.there, many)) (omega (arith, c.min-after.ensures, many)) in
-    let room : text_bytes (take i texts ++ text ∷ drop after texts) < 2 ^ 32 = omega (arith, c.requires.room, ap (λ l. text_bytes (take i texts ++ text ∷ l)) back) in
+    let space : text_bytes (take i texts ++ text ∷ drop after texts) < 2 ^ 32 = omega (arith, c.requires.space, ap (λ l. text_bytes (take i texts ++ text ∷ l)) back) in
     let behind : ends_in c.split_at-2.result.1.now ≡ drop after (ends_of texts) =
     ap ends_in c.split_at-2.ensures.back ∙ sym (drop-map (from_le_bytes w32) after words) ∙ ap (drop after) (sym (ends_are p.mask.now ends p.body.now c.requires.parts)) in
-    rw (behind, old_end) (ends_fit texts i after (c.start_in-start.result + length c.bytes_in-bytes.result.now) text (omega (arith, c.min-after.ensures, many)) end room)
+    rw (behind, old_end) (ends_fit texts i after (c.start_in-start.result + length c.bytes_in-bytes.result.now) text (omega (arith, c.min-after.ensures, many)) end space)
 
 pub returns-clause-written : goal.returns-clause-written
 returns-clause-written c =

@@ -31,5 +31,5 @@ loop-i-preserved c =
           ∙ ap (λ x. map (number_at mask words) (range_with_len 0 i) ++ x ∷ []) (c.option_in.ensures ∙ ap (λ b. cond b None (Some (number_of (get_or words i [])))) c.is_set.ensures)
           ∙ sym (map-range_with_len_more (number_at mask words) 0 i i (omega arith));
       len = omega (arith, c.push_reserved.ensures.len, c.loop-i.invariant.len);
-      room = c.push_reserved.ensures.capacity ∙ c.loop-i.invariant.room;
+      space = c.push_reserved.ensures.capacity ∙ c.loop-i.invariant.space;
     }

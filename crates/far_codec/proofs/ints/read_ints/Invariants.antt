@@ -8,5 +8,5 @@ abbrev pub invariant-loop-i : goal.invariant-loop-i
 invariant-loop-i l = record {
   read : l.numbers.items ≡ map (λ k. cond (is_missing l.parts.mask.now k) None (Some (number_of (get_or l.parts.words.now k [])))) (range_with_len 0 l.i);
   len : vec_len l.numbers ≡ l.i;
-  room : vec_capacity l.numbers ≡ length l.parts.words.now;
+  space : vec_capacity l.numbers ≡ length l.parts.words.now;
 }

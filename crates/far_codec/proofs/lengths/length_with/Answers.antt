@@ -10,35 +10,35 @@ use Rattle.far_codec.proofs.lengths.length_with.Goals as goal
 
 pub overflow_sub-parts : goal.overflow_sub-parts
 overflow_sub-parts c =
-    let p = c.known_parts-parts.result in
+    let p = c.form_parts-parts.result in
     let texts = texts_meaning c.args.form.now in
-    let known = tells p.mask.now p.ends.now p.body.now texts c.known_parts-parts.ensures.parts c.known_parts-parts.ensures.same in
-    let lent = lent_is _ _ texts c.args.i c.text_in.ensures c.known_parts-parts.ensures.same c.requires.there in
+    let known = tells p.mask.now p.ends.now p.body.now texts c.form_parts-parts.ensures.parts c.form_parts-parts.ensures.same in
+    let lent = lent_is _ _ texts c.args.i c.text_in.ensures c.form_parts-parts.ensures.same c.requires.there in
     omega (arith, c.lent_length-old.ensures, ap (λ t. length (bytes_of t)) lent, one_of texts c.args.i c.requires.there, known.bytes)
 
 pub length_of-requires-clause-few : goal.length_of-requires-clause-few
 length_of-requires-clause-few c =
-    let p = c.known_parts-parts.result in
+    let p = c.form_parts-parts.result in
     let texts = texts_meaning c.args.form.now in
-    let known = tells p.mask.now p.ends.now p.body.now texts c.known_parts-parts.ensures.parts c.known_parts-parts.ensures.same in
+    let known = tells p.mask.now p.ends.now p.body.now texts c.form_parts-parts.ensures.parts c.form_parts-parts.ensures.same in
     omega (arith, known.count, c.requires.form.texts.count)
 
-pub length_of-requires-clause-room : goal.length_of-requires-clause-room
-length_of-requires-clause-room c =
-    let p = c.known_parts-parts.result in
+pub length_of-requires-clause-space : goal.length_of-requires-clause-space
+length_of-requires-clause-space c =
+    let p = c.form_parts-parts.result in
     let texts = texts_meaning c.args.form.now in
-    let known = tells p.mask.now p.ends.now p.body.now texts c.known_parts-parts.ensures.parts c.known_parts-parts.ensures.same in
+    let known = tells p.mask.now p.ends.now p.body.now texts c.form_parts-parts.ensures.parts c.form_parts-parts.ensures.same in
     let size = c.bytes_in.type_inv in
     omega (arith, known.bytes, c.requires.form.texts.bytes, size.1)
 
 pub returns : goal.returns
 returns c =
-    let p = c.known_parts-parts.result in
+    let p = c.form_parts-parts.result in
     let texts = texts_meaning c.args.form.now in
     let i = c.args.i in
     let text = c.args.text.now in
-    let known = tells p.mask.now p.ends.now p.body.now texts c.known_parts-parts.ensures.parts c.known_parts-parts.ensures.same in
-    let lent = lent_is _ _ texts i c.text_in.ensures c.known_parts-parts.ensures.same c.requires.there in
+    let known = tells p.mask.now p.ends.now p.body.now texts c.form_parts-parts.ensures.parts c.form_parts-parts.ensures.same in
+    let lent = lent_is _ _ texts i c.text_in.ensures c.form_parts-parts.ensures.same c.requires.there in
     let any : list_any is_none (set texts i text) ≡ (c.is_none.result || c.other_missing.result) =
     missing_set texts i text c.requires.there
     ∙ ap (λ b. is_none text || b) (ap (λ flags. some_missing (set flags i false)) known.flags ∙ sym c.other_missing.ensures)

@@ -12,26 +12,26 @@ use Rattle.far_codec.proofs.lengths.parted_length_with_next.Goals as goal
 
 pub length_of-requires-clause-few : goal.length_of-requires-clause-few
 length_of-requires-clause-few c =
-    let p = c.known_parts-parts.result in
+    let p = c.form_parts-parts.result in
     let texts = texts_meaning c.args.form.now in
-    let known = tells p.mask.now p.ends.now p.body.now texts c.known_parts-parts.ensures.parts c.known_parts-parts.ensures.same in
+    let known = tells p.mask.now p.ends.now p.body.now texts c.form_parts-parts.ensures.parts c.form_parts-parts.ensures.same in
     omega (arith, known.count, c.requires.texts.count)
 
-pub length_of-requires-clause-room : goal.length_of-requires-clause-room
-length_of-requires-clause-room c =
-    let p = c.known_parts-parts.result in
+pub length_of-requires-clause-space : goal.length_of-requires-clause-space
+length_of-requires-clause-space c =
+    let p = c.form_parts-parts.result in
     let texts = texts_meaning c.args.form.now in
-    let known = tells p.mask.now p.ends.now p.body.now texts c.known_parts-parts.ensures.parts c.known_parts-parts.ensures.same in
+    let known = tells p.mask.now p.ends.now p.body.now texts c.form_parts-parts.ensures.parts c.form_parts-parts.ensures.same in
     let size = c.bytes_in.type_inv in
     omega (arith, known.bytes, c.requires.texts.bytes, size.1)
 
 pub returns : goal.returns
 returns c =
-    let p = c.known_parts-parts.result in
+    let p = c.form_parts-parts.result in
     let texts = texts_meaning c.args.form.now in
     let text = c.args.text.now in
     let count = length p.ends.now in
-    let known = tells p.mask.now p.ends.now p.body.now texts c.known_parts-parts.ensures.parts c.known_parts-parts.ensures.same in
+    let known = tells p.mask.now p.ends.now p.body.now texts c.form_parts-parts.ensures.parts c.form_parts-parts.ensures.same in
     let flags = flags_of p.mask.now count in
     let others : some_missing (map is_none texts) ≡ c.other_missing.result =
     ap some_missing (known.flags ∙ sym (set_past flags count false (omega (arith, length-flags_of p.mask.now count)))) ∙ sym c.other_missing.ensures in

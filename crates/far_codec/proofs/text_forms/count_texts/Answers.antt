@@ -6,5 +6,5 @@ use Rattle.far_codec.proofs.text_forms.count_texts.Goals as goal
 
 pub returns : goal.returns
 returns c =
-    let p = c.known_parts.result in
-    sym (length-ends_in p.ends.now) ∙ sym (length-texts_of p.mask.now (ends_in p.ends.now) p.body.now) ∙ ap length c.known_parts.ensures.same
+    let p = c.form_parts.result in
+    sym (length-ends_in p.ends.now) ∙ sym (length-texts_of p.mask.now (ends_in p.ends.now) p.body.now) ∙ ap length c.form_parts.ensures.same

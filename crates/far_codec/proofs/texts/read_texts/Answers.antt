@@ -20,5 +20,5 @@ loop-i-preserved c =
           ∙ ap (λ t. map text (range_with_len 0 i) ++ t ∷ []) (c.in_ok-owned.ensures.equal ∙ c.text_in.ensures ∙ text_there p.mask.now ends p.body.now i in_ends)
           ∙ sym (map-range_with_len_more text 0 i i (omega arith));
       len = omega (arith, c.push_reserved.ensures.len, c.loop-i.invariant.len);
-      room = c.push_reserved.ensures.capacity ∙ c.loop-i.invariant.room;
+      space = c.push_reserved.ensures.capacity ∙ c.loop-i.invariant.space;
     }

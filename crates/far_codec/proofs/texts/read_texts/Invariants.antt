@@ -9,5 +9,5 @@ abbrev pub invariant-loop-i : goal.invariant-loop-i
 invariant-loop-i l = record {
   read : l.texts.items ≡ map (text_at l.parts.mask.now (ends_in l.parts.ends.now) l.parts.body.now) (range_with_len 0 l.i);
   len : vec_len l.texts ≡ l.i;
-  room : vec_capacity l.texts ≡ length l.parts.ends.now;
+  space : vec_capacity l.texts ≡ length l.parts.ends.now;
 }

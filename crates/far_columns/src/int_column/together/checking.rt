@@ -26,7 +26,7 @@ pub(super) fn all_begin(columns: &[IntColumn]) -> bool
 }
 
 // What each column knows of itself.
-pub(super) fn known_shapes(columns: &[IntColumn])
+pub(super) fn all_are_shaped(columns: &[IntColumn])
     ensures { All IsShaped columns.now }
 {
     for column in columns {
@@ -66,7 +66,7 @@ pub(super) fn all_writable<S: FarTickets>(
     Ok(())
 }
 
-// Whether new row groups, placed in order, find room.
+// Whether new row groups, placed in order, find space.
 pub(super) fn groups_fit<S: FarTickets>(
     objects: &Objects<Option<i64>, S>,
     columns: &[IntColumn],

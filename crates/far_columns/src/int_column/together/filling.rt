@@ -27,11 +27,11 @@ pub(super) fn fill_places<S: FarTickets>(
     ensures pushed { (n : ℕ) → columns.new ≡ all_pushed n columns.old }
     ensures moved { objects.new ≡ all_pushed_in objects.old columns.old numbers.now }
     ensures numbers { map (numbers_in S.content objects.new) columns.new ≡ all_numbers_with (number_lists S.content objects.old) columns.old numbers.now }
-    ensures count { length objects.new.entries ≡ length objects.old.entries }
+    ensures count { length objects.new.records ≡ length objects.old.records }
     ensures all_disjoint { AreVectors (number_lists S.content objects.new) columns.new }
     ensures others { KeepsNumbers (number_lists S.content objects.old) (number_lists S.content objects.new) columns.old columns.new }
     ensures clean { AreClean ints_meaning S.content objects.old → AreClean ints_meaning S.content objects.new }
-    ensures store { (name : List ℕ) → AreHere S.is_of name objects.old → AreHere S.is_of name objects.new }
+    ensures store { (id : List ℕ) → AreHere S.is_of id objects.old → AreHere S.is_of id objects.new }
 {
     let Some((column, columns)) = columns.split_first_mut() else {
         return;

@@ -7,7 +7,7 @@ ghost use Rattle.far_vector.specs.Vectors.{AreVectors};
 ghost use Rattle.far_vector.specs.Effects.{is_full, after_unpush};
 ghost use Rattle.far_columns.specs.Numbers.{number_lists, numbers_in};
 ghost use Rattle.far_columns.specs.NumbersTogether.{all_pushed, all_numbers_with, KeepsNumbers, all_pushed_in};
-ghost use Rattle.far_columns.specs.NumbersBack.{KeepsBelow, AreBegunFrom, AreBegunLast, all_uncreated};
+ghost use Rattle.far_columns.specs.NumbersBack.{KeepsBelow, AreBegunFrom, AreBegunLast, after_uncreate_all};
 
 use crate::int_column::IntColumn;
 use far_scopes::Objects;
@@ -23,18 +23,18 @@ pub(super) fn begin_groups<S: FarTickets>(
     requires begin { All (λ c. is_full c ≡ true) columns.old }
     requires all_disjoint { AreVectors (number_lists S.content objects.old) columns.old }
     requires same_length { length numbers.now ≡ length columns.old }
-    requires few { length objects.old.entries + length columns.old ≤ 2 ^ 28 }
-    ensures pushed { OnOk result (columns.new ≡ all_pushed (length objects.old.entries) columns.old) }
+    requires few { length objects.old.records + length columns.old ≤ 2 ^ 28 }
+    ensures pushed { OnOk result (columns.new ≡ all_pushed (length objects.old.records) columns.old) }
     ensures moved { OnOk result (objects.new ≡ all_pushed_in objects.old columns.old numbers.now) }
     ensures numbers { OnOk result (map (numbers_in S.content objects.new) columns.new ≡ all_numbers_with (number_lists S.content objects.old) columns.old numbers.now) }
     ensures all_disjoint { OnOk result (AreVectors (number_lists S.content objects.new) columns.new) }
-    ensures begun { OnOk result (AreBegunFrom objects.new (length objects.old.entries) columns.new) }
-    ensures below { OnOk result (KeepsBelow (length objects.old.entries) objects.old objects.new) }
-    ensures undone { OnOk result ((map after_unpush columns.new ≡ columns.old) × (all_uncreated (length columns.old) objects.new ≡ objects.old)) }
-    ensures count { OnOk result (length objects.new.entries ≡ length objects.old.entries + length columns.old) }
+    ensures begun { OnOk result (AreBegunFrom objects.new (length objects.old.records) columns.new) }
+    ensures below { OnOk result (KeepsBelow (length objects.old.records) objects.old objects.new) }
+    ensures undone { OnOk result ((map after_unpush columns.new ≡ columns.old) × (after_uncreate_all (length columns.old) objects.new ≡ objects.old)) }
+    ensures count { OnOk result (length objects.new.records ≡ length objects.old.records + length columns.old) }
     ensures others { OnOk result (KeepsNumbers (number_lists S.content objects.old) (number_lists S.content objects.new) columns.old columns.new) }
     ensures clean { OnOk result (AreClean ints_meaning S.content objects.old → AreClean ints_meaning S.content objects.new) }
-    ensures store { OnOk result ((name : List ℕ) → AreHere S.is_of name objects.old → AreHere S.is_of name objects.new) }
+    ensures store { OnOk result ((id : List ℕ) → AreHere S.is_of id objects.old → AreHere S.is_of id objects.new) }
     ensures space { OnOk result (fit_in_order (spaces_of objects.old.memory.state) (map (λ c. c.size) columns.old) ≡ true) }
     ensures refused { IfErr result (λ e. ((e ≡ Refusal.RegionFull) × (fit_in_order (spaces_of objects.old.memory.state) (map (λ c. c.size) columns.old) ≡ false)) ⊎ (e ≡ Refusal.NoMemory)) }
     ensures err { OnErr result ((columns.new ≡ columns.old) × (objects.new ≡ objects.old)) }
@@ -63,13 +63,13 @@ pub(super) fn unbegin_groups<S: FarTickets>(
     requires all_disjoint { AreVectors (number_lists S.content objects.old) columns.old }
     requires begun { AreBegunLast objects.old columns.old }
     ensures unpushed { columns.new ≡ map after_unpush columns.old }
-    ensures uncreated { objects.new ≡ all_uncreated (length columns.old) objects.old }
+    ensures uncreated { objects.new ≡ after_uncreate_all (length columns.old) objects.old }
     ensures numbers { map (numbers_in S.content objects.new) columns.new ≡ map (λ c. take (c.len - 1) (numbers_in S.content objects.old c)) columns.old }
-    ensures below { KeepsBelow (length objects.new.entries) objects.old objects.new }
+    ensures below { KeepsBelow (length objects.new.records) objects.old objects.new }
     ensures all_disjoint { AreVectors (number_lists S.content objects.new) columns.new }
     ensures others { KeepsNumbers (number_lists S.content objects.old) (number_lists S.content objects.new) columns.old columns.new }
     ensures clean { AreClean ints_meaning S.content objects.old → AreClean ints_meaning S.content objects.new }
-    ensures store { (name : List ℕ) → AreHere S.is_of name objects.old → AreHere S.is_of name objects.new }
+    ensures store { (id : List ℕ) → AreHere S.is_of id objects.old → AreHere S.is_of id objects.new }
 {
     let Some((first, others)) = columns.split_first_mut() else {
         return;

@@ -5,7 +5,7 @@ use Rattle.far_evacuator.proofs.installing.is_installable.Goals as goal
 pub returns-then-leavings-job-clause-exact : goal.returns-then-leavings-job-clause-exact
 returns-then-leavings-job-clause-exact g c =
     let away = c.word.ensures.word ∙ ap Some (sym c.read.ensures.says ∙ c.in-Remote.is) in
-    let within : c.job.inside.object < length c.args.objects.now.entries = omega (arith, c.if-o-count.false, c.count.ensures) in
+    let within : c.job.inside.object < length c.args.objects.now.records = omega (arith, c.if-o-count.false, c.count.ensures) in
     let bytes = rw (← c.job.view_is) at c.fetched.invariant in
     rw (← c.fetched.view_is, ← c.job.view_is) (
       (λ under. record {

@@ -4,5 +4,5 @@ use Rattle.far_extrema.proofs.holders.fill_all.Given as goal
 
 abbrev pub invariant-loop-key : goal.invariant-loop-key
 invariant-loop-key l = record {
-  filling : IsFilling (holders_of l.initial.holders.entries) (holders_of l.holders.entries) l.group l.spans.entries l.key-iterator;
+  filling : IsFilling (holders_of l.initial.holders.entries) (holders_of l.holders.entries) l.group l.min_maxes.entries l.key-iterator;
 }

@@ -7,7 +7,7 @@ use Rattle.far_extrema.proofs.holders.lines.Goals as goal
 
 pub loop-key-preserved : goal.loop-key-preserved
 loop-key-preserved c =
-    let own = subst (IsTopOf c.in-Some.holder.now.spans) c.top.ensures.is c.top.ensures.top in
+    let own = subst (IsTopOf c.in-Some.holder.now.min_maxes) c.top.ensures.is c.top.ensures.top in
     record {
       made = line-skipped c.loop-key.lines.items (filter_map line_of c.args.holders.now.entries) (c.in-Some.key.now, c.in-Some.holder.now) c.next.new.self c.loop-key.key-iterator
           (sym c.top.ensures.is ∙ none_of c.top.result c.in_default.not-Some) c.in-Some.ensures.steps c.loop-key.invariant.made;

@@ -5,14 +5,14 @@ use Rattle.std.proofs.lemmas.Int.{to_z-of_z}
 use Rattle.far_types.specs.Effects.{widened}
 use Rattle.far_types.proofs.ByKeyMaps.{get_at, set_inserts}
 use Rattle.far_extrema.specs.Spreads.{at, IsSet}
-use Rattle.far_extrema.specs.Holders.{Holders, holders_of, span_in, span_at, reserved_in, IsPut, HaveSameReserved}
+use Rattle.far_extrema.specs.Holders.{Holders, holders_of, min_max_in, min_max_at, reserved_in, IsPut, HaveSameReserved}
 use Rattle.far_extrema.proofs.HolderLaws.{put-set, put-new, put-same}
 use Rattle.far_extrema.proofs.ReserveLaws.{reserved-insert, on_ok, on_err, ok_any, err_any}
 use Rattle.far_extrema.proofs.holders.observe_in.Goals as goal
 
 pub returns-in-Some-clause-previous : goal.returns-in-Some-clause-previous
 returns-in-Some-clause-previous c =
-    let there = ap (λ o. span_in o c.args.group) (c.in-Some.ensures.value ∙ sym (get_at c.args.holders.now.entries c.args.key.now)) in
+    let there = ap (λ o. min_max_in o c.args.group) (c.in-Some.ensures.value ∙ sym (get_at c.args.holders.now.entries c.args.key.now)) in
     subst (λ (o : Option (ℤ × ℤ)). IfOk c.observe.result (λ (previous : Option (ℤ × ℤ)). previous ≡ o)) there c.observe.ensures.previous
 
 pub returns-in-Some-clause-ok : goal.returns-in-Some-clause-ok
@@ -22,12 +22,12 @@ returns-in-Some-clause-ok c =
     let written = set_inserts c.args.holders.now.entries (c.get_mut.follows.lender c.observe.new.self).entries c.args.key.now c.observe.new.self ((c.get_mut.follows.holds c.observe.new.self).3 holds).0 in
     let m = holders_of c.args.holders.now.entries in
     let entry = get_at c.args.holders.now.entries c.args.key.now ∙ sym c.in-Some.ensures.value in
-    let there = sym (ap (λ o. span_in o c.args.group) entry) in
-    let wide = widened c.args.value (span_at m c.args.group c.args.key.now) in
-    on_ok c.observe.result (λ (set : IsSet c.in-Some.holder.now.spans c.args.group (Some (widened c.args.value (at c.in-Some.holder.now.spans c.args.group))) c.observe.new.self.spans).
+    let there = sym (ap (λ o. min_max_in o c.args.group) entry) in
+    let wide = widened c.args.value (min_max_at m c.args.group c.args.key.now) in
+    on_ok c.observe.result (λ (set : IsSet c.in-Some.holder.now.min_maxes c.args.group (Some (widened c.args.value (at c.in-Some.holder.now.min_maxes c.args.group))) c.observe.new.self.min_maxes).
     subst (λ n. IsPut m c.args.group c.args.key.now (Some wide) n) (sym written)
     (put-set m c.args.key.now c.in-Some.holder.now c.observe.new.self c.args.group (Some wide) entry
-    (subst (λ (o : Option (ℤ × ℤ)). IsSet c.in-Some.holder.now.spans c.args.group (Some (widened c.args.value o)) c.observe.new.self.spans) there set)))
+    (subst (λ (o : Option (ℤ × ℤ)). IsSet c.in-Some.holder.now.min_maxes c.args.group (Some (widened c.args.value o)) c.observe.new.self.min_maxes) there set)))
     (simp to_z-of_z at c.observe.ensures.ok)
 
 pub returns-in-Some-clause-reserved : goal.returns-in-Some-clause-reserved
@@ -49,11 +49,11 @@ returns-in-Some-clause-err c =
 
 pub returns-in-Some-clause-only_new : goal.returns-in-Some-clause-only_new
 returns-in-Some-clause-only_new c =
-    let there = ap (λ o. span_in o c.args.group) (get_at c.args.holders.now.entries c.args.key.now ∙ sym c.in-Some.ensures.value) in
-    on_err c.observe.result (λ (none : at c.in-Some.holder.now.spans c.args.group ≡ None). there ∙ none) c.observe.ensures.only_new
+    let there = ap (λ o. min_max_in o c.args.group) (get_at c.args.holders.now.entries c.args.key.now ∙ sym c.in-Some.ensures.value) in
+    on_err c.observe.result (λ (none : at c.in-Some.holder.now.min_maxes c.args.group ≡ None). there ∙ none) c.observe.ensures.only_new
 
 pub returns-in_ok-insert-in-None-clause-previous : goal.returns-in_ok-insert-in-None-clause-previous
-returns-in_ok-insert-in-None-clause-previous c = sym (ap (λ o. span_in o c.args.group) (get_at c.args.holders.now.entries c.args.key.now ∙ sym c.in-None.ensures.value))
+returns-in_ok-insert-in-None-clause-previous c = sym (ap (λ o. min_max_in o c.args.group) (get_at c.args.holders.now.entries c.args.key.now ∙ sym c.in-None.ensures.value))
 
 pub returns-in_ok-insert-in-None-clause-ok : goal.returns-in_ok-insert-in-None-clause-ok
 returns-in_ok-insert-in-None-clause-ok c =
@@ -64,10 +64,10 @@ returns-in_ok-insert-in-None-clause-ok c =
     let inserted = set_inserts lent c.insert.new.self.entries c.in_ok-clone_key-in-None.field-0 c.new.result c.in_ok-insert-in-None.ensures.updates.0 ∙ (λ i. fin.insert (same i) (key i) c.new.result) in
     let m = holders_of c.args.holders.now.entries in
     let absent = get_at c.args.holders.now.entries c.args.key.now ∙ sym c.in-None.ensures.value in
-    let none = ap (λ o. span_in o c.args.group) absent in
-    subst (λ (n : Holders). IsPut m c.args.group c.args.key.now (Some (widened c.args.value (span_at m c.args.group c.args.key.now))) n) (sym inserted)
+    let none = ap (λ o. min_max_in o c.args.group) absent in
+    subst (λ (n : Holders). IsPut m c.args.group c.args.key.now (Some (widened c.args.value (min_max_at m c.args.group c.args.key.now))) n) (sym inserted)
     (subst (λ (o : Option (ℤ × ℤ)). IsPut m c.args.group c.args.key.now (Some (widened c.args.value o)) (fin.insert m c.args.key.now c.new.result)) (sym none)
-    (put-new m c.args.key.now c.new.result c.args.group (c.args.value, c.args.value) absent (simp to_z-of_z at c.new.ensures.spans)))
+    (put-new m c.args.key.now c.new.result c.args.group (c.args.value, c.args.value) absent (simp to_z-of_z at c.new.ensures.min_maxes)))
 
 pub returns-in_ok-insert-in-None-clause-reserved : goal.returns-in_ok-insert-in-None-clause-reserved
 returns-in_ok-insert-in-None-clause-reserved c =
@@ -81,8 +81,8 @@ returns-in_ok-insert-in-None-clause-reserved c =
 
 pub returns-in_err-clone_key-in-None-clause-only_new : goal.returns-in_err-clone_key-in-None-clause-only_new
 returns-in_err-clone_key-in-None-clause-only_new c =
-    err_any c.from_residual.result (ap (λ o. span_in o c.args.group) (get_at c.args.holders.now.entries c.args.key.now ∙ sym c.in-None.ensures.value))
+    err_any c.from_residual.result (ap (λ o. min_max_in o c.args.group) (get_at c.args.holders.now.entries c.args.key.now ∙ sym c.in-None.ensures.value))
 
 pub returns-in_err-insert-in-None-clause-only_new : goal.returns-in_err-insert-in-None-clause-only_new
 returns-in_err-insert-in-None-clause-only_new c =
-    err_any c.from_residual-in_err-insert-in-None.result (ap (λ o. span_in o c.args.group) (get_at c.args.holders.now.entries c.args.key.now ∙ sym c.in-None.ensures.value))
+    err_any c.from_residual-in_err-insert-in-None.result (ap (λ o. min_max_in o c.args.group) (get_at c.args.holders.now.entries c.args.key.now ∙ sym c.in-None.ensures.value))

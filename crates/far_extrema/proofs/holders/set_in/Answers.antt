@@ -1,15 +1,15 @@
 use Rattle.std.proofs.Common.{◌∙◌, refl, IsSome, sym, ap, subst, Some, None, cond, true}
 use Rattle.far_types.proofs.ByKeyMaps.{get_at, set_inserts}
-use Rattle.far_extrema.specs.Holders.{holders_of, span_in, reserved_in, IsPut, HaveSameReserved}
+use Rattle.far_extrema.specs.Holders.{holders_of, min_max_in, reserved_in, IsPut, HaveSameReserved}
 use Rattle.far_extrema.proofs.HolderLaws.{put-set}
 use Rattle.far_extrema.proofs.ReserveLaws.{reserved-insert}
 use Rattle.far_extrema.proofs.holders.set_in.Goals as goal
 
 pub put-requires : goal.put-requires
-put-requires c = λ e. c.requires (ap (λ o. span_in o c.args.group) (get_at c.args.holders.now.entries c.args.key.now ∙ sym c.in-Some.ensures.value) ∙ e)
+put-requires c = λ e. c.requires (ap (λ o. min_max_in o c.args.group) (get_at c.args.holders.now.entries c.args.key.now ∙ sym c.in-Some.ensures.value) ∙ e)
 
 pub unreachable-requires : goal.unreachable-requires
-unreachable-requires c = c.requires (ap (λ o. span_in o c.args.group) (get_at c.args.holders.now.entries c.args.key.now ∙ sym c.in-None.ensures.value))
+unreachable-requires c = c.requires (ap (λ o. min_max_in o c.args.group) (get_at c.args.holders.now.entries c.args.key.now ∙ sym c.in-None.ensures.value))
 
 pub returns : goal.returns
 returns c =
@@ -19,8 +19,8 @@ returns c =
     let new = (c.get_mut.follows.lender c.put.new.self).entries in
     let written = set_inserts old new c.args.key.now c.put.new.self ((c.get_mut.follows.holds c.put.new.self).3 there).0 in
     record {
-      spans = subst (λ m. IsPut (holders_of old) c.args.group c.args.key.now (Some c.args.span) m) (sym written)
-          (put-set (holders_of old) c.args.key.now c.in-Some.holder.now c.put.new.self c.args.group (Some c.args.span) previous c.put.ensures.spans);
+      min_maxes = subst (λ m. IsPut (holders_of old) c.args.group c.args.key.now (Some c.args.min_max) m) (sym written)
+          (put-set (holders_of old) c.args.key.now c.in-Some.holder.now c.put.new.self c.args.group (Some c.args.min_max) previous c.put.ensures.min_maxes);
       reserved = subst (HaveSameReserved (holders_of old)) (sym written)
           (reserved-insert (holders_of old) c.args.key.now c.put.new.self (ap (λ b. cond b (Some true) None) c.put.ensures.reserved ∙ sym (ap reserved_in previous)));
     }

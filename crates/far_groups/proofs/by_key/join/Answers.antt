@@ -5,17 +5,17 @@ use Rattle.far_groups.specs.declared.by_key.Form.{Form}
 use Rattle.far_groups.specs.Live.{CanJoin}
 use Rattle.far_groups.specs.CountSums.{AreCountSums}
 use Rattle.far_groups.specs.ByKey.{in_form, totals_in}
-use Rattle.far_groups.proofs.PlainLaws.{count_sum_there, plain_room, plain_joined}
+use Rattle.far_groups.proofs.PlainLaws.{count_sum_there, plain_capacity, plain_joined}
 use Rattle.far_groups.proofs.by_key.join.Goals as goal
 
 pub add_under-requires-clause-more_valid_sums : goal.add_under-requires-clause-more_valid_sums
 add_under-requires-clause-more_valid_sums c =
     count_sum_there c.in-Plain.count_sum (subst (λ (form : Form). AreCountSums (in_form form)) c.in-Plain.is c.requires.other_valid_sums)
 
-pub add_under-requires-clause-room : goal.add_under-requires-clause-room
-add_under-requires-clause-room c =
+pub add_under-requires-clause-capacity : goal.add_under-requires-clause-capacity
+add_under-requires-clause-capacity c =
     let here = totals_in c.args.by_key.now in
-    plain_room here c.in-Plain.count_sum (subst (λ (form : Form). CanJoin here (in_form form)) c.in-Plain.is c.requires.can_join)
+    plain_capacity here c.in-Plain.count_sum (subst (λ (form : Form). CanJoin here (in_form form)) c.in-Plain.is c.requires.can_join)
 
 pub returns-in-Plain-clause-ok : goal.returns-in-Plain-clause-ok
 returns-in-Plain-clause-ok c =

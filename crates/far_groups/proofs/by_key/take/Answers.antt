@@ -7,7 +7,7 @@ use Rattle.far_groups.specs.ByKey.{in_form, totals_in}
 use Rattle.far_groups.proofs.CountSumLaws.{AreCountSums-without}
 use Rattle.far_groups.proofs.NumberLaws.{get_other}
 use Rattle.far_groups.proofs.PlaceLaws.{get_elsewhere}
-use Rattle.far_groups.proofs.PlainLaws.{count_sum_there, taken_leaves, plain_gone, plain_lowered}
+use Rattle.far_groups.proofs.PlainLaws.{count_sum_there, taken_leaves, plain_gone, plain_subtracted}
 use Rattle.far_groups.proofs.by_key.take.Goals as goal
 
 pub subtract-rest-requires-clause-valid_sums : goal.subtract-rest-requires-clause-valid_sums
@@ -28,7 +28,7 @@ returns-then-rest-eq0-clause-less c =
 pub returns-else-rest-eq0-clause-less : goal.returns-else-rest-eq0-clause-less
 returns-else-rest-eq0-clause-less c =
     let there = subst (λ (form : Form). LeavesCountSum c.args.less (fin.get (in_form form) c.args.key.now)) c.in-Plain.is c.requires.there in
-    plain_lowered c.in-Plain.count_sum c.args.less c.subtract-rest.result c.args.key.now c.subtract-rest.ensures there c.if-rest-eq0.false
+    plain_subtracted c.in-Plain.count_sum c.args.less c.subtract-rest.result c.args.key.now c.subtract-rest.ensures there c.if-rest-eq0.false
     ∙ ap (λ (form : Form). without_count_sum (in_form form) c.args.key.now c.args.less) (sym c.in-Plain.is)
 
 pub returns-then-rest-eq0-clause-valid_sums : goal.returns-then-rest-eq0-clause-valid_sums

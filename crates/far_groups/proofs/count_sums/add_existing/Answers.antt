@@ -11,9 +11,9 @@ pub merge_two-requires-clause-valid_sums : goal.merge_two-requires-clause-valid_
 merge_two-requires-clause-valid_sums c =
     if_found _ _ (get_at c.args.count_sums.now.entries c.args.key.now ∙ sym c.in-Some.ensures.value) (c.requires.valid_sums c.args.key.now)
 
-pub merge_two-requires-clause-room : goal.merge_two-requires-clause-room
-merge_two-requires-clause-room c =
-    subst (λ o. count_in o + c.args.more.0 ≤ 2 ^ 26) (get_at c.args.count_sums.now.entries c.args.key.now ∙ sym c.in-Some.ensures.value) c.requires.room
+pub merge_two-requires-clause-capacity : goal.merge_two-requires-clause-capacity
+merge_two-requires-clause-capacity c =
+    subst (λ o. count_in o + c.args.more.0 ≤ 2 ^ 26) (get_at c.args.count_sums.now.entries c.args.key.now ∙ sym c.in-Some.ensures.value) c.requires.capacity
 
 pub returns-in-Some-clause-there : goal.returns-in-Some-clause-there
 returns-in-Some-clause-there c =
@@ -30,8 +30,8 @@ returns-in-Some-clause-valid_sums c =
     subst AreCountSums (sym (set_inserts c.args.count_sums.now.entries (c.get_mut.follows.lender c.merge_two.result).entries c.args.key.now c.merge_two.result (written.3 there).0))
     (AreCountSums-insert (totals_of c.args.count_sums.now.entries) c.args.key.now c.merge_two.result c.requires.valid_sums c.merge_two.ensures.valid_sums)
 
-pub returns-in-Some-clause-raised : goal.returns-in-Some-clause-raised
-returns-in-Some-clause-raised c _ =
+pub returns-in-Some-clause-added : goal.returns-in-Some-clause-added
+returns-in-Some-clause-added c _ =
     let there = subst IsSome c.in-Some.ensures.value refl in
     let written = c.get_mut.follows.holds c.merge_two.result in
     set_inserts c.args.count_sums.now.entries (c.get_mut.follows.lender c.merge_two.result).entries c.args.key.now c.merge_two.result (written.3 there).0

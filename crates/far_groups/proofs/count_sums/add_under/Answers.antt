@@ -12,4 +12,4 @@ returns-in_ok-insert-clause-ok c =
 
 pub returns-in_ok-insert-clause-valid_sums : goal.returns-in_ok-insert-clause-valid_sums
 returns-in_ok-insert-clause-valid_sums c =
-    subst AreCountSums (sym (returns-in_ok-insert-clause-ok c)) (AreCountSums-with (totals_of c.args.count_sums.now.entries) c.args.key.now c.args.more c.requires.valid_sums c.requires.more_valid_sums c.requires.room)
+    subst AreCountSums (sym (returns-in_ok-insert-clause-ok c)) (AreCountSums-with (totals_of c.args.count_sums.now.entries) c.args.key.now c.args.more c.requires.valid_sums c.requires.more_valid_sums c.requires.capacity)

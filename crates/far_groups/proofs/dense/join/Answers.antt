@@ -5,7 +5,7 @@ use Rattle.far_types.specs.Effects.{count_in, joined_totals}
 use Rattle.far_groups.specs.CountSums.{AreCountSums, with_count_sum}
 use Rattle.far_groups.specs.Numbers.{by_number}
 use Rattle.far_groups.specs.Dense.{place_key, by_place}
-use Rattle.far_groups.proofs.PlaceLaws.{next_none, next_joined, next_count_sum, next_room, no_places}
+use Rattle.far_groups.proofs.PlaceLaws.{next_none, next_joined, next_count_sum, next_capacity, no_places}
 use Rattle.far_groups.proofs.dense.join.Goals as goal
 use Rattle.far_groups.proofs.dense.join.Goals.{then-more-ne0, else-more-ne0}
 
@@ -20,11 +20,11 @@ pub add_existing-there-requires-clause-more_valid_sums : goal.add_existing-there
 add_existing-there-requires-clause-more_valid_sums c =
     next_count_sum c.args.other.now.items c.loop-place.place c.index-more.result.now (omega arith) c.index-more.ensures c.if-more-ne0.true c.requires.other_valid_sums
 
-pub add_existing-there-requires-clause-room : goal.add_existing-there-requires-clause-room
-add_existing-there-requires-clause-room c =
+pub add_existing-there-requires-clause-capacity : goal.add_existing-there-requires-clause-capacity
+add_existing-there-requires-clause-capacity c =
     let more = c.index-more.result.now in
     subst (λ (m : Totals). count_in (fin.get m (place_key c.loop-place.place)) + more.0 ≤ 2 ^ 26) (sym c.loop-place.invariant.joined)
-    (next_room c.args.other.now.items c.loop-place.place more (omega arith) c.index-more.ensures c.if-more-ne0.true (by_place c.args.dense.now.items) c.requires.can_join)
+    (next_capacity c.args.other.now.items c.loop-place.place more (omega arith) c.index-more.ensures c.if-more-ne0.true (by_place c.args.dense.now.items) c.requires.can_join)
 
 pub loop-place-preserved : goal.loop-place-preserved
 loop-place-preserved c =
@@ -36,14 +36,14 @@ loop-place-preserved c =
     let within : place < length others = omega (arith, c.loop-place-test.true, c.len.ensures) in
     elim c.if-more-ne0.branch [
       | then-more-ne0 w ↦
-          let raised = w.add_existing-there.ensures in
-          let there = raised.there (omega (arith, within, invariant.long)) in
-          let long : length w.add_existing-there.new.dense.items ≡ length c.loop-place.dense.items = raised.len in
+          let added = w.add_existing-there.ensures in
+          let there = added.there (omega (arith, within, invariant.long)) in
+          let long : length w.add_existing-there.new.dense.items ≡ length c.loop-place.dense.items = added.len in
           let joined =
-          raised.raised there
+          added.added there
           ∙ ap (λ (m : Totals). with_count_sum m (place_key place) more) invariant.joined
           ∙ next_joined others place more within c.index-more.ensures w.if-more-ne0.true start in
-          rw w.dense-is (record { valid_sums = raised.valid_sums; long = omega (arith, long, invariant.long); joined = joined })
+          rw w.dense-is (record { valid_sums = added.valid_sums; long = omega (arith, long, invariant.long); joined = joined })
       | else-more-ne0 w ↦
           let joined = invariant.joined ∙ ap (λ es. joined_totals start (by_number es)) (sym (next_none others place more within c.index-more.ensures w.if-more-ne0.false)) in
           rw w.dense-is (record { valid_sums = invariant.valid_sums; long = invariant.long; joined = joined })

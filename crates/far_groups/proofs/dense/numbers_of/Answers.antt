@@ -19,8 +19,8 @@ pub add-requires-clause-more_valid_sums : goal.add-requires-clause-more_valid_su
 add-requires-clause-more_valid_sums c =
     next_count_sum c.args.dense.now.items c.loop-place.place c.index-count_sum.result.now (omega arith) c.index-count_sum.ensures c.if-count_sum-ne0.true c.requires
 
-pub add-requires-clause-room : goal.add-requires-clause-room
-add-requires-clause-room c =
+pub add-requires-clause-capacity : goal.add-requires-clause-capacity
+add-requires-clause-capacity c =
     let places = c.args.dense.now.items in
     let place = c.loop-place.place in
     let count_sum = c.index-count_sum.result.now in

@@ -3,7 +3,7 @@ use Rattle.std.specs.Prelude.{IfSome}
 use Rattle.far_groups.specs.CountSums.{IsCountSum, AreCountSums, LeavesCountSum}
 use Rattle.far_groups.specs.Dense.{place_key, by_place}
 use Rattle.far_groups.proofs.CountSumLaws.{AreCountSums-without}
-use Rattle.far_groups.proofs.PlaceLaws.{get_place, get_behind, taken_stands, place_lowered}
+use Rattle.far_groups.proofs.PlaceLaws.{get_place, get_behind, taken_stands, place_subtracted}
 use Rattle.far_groups.proofs.dense.take.Goals as goal
 
 pub subtract-requires-clause-valid_sums : goal.subtract-requires-clause-valid_sums
@@ -22,7 +22,7 @@ subtract-requires-clause-there c =
 
 pub returns-then-place-len-clause-less : goal.returns-then-place-len-clause-less
 returns-then-place-len-clause-less c =
-    place_lowered c.args.dense.now.items c.args.place c.index.result.now c.subtract.result c.args.less (omega arith) c.index.ensures c.subtract.ensures c.requires.there
+    place_subtracted c.args.dense.now.items c.args.place c.index.result.now c.subtract.result c.args.less (omega arith) c.index.ensures c.subtract.ensures c.requires.there
 
 pub returns-then-place-len-clause-valid_sums : goal.returns-then-place-len-clause-valid_sums
 returns-then-place-len-clause-valid_sums c =

@@ -11,8 +11,8 @@ use Rattle.far_groups.proofs.CountSumLaws.{with_count_sum-one}
 use Rattle.far_groups.proofs.FoldLaws.{can_at, pairs-next, first_fold}
 use Rattle.far_groups.proofs.folds.fold_all.Goals as goal
 
-pub add_under-requires-clause-room : goal.add_under-requires-clause-room
-add_under-requires-clause-room c =
+pub add_under-requires-clause-capacity : goal.add_under-requires-clause-capacity
+add_under-requires-clause-capacity c =
     let pairs = c.args.pairs.now in
     let pair = c.index-pairs-i.result in
     let there = slice_get_read pairs _ c.loop-i.i pair refl (omega arith) c.index-pairs-i.is in

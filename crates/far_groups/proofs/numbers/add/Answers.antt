@@ -14,4 +14,4 @@ returns-in_ok-insert-clause-ok c =
 
 pub returns-in_ok-insert-clause-valid_sums : goal.returns-in_ok-insert-clause-valid_sums
 returns-in_ok-insert-clause-valid_sums c =
-    subst AreCountSums (sym (returns-in_ok-insert-clause-ok c)) (AreCountSums-with (by_number c.args.numbers.now.entries) (number_key c.args.number.now) c.args.more c.requires.valid_sums c.requires.more_valid_sums c.requires.room)
+    subst AreCountSums (sym (returns-in_ok-insert-clause-ok c)) (AreCountSums-with (by_number c.args.numbers.now.entries) (number_key c.args.number.now) c.args.more c.requires.valid_sums c.requires.more_valid_sums c.requires.capacity)

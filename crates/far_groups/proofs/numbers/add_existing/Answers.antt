@@ -13,9 +13,9 @@ pub merge_two-requires-clause-valid_sums : goal.merge_two-requires-clause-valid_
 merge_two-requires-clause-valid_sums c =
     if_found _ _ (get_number c.args.numbers.now.entries c.args.number.now ∙ sym c.in-Some.ensures.value) (c.requires.valid_sums (number_key c.args.number.now))
 
-pub merge_two-requires-clause-room : goal.merge_two-requires-clause-room
-merge_two-requires-clause-room c =
-    subst (λ o. count_in o + c.args.more.0 ≤ 2 ^ 26) (get_number c.args.numbers.now.entries c.args.number.now ∙ sym c.in-Some.ensures.value) c.requires.room
+pub merge_two-requires-clause-capacity : goal.merge_two-requires-clause-capacity
+merge_two-requires-clause-capacity c =
+    subst (λ o. count_in o + c.args.more.0 ≤ 2 ^ 26) (get_number c.args.numbers.now.entries c.args.number.now ∙ sym c.in-Some.ensures.value) c.requires.capacity
 
 pub returns-in-Some-clause-there : goal.returns-in-Some-clause-there
 returns-in-Some-clause-there c =
@@ -32,8 +32,8 @@ returns-in-Some-clause-valid_sums c =
     subst AreCountSums (sym (number_inserts c.args.numbers.now.entries (c.get_mut.follows.lender c.merge_two.result).entries c.args.number.now c.merge_two.result (written.3 there).0))
     (AreCountSums-insert (by_number c.args.numbers.now.entries) (number_key c.args.number.now) c.merge_two.result c.requires.valid_sums c.merge_two.ensures.valid_sums)
 
-pub returns-in-Some-clause-raised : goal.returns-in-Some-clause-raised
-returns-in-Some-clause-raised c _ =
+pub returns-in-Some-clause-added : goal.returns-in-Some-clause-added
+returns-in-Some-clause-added c _ =
     let there = subst IsSome c.in-Some.ensures.value refl in
     let written = c.get_mut.follows.holds c.merge_two.result in
     number_inserts c.args.numbers.now.entries (c.get_mut.follows.lender c.merge_two.result).entries c.args.number.now c.merge_two.result (written.3 there).0

@@ -2,7 +2,7 @@ use Rattle.std.proofs.Common.{◌≡◌, length, drop, ap, arith, length-take, l
 use Rattle.far_log.specs.Chunking.{capacity_at, start_at}
 use Rattle.far_log.specs.Storage.{extents_of}
 use Rattle.far_log.proofs.Chunks.{start-size, start-last}
-use Rattle.far_log.proofs.StoredParts.{adjacent-rising}
+use Rattle.far_log.proofs.StoredParts.{adjacent-sorted}
 use Rattle.far_log.proofs.Entries.{chunk-behind, chunk-before}
 use Rattle.far_log.proofs.extents.chunk_at.Goals as goal
 
@@ -17,14 +17,14 @@ loop-number-preserved c =
       there = omega (arith, c.loop-number.invariant.there, last);
       before = λ k s e at.
           let first = rw c.chunk.ensures at c.if-chunk-offset.false in
-          let under = chunk-before c.args.table.now (start_at 64 c.loop-number.number) (capacity_at 64 c.loop-number.number) _ (adjacent-rising 0 (extents_of c.args.table.now) c.requires.adjacent) c.loop-number.invariant.there (omega (arith, start-size 64 c.loop-number.number)) k c.args.offset s first e at in
+          let under = chunk-before c.args.table.now (start_at 64 c.loop-number.number) (capacity_at 64 c.loop-number.number) _ (adjacent-sorted 0 (extents_of c.args.table.now) c.requires.adjacent) c.loop-number.invariant.there (omega (arith, start-size 64 c.loop-number.number)) k c.args.offset s first e at in
           omega (arith, under, last);
     }
 
 pub returns-then-chunk-offset-clause-found : goal.returns-then-chunk-offset-clause-found
 returns-then-chunk-offset-clause-found c = λ k s e at.
     let first = rw c.chunk.ensures at c.if-chunk-offset.true in
-    let behind = chunk-behind c.args.table.now (start_at 64 c.loop-number.number) (capacity_at 64 c.loop-number.number) _ (adjacent-rising 0 (extents_of c.args.table.now) c.requires.adjacent) c.loop-number.invariant.there (omega (arith, start-size 64 c.loop-number.number)) k c.args.offset s first e at in
+    let behind = chunk-behind c.args.table.now (start_at 64 c.loop-number.number) (capacity_at 64 c.loop-number.number) _ (adjacent-sorted 0 (extents_of c.args.table.now) c.requires.adjacent) c.loop-number.invariant.there (omega (arith, start-size 64 c.loop-number.number)) k c.args.offset s first e at in
     (behind, c.loop-number.invariant.before k s e at)
 
 pub returns-clause-found : goal.returns-clause-found

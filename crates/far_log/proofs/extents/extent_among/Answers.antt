@@ -10,7 +10,7 @@ loop-size-preserved c = elim c.if-entries-middle.branch [
     within = omega (arith, w.low-is, c.loop-size.invariant.within);
     between = λ k s e f.
         let was = c.loop-size.invariant.between k s e f in
-        let behind = entry-behind c.args.entries.now _ k c.args.offset s _ c.requires.rising (omega (arith, c.loop-size.invariant.within)) w.if-entries-middle.true e f in
+        let behind = entry-behind c.args.entries.now _ k c.args.offset s _ c.requires.sorted (omega (arith, c.loop-size.invariant.within)) w.if-entries-middle.true e f in
         (omega (arith, w.low-is, behind), omega (arith, w.low-is, was.1));
   }
   | else-entries-middle w ↦ record {
@@ -18,7 +18,7 @@ loop-size-preserved c = elim c.if-entries-middle.branch [
     within = omega (arith, w.low-is, c.loop-size.invariant.within);
     between = λ k s e f.
         let was = c.loop-size.invariant.between k s e f in
-        let under = entry-before c.args.entries.now _ k c.args.offset s _ c.requires.rising (omega (arith, c.loop-size.invariant.within)) w.if-entries-middle.false e f in
+        let under = entry-before c.args.entries.now _ k c.args.offset s _ c.requires.sorted (omega (arith, c.loop-size.invariant.within)) w.if-entries-middle.false e f in
         (omega (arith, w.low-is, was.0), omega (arith, w.low-is, under));
   }
 ]

@@ -3,15 +3,15 @@ use Rattle.std.specs.Prelude.{slice_get}
 use Rattle.far_log.specs.Chunking.{capacity_at, start_at}
 use Rattle.far_log.specs.Storage.{extents_of, IsSorted}
 use Rattle.far_log.proofs.Chunks.{start-size}
-use Rattle.far_log.proofs.StoredParts.{adjacent-rising}
-use Rattle.far_log.proofs.Entries.{part-rising, in-part}
+use Rattle.far_log.proofs.StoredParts.{adjacent-sorted}
+use Rattle.far_log.proofs.Entries.{part-sorted, in-part}
 use Rattle.far_log.proofs.extents.number_among.Goals as goal
 
 pub extent_among-requires-clause-some : goal.extent_among-requires-clause-some
 extent_among-requires-clause-some c = omega (arith, ap length c.chunk.ensures, length-take (capacity_at 64 c.chunk_at-chunk.result) (drop (start_at 64 c.chunk_at-chunk.result) c.args.table.now), length-drop (start_at 64 c.chunk_at-chunk.result) c.args.table.now, c.chunk_at-chunk.ensures.there, start-size 64 c.chunk_at-chunk.result)
 
-pub extent_among-requires-clause-rising : goal.extent_among-requires-clause-rising
-extent_among-requires-clause-rising c = subst (λ es. IsSorted (extents_of es)) (sym c.chunk.ensures) (part-rising c.args.table.now (start_at 64 c.chunk_at-chunk.result) (capacity_at 64 c.chunk_at-chunk.result) (adjacent-rising 0 (extents_of c.args.table.now) c.requires.adjacent))
+pub extent_among-requires-clause-sorted : goal.extent_among-requires-clause-sorted
+extent_among-requires-clause-sorted c = subst (λ es. IsSorted (extents_of es)) (sym c.chunk.ensures) (part-sorted c.args.table.now (start_at 64 c.chunk_at-chunk.result) (capacity_at 64 c.chunk_at-chunk.result) (adjacent-sorted 0 (extents_of c.args.table.now) c.requires.adjacent))
 
 pub returns : goal.returns
 returns c = λ k s e at.

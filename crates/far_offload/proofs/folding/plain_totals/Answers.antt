@@ -15,8 +15,8 @@ use Rattle.far_offload.proofs.folding.plain_totals.Goals.{then-count-ne0+in_ok-a
 abbrev live_of : ℕ → Totals → Live
 live_of left totals = record { left = left; totals = totals }
 
-pub add_rows-requires-clause-room : goal.add_rows-requires-clause-room
-add_rows-requires-clause-room c =
+pub add_rows-requires-clause-capacity : goal.add_rows-requires-clause-capacity
+add_rows-requires-clause-capacity c =
     let none = counted [] None in
     omega (arith, ap (λ (m : Totals). count_in (fin.get m None)) c.new-live.ensures.empty, none, c.count_sum_of-count.ensures.few)
 

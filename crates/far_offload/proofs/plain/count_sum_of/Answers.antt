@@ -24,14 +24,14 @@ loop-place-preserved c =
     elim c.match-value_at.branch [
       | in-Some w ↦
           let is : c.match-value_at.count_sum ≡ (c.loop-place.count_sum.0 + 1, c.loop-place.count_sum.1 +ℤ w.in-Some.value) =
-          w.count_sum-is ∙ w.raised-count_sum.ensures.value ∙ ap (λ (v : ℤ). (c.loop-place.count_sum.0 + 1, c.loop-place.count_sum.1 +ℤ v)) (to_z-of_z w64 w.in-Some.value w.in-Some.ensures.fits) in
+          w.count_sum-is ∙ w.added-count_sum.ensures.value ∙ ap (λ (v : ℤ). (c.loop-place.count_sum.0 + 1, c.loop-place.count_sum.1 +ℤ v)) (to_z-of_z w64 w.in-Some.value w.in-Some.ensures.fits) in
           record {
             count_sum =
                 is
                 ∙ ap (λ (t : ℕ × ℤ). (t.0 + 1, t.1 +ℤ w.in-Some.value)) c.loop-place.invariant.count_sum
                 ∙ sym (count_sum-more values w.in-Some.value)
                 ∙ ap count_sum (sym (values-with spec columns alive place flag w.in-Some.value (omega arith) refl w.in-Some.ensures.value));
-            sum = subst summed (sym w.count_sum-is) w.raised-count_sum.ensures.sum;
+            sum = subst summed (sym w.count_sum-is) w.added-count_sum.ensures.sum;
             few = omega (arith, ap (λ (t : ℕ × ℤ). t.0) is, c.loop-place.invariant.few);
           }
       | in_default w ↦

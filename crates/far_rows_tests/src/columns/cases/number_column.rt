@@ -5,7 +5,7 @@ use crate::columns::script::Few::{Four, One, Two};
 use crate::columns::script::{Case, Layout, Script};
 use far_types::Refusal;
 
-/// Row groups of four places, and room for fifteen of them.
+/// Row groups of four places, and space for fifteen of them.
 const FOURS: Layout = Layout {
     first: 3,
     columns: 1,
@@ -17,14 +17,14 @@ const FOURS: Layout = Layout {
     limit: None,
 };
 
-/// Room for two row groups.
+/// Space for two row groups.
 const TWO_GROUPS: Layout = Layout {
     segments: 2,
     size: 4,
     ..FOURS
 };
 
-/// Two segments of five, in which two numbers more have room, and no row group.
+/// Two segments of five, in which two numbers more have space, and no row group.
 const TWO_FIVES: Layout = Layout {
     size: 5,
     ..TWO_GROUPS
@@ -75,7 +75,7 @@ pub static CASES: [Case; 10] = [
             (Lend(0, 1, 5), Ok(())),
         ]),
     },
-    // A ninth number of two row groups has no room.
+    // A ninth number of two row groups has no space.
     Case {
         name: "a row group without room is refused",
         layout: TWO_GROUPS,

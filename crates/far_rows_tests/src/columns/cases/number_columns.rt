@@ -6,7 +6,7 @@ use crate::columns::script::Call::{
 use crate::columns::script::{Case, Layout, Script};
 use far_types::Refusal;
 
-/// Row groups of four places, and room for four of them.
+/// Row groups of four places, and space for four of them.
 const FOURS: Layout = Layout {
     first: 0,
     columns: 2,
@@ -20,7 +20,7 @@ const FOURS: Layout = Layout {
 
 const PAIRS: Layout = Layout { group: 2, ..FOURS };
 
-/// Row groups of two places, and room for one of them.
+/// Row groups of two places, and space for one of them.
 const ONE_GROUP: Layout = Layout {
     segments: 1,
     size: 3,
@@ -43,14 +43,14 @@ const SECOND_AWAY: Result<(), Refusal> = Err(Refusal::Absent {
     group: 0,
 });
 
-/// Row groups of three places, and room for six of them.
+/// Row groups of three places, and space for six of them.
 const THREES: Layout = Layout {
     group: 3,
     segments: 3,
     ..FOURS
 };
 
-/// Row groups of one place, and room for sixteen of them.
+/// Row groups of one place, and space for sixteen of them.
 const ONES: Layout = Layout { group: 1, ..FOURS };
 
 pub static CASES: [Case; 7] = [

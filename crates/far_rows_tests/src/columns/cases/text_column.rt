@@ -7,7 +7,7 @@ use crate::columns::script::Call::{
 use crate::columns::script::{Case, Layout, Script};
 use far_types::Refusal;
 
-/// Row groups of four places, forms of 64 bytes at most, and room for three of them.
+/// Row groups of four places, forms of 64 bytes at most, and space for three of them.
 const FOURS: Layout = Layout {
     first: 3,
     columns: 1,
@@ -64,7 +64,7 @@ const WRITTEN_OUT: Layout = Layout {
     ..FOURS
 };
 
-const WRITTEN_OUT_WITH_ROOM: Layout = Layout {
+const WRITTEN_OUT_WITH_SPACE: Layout = Layout {
     segments: 2,
     ..WRITTEN_OUT
 };
@@ -121,7 +121,7 @@ pub static CASES: [Case; 14] = [
             (Set(0, 0, Text(A, 4097)), TOO_LONG),
         ]),
     },
-    // 54 letters fill a form, `b` in their place makes room, `c` comes behind it, and then 45 letters are one too many, and 44
+    // 54 letters fill a form, `b` in their place makes space, `c` comes behind it, and then 45 letters are one too many, and 44
     // are not.
     Case {
         name: "a form is filled to the byte",
@@ -138,7 +138,7 @@ pub static CASES: [Case; 14] = [
             (Find(0, 1, Text(C, 1)), Ok(())),
         ]),
     },
-    // A form that is full has no room for a missing text.
+    // A form that is full has no space for a missing text.
     Case {
         name: "lengths are told before a form is made",
         layout: TWO_SEGMENTS,
@@ -206,7 +206,7 @@ pub static CASES: [Case; 14] = [
             (Push(0, Text(Acute, 2048)), CHUNK_FULL),
         ]),
     },
-    // A text that fills its form is cleared: there is room behind it once it is missing.
+    // A text that fills its form is cleared: there is space behind it once it is missing.
     Case {
         name: "a text that is not alive keeps its space",
         layout: FOURS,
@@ -247,10 +247,10 @@ pub static CASES: [Case; 14] = [
             (Push(0, Text(A, 50)), FIRST_AWAY),
         ]),
     },
-    // While there is room for another form.
+    // While there is space for another form.
     Case {
         name: "a row group written too often is told where there is room",
-        layout: WRITTEN_OUT_WITH_ROOM,
+        layout: WRITTEN_OUT_WITH_SPACE,
         count: 2,
         script: Script::Lines(&[
             (Set(0, 0, Text(A, 44)), USED_UP),

@@ -6,7 +6,7 @@ use crate::columns::script::Call::{Away, FillAll, Find, Len, MayPushAll, Objects
 use crate::columns::script::{Case, Layout, Script};
 use far_types::Refusal;
 
-/// Row groups of four places, forms of 64 bytes at most, and room for eight of them.
+/// Row groups of four places, forms of 64 bytes at most, and space for eight of them.
 const FOURS: Layout = Layout {
     first: 0,
     columns: 2,
@@ -78,7 +78,7 @@ const ONES: Layout = Layout {
     ..UNWRITABLE
 };
 
-const ONES_WITH_ROOM: Layout = Layout {
+const ONES_WITH_SPACE: Layout = Layout {
     group: 1,
     ..FOUR_SEGMENTS
 };
@@ -121,7 +121,7 @@ pub static CASES: [Case; 17] = [
             (Find(1, 2, BLUE), Ok(())),
         ]),
     },
-    // Two pairs of texts in room for six forms: one begins row groups, and the other does not.
+    // Two pairs of texts in space for six forms: one begins row groups, and the other does not.
     Case {
         name: "a push refused for memory can be repeated",
         layout: PAIRS,
@@ -221,7 +221,7 @@ pub static CASES: [Case; 17] = [
     },
     Case {
         name: "texts that begin row groups need no object that is there",
-        layout: ONES_WITH_ROOM,
+        layout: ONES_WITH_SPACE,
         count: 0,
         script: Script::Lines(&[
             (PushAll(LONG, LONG), Ok(())),
@@ -240,7 +240,7 @@ pub static CASES: [Case; 17] = [
             (PushAll(FIG, EMPTY), SECOND_AWAY),
         ]),
     },
-    // Three segments have no room for two forms beside two old ones, and room for one.
+    // Three segments have no space for two forms beside two old ones, and space for one.
     Case {
         name: "new forms find room beside the old ones or nothing changes",
         layout: THREE_SEGMENTS,
@@ -256,7 +256,7 @@ pub static CASES: [Case; 17] = [
             (Find(0, 0, Text(X, 1)), Ok(())),
         ]),
     },
-    // Of two long texts more the first would find room; two short ones find it.
+    // Of two long texts more the first would find space; two short ones find it.
     Case {
         name: "a row group without room in the second column changes nothing",
         layout: THREE_ONES,
@@ -291,7 +291,7 @@ pub static CASES: [Case; 17] = [
             (PushAll(PEAR, Text(A, 4097)), TOO_LONG),
         ]),
     },
-    // In the first of two columns 55 letters are one too many for a form and 54 fill it, one in their place makes room, another
+    // In the first of two columns 55 letters are one too many for a form and 54 fill it, one in their place makes space, another
     // comes behind it, and then 45 letters are one too many, and 44 are not.
     Case {
         name: "a first form that is full to the byte refuses one byte more for all",

@@ -12,7 +12,7 @@ use far_store::FarTickets;
 use far_types::Refusal;
 
 // Whether there are two columns of one length and one size of row groups.
-fn are_even<S: FarTickets>(
+fn are_same_length<S: FarTickets>(
     _objects: &Objects<Option<i64>, S>,
     columns: &[IntColumn],
     _size: u32,
@@ -34,7 +34,7 @@ pub fn may_push_all<S: FarTickets>(
     requires are { AreVectors (number_lists S.content objects.now) columns.now }
     requires sized { All (λ c. c.size ≡ size) columns.now }
 {
-    if !are_even(objects, columns, size) {
+    if !are_same_length(objects, columns, size) {
         return Err(WRONG);
     }
     may_push_numbers(objects, columns)
@@ -51,9 +51,9 @@ pub fn push_all<S: FarTickets>(
     requires sized { All (λ c. c.size ≡ size) columns.old }
     ensures are { AreVectors (number_lists S.content objects.new) columns.new }
     ensures sized { All (λ c. c.size ≡ size) columns.new }
-    ensures here { (name : List ℕ) → AreHere S.is_of name objects.old → AreHere S.is_of name objects.new }
+    ensures here { (id : List ℕ) → AreHere S.is_of id objects.old → AreHere S.is_of id objects.new }
 {
-    if !are_even(objects, columns, size) || objects.count() >= 32 {
+    if !are_same_length(objects, columns, size) || objects.count() >= 32 {
         return Err(WRONG);
     }
     push_numbers(objects, columns, numbers)
@@ -70,10 +70,10 @@ pub fn push_and_unpush<S: FarTickets>(
     requires sized { All (λ c. c.size ≡ size) columns.old }
     ensures are { AreVectors (number_lists S.content objects.new) columns.new }
     ensures sized { All (λ c. c.size ≡ size) columns.new }
-    ensures here { (name : List ℕ) → AreHere S.is_of name objects.old → AreHere S.is_of name objects.new }
+    ensures here { (id : List ℕ) → AreHere S.is_of id objects.old → AreHere S.is_of id objects.new }
 {
     let count = objects.count();
-    if !are_even(objects, columns, size) || count >= 32 {
+    if !are_same_length(objects, columns, size) || count >= 32 {
         return Err(WRONG);
     }
     push_numbers(objects, columns, numbers)?;

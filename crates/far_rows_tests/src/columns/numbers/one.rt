@@ -22,7 +22,7 @@ fn push<S: FarStore>(
     requires is { IsVector (number_lists S.content objects.old) column.old }
     ensures changes { ChangesVector (number_lists S.content objects.old) (number_lists S.content objects.new) column.old column.new }
     ensures size { column.new.size ≡ column.old.size }
-    ensures here { (name : List ℕ) → AreHere S.is_of name objects.old → AreHere S.is_of name objects.new }
+    ensures here { (id : List ℕ) → AreHere S.is_of id objects.old → AreHere S.is_of id objects.new }
 {
     if objects.count() >= 1 << 28 {
         return Err(Refusal::TableFull);
@@ -40,7 +40,7 @@ fn set<S: FarStore>(
     requires is { IsVector (number_lists S.content objects.old) column.old }
     ensures changes { ChangesVector (number_lists S.content objects.old) (number_lists S.content objects.new) column.old column.new }
     ensures size { column.new.size ≡ column.old.size }
-    ensures here { (name : List ℕ) → AreHere S.is_of name objects.old → AreHere S.is_of name objects.new }
+    ensures here { (id : List ℕ) → AreHere S.is_of id objects.old → AreHere S.is_of id objects.new }
 {
     let due = column.may_set(objects, place);
     let reply = column.set(objects, place, number);
@@ -57,7 +57,7 @@ fn unpush<S: FarStore>(
     requires sized { column.old.size ≡ size }
     ensures changes { ChangesVector (number_lists S.content objects.old) (number_lists S.content objects.new) column.old column.new }
     ensures size { column.new.size ≡ column.old.size }
-    ensures here { (name : List ℕ) → AreHere S.is_of name objects.old → AreHere S.is_of name objects.new }
+    ensures here { (id : List ℕ) → AreHere S.is_of id objects.old → AreHere S.is_of id objects.new }
 {
     if size != 4 || !may_unpush(objects, column) {
         return Err(Refusal::StaleJob);
@@ -70,9 +70,9 @@ fn unpush<S: FarStore>(
 fn may_unpush<S: FarTickets>(objects: &Objects<Option<i64>, S>, column: &IntColumn) -> bool
     requires size { column.now.size ≡ 4 }
     ensures alone { IsTrue result → column.now.len ≡ (length column.now.objects - 1) * column.now.size + 1 }
-    ensures last { IsTrue result → slice_get column.now.objects (length column.now.objects - 1) ≡ Some (length objects.now.entries - 1) }
-    ensures local { IsTrue result → is_local objects.now (length objects.now.entries - 1) ≡ true }
-    ensures unpinned { IsTrue result → pins_of objects.now (length objects.now.entries - 1) ≡ 0 }
+    ensures last { IsTrue result → slice_get column.now.objects (length column.now.objects - 1) ≡ Some (length objects.now.records - 1) }
+    ensures local { IsTrue result → is_local objects.now (length objects.now.records - 1) ≡ true }
+    ensures unpinned { IsTrue result → pins_of objects.now (length objects.now.records - 1) ≡ 0 }
 {
     let len = column.len();
     let count = objects.count();

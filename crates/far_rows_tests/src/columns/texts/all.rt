@@ -13,7 +13,7 @@ use far_types::{Refusal, Text};
 use std::alloc::Global;
 
 // Whether there are two columns of one length and one size of row groups.
-fn are_even<S: FarTickets>(_objects: &Objects<u8, S>, columns: &[TextColumn], _size: u32) -> bool
+fn are_same_length<S: FarTickets>(_objects: &Objects<u8, S>, columns: &[TextColumn], _size: u32) -> bool
     requires are { AreTextColumns (lists_of S.content _objects.now) columns.now }
     requires sized { All (λ c. c.size ≡ _size) columns.now }
     ensures are { IsTrue result → AreColumns (lists_of S.content _objects.now) columns.now }
@@ -32,7 +32,7 @@ pub fn may_push_all<S: FarTickets>(
     requires are { AreTextColumns (lists_of S.content objects.now) columns.now }
     requires sized { All (λ c. c.size ≡ size) columns.now }
 {
-    if !are_even(objects, columns, size) {
+    if !are_same_length(objects, columns, size) {
         return Err(WRONG);
     }
     may_push_texts(objects, columns, texts)
@@ -50,9 +50,9 @@ pub fn push_all<S: FarTickets>(
     requires sized { All (λ c. c.size ≡ size) columns.old }
     ensures are { AreTextColumns (lists_of S.content objects.new) columns.new }
     ensures sized { All (λ c. c.size ≡ size) columns.new }
-    ensures here { (name : List ℕ) → AreHere S.is_of name objects.old → AreHere S.is_of name objects.new }
+    ensures here { (id : List ℕ) → AreHere S.is_of id objects.old → AreHere S.is_of id objects.new }
 {
-    if !are_even(objects, columns, size) || objects.count() >= 32 {
+    if !are_same_length(objects, columns, size) || objects.count() >= 32 {
         return Err(WRONG);
     }
     push_texts(alloc, &mut Vec::new(alloc), objects, columns, texts)
@@ -70,9 +70,9 @@ pub fn fill_all<S: FarTickets>(
     requires sized { All (λ c. c.size ≡ size) columns.old }
     ensures are { AreTextColumns (lists_of S.content objects.new) columns.new }
     ensures sized { All (λ c. c.size ≡ size) columns.new }
-    ensures here { (name : List ℕ) → AreHere S.is_of name objects.old → AreHere S.is_of name objects.new }
+    ensures here { (id : List ℕ) → AreHere S.is_of id objects.old → AreHere S.is_of id objects.new }
 {
-    if !are_even(objects, columns, size) || objects.count() >= 32 {
+    if !are_same_length(objects, columns, size) || objects.count() >= 32 {
         return Err(WRONG);
     }
     may_push_texts(objects, columns, texts)?;

@@ -22,7 +22,7 @@ fn push<S: FarStore>(
     requires is { IsTextColumn (lists_of S.content objects.old) column.old }
     ensures changes { ChangesColumn (lists_of S.content objects.old) (lists_of S.content objects.new) column.old column.new }
     ensures size { column.new.size ≡ column.old.size }
-    ensures here { (name : List ℕ) → AreHere S.is_of name objects.old → AreHere S.is_of name objects.new }
+    ensures here { (id : List ℕ) → AreHere S.is_of id objects.old → AreHere S.is_of id objects.new }
 {
     if objects.count() >= 1 << 28 {
         return Err(Refusal::TableFull);
@@ -40,7 +40,7 @@ fn set<S: FarStore>(
 ) -> Result<(), Refusal>
     requires is { IsTextColumn (lists_of S.content objects.old) column.now }
     ensures changes { ChangesColumn (lists_of S.content objects.old) (lists_of S.content objects.new) column.now column.now }
-    ensures here { (name : List ℕ) → AreHere S.is_of name objects.old → AreHere S.is_of name objects.new }
+    ensures here { (id : List ℕ) → AreHere S.is_of id objects.old → AreHere S.is_of id objects.new }
 {
     let due = column.may_set(objects, place, text);
     let reply = column.set(alloc, objects, place, text);

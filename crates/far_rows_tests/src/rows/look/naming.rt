@@ -7,7 +7,7 @@ use far_types::Refusal;
 
 // What is found by the name that an object of numbers bears: that object.
 fn number_found<S: FarTickets>(rows: &Rows<S>, o: u32) -> Result<Object, Refusal>
-    requires { o < length rows.now.number_objects.entries }
+    requires { o < length rows.now.number_objects.records }
     ensures { result ≡ Ok (Object.Number o) }
 {
     let name = rows.number_objects().name(o);
@@ -16,7 +16,7 @@ fn number_found<S: FarTickets>(rows: &Rows<S>, o: u32) -> Result<Object, Refusal
 
 // Likewise of an object of texts.
 fn text_found<S: FarTickets>(rows: &Rows<S>, o: u32) -> Result<Object, Refusal>
-    requires { o < length rows.now.text_objects.entries }
+    requires { o < length rows.now.text_objects.records }
     ensures { result ≡ Ok (Object.Text o) }
 {
     let name = rows.text_objects().name(o);

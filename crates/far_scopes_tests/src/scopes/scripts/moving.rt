@@ -30,7 +30,7 @@ pub static SCRIPTS: &[Script] = &[
     Script {
         name: "an object that is away is the same in a new store",
         lines: &[(Create(3, &[3]), Ok(())), (On(0, Leave), Ok(()))],
-        room: 1,
+        capacity: 1,
         after: &[
             (Find(0, List(&[3])), AWAY),
             (Find(0, Version(0)), Ok(())),
@@ -88,7 +88,7 @@ pub static SCRIPTS: &[Script] = &[
     Script {
         name: "an object that is away has its content in the new store",
         lines: &[(Create(3, &[3]), Ok(())), (On(0, Leave), Ok(()))],
-        room: 1,
+        capacity: 1,
         after: &[
             (On(0, Arrive), Ok(())),
             (Find(0, List(&[3])), Ok(())),
@@ -106,7 +106,7 @@ pub static SCRIPTS: &[Script] = &[
             (On(0, Leave), Ok(())),
             (Find(1, PutBefore(0)), Ok(())),
         ],
-        room: 4,
+        capacity: 4,
         after: &[(Find(0, PutBefore(1)), Ok(()))],
         ..SCRIPT
     },
@@ -142,7 +142,7 @@ pub static SCRIPTS: &[Script] = &[
         name: "a renewal that met a fault can be made again",
         lines: &[(Create(3, &[3]), Ok(())), (On(0, Leave), Ok(()))],
         failing_get: 1,
-        room: 1,
+        capacity: 1,
         refused: &[Refusal::FarFault],
         after: &[(Find(0, Copied(true)), Ok(()))],
         ..SCRIPT

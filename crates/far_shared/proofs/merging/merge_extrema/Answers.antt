@@ -7,7 +7,7 @@ use Rattle.far_shared.proofs.merging.merge_extrema.Goals as goal
 
 pub returns-clause-ok : goal.returns-clause-ok
 returns-clause-ok c = IfOk-weaker c.answer.result _ _ (λ given told key p q r s hp hq hr hs.
-    let first = c.in_ok-add_extrema.ensures.ok [] p c.new-spans.ensures hp in
+    let first = c.in_ok-add_extrema.ensures.ok [] p c.new-min_maxes.ensures hp in
     let second = c.in_ok-add_extrema-2.ensures.ok ([] ++ p) q first hq in
     let third = c.in_ok-add_extrema-3.ensures.ok (([] ++ p) ++ q) r second hr in
     let fourth = c.in_ok-add_extrema-4.ensures.ok ((([] ++ p) ++ q) ++ r) s third hs in

@@ -12,7 +12,7 @@ pub loop-column-preserved : goal.loop-column-preserved
 loop-column-preserved g c =
     let content = g.S.FarTickets.content in
     let is_of = g.S.FarTickets.is_of in
-    let name = g.S.FarTickets.store_id c.args.store.now in
+    let id = g.S.FarTickets.store_id c.args.store.now in
     let k = c.loop-column.column in
     let tickets = c.loop-column.tickets.items in
     let found = c.needed_copy-copy.result in
@@ -21,12 +21,12 @@ loop-column-preserved g c =
     record {
       tickets = subst (AreTicketsBelow (λ n. cond (needs c.args.spec.now n) (copy_of c.args.rows.now n c.args.group) None) (k + 1)) (sym new) (one-more _ k tickets copy c.loop-column.invariant.tickets c.needed_copy-copy.ensures.ticket);
       forms = subst (AreForms content) (sym new) (all-with (λ t. IsForm (content t.1)) tickets k copy c.loop-column.invariant.forms (if-mapped (λ t. t.now) found (λ t. IsForm (content t)) c.needed_copy-copy.ensures.form));
-      here = subst (AreTicketsOf is_of name) (sym new) (all-with (λ t. is_of t.1 name) tickets k copy c.loop-column.invariant.here (if-mapped (λ t. t.now) found (λ t. is_of t name) (c.needed_copy-copy.ensures.here name c.requires.here)));
+      here = subst (AreTicketsOf is_of id) (sym new) (all-with (λ t. is_of t.1 id) tickets k copy c.loop-column.invariant.here (if-mapped (λ t. t.now) found (λ t. is_of t id) (c.needed_copy-copy.ensures.here id c.requires.here)));
     }
 
 pub returns-clause-tickets : goal.returns-clause-tickets
 returns-clause-tickets g c =
     let r = c.args.rows.now in
-    let slots = ap length c.column_indexes-column-end.ensures in
-    let past : length r.column_indexes ≤ c.loop-column.column = omega (arith, c.loop-column-test.false, slots) in
+    let registry = ap length c.column_indexes-column-end.ensures in
+    let past : length r.column_indexes ≤ c.loop-column.column = omega (arith, c.loop-column-test.false, registry) in
     all-below _ c.loop-column.column c.loop-column.tickets.items c.loop-column.invariant.tickets (λ n above. no-needed r c.args.spec.now c.args.group n (omega (arith, past, above)))

@@ -1,6 +1,6 @@
 use Rattle.std.proofs.Common.{◌/◌, ◌∙◌, ap, sym, subst, List}
 use Rattle.far_types.specs.Table.{Place, in_group}
-use Rattle.far_aggregates.specs.Accumulators.{Slot, Keeps, registered_of}
+use Rattle.far_aggregates.specs.Accumulators.{RegistryEntry, Keeps, registered_of}
 use Rattle.far_aggregates.specs.Lending.{AreServed}
 use Rattle.far_aggregates.specs.Pending.{MayRetractAll, all_retracted}
 use Rattle.far_table.specs.Groups.{GroupRows, has_column, places_here}
@@ -30,10 +30,10 @@ returns-clause-kept g c =
     let lent = lent-is t c.group.result c.row_group.result (c.args.place / t.limits.group) (c.row_group.ensures ∙ c.requires.retracts.at) c.group.ensures in
     let here = ap (places_here content) lent ∙ places-here content t c.held-held.ensures.places c.held-held.ensures.size (c.args.place / t.limits.group) in
     let gone = c.retract.ensures.retracted ∙ ap (λ (ps : List Place). all_retracted ps c.args.aggregates.now c.args.pending) here in
-    subst (λ (slots : List Slot). Keeps t.limits.group t.places slots) (sym gone) c.requires.retracts.kept
+    subst (λ (registry : List RegistryEntry). Keeps t.limits.group t.places registry) (sym gone) c.requires.retracts.kept
 
 pub returns-then-not-needs_rows-clause-kept : goal.returns-then-not-needs_rows-clause-kept
 returns-then-not-needs_rows-clause-kept g c =
     let t = c.args.rows.now in
     let here = in_group t.limits.group (c.args.place / t.limits.group) t.places in
-    subst (λ (slots : List Slot). Keeps t.limits.group t.places slots) (sym (c.retract_totals.ensures.retracted here)) c.requires.retracts.kept
+    subst (λ (registry : List RegistryEntry). Keeps t.limits.group t.places registry) (sym (c.retract_totals.ensures.retracted here)) c.requires.retracts.kept

@@ -39,7 +39,7 @@ pub(super) fn all_begin(columns: &[TextColumn]) -> bool
 }
 
 // What each column knows of itself.
-pub(super) fn known_groups(columns: &[TextColumn])
+pub(super) fn all_have_groups(columns: &[TextColumn])
     ensures { All HasGroups columns.now }
 {
     for column in columns {
@@ -92,7 +92,7 @@ pub(super) fn may_measure_forms<S: FarTickets>(
     ensures here { OnOk result (All (λ c. next_length_refusal S.content objects.now c ≡ None) columns.now) }
 {
     all_short(texts)?;
-    known_groups(columns);
+    all_have_groups(columns);
     if all_begin(columns) {
         return Ok(());
     }

@@ -9,7 +9,7 @@ ghost use Rattle.far_scopes.specs.Replacing.{AreListedOnce, ChangesLists};
 ghost use Rattle.far_scopes.specs.Effects.{after_replace_all};
 ghost use Rattle.far_texts.specs.Texts.{lists_of};
 ghost use Rattle.far_texts.specs.Effects.{begins_group};
-ghost use Rattle.far_texts.specs.Together.{all_pushed, ChangesTo, given_forms, all_created};
+ghost use Rattle.far_texts.specs.Together.{all_pushed, ChangesTo, given_forms, after_create_all};
 
 use crate::text_column::TextColumn;
 use far_scopes::{Objects, Replacement};
@@ -23,17 +23,17 @@ pub(super) fn begin_groups<S: FarTickets>(
     forms: &[Replacement<u8>],
 ) -> Result<(), Refusal>
     requires begin { All (λ c. begins_group c ≡ true) columns.old }
-    requires few { length objects.old.entries + length columns.old ≤ 2 ^ 28 }
-    requires groups { All (λ c. length c.objects ≤ length objects.old.entries) columns.old }
+    requires few { length objects.old.records + length columns.old ≤ 2 ^ 28 }
+    requires groups { All (λ c. length c.objects ≤ length objects.old.records) columns.old }
     requires same_length { length forms.now ≡ length columns.old }
     requires some { All (λ r. 0 < length r.list.items) forms.now }
-    requires numbered { (k : ℕ) (d : Given ℕ) → k < length forms.now → (slice_index_or forms.now k d).object ≡ length objects.old.entries + k }
-    ensures pushed { OnOk result (columns.new ≡ all_pushed (length objects.old.entries) columns.old) }
-    ensures created { OnOk result (objects.new ≡ all_created objects.old columns.old (given_forms forms.now)) }
-    ensures count { OnOk result (length objects.new.entries ≡ length objects.old.entries + length columns.old) }
+    requires numbered { (k : ℕ) (d : Given ℕ) → k < length forms.now → (slice_index_or forms.now k d).object ≡ length objects.old.records + k }
+    ensures pushed { OnOk result (columns.new ≡ all_pushed (length objects.old.records) columns.old) }
+    ensures created { OnOk result (objects.new ≡ after_create_all objects.old columns.old (given_forms forms.now)) }
+    ensures count { OnOk result (length objects.new.records ≡ length objects.old.records + length columns.old) }
     ensures lists { OnOk result (ChangesTo (lists_of S.content objects.old) (lists_of S.content objects.new) (given_forms forms.now)) }
     ensures clean { AreClean (λ bytes. bytes) S.content objects.old → AreClean (λ bytes. bytes) S.content objects.new }
-    ensures store { (name : List ℕ) → AreHere S.is_of name objects.old → AreHere S.is_of name objects.new }
+    ensures store { (id : List ℕ) → AreHere S.is_of id objects.old → AreHere S.is_of id objects.new }
     ensures space { OnOk result (fit_in_order (spaces_of objects.old.memory.state) (map (λ r. length r.list.items) forms.now) ≡ true) }
     ensures refused { IfErr result (λ e. ((e ≡ Refusal.RegionFull) × (fit_in_order (spaces_of objects.old.memory.state) (map (λ r. length r.list.items) forms.now) ≡ false)) ⊎ (e ≡ Refusal.NoMemory)) }
     ensures err { OnErr result (objects.new ≡ objects.old) }
@@ -79,12 +79,12 @@ fn replace_forms<S: FarTickets>(
     forms: &[Replacement<u8>],
 ) -> Result<(), Refusal>
     requires some { All (λ r. 0 < length r.list.items) forms.now }
-    requires within { All (λ r. r.object < length objects.old.entries) forms.now }
+    requires within { All (λ r. r.object < length objects.old.records) forms.now }
     requires once { AreListedOnce forms.now }
     ensures replaced { OnOk result (objects.new ≡ after_replace_all objects.old forms.now) }
     ensures lists { OnOk result (ChangesLists (lists_of S.content objects.old) (lists_of S.content objects.new) forms.now) }
     ensures clean { AreClean (λ bytes. bytes) S.content objects.old → AreClean (λ bytes. bytes) S.content objects.new }
-    ensures store { (name : List ℕ) → AreHere S.is_of name objects.old → AreHere S.is_of name objects.new }
+    ensures store { (id : List ℕ) → AreHere S.is_of id objects.old → AreHere S.is_of id objects.new }
     ensures free { OnOk result (replace_all_refusal objects.old forms.now ≡ None) }
     ensures refused { IfErr result (λ e. (replace_all_refusal objects.old forms.now ≡ Some e) ⊎ ((first_absent objects.old (map (λ r. r.object) forms.now) ≡ None) × (e ≡ Refusal.NoMemory))) }
     ensures err { OnErr result (objects.new ≡ objects.old) }
@@ -104,14 +104,14 @@ pub(super) fn extend_groups<S: FarTickets>(
 ) -> Result<(), Refusal>
     requires begun { All (λ c. begins_group c ≡ false) columns.old }
     requires some { All (λ r. 0 < length r.list.items) forms.now }
-    requires within { All (λ r. r.object < length objects.old.entries) forms.now }
+    requires within { All (λ r. r.object < length objects.old.records) forms.now }
     requires once { AreListedOnce forms.now }
     ensures pushed { OnOk result ((n : ℕ) → columns.new ≡ all_pushed n columns.old) }
     ensures replaced { OnOk result (objects.new ≡ after_replace_all objects.old forms.now) }
-    ensures count { OnOk result (length objects.new.entries ≡ length objects.old.entries) }
+    ensures count { OnOk result (length objects.new.records ≡ length objects.old.records) }
     ensures lists { OnOk result (ChangesLists (lists_of S.content objects.old) (lists_of S.content objects.new) forms.now) }
     ensures clean { AreClean (λ bytes. bytes) S.content objects.old → AreClean (λ bytes. bytes) S.content objects.new }
-    ensures store { (name : List ℕ) → AreHere S.is_of name objects.old → AreHere S.is_of name objects.new }
+    ensures store { (id : List ℕ) → AreHere S.is_of id objects.old → AreHere S.is_of id objects.new }
     ensures free { OnOk result (replace_all_refusal objects.old forms.now ≡ None) }
     ensures refused { IfErr result (λ e. (replace_all_refusal objects.old forms.now ≡ Some e) ⊎ ((first_absent objects.old (map (λ r. r.object) forms.now) ≡ None) × (e ≡ Refusal.NoMemory))) }
     ensures err { OnErr result (objects.new ≡ objects.old) }

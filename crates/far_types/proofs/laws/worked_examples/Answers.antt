@@ -33,7 +33,7 @@ returns c = record {
   tests_of_texts = (refl, refl, refl);
   allowed_aggregates = (refl, refl, refl, refl, refl, refl, refl, refl, refl);
   what_edits_do = (refl, refl, refl, refl);
-  room_for_texts = (refl, refl, refl, refl, refl, refl, refl, refl, refl, refl);
+  space_for_texts = (refl, refl, refl, refl, refl, refl, refl, refl, refl, refl);
   order_of_refusals = (refl, refl, refl, refl, refl, refl, refl, refl, refl, refl, refl, refl, refl, refl);
   row_groups = (refl, refl, refl, refl, refl);
 }

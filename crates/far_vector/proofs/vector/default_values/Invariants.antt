@@ -5,5 +5,5 @@ abbrev pub invariant-loop : goal.invariant-loop
 invariant-loop g l = record {
   default_value : l.list.items ≡ replicate l.counter l.default_value;
   long : vec_len l.list ≡ l.counter;
-  room : l.count ≤ vec_capacity l.list;
+  space : l.count ≤ vec_capacity l.list;
 }

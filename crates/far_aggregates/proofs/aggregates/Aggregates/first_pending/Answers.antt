@@ -8,4 +8,4 @@ pub returns-clause-none : goal.returns-clause-none
 returns-clause-none c =
     let same = c.as_slice.ensures.value ∙ c.self.view_is in
     if_none ((a : ℕ) → (g : ℕ) → has_pending g (joined (slice_get c.as_slice.result.now a)) ≡ false) _ c.first_pending.result
-    (λ h a g. left-at c.args.self.now a g ∙ ap (λ slots. has_pending g (joined (slice_get slots a))) (sym same) ∙ h a g) c.first_pending.ensures.none
+    (λ h a g. left-at c.args.self.now a g ∙ ap (λ registry. has_pending g (joined (slice_get registry a))) (sym same) ∙ h a g) c.first_pending.ensures.none

@@ -6,8 +6,8 @@ use Rattle.far_types.specs.Answers.{Extrema}
 use Rattle.far_types.specs.Effects.{with_observed, widened}
 use Rattle.far_extrema.specs.Live.{Live, group_at}
 use Rattle.far_aggregates.specs.Known.{AreKnown}
-use Rattle.far_aggregates.proofs.ExtremaLaws.{seen-within}
-use Rattle.far_aggregates.proofs.KnownLaws.{known-at, known-noted, known-same, seen-plain}
+use Rattle.far_aggregates.proofs.ExtremaLaws.{observed-within}
+use Rattle.far_aggregates.proofs.KnownLaws.{known-at, known-noted, known-same, observed-plain}
 use Rattle.far_aggregates.proofs.known.KnownExtrema.observe_plain.Goals as goal
 
 pub observe_noted-requires-clause-noted : goal.observe_noted-requires-clause-noted
@@ -33,7 +33,7 @@ invariant_of-self-2 c =
     let is = ap (λ (live : Live). live.groups) new in
     let wide : c.wider.result ≡ widened value c.in_ok-previous.previous = simp to_z-of_z at c.wider.ensures in
     let known = subst (λ plain. AreKnown plain groups) (sym c.make_place.ensures) c.self.invariant in
-    let noted = ap Some wide ∙ seen-plain m None value c.in_ok-previous.previous refl c.in_ok-previous.ensures.previous in
+    let noted = ap Some wide ∙ observed-plain m None value c.in_ok-previous.previous refl c.in_ok-previous.ensures.previous in
     subst (AreKnown c.note.new.plain.items) (sym is) (known-noted plain c.note.new.plain.items groups c.args.group (with_observed m (None, value)) (Some c.wider.result) reserved noted known c.note.ensures)
 
 pub returns-then-is_within_noted-clause-ok : goal.returns-then-is_within_noted-clause-ok
@@ -43,9 +43,9 @@ returns-then-is_within_noted-clause-ok c =
     let inside = c.self.inside.live.groups in
     let within : (s : ℤ × ℤ) × (c.noted_in-noted.result ≡ Some s) × (s.0 ≤ℤ c.args.value) × (c.args.value ≤ℤ s.1) = simp to_z-of_z at c.if-is_within_noted.ensures refl in
     let known = known-at c.as_slice.result.now inside c.args.group c.noted_in-noted.result (subst (λ plain. AreKnown plain inside) (sym c.as_slice.ensures.value) c.self.invariant) c.noted_in-noted.ensures in
-    let there = subst (λ (o : Option (ℤ × ℤ)). IfSome o (λ span. fin.get (group_at inside c.args.group) None ≡ Some span)) within.1 known in
+    let there = subst (λ (o : Option (ℤ × ℤ)). IfSome o (λ min_max. fin.get (group_at inside c.args.group) None ≡ Some min_max)) within.1 known in
     let found = ap (λ (live : Live). fin.get (group_at live.groups c.args.group) None) (sym c.self.view_is) ∙ there in
-    ap (λ (gs : List Extrema). record c.args.self.now { groups = gs }) (seen-within c.args.group groups None c.args.value within.0 found within.2 within.3)
+    ap (λ (gs : List Extrema). record c.args.self.now { groups = gs }) (observed-within c.args.group groups None c.args.value within.0 found within.2 within.3)
 
 pub returns-then-is_within_noted-clause-previous : goal.returns-then-is_within_noted-clause-previous
 returns-then-is_within_noted-clause-previous c =
@@ -53,6 +53,6 @@ returns-then-is_within_noted-clause-previous c =
     let inside = c.self.inside.live.groups in
     let within : (s : ℤ × ℤ) × (c.noted_in-noted.result ≡ Some s) × (s.0 ≤ℤ c.args.value) × (c.args.value ≤ℤ s.1) = simp to_z-of_z at c.if-is_within_noted.ensures refl in
     let known = known-at c.as_slice.result.now inside c.args.group c.noted_in-noted.result (subst (λ plain. AreKnown plain inside) (sym c.as_slice.ensures.value) c.self.invariant) c.noted_in-noted.ensures in
-    let there = subst (λ (o : Option (ℤ × ℤ)). IfSome o (λ span. fin.get (group_at inside c.args.group) None ≡ Some span)) within.1 known in
+    let there = subst (λ (o : Option (ℤ × ℤ)). IfSome o (λ min_max. fin.get (group_at inside c.args.group) None ≡ Some min_max)) within.1 known in
     let found = ap (λ (live : Live). fin.get (group_at live.groups c.args.group) None) (sym c.self.view_is) ∙ there in
     within.1 ∙ sym found

@@ -5,7 +5,7 @@ use Rattle.far_types.specs.Effects.{with_observed}
 use Rattle.far_extrema.specs.Live.{Live, group_at}
 use Rattle.far_extrema.proofs.ReserveLaws.{either}
 use Rattle.far_aggregates.specs.Known.{AreKnown}
-use Rattle.far_aggregates.proofs.KnownLaws.{known-beside, known-same, seen-beside}
+use Rattle.far_aggregates.proofs.KnownLaws.{known-elsewhere, known-same, observed-elsewhere}
 use Rattle.far_aggregates.proofs.known.KnownExtrema.observe_under.Goals as goal
 
 pub invariant_of-self : goal.invariant_of-self
@@ -20,5 +20,5 @@ invariant_of-self c =
     let reserved : c.args.group < length groups = subst (λ (live : Live). c.args.group < length live.groups) (sym c.self.view_is) c.requires in
     let keyed : is_some key ≡ true = ap is_some c.in-Some.is in
     either c.observe_under.result {Q = AreKnown plain new}
-    (λ is. subst (AreKnown plain) (sym (ap (λ (live : Live). live.groups) is)) (known-beside plain groups c.args.group (with_observed m (key, value)) reserved (seen-beside m key value keyed) c.self.invariant))
+    (λ is. subst (AreKnown plain) (sym (ap (λ (live : Live). live.groups) is)) (known-elsewhere plain groups c.args.group (with_observed m (key, value)) reserved (observed-elsewhere m key value keyed) c.self.invariant))
     (λ is. known-same plain groups new (ap (λ (live : Live). live.groups) is) c.self.invariant) (simp to_z-of_z at c.observe_under.ensures.ok) c.observe_under.ensures.err

@@ -3,18 +3,18 @@ use Rattle.std.specs.Prelude.{ℤ}
 use Rattle.std.specs.FinMap as fin
 use Rattle.far_types.specs.Answers.{Extrema}
 use Rattle.far_extrema.specs.Live.{Live, group_at}
-use Rattle.far_extrema.specs.Spans.{put_span}
+use Rattle.far_extrema.specs.MinMaxes.{put_min_max}
 use Rattle.far_aggregates.specs.Known.{AreKnown}
 use Rattle.far_aggregates.proofs.ExtremaLaws.{left-within}
 use Rattle.far_aggregates.proofs.KnownLaws.{known-noted, put-plain}
 use Rattle.far_aggregates.proofs.known.KnownExtrema.shrink_plain.Goals as goal
 
-pub returns-then-value-span : goal.returns-then-value-span
-returns-then-value-span g c =
+pub returns-then-value-min_max : goal.returns-then-value-min_max
+returns-then-value-min_max g c =
     let groups = c.args.self.now.groups in
-    let found = ap (λ (live : Live). fin.get (group_at live.groups c.args.group) None) (sym c.self.view_is) ∙ c.self.invariant c.args.group c.in-Some.span (sym (ap (λ (plain : List (Option (ℤ × ℤ))). slice_get plain c.args.group) c.as_slice.ensures.value) ∙ c.in-Some.ensures) in
+    let found = ap (λ (live : Live). fin.get (group_at live.groups c.args.group) None) (sym c.self.view_is) ∙ c.self.invariant c.args.group c.in-Some.min_max (sym (ap (λ (plain : List (Option (ℤ × ℤ))). slice_get plain c.args.group) c.as_slice.ensures.value) ∙ c.in-Some.ensures) in
     ap (λ (gs : List Extrema). record c.args.self.now { groups = gs })
-    (left-within c.args.group groups None c.args.value (g.R.RowsLeft.extremes c.args.rows.now) c.in-Some.span c.requires.previous found (search rules) (search rules))
+    (left-within c.args.group groups None c.args.value (g.R.RowsLeft.extremes c.args.rows.now) c.in-Some.min_max c.requires.previous found (search rules) (search rules))
 
 pub invariant_of-self : goal.invariant_of-self
 invariant_of-self g c =
@@ -25,4 +25,4 @@ invariant_of-self g c =
     let reserved : c.args.group < length groups = subst (λ (live : Live). c.args.group < length live.groups) (sym c.self.view_is) c.requires.reserved in
     let is = ap (λ (live : Live). live.groups) c.shrink-left.ensures.shrunk in
     let left = c.shrink-left.ensures.left ∙ put-plain m None o refl in
-    subst (AreKnown c.note.new.plain.items) (sym is) (known-noted plain c.note.new.plain.items groups c.args.group (put_span m None o) c.shrink-left.result reserved left c.self.invariant c.note.ensures)
+    subst (AreKnown c.note.new.plain.items) (sym is) (known-noted plain c.note.new.plain.items groups c.args.group (put_min_max m None o) c.shrink-left.result reserved left c.self.invariant c.note.ensures)

@@ -5,11 +5,11 @@ use Rattle.far_columns.proofs.NumbersTogether.{none-begin, same_length-pushed, a
 use Rattle.far_columns.proofs.int_column.together.fill_numbers.Goals as goal
 
 pub fill_places-requires-clause-begun : goal.fill_places-requires-clause-begun
-fill_places-requires-clause-begun g c κs within = none-begin (number_lists g.S.FarTickets.content c.args.objects.now) c.args.columns.now c.requires.are c.known_shapes.ensures c.requires.begun
+fill_places-requires-clause-begun g c κs within = none-begin (number_lists g.S.FarTickets.content c.args.objects.now) c.args.columns.now c.requires.are c.all_are_shaped.ensures c.requires.begun
 
 pub fill_places-requires-clause-free : goal.fill_places-requires-clause-free
 fill_places-requires-clause-free g c κs within =
-    let each = none-begin (number_lists g.S.FarTickets.content c.args.objects.now) c.args.columns.now c.requires.are c.known_shapes.ensures c.requires.begun in
+    let each = none-begin (number_lists g.S.FarTickets.content c.args.objects.now) c.args.columns.now c.requires.are c.all_are_shaped.ensures c.requires.begun in
     all-free c.args.objects.now c.args.columns.now each c.requires.begun c.requires.free
 
 pub returns-clause-are : goal.returns-clause-are

@@ -8,7 +8,7 @@ use Rattle.far_columns.proofs.NumbersTogether.{none-begin, due-begun}
 use Rattle.far_columns.proofs.int_column.together.may_push_numbers.Goals as goal
 
 pub all_here-requires-clause-begun : goal.all_here-requires-clause-begun
-all_here-requires-clause-begun g c κs within = none-begin (number_lists g.S.FarTickets.content c.args.objects.now) c.args.columns.now c.requires.are c.known_shapes.ensures (sym c.if-all_begin.ensures)
+all_here-requires-clause-begun g c κs within = none-begin (number_lists g.S.FarTickets.content c.args.objects.now) c.args.columns.now c.requires.are c.all_are_shaped.ensures (sym c.if-all_begin.ensures)
 
 pub returns-in_err-all_here : goal.returns-in_err-all_here
 returns-in_err-all_here g c =
@@ -17,7 +17,7 @@ returns-in_err-all_here g c =
     rw (p.1, p.2) (sym (due-begun m c.args.columns.now (sym c.if-all_begin.ensures) ∙ ap (λ r. option_or r (first_of (some_written_out m c.args.columns.now ∷ []))) (sym c.in_err-all_here.ensures)))
 
 pub all_writable-requires-clause-begun : goal.all_writable-requires-clause-begun
-all_writable-requires-clause-begun g c κs within = none-begin (number_lists g.S.FarTickets.content c.args.objects.now) c.args.columns.now c.requires.are c.known_shapes.ensures (sym c.if-all_begin.ensures)
+all_writable-requires-clause-begun g c κs within = none-begin (number_lists g.S.FarTickets.content c.args.objects.now) c.args.columns.now c.requires.are c.all_are_shaped.ensures (sym c.if-all_begin.ensures)
 
 pub returns : goal.returns
 returns g c =

@@ -14,12 +14,12 @@ returns-then-all_begin-clause-are g c =
     by-outcomes c.begin_groups.result c.begin_groups.ensures.all_disjoint c.begin_groups.ensures.pushed c.begin_groups.ensures.err c.begin_groups.ensures.err
     (λ all_disjoint pushed. record {
       all_disjoint = all_disjoint;
-      same_length = subst (AllPairs (λ c d. (c.size ≡ d.size) × (c.len ≡ d.len))) (sym pushed) (same_length-pushed (length c.args.objects.now.entries) c.args.columns.now c.requires.are.same_length);
+      same_length = subst (AllPairs (λ c d. (c.size ≡ d.size) × (c.len ≡ d.len))) (sym pushed) (same_length-pushed (length c.args.objects.now.records) c.args.columns.now c.requires.are.same_length);
     })
     (λ same _. rw (same.0, same.1) c.requires.are)
 
 pub all_here-requires-clause-begun : goal.all_here-requires-clause-begun
-all_here-requires-clause-begun g c κs within = none-begin (number_lists g.S.FarTickets.content c.args.objects.now) c.args.columns.now c.requires.are c.known_shapes.ensures (sym c.if-all_begin.ensures)
+all_here-requires-clause-begun g c κs within = none-begin (number_lists g.S.FarTickets.content c.args.objects.now) c.args.columns.now c.requires.are c.all_are_shaped.ensures (sym c.if-all_begin.ensures)
 
 pub returns-in_err-all_here-clause-refused : goal.returns-in_err-all_here-clause-refused
 returns-in_err-all_here-clause-refused g c =
@@ -28,7 +28,7 @@ returns-in_err-all_here-clause-refused g c =
     rw (p.1, p.2) (inl (due-begun m c.args.columns.now (sym c.if-all_begin.ensures) ∙ ap (λ r. option_or r (first_of (some_written_out m c.args.columns.now ∷ []))) (sym c.in_err-all_here.ensures)))
 
 pub all_writable-requires-clause-begun : goal.all_writable-requires-clause-begun
-all_writable-requires-clause-begun g c κs within = none-begin (number_lists g.S.FarTickets.content c.args.objects.now) c.args.columns.now c.requires.are c.known_shapes.ensures (sym c.if-all_begin.ensures)
+all_writable-requires-clause-begun g c κs within = none-begin (number_lists g.S.FarTickets.content c.args.objects.now) c.args.columns.now c.requires.are c.all_are_shaped.ensures (sym c.if-all_begin.ensures)
 
 pub returns-in_err-all_writable-clause-refused : goal.returns-in_err-all_writable-clause-refused
 returns-in_err-all_writable-clause-refused g c =

@@ -1,15 +1,15 @@
 use Rattle.std.proofs.Common.{◌≤◌, refl, sym, ap, ◌∙◌, arith}
-use Rattle.far_extrema.specs.Blocks.{Slots}
+use Rattle.far_extrema.specs.Blocks.{BlockState}
 use Rattle.far_extrema.specs.Spreads.{at}
-use Rattle.far_extrema.proofs.SlotLaws.{at-number}
+use Rattle.far_extrema.proofs.BlockLaws.{at-number}
 use Rattle.far_extrema.proofs.block.Block.look_up.Goals as goal
 
 pub returns-in-Some : goal.returns-in-Some
 returns-in-Some c =
-    let low : c.self.inside.first ≤ c.args.group = omega (arith, ap (λ (s : Slots). s.first) c.self.view_is, c.if-covers.ensures.first refl) in
-    sym c.in-Some.is ∙ sym (at-number c.self.inside.first c.self.inside.slots c.args.group low) ∙ ap (λ (s : Slots). at s.spans c.args.group) c.self.view_is
+    let low : c.self.inside.first ≤ c.args.group = omega (arith, ap (λ (s : BlockState). s.first) c.self.view_is, c.if-covers.ensures.first refl) in
+    sym c.in-Some.is ∙ sym (at-number c.self.inside.first c.self.inside.elements c.args.group low) ∙ ap (λ (s : BlockState). at s.min_maxes c.args.group) c.self.view_is
 
 pub returns-in-None : goal.returns-in-None
 returns-in-None c =
-    let low : c.self.inside.first ≤ c.args.group = omega (arith, ap (λ (s : Slots). s.first) c.self.view_is, c.if-covers.ensures.first refl) in
-    sym c.in-None.is ∙ sym (at-number c.self.inside.first c.self.inside.slots c.args.group low) ∙ ap (λ (s : Slots). at s.spans c.args.group) c.self.view_is
+    let low : c.self.inside.first ≤ c.args.group = omega (arith, ap (λ (s : BlockState). s.first) c.self.view_is, c.if-covers.ensures.first refl) in
+    sym c.in-None.is ∙ sym (at-number c.self.inside.first c.self.inside.elements c.args.group low) ∙ ap (λ (s : BlockState). at s.min_maxes c.args.group) c.self.view_is

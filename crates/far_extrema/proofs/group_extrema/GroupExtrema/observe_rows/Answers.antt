@@ -2,9 +2,9 @@ use Rattle.std.proofs.Common.{ap, ◌∙◌, Ok, Err, OnOk}
 use Rattle.std.specs.Prelude.{Result}
 use Rattle.std.proofs.lemmas.Int.{to_z-of_z}
 use Rattle.std.specs.FinMap as fin
-use Rattle.far_types.specs.Effects.{join_spans, joined_extrema}
+use Rattle.far_types.specs.Effects.{join_min_maxes, joined_extrema}
 use Rattle.far_types.proofs.ByKeyMaps.{joined-one}
-use Rattle.far_extrema.specs.Spans.{extrema_of}
+use Rattle.far_extrema.specs.MinMaxes.{extrema_of}
 use Rattle.far_extrema.proofs.group_extrema.GroupExtrema.observe_rows.Goals as goal
 
 on_ok : {T E : Type 0} (r : Result T E) {P Q : Type 0} → (P → Q) → OnOk r P → OnOk r Q
@@ -15,6 +15,6 @@ pub returns-clause-ok : goal.returns-clause-ok
 returns-clause-ok c =
     let low = c.ranges.least in
     let high = c.ranges.greatest in
-    on_ok c.observe.result (λ seen.
-    simp to_z-of_z at seen ∙ joined-one join_spans (extrema_of c.self.inside.spans.entries) c.args.key (c.args.least, c.args.greatest)
+    on_ok c.observe.result (λ observed.
+    simp to_z-of_z at observed ∙ joined-one join_min_maxes (extrema_of c.self.inside.min_maxes.entries) c.args.key (c.args.least, c.args.greatest)
     ∙ ap (λ m. joined_extrema m (fin.insert fin.empty c.args.key (c.args.least, c.args.greatest))) c.self.view_is) c.observe.ensures.ok

@@ -8,9 +8,9 @@ use Rattle.far_extrema.proofs.holder.Holder.observe.Goals as goal
 pub returns-in-Some-clause-ok : goal.returns-in-Some-clause-ok
 returns-in-Some-clause-ok c =
     let fits = c.ranges.value in
-    subst (λ (o : Option (ℤ × ℤ)). IsSet c.args.self.now.spans c.args.group (Some (widened c.args.value o)) c.widen.new.self.spans) c.in-Some.ensures (simp to_z-of_z at c.widen.ensures.spans)
+    subst (λ (o : Option (ℤ × ℤ)). IsSet c.args.self.now.min_maxes c.args.group (Some (widened c.args.value o)) c.widen.new.self.min_maxes) c.in-Some.ensures (simp to_z-of_z at c.widen.ensures.min_maxes)
 
 pub returns-in_ok-add-in-None-clause-ok : goal.returns-in_ok-add-in-None-clause-ok
 returns-in_ok-add-in-None-clause-ok c =
     let fits = c.ranges.value in
-    subst (λ (o : Option (ℤ × ℤ)). IsSet c.args.self.now.spans c.args.group (Some (widened c.args.value o)) c.add.new.self.spans) c.in-None.ensures (simp to_z-of_z at c.in_ok-add-in-None.ensures.ok)
+    subst (λ (o : Option (ℤ × ℤ)). IsSet c.args.self.now.min_maxes c.args.group (Some (widened c.args.value o)) c.add.new.self.min_maxes) c.in-None.ensures (simp to_z-of_z at c.in_ok-add-in-None.ensures.ok)

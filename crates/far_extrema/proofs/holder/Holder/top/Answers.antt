@@ -6,4 +6,4 @@ use Rattle.far_extrema.proofs.HolderLaws.{top-none}
 use Rattle.far_extrema.proofs.holder.Holder.top.Goals as goal
 
 pub returns-in-None-clause-top : goal.returns-in-None-clause-top
-returns-in-None-clause-top c = subst (λ (h : Holding). IsTopOf h.spans None) (ap (λ o. held o (is_some c.self.inside.spare)) (sym c.in-None.is) ∙ c.self.view_is) top-none
+returns-in-None-clause-top c = subst (λ (h : Holding). IsTopOf h.min_maxes None) (ap (λ o. held o (is_some c.self.inside.spare)) (sym c.in-None.is) ∙ c.self.view_is) top-none

@@ -9,7 +9,7 @@ use Rattle.far_extrema.proofs.ReserveLaws.{reserved-group}
 use Rattle.far_extrema.proofs.live_extrema.LiveExtrema.merge.Goals as goal
 
 pub fill_all-requires-clause-reserved : goal.fill_all-requires-clause-reserved
-fill_all-requires-clause-reserved c = λ q there none. c.requires.keys q (λ n. there (ap (λ e. fin.get e q) c.spans.ensures ∙ n))
+fill_all-requires-clause-reserved c = λ q there none. c.requires.keys q (λ n. there (ap (λ e. fin.get e q) c.min_maxes.ensures ∙ n))
     (ap (λ (live : Live). fin.get live.reserved q) (sym c.self.view_is) ∙ get-reserved (holders_of c.self.inside.holders.entries) q ∙ none)
 
 pub fill_all-requires-clause-new : goal.fill_all-requires-clause-new
@@ -24,12 +24,12 @@ invariant_of-self c =
     let m = holders_of c.self.inside.holders.entries in
     let n = holders_of c.fill_all.new.holders.entries in
     let less : c.args.group < c.self.inside.reserved_groups = omega (arith, ap (λ (live : Live). length live.groups) c.self.view_is, length-groups_in m c.self.inside.reserved_groups, c.requires.reserved) in
-    reserved-group m n c.self.inside.reserved_groups c.args.group c.args.extrema c.self.invariant less (subst (λ e. IsGroup m c.args.group e n) c.spans.ensures c.fill_all.ensures)
+    reserved-group m n c.self.inside.reserved_groups c.args.group c.args.extrema c.self.invariant less (subst (λ e. IsGroup m c.args.group e n) c.min_maxes.ensures c.fill_all.ensures)
 
 pub returns-clause-groups : goal.returns-clause-groups
 returns-clause-groups c =
     let m = holders_of c.self.inside.holders.entries in
     let n = holders_of c.fill_all.new.holders.entries in
     let less : c.args.group < c.self.inside.reserved_groups = omega (arith, ap (λ (live : Live). length live.groups) c.self.view_is, length-groups_in m c.self.inside.reserved_groups, c.requires.reserved) in
-    put-group m n c.self.inside.reserved_groups c.args.group c.args.extrema less (subst (λ e. IsGroup m c.args.group e n) c.spans.ensures c.fill_all.ensures)
+    put-group m n c.self.inside.reserved_groups c.args.group c.args.extrema less (subst (λ e. IsGroup m c.args.group e n) c.min_maxes.ensures c.fill_all.ensures)
     ∙ ap (λ (live : Live). slice_set live.groups c.args.group c.args.extrema) c.self.view_is

@@ -4,8 +4,8 @@ use Rattle.std.specs.FinMap as fin
 use Rattle.std.proofs.lemmas.Int.{to_z-of_z}
 use Rattle.far_types.specs.Effects.{with_observed, widened}
 use Rattle.far_extrema.specs.Live.{Live, group_at}
-use Rattle.far_extrema.specs.Holders.{holders_of, span_at, AreReserved, IsPut, HaveSameReserved}
-use Rattle.far_extrema.proofs.HolderLaws.{get-group_at, length-groups_in, seen-in, reserved-put, same-reserved}
+use Rattle.far_extrema.specs.Holders.{holders_of, min_max_at, AreReserved, IsPut, HaveSameReserved}
+use Rattle.far_extrema.proofs.HolderLaws.{get-group_at, length-groups_in, observed-in, reserved-put, same-reserved}
 use Rattle.far_extrema.proofs.ReserveLaws.{either, both_ok, on_err}
 use Rattle.far_extrema.proofs.live_extrema.LiveExtrema.observe_under.Goals as goal
 
@@ -16,7 +16,7 @@ invariant_of-self c =
     let fits = c.ranges.value in
     let groups = ap (λ (live : Live). live.groups) c.self.view_is in
     let less : c.args.group < c.self.inside.reserved_groups = omega (arith, ap length groups, length-groups_in m c.self.inside.reserved_groups, c.requires) in
-    let wide = widened c.args.value (span_at m c.args.group c.args.key.now) in
+    let wide = widened c.args.value (min_max_at m c.args.group c.args.key.now) in
     either c.observe_in.result {Q = AreReserved c.self.inside.reserved_groups n}
     (λ put. reserved-put m n c.self.inside.reserved_groups c.args.group c.args.key.now (Some wide) c.self.invariant less put)
     (λ same. subst (AreReserved c.self.inside.reserved_groups) (sym same) c.self.invariant) (simp to_z-of_z at c.observe_in.ensures.ok) c.observe_in.ensures.err
@@ -36,10 +36,10 @@ returns-clause-ok c =
     let left = ap (λ (live : Live). live.left) c.self.view_is in
     let groups = ap (λ (live : Live). live.groups) c.self.view_is in
     let less : c.args.group < c.self.inside.reserved_groups = omega (arith, ap length groups, length-groups_in m c.self.inside.reserved_groups, c.requires) in
-    let previous = span_at m c.args.group c.args.key.now in
+    let previous = min_max_at m c.args.group c.args.key.now in
     both_ok c.observe_in.result (λ (put : IsPut m c.args.group c.args.key.now (Some (widened c.args.value previous)) n) (own : HaveSameReserved m n).
     let new =
-    seen-in m n c.self.inside.reserved_groups c.args.group c.args.key.now c.args.value previous c.self.invariant refl less put
+    observed-in m n c.self.inside.reserved_groups c.args.group c.args.key.now c.args.value previous c.self.invariant refl less put
     ∙ ap (λ gs. slice_set gs c.args.group (with_observed (group_at gs c.args.group) (c.args.key.now, c.args.value))) groups in
     let reserved = same-reserved m n own ∙ ap (λ (live : Live). live.reserved) c.self.view_is in
     λ i. record { left = left i; groups = new i; reserved = reserved i }) (simp to_z-of_z at c.observe_in.ensures.ok) c.observe_in.ensures.reserved
@@ -49,4 +49,4 @@ returns-clause-only_new c =
     let m = holders_of c.self.inside.holders.entries in
     let groups = ap (λ (live : Live). live.groups) c.self.view_is in
     let there = sym (get-group_at m c.self.inside.reserved_groups c.args.group c.args.key.now c.self.invariant) ∙ ap (λ gs. fin.get (group_at gs c.args.group) c.args.key.now) groups in
-    on_err c.observe_in.result (λ (none : span_at m c.args.group c.args.key.now ≡ None). sym there ∙ none) c.observe_in.ensures.only_new
+    on_err c.observe_in.result (λ (none : min_max_at m c.args.group c.args.key.now ≡ None). sym there ∙ none) c.observe_in.ensures.only_new

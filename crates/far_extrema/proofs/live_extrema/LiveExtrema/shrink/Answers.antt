@@ -3,7 +3,7 @@ use Rattle.std.specs.Prelude.{slice_set}
 use Rattle.std.specs.FinMap as fin
 use Rattle.std.proofs.lemmas.Int.{to_z-of_z}
 use Rattle.far_extrema.specs.Live.{Live, group_at}
-use Rattle.far_extrema.specs.Spans.{put_span}
+use Rattle.far_extrema.specs.MinMaxes.{put_min_max}
 use Rattle.far_extrema.specs.Holders.{holders_of}
 use Rattle.far_extrema.proofs.HolderLaws.{get-group_at, length-groups_in, put-in, reserved-put, same-reserved}
 use Rattle.far_extrema.proofs.live_extrema.LiveExtrema.shrink.Goals as goal
@@ -22,7 +22,7 @@ invariant_of-self g c =
     let m = holders_of c.self.inside.holders.entries in
     let long = ap (λ (live : Live). length live.groups) c.self.view_is in
     reserved-put m (holders_of c.shrink_in.new.holders.entries) c.self.inside.reserved_groups c.args.group c.args.key.now (g.R.RowsLeft.extremes c.args.rows.now) c.self.invariant
-    (omega (arith, long, length-groups_in m c.self.inside.reserved_groups, c.requires.reserved)) c.shrink_in.ensures.spans
+    (omega (arith, long, length-groups_in m c.self.inside.reserved_groups, c.requires.reserved)) c.shrink_in.ensures.min_maxes
 
 pub returns-clause-shrunk : goal.returns-clause-shrunk
 returns-clause-shrunk g c =
@@ -32,7 +32,7 @@ returns-clause-shrunk g c =
     let groups = ap (λ (live : Live). live.groups) c.self.view_is in
     let less : c.args.group < c.self.inside.reserved_groups = omega (arith, ap length groups, length-groups_in m c.self.inside.reserved_groups, c.requires.reserved) in
     let new =
-    put-in m (holders_of c.shrink_in.new.holders.entries) c.self.inside.reserved_groups c.args.group c.args.key.now o less c.shrink_in.ensures.spans
-    ∙ ap (λ gs. slice_set gs c.args.group (put_span (group_at gs c.args.group) c.args.key.now o)) groups in
+    put-in m (holders_of c.shrink_in.new.holders.entries) c.self.inside.reserved_groups c.args.group c.args.key.now o less c.shrink_in.ensures.min_maxes
+    ∙ ap (λ gs. slice_set gs c.args.group (put_min_max (group_at gs c.args.group) c.args.key.now o)) groups in
     let reserved = same-reserved m (holders_of c.shrink_in.new.holders.entries) c.shrink_in.ensures.reserved ∙ ap (λ (live : Live). live.reserved) c.self.view_is in
     λ i. record { left = left i; groups = new i; reserved = reserved i }

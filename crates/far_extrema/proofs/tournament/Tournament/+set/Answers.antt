@@ -1,10 +1,10 @@
 use Rattle.std.proofs.Common.{ℕ, ◌∷◌, [], sym, ap, subst, ◌∙◌, arith}
 use Rattle.far_extrema.specs.declared.tournament.Branch.{Branch}
-use Rattle.far_extrema.specs.Blocks.{Slots, slotted}
+use Rattle.far_extrema.specs.Blocks.{BlockState, present}
 use Rattle.far_extrema.specs.Spreads.{Spread, at, IsSet}
-use Rattle.far_extrema.specs.Tournaments.{seen, IsKept}
+use Rattle.far_extrema.specs.Tournaments.{spread_of, IsKept}
 use Rattle.far_extrema.specs.declared.tournament.Tournament.TheInside.{Inside}
-use Rattle.far_extrema.proofs.SlotLaws.{top-slot, set-slot}
+use Rattle.far_extrema.proofs.BlockLaws.{top-element, set-element}
 use Rattle.far_extrema.proofs.SpreadLaws.{at-before, at-after, absent-parted}
 use Rattle.far_extrema.proofs.TournamentLaws.{whole, IsChanged, branch-before, branch-after}
 use Rattle.far_extrema.proofs.tournament.Tournament.+set.Goals as goal
@@ -15,49 +15,49 @@ returns-then-not-reaches-clause-absent t c h =
     let kept = (subst IsKept c.in-Several.is c.self.invariant).1 in
     let first = ap (λ (b : Branch). b.first) c.deref_mut-branch.ensures.value in
     let last = ap (λ (b : Branch). b.last) c.deref_mut-branch.ensures.value in
-    ap (λ (s : Spread). at s.spans c.args.group) (sym c.self.view_is ∙ ap seen c.in-Several.is)
+    ap (λ (s : Spread). at s.min_maxes c.args.group) (sym c.self.view_is ∙ ap spread_of c.in-Several.is)
     ∙ absent-parted _ _ _ _ _ c.args.group kept (λ l. omega (arith, first, last, c.reaches.ensures.outside c.if-not-reaches.true (omega (arith, first, l))))
 
 pub returns-then-not-is_set-clause-absent : goal.returns-then-not-is_set-clause-absent
 returns-then-not-is_set-clause-absent t c h =
     let kept = (subst IsKept c.in-Several.is c.self.invariant).1 in
     let here = ap (λ (b : Branch). b.split) c.deref_mut-branch.ensures.value in
-    let spans = ap (λ (s : Spread). at s.spans c.args.group) (sym c.self.view_is ∙ ap seen c.in-Several.is) in
+    let min_maxes = ap (λ (s : Spread). at s.min_maxes c.args.group) (sym c.self.view_is ∙ ap spread_of c.in-Several.is) in
     elim c.if-group-branch.branch [
       | then-group-branch w ↦
-          spans ∙ at-before _ _ _ c.args.group kept.2 (omega (arith, w.if-group-branch.true, here))
-          ∙ sym (ap (λ (b : Branch). at b.before.spans c.args.group) c.deref_mut-branch.ensures.value) ∙ w.set-is_set.ensures.absent (sym w.is_set-is ∙ c.if-not-is_set.true)
+          min_maxes ∙ at-before _ _ _ c.args.group kept.2 (omega (arith, w.if-group-branch.true, here))
+          ∙ sym (ap (λ (b : Branch). at b.before.min_maxes c.args.group) c.deref_mut-branch.ensures.value) ∙ w.set-is_set.ensures.absent (sym w.is_set-is ∙ c.if-not-is_set.true)
       | else-group-branch w ↦
-          spans ∙ at-after _ _ _ c.args.group kept.1 (omega (arith, w.if-group-branch.false, here))
-          ∙ sym (ap (λ (b : Branch). at b.after.spans c.args.group) c.deref_mut-branch.ensures.value) ∙ w.set-is_set-else-group-branch.ensures.absent (sym w.is_set-is ∙ c.if-not-is_set.true)
+          min_maxes ∙ at-after _ _ _ c.args.group kept.1 (omega (arith, w.if-group-branch.false, here))
+          ∙ sym (ap (λ (b : Branch). at b.after.min_maxes c.args.group) c.deref_mut-branch.ensures.value) ∙ w.set-is_set-else-group-branch.ensures.absent (sym w.is_set-is ∙ c.if-not-is_set.true)
     ]
 
-result : (t : ℕ) (c : Joined-self t) → IsKept c.match-self.self-inside.node × IsSet c.args.self.now.spans c.args.group c.args.span (seen c.match-self.self-inside.node).spans
+result : (t : ℕ) (c : Joined-self t) → IsKept c.match-self.self-inside.node × IsSet c.args.self.now.min_maxes c.args.group c.args.min_max (spread_of c.match-self.self-inside.node).min_maxes
 result t c = elim c.match-self.branch [
   | in-One+else-holder-group w ↦
-      let spans = ap (λ (s : Spread). s.spans) (sym (ap seen w.in-One.is) ∙ c.self.view_is) in
-      subst (λ (i : Inside). IsKept i.node × IsSet c.args.self.now.spans c.args.group c.args.span (seen i.node).spans) (sym w.self-inside-is) (
-        (top-slot w.in-One.holder c.args.span, tt),
-        subst (λ s. IsSet s c.args.group c.args.span (slotted w.in-One.holder (c.args.span ∷ []))) spans
-            (subst (λ g. IsSet (slotted w.in-One.holder (w.in-One.previous ∷ [])) g c.args.span (slotted w.in-One.holder (c.args.span ∷ []))) w.if-holder-group.false (set-slot w.in-One.holder w.in-One.previous c.args.span)),
+      let min_maxes = ap (λ (s : Spread). s.min_maxes) (sym (ap spread_of w.in-One.is) ∙ c.self.view_is) in
+      subst (λ (i : Inside). IsKept i.node × IsSet c.args.self.now.min_maxes c.args.group c.args.min_max (spread_of i.node).min_maxes) (sym w.self-inside-is) (
+        (top-element w.in-One.holder c.args.min_max, tt),
+        subst (λ s. IsSet s c.args.group c.args.min_max (present w.in-One.holder (c.args.min_max ∷ []))) min_maxes
+            (subst (λ g. IsSet (present w.in-One.holder (w.in-One.previous ∷ [])) g c.args.min_max (present w.in-One.holder (c.args.min_max ∷ []))) w.if-holder-group.false (set-element w.in-One.holder w.in-One.previous c.args.min_max)),
       )
   | in-Few+else-not-covers w ↦
-      let spans = ap (λ (s : Spread). s.spans) (sym (ap seen w.in-Few.is) ∙ c.self.view_is) in
-      subst (λ (i : Inside). IsKept i.node × IsSet c.args.self.now.spans c.args.group c.args.span (seen i.node).spans) (sym w.self-inside-is)
-      ((w.joined.ensures, tt), subst (λ s. IsSet s c.args.group c.args.span w.put.new.self.spans) (ap (λ (b : Slots). b.spans) w.deref_mut-block.ensures.value ∙ spans) w.put.ensures.set)
+      let min_maxes = ap (λ (s : Spread). s.min_maxes) (sym (ap spread_of w.in-Few.is) ∙ c.self.view_is) in
+      subst (λ (i : Inside). IsKept i.node × IsSet c.args.self.now.min_maxes c.args.group c.args.min_max (spread_of i.node).min_maxes) (sym w.self-inside-is)
+      ((w.joined.ensures, tt), subst (λ s. IsSet s c.args.group c.args.min_max w.put.new.self.min_maxes) (ap (λ (b : BlockState). b.min_maxes) w.deref_mut-block.ensures.value ∙ min_maxes) w.put.ensures.set)
   | in-Several+else-not-reaches+else-not-is_set w ↦
       let kept = (subst IsKept w.in-Several.is c.self.invariant).1 in
-      let spans = ap (λ (s : Spread). s.spans) (sym (ap seen w.in-Several.is) ∙ c.self.view_is) in
+      let min_maxes = ap (λ (s : Spread). s.min_maxes) (sym (ap spread_of w.in-Several.is) ∙ c.self.view_is) in
       let first = ap (λ (b : Branch). b.first) w.deref_mut-branch.ensures.value in
       let last = ap (λ (b : Branch). b.last) w.deref_mut-branch.ensures.value in
-      let changed : IsChanged w.in-Several.branch.value c.args.group c.args.span w.if-group-branch.branch' w.either.result = elim w.if-group-branch.branch [
-        | then-group-branch v ↦ branch-before w.in-Several.branch.value w.deref_mut-branch.result.now w.if-group-branch.branch' v.set-is_set.new.self w.either.result w.top.result w.top-in-Several.result c.args.group c.args.span
+      let changed : IsChanged w.in-Several.branch.value c.args.group c.args.min_max w.if-group-branch.branch' w.either.result = elim w.if-group-branch.branch [
+        | then-group-branch v ↦ branch-before w.in-Several.branch.value w.deref_mut-branch.result.now w.if-group-branch.branch' v.set-is_set.new.self w.either.result w.top.result w.top-in-Several.result c.args.group c.args.min_max
             w.deref_mut-branch.ensures.value kept (omega (arith, first, w.reaches.ensures.first w.if-not-reaches.false)) v.if-group-branch.true (v.set-is_set.ensures.set (sym v.is_set-is ∙ w.if-not-is_set.false)) v.branch'-is w.top.ensures.top w.top-in-Several.ensures.top w.either.ensures
-        | else-group-branch v ↦ branch-after w.in-Several.branch.value w.deref_mut-branch.result.now w.if-group-branch.branch' v.set-is_set-else-group-branch.new.self w.either.result w.top.result w.top-in-Several.result c.args.group c.args.span
+        | else-group-branch v ↦ branch-after w.in-Several.branch.value w.deref_mut-branch.result.now w.if-group-branch.branch' v.set-is_set-else-group-branch.new.self w.either.result w.top.result w.top-in-Several.result c.args.group c.args.min_max
             w.deref_mut-branch.ensures.value kept v.if-group-branch.false (omega (arith, last, w.reaches.ensures.last w.if-not-reaches.false)) (v.set-is_set-else-group-branch.ensures.set (sym v.is_set-is ∙ w.if-not-is_set.false)) v.branch'-is w.top.ensures.top w.top-in-Several.ensures.top w.either.ensures
       ] in
-      subst (λ (i : Inside). IsKept i.node × IsSet c.args.self.now.spans c.args.group c.args.span (seen i.node).spans) (sym w.self-inside-is)
-      (changed.0, subst (λ s. IsSet s c.args.group c.args.span (whole w.if-group-branch.branch')) spans changed.1)
+      subst (λ (i : Inside). IsKept i.node × IsSet c.args.self.now.min_maxes c.args.group c.args.min_max (spread_of i.node).min_maxes) (sym w.self-inside-is)
+      (changed.0, subst (λ s. IsSet s c.args.group c.args.min_max (whole w.if-group-branch.branch')) min_maxes changed.1)
 ]
 
 pub invariant_of-self-then-is_none : goal.invariant_of-self-then-is_none

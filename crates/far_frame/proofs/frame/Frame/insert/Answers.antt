@@ -25,4 +25,4 @@ returns-clause-err g c =
 pub returns-clause-here : goal.returns-clause-here
 returns-clause-here g c =
     let is_of = g.S.FarTickets.is_of in
-    subst (λ (old : State g.row.S-Ticket.Denot). (name : List ℕ) → AreAt is_of name old.rows → AreAt is_of name c.insert.new.self.rows) c.self.view_is c.insert.ensures.here
+    subst (λ (old : State g.row.S-Ticket.Denot). (id : List ℕ) → AreAt is_of id old.rows → AreAt is_of id c.insert.new.self.rows) c.self.view_is c.insert.ensures.here

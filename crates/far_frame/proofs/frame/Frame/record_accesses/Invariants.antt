@@ -1,13 +1,13 @@
 use Rattle.std.proofs.Common.{ℕ, List, ◌-◌}
 use Rattle.far_vector.specs.Pieces.{touched}
 use Rattle.far_rows.specs.Jobs.{AreAt}
-use Rattle.far_frame.proofs.SeenLaws.{IsSeeing}
+use Rattle.far_frame.proofs.ObservedLaws.{IsObserving}
 use Rattle.far_frame.proofs.frame.Frame.record_accesses.Given as goal
 
 abbrev pub invariant-loop-place : goal.invariant-loop-place
 invariant-loop-place g l = record {
-  seeing : IsSeeing l.column (touched l.fn.self.rows.size l.from l.to) (touched l.fn.self.rows.size l.place l.to) l.fn.self l.self;
-  here : (name : List ℕ) → AreAt g.S.FarTickets.is_of name l.fn.self.rows → AreAt g.S.FarTickets.is_of name l.self.rows;
+  observing : IsObserving l.column (touched l.fn.self.rows.size l.from l.to) (touched l.fn.self.rows.size l.place l.to) l.fn.self l.self;
+  here : (id : List ℕ) → AreAt g.S.FarTickets.is_of id l.fn.self.rows → AreAt g.S.FarTickets.is_of id l.self.rows;
 }
 
 abbrev pub decreases-loop-place : goal.decreases-loop-place

@@ -12,7 +12,7 @@ pub returns-clause-ok : goal.returns-clause-ok
 returns-clause-ok g c =
     let new = remembering c.self.inside.prefetcher c.set.new.self in
     subst (λ (old : State g.row.S-Ticket.Denot). OnOk c.set.result (Accepts g.S.FarTickets.content old (step.Edit (edit.Set c.args.place c.args.column c.args.cell)) reply.Done new)) c.self.view_is
-    (on-ok c.set.result (λ edited. (refl, record { changed = edited; seen = refl })) c.set.ensures.ok)
+    (on-ok c.set.result (λ edited. (refl, record { changed = edited; accesses = refl })) c.set.ensures.ok)
 
 pub returns-clause-err : goal.returns-clause-err
 returns-clause-err g c =
@@ -24,4 +24,4 @@ returns-clause-err g c =
 pub returns-clause-here : goal.returns-clause-here
 returns-clause-here g c =
     let is_of = g.S.FarTickets.is_of in
-    subst (λ (old : State g.row.S-Ticket.Denot). (name : List ℕ) → AreAt is_of name old.rows → AreAt is_of name c.set.new.self.rows) c.self.view_is c.set.ensures.here
+    subst (λ (old : State g.row.S-Ticket.Denot). (id : List ℕ) → AreAt is_of id old.rows → AreAt is_of id c.set.new.self.rows) c.self.view_is c.set.ensures.here

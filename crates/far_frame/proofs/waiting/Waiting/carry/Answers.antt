@@ -29,11 +29,11 @@ returns-in-Ok-clause-carried g c =
 pub returns-in-Ok-clause-here : goal.returns-in-Ok-clause-here
 returns-in-Ok-clause-here g c =
     let is_of = g.S.FarTickets.is_of in
-    let name = g.S.FarTickets.store_id c.args.store.now in
+    let id = g.S.FarTickets.store_id c.args.store.now in
     let old = c.args.self.now in
     let put : c.put.new.self ≡ with_job old c.args.n (Some c.in-Ok.done) =
     c.put.ensures ∙ ap (λ w. with_job w c.args.n (Some c.in-Ok.done)) c.take.ensures.after ∙ set-twice (is_number c.args.n) old None (Some c.in-Ok.done) in
-    subst (AreJobsAt is_of name) (sym put) (with-here is_of name old c.args.n c.in-Ok.done c.requires.here c.in-Ok.ensures.here)
+    subst (AreJobsAt is_of id) (sym put) (with-here is_of id old c.args.n c.in-Ok.done c.requires.here c.in-Ok.ensures.here)
 
 pub returns-in-Err-clause-err : goal.returns-in-Err-clause-err
 returns-in-Err-clause-err g c =

@@ -10,10 +10,10 @@ use Rattle.far_frame.proofs.world.World.commit.Goals as goal
 pub invariant_of-self : goal.invariant_of-self
 invariant_of-self g c =
     let is_of = g.S.FarTickets.is_of in
-    let name = g.S.FarTickets.store_id c.self.inside.store in
+    let id = g.S.FarTickets.store_id c.self.inside.store in
     record {
       rows_at = c.end_evac-ended.ensures.here;
-      jobs_at = subst (AreJobsAt is_of name) (sym c.end.ensures) (ended-here is_of name (spends c.end_evac-ended.result) c.self.inside.jobs c.args.n c.self.invariant.jobs_at);
+      jobs_at = subst (AreJobsAt is_of id) (sym c.end.ensures) (ended-here is_of id (spends c.end_evac-ended.result) c.self.inside.jobs c.args.n c.self.invariant.jobs_at);
     }
 
 pub returns : goal.returns

@@ -8,8 +8,8 @@ use Rattle.far_frame.proofs.world.World.migrate.Goals as goal
 pub invariant_of-result : goal.invariant_of-result
 invariant_of-result g c =
     let is_of = g.N.FarTickets.is_of in
-    let name = g.N.FarTickets.store_id c.args.new_store in
+    let id = g.N.FarTickets.store_id c.args.new_store in
     record {
       rows_at = c.in-Ok.ensures.there;
-      jobs_at = subst (AreJobsAt is_of name) (sym c.new.ensures) (All-nil (λ (job : Option (JobRecord g.row.N-Ticket.Denot)). IfSome job (IsJobAt is_of name)));
+      jobs_at = subst (AreJobsAt is_of id) (sym c.new.ensures) (All-nil (λ (job : Option (JobRecord g.row.N-Ticket.Denot)). IfSome job (IsJobAt is_of id)));
     }

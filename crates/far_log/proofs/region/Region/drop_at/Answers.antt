@@ -2,8 +2,8 @@ use Rattle.std.proofs.Common.{◌≡◌, refl, sym, ap, subst, ◌∙◌, IsSome
 use Rattle.far_log.specs.RegionState.{SegmentState, RegionState, part_of, segment_of, space_in}
 use Rattle.far_log.specs.Effects.{without_part}
 use Rattle.far_log.specs.Skipping.{IsSpaced}
-use Rattle.far_log.proofs.Laid.{laid-without_part, changes-dropped}
-use Rattle.far_log.proofs.RegionLaws.{changes-segment, region-set, laid-segment, part-there}
+use Rattle.far_log.proofs.Layouts.{layout-without_part, changes-dropped}
+use Rattle.far_log.proofs.RegionLaws.{changes-segment, region-set, layout-segment, part-there}
 use Rattle.far_log.proofs.Skipped.{skip-set}
 use Rattle.far_log.proofs.region.Region.drop_at.Goals as goal
 
@@ -20,7 +20,7 @@ invariant_of-self g c =
     let s : SegmentState g.row.T.Denot = without_part (segment_of state c.args.at.segment) c.args.at.offset in
     let space : c.space-space.result ≡ space_in s = c.space-space.ensures.space ∙ ap (λ r. space_in (segment_of r c.args.at.segment)) c.drop_at.ensures ∙ ap space_in (get_or-set_same state c.args.at.segment s _ lt) in
     record {
-      region = rw c.drop_at.ensures (region-set state c.args.at.segment s c.self.invariant.region lt refl (laid-without_part _ c.args.at.offset (laid-segment state c.args.at.segment c.self.invariant.region lt)));
+      region = rw c.drop_at.ensures (region-set state c.args.at.segment s c.self.invariant.region lt refl (layout-without_part _ c.args.at.offset (layout-segment state c.args.at.segment c.self.invariant.region lt)));
       skipped = rw c.drop_at.ensures (skip-set state c.self.inside.skip c.self.invariant.skipped c.args.at.segment s c.with_space-self-inside.result lt (subst (IsSpaced c.self.inside.skip c.with_space-self-inside.result c.args.at.segment) space c.with_space-self-inside.ensures));
     }
 
@@ -34,4 +34,4 @@ pub returns-clause-sound : goal.returns-clause-sound
 returns-clause-sound g c =
     let state : RegionState g.row.T.Denot = c.self.inside.segments in
     let lt = part-there state c.args.at (subst (λ r. IsSome (part_of r c.args.at)) (sym c.self.view_is) c.requires) in
-    rw c.drop_at.ensures (region-set state c.args.at.segment _ c.self.invariant.region lt refl (laid-without_part _ c.args.at.offset (laid-segment state c.args.at.segment c.self.invariant.region lt)))
+    rw c.drop_at.ensures (region-set state c.args.at.segment _ c.self.invariant.region lt refl (layout-without_part _ c.args.at.offset (layout-segment state c.args.at.segment c.self.invariant.region lt)))

@@ -1,8 +1,8 @@
 use Rattle.std.proofs.Common.{◌≡◌, ◌≤◌, ◌+◌, ℕ, List, length, Option, Some, None, refl, sym, ap, subst, ◌∙◌, arith}
 use Rattle.std.specs.Prelude.{IsSome, IsSomeAnd, slice_range}
 use Rattle.far_log.specs.RegionState.{RegionState, IsRegion, part_of, list_at}
-use Rattle.far_log.proofs.Laid.{laid-written, whole-range}
-use Rattle.far_log.proofs.RegionLaws.{region-set, laid-segment, part-there, writes-whole}
+use Rattle.far_log.proofs.Layouts.{layout-written, whole-range}
+use Rattle.far_log.proofs.RegionLaws.{region-set, layout-segment, part-there, writes-whole}
 use Rattle.far_log.proofs.Skipped.{skip-written}
 use Rattle.far_log.proofs.region.Region.part_long_mut.Goals as goal
 
@@ -26,7 +26,7 @@ invariant_of-self-lent g c w =
     let state : RegionState g.row.T.Denot = c.self.inside.segments in
     let lt = part-there state c.args.at (subst (λ r. IsSome (part_of r c.args.at)) (sym c.self.view_is) (some-long _ (part_of c.args.self.now c.args.at) c.requires)) in
     record {
-      region = region-set state c.args.at.segment _ c.self.invariant.region lt refl (laid-written _ (c.args.at.offset + 0) w (laid-segment state c.args.at.segment c.self.invariant.region lt));
+      region = region-set state c.args.at.segment _ c.self.invariant.region lt refl (layout-written _ (c.args.at.offset + 0) w (layout-segment state c.args.at.segment c.self.invariant.region lt));
       skipped = skip-written state c.self.inside.skip c.self.invariant.skipped c.args.at.segment (c.args.at.offset + 0) w lt;
     }
 

@@ -41,7 +41,7 @@ place_copy-requires-clause-fits g c =
     let filled : SegmentState g.row.T.Denot = record (segment_of old c.args.to) { parts = gathered source.parts (take i c.args.order.now) } in
     let from_is : segment_of c.loop-offset.self c.args.from ≡ source = ap (λ r. segment_of r c.args.from) c.loop-offset.invariant.state ∙ get_or-set_other old c.args.to c.args.from filled _ (λ e. c.requires.other (sym e)) in
     let to_is : segment_of c.loop-offset.self c.args.to ≡ filled = ap (λ r. segment_of r c.args.to) c.loop-offset.invariant.state ∙ get_or-set_same old c.args.to filled _ c.requires.to in
-    rw (from_is, to_is) (next-fits source c.args.order.now i (segment_of old c.args.to).size c.requires.laid c.requires.order c.loop-offset-test.true c.requires.size)
+    rw (from_is, to_is) (next-fits source c.args.order.now i (segment_of old c.args.to).size c.requires.layout c.requires.order c.loop-offset-test.true c.requires.size)
 
 pub loop-offset-preserved : goal.loop-offset-preserved
 loop-offset-preserved g c =

@@ -9,4 +9,4 @@ returns-clause-in_use g c =
     let within : c.args.number < length columns = subst (λ rows. c.args.number < length rows.numbers) (sym c.self.view_is) c.requires in
     let there = slice_get_read columns (length columns) c.args.number c.index.result.now refl within c.index.ensures in
     let used = number-in-use g.S.FarTickets.content _ c.self.inside.number_objects c.number-number.ensures.tracked columns c.self.invariant.numbers c.args.number c.index.result.now there c.args.group c.in_ok-object.field-0 (sym c.object.ensures ∙ c.in_ok-object.was) in
-    subst (λ rows. c.in_ok-object.field-0 < length rows.number_objects.entries) c.self.view_is used
+    subst (λ rows. c.in_ok-object.field-0 < length rows.number_objects.records) c.self.view_is used

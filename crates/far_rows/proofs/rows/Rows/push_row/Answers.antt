@@ -6,7 +6,7 @@ use Rattle.far_vector.specs.Vector.{IsShaped}
 use Rattle.far_texts.specs.Texts.{Texts, Lists, HasGroups, lists_of, texts_in}
 use Rattle.far_columns.specs.Numbers.{number_lists, numbers_in}
 use Rattle.far_columns.specs.NumbersTogether.{NumberColumns, all_begin, all_pushed, all_pushed_in, all_numbers_with, push_numbers_refusal}
-use Rattle.far_texts.specs.Together.{AreReplaced, all_begin as all_texts_begin, all_created, all_pushed as all_texts_pushed, all_texts_with, next_forms}
+use Rattle.far_texts.specs.Together.{AreReplaced, all_begin as all_texts_begin, after_create_all, all_pushed as all_texts_pushed, all_texts_with, next_forms}
 use Rattle.far_texts.specs.RefusingTogether.{push_texts_refusal}
 use Rattle.far_types.specs.FirstOf.{first_of}
 use Rattle.far_rows.specs.Refusing.{absents}
@@ -55,7 +55,7 @@ push_values-pushed-requires-clause-numbers_few g c κs within begin =
     let are = are-numbers size len columns c.self.invariant.shaped c.self.invariant.same_length_numbers in
     let below : len < 2 ^ 24 = subst (λ (flags : List Bool). length flags < 2 ^ 24) (sym (ap (λ r. r.alive) c.self.view_is)) c.requires.few in
     let is = c.deref_mut.ensures.value in
-    let sum = numbers-few size len (length c.self.inside.number_objects.entries) c.self.invariant.some below c.number-number.ensures.tracked.few columns (omega (arith, c.self.invariant.few)) are c.self.invariant.number_objects (sym (ap all_begin is) ∙ begin) in
+    let sum = numbers-few size len (length c.self.inside.number_objects.records) c.self.invariant.some below c.number-number.ensures.tracked.few columns (omega (arith, c.self.invariant.few)) are c.self.invariant.number_objects (sym (ap all_begin is) ∙ begin) in
     omega (arith, sum, ap length is)
 
 pub push_values-pushed-requires-clause-texts_few : goal.push_values-pushed-requires-clause-texts_few
@@ -66,7 +66,7 @@ push_values-pushed-requires-clause-texts_few g c κs within begin =
     let are = are-texts size len columns c.self.invariant.grouped c.self.invariant.same_length_texts in
     let below : len < 2 ^ 24 = subst (λ (flags : List Bool). length flags < 2 ^ 24) (sym (ap (λ r. r.alive) c.self.view_is)) c.requires.few in
     let is = c.deref_mut-2.ensures.value in
-    let sum = texts-few size len (length c.self.inside.text_objects.entries) c.self.invariant.some below c.number-number-2.ensures.tracked.few columns (omega (arith, c.self.invariant.few)) are c.self.invariant.text_objects (sym (ap all_texts_begin is) ∙ begin) in
+    let sum = texts-few size len (length c.self.inside.text_objects.records) c.self.invariant.some below c.number-number-2.ensures.tracked.few columns (omega (arith, c.self.invariant.few)) are c.self.invariant.text_objects (sym (ap all_texts_begin is) ∙ begin) in
     omega (arith, sum, ap length is)
 
 pub push_values-pushed-requires-clause-texts_free : goal.push_values-pushed-requires-clause-texts_free
@@ -93,7 +93,7 @@ invariant_of-self-2 g c =
     let below : len < 2 ^ 24 = subst (λ (flags : List Bool). length flags < 2 ^ 24) (sym (ap (λ r. r.alive) c.self.view_is)) c.requires.few in
     let done = c.in_default.ensures in
     let columns = c.self.inside.numbers.items in
-    let first = length c.self.inside.number_objects.entries in
+    let first = length c.self.inside.number_objects.records in
     let numbers = c.push_values-pushed.new.numbers in
     let pushed : numbers ≡ all_pushed first columns = done.numbers_pushed ∙ ap (all_pushed first) c.deref_mut.ensures.value in
     let many : length numbers ≡ length columns = ap length pushed ∙ as-many-numbers first columns in
@@ -101,24 +101,24 @@ invariant_of-self-2 g c =
     let are = are-numbers size len columns c.self.invariant.shaped inv.same_length_numbers in
     let count = done.numbers_count ∙ ap (λ cs. first + (if all_begin cs then length cs else 0)) c.deref_mut.ensures.value in
     let texts_before = c.self.inside.texts.items in
-    let first_text = length c.self.inside.text_objects.entries in
+    let first_text = length c.self.inside.text_objects.records in
     let texts = c.push_values-pushed.new.texts in
     let texts_pushed : texts ≡ all_texts_pushed first_text texts_before = done.texts_pushed ∙ ap (all_texts_pushed first_text) c.deref_mut-2.ensures.value in
     let texts_many : length texts ≡ length texts_before = ap length texts_pushed ∙ as-many-texts first_text texts_before in
     let texts_is = with_items_is c.self.inside.texts texts (texts_many ∙ sym c.self.inside.texts.ok.0) in
     let texts_are = are-texts size len texts_before c.self.invariant.grouped inv.same_length_texts in
     let texts_count = done.texts_count ∙ ap (λ cs. first_text + (if all_texts_begin cs then length cs else 0)) c.deref_mut-2.ensures.value in
-    let now = length c.push_values-pushed.new.number_objects.entries in
-    let texts_now = length c.push_values-pushed.new.text_objects.entries in
+    let now = length c.push_values-pushed.new.number_objects.records in
+    let texts_now = length c.push_values-pushed.new.text_objects.records in
     let lists : Lists = lists_of content c.self.inside.text_objects in
     let values = c.args.row.now in
-    let numbers_even : length values.numbers ≡ length columns = c.requires.numbers ∙ ap (λ r. length r.numbers) (sym c.self.view_is) in
-    let texts_even : length values.texts ≡ length texts_before = c.requires.texts ∙ ap (λ r. length r.texts) (sym c.self.view_is) in
+    let numbers_same_length : length values.numbers ≡ length columns = c.requires.numbers ∙ ap (λ r. length r.numbers) (sym c.self.view_is) in
+    let texts_same_length : length values.texts ≡ length texts_before = c.requires.texts ∙ ap (λ r. length r.texts) (sym c.self.view_is) in
     let before = c.self.inside.text_objects in
     let after = c.push_values-pushed.new.text_objects in
     let moved : c.push_values-pushed.new.number_objects ≡ all_pushed_in c.self.inside.number_objects columns values.numbers =
     done.numbers_moved ∙ ap (λ cs. all_pushed_in c.self.inside.number_objects cs values.numbers) c.deref_mut.ensures.value in
-    let texts_begun = subst (λ cs. all_texts_begin cs ≡ true → after ≡ all_created before cs (next_forms lists first_text cs values.texts)) c.deref_mut-2.ensures.value done.texts_begun in
+    let texts_begun = subst (λ cs. all_texts_begin cs ≡ true → after ≡ after_create_all before cs (next_forms lists first_text cs values.texts)) c.deref_mut-2.ensures.value done.texts_begun in
     let texts_replaced = subst (λ cs. all_texts_begin cs ≡ false → AreReplaced before (next_forms lists first_text cs values.texts) after) c.deref_mut-2.ensures.value done.texts_replaced in
     let rows : AreRows content record {
       column_indexes = c.self.inside.column_indexes.items;
@@ -136,8 +136,8 @@ invariant_of-self-2 g c =
       places = omega (arith, more, below);
       numbers = c.push_values-pushed.ensures.numbers_are;
       texts = c.push_values-pushed.ensures.texts_are;
-      shaped = subst (All IsShaped) (c.deref.ensures.value ∙ numbers_is) c.known_numbers.ensures;
-      grouped = subst (All HasGroups) (c.deref-2.ensures.value ∙ texts_is) c.known_texts.ensures;
+      shaped = subst (All IsShaped) (c.deref.ensures.value ∙ numbers_is) c.all_are_shaped.ensures;
+      grouped = subst (All HasGroups) (c.deref-2.ensures.value ∙ texts_is) c.all_have_groups.ensures;
       same_length_numbers = subst (All (λ v. (v.size ≡ size) × (v.len ≡ length c.push.new.self))) (sym pushed)
           (all-numbers (λ v. (v.size ≡ size) × (v.len ≡ len)) (λ v. (v.size ≡ size) × (v.len ≡ length c.push.new.self)) (same_length-grown size len (length c.push.new.self) more) first columns inv.same_length_numbers);
       same_length_texts = subst (All (λ v. (v.size ≡ size) × (v.len ≡ length c.push.new.self))) (sym texts_pushed)
@@ -156,14 +156,14 @@ invariant_of-self-2 g c =
           (subst (ArePlaced c.self.inside.column_indexes.items (λ i. column_index.Text i)) (sym (texts-same-numbers first_text texts_before)) inv.placed_texts);
       number_names = subst (All (IsNamed (names_of c.push_values-pushed.new.number_objects))) (sym pushed)
           (subst (λ m. All (IsNamed (names_of m)) (all_pushed first columns)) (sym moved)
-          (numbers-named size len columns inv.some are c.self.inside.number_objects values.numbers numbers_even inv.number_names));
+          (numbers-named size len columns inv.some are c.self.inside.number_objects values.numbers numbers_same_length inv.number_names));
       text_names = subst (All (IsTextNamed (names_of after))) (sym texts_pushed)
-          (texts-named lists size len texts_before inv.some texts_are before after values.texts texts_even texts_begun texts_replaced inv.text_names);
+          (texts-named lists size len texts_before inv.some texts_are before after values.texts texts_same_length texts_begun texts_replaced inv.text_names);
       owned_numbers = subst (λ (cs : NumberColumns). AreOwned (λ v. v.column) (λ v. v.objects) (names_of c.push_values-pushed.new.number_objects) cs) (sym pushed)
           (subst (λ m. AreOwned (λ v. v.column) (λ v. v.objects) (names_of m) (all_pushed first columns)) (sym moved)
-          (numbers-owned size len columns inv.some are c.self.inside.number_objects values.numbers numbers_even inv.owned_numbers));
+          (numbers-owned size len columns inv.some are c.self.inside.number_objects values.numbers numbers_same_length inv.owned_numbers));
       owned_texts = subst (λ (cs : List Texts). AreOwned (λ v. v.column) (λ v. v.objects) (names_of after) cs) (sym texts_pushed)
-          (texts-owned lists size len texts_before inv.some texts_are before after values.texts texts_even texts_begun texts_replaced inv.owned_texts);
+          (texts-owned lists size len texts_before inv.some texts_are before after values.texts texts_same_length texts_begun texts_replaced inv.owned_texts);
       clean_numbers = c.push_values-pushed.ensures.numbers_clean inv.clean_numbers;
       clean_texts = c.push_values-pushed.ensures.texts_clean inv.clean_texts;
     } in
@@ -177,13 +177,13 @@ returns-clause-cells g c =
     let inv = c.self.invariant in
     let done = c.in_default.ensures in
     let columns = c.self.inside.numbers.items in
-    let first = length c.self.inside.number_objects.entries in
+    let first = length c.self.inside.number_objects.records in
     let numbers = c.push_values-pushed.new.numbers in
     let pushed : numbers ≡ all_pushed first columns = done.numbers_pushed ∙ ap (all_pushed first) c.deref_mut.ensures.value in
     let many : length numbers ≡ length columns = ap length pushed ∙ as-many-numbers first columns in
     let numbers_is = with_items_is c.self.inside.numbers numbers (many ∙ sym c.self.inside.numbers.ok.0) in
     let texts_before = c.self.inside.texts.items in
-    let first_text = length c.self.inside.text_objects.entries in
+    let first_text = length c.self.inside.text_objects.records in
     let texts = c.push_values-pushed.new.texts in
     let texts_pushed : texts ≡ all_texts_pushed first_text texts_before = done.texts_pushed ∙ ap (all_texts_pushed first_text) c.deref_mut-2.ensures.value in
     let texts_many : length texts ≡ length texts_before = ap length texts_pushed ∙ as-many-texts first_text texts_before in
@@ -197,12 +197,12 @@ returns-clause-cells g c =
     let texts_are : map (texts_in (lists_of content c.push_values-pushed.new.text_objects)) texts ≡ all_with texts_was values.texts =
     done.texts ∙ ap (λ cs. all_texts_with text_lists_before cs values.texts) c.deref_mut-2.ensures.value ∙ texts-with text_lists_before texts_before values.texts in
     let same_length : length values.numbers ≡ length was = c.requires.numbers ∙ ap (λ r. length r.numbers) (sym c.self.view_is) ∙ sym (length-map columns (numbers_in content c.self.inside.number_objects)) in
-    let texts_even : length values.texts ≡ length texts_was = c.requires.texts ∙ ap (λ r. length r.texts) (sym c.self.view_is) ∙ sym (length-map texts_before (texts_in text_lists_before)) in
+    let texts_same_length : length values.texts ≡ length texts_was = c.requires.texts ∙ ap (λ r. length r.texts) (sym c.self.view_is) ∙ sym (length-map texts_before (texts_in text_lists_before)) in
     ap (λ cs. columns_of column_indexes (map (numbers_in content c.push_values-pushed.new.number_objects) cs) (map (texts_in (lists_of content c.push_values-pushed.new.text_objects)) ((with_items c.self.inside.texts texts).items))) numbers_is
     ∙ ap (λ cs. columns_of column_indexes (map (numbers_in content c.push_values-pushed.new.number_objects) numbers) (map (texts_in (lists_of content c.push_values-pushed.new.text_objects)) cs)) texts_is
     ∙ ap (λ ns. columns_of column_indexes ns (map (texts_in (lists_of content c.push_values-pushed.new.text_objects)) texts)) is
     ∙ ap (columns_of column_indexes (all_with was values.numbers)) texts_are
-    ∙ columns-with was texts_was values (length columns) (length texts_before) same_length texts_even (sym (length-map columns (numbers_in content c.self.inside.number_objects))) (sym (length-map texts_before (texts_in text_lists_before))) column_indexes inv.column_indexes.within
+    ∙ columns-with was texts_was values (length columns) (length texts_before) same_length texts_same_length (sym (length-map columns (numbers_in content c.self.inside.number_objects))) (sym (length-map texts_before (texts_in text_lists_before))) column_indexes inv.column_indexes.within
     ∙ ap (λ r. with_row (cells_of content r) (row_of r.column_indexes values)) c.self.view_is
 
 pub returns-clause-number_versions : goal.returns-clause-number_versions
@@ -224,12 +224,12 @@ returns-clause-text_versions g c = λ o.
     let m = c.self.inside.text_objects in
     let now = c.push_values-pushed.new.text_objects in
     let inv = c.self.invariant in
-    let first = length m.entries in
+    let first = length m.records in
     let lists : Lists = lists_of g.S.FarTickets.content m in
     let are = are-texts c.self.inside.size (length c.self.inside.alive) columns inv.grouped inv.same_length_texts in
     let values = c.args.row.now in
     let same_length : length values.texts ≡ length columns = c.requires.texts ∙ ap (λ r. length r.texts) (sym c.self.view_is) in
-    let begun = subst (λ cs. all_texts_begin cs ≡ true → now ≡ all_created m cs (next_forms lists first cs values.texts)) c.deref_mut-2.ensures.value c.in_default.ensures.texts_begun in
+    let begun = subst (λ cs. all_texts_begin cs ≡ true → now ≡ after_create_all m cs (next_forms lists first cs values.texts)) c.deref_mut-2.ensures.value c.in_default.ensures.texts_begun in
     let replaced = subst (λ cs. all_texts_begin cs ≡ false → AreReplaced m (next_forms lists first cs values.texts) now) c.deref_mut-2.ensures.value c.in_default.ensures.texts_replaced in
     let most = text-versions g.S.FarTickets.content c.self.inside.size (length c.self.inside.alive) columns inv.some are m now inv.texts values.texts same_length begun replaced o in
     subst (λ r. version_of now o ≤ version_of r.text_objects o + 1) c.self.view_is most

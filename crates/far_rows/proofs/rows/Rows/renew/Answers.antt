@@ -8,11 +8,11 @@ use Rattle.far_rows.proofs.rows.Rows.renew.Goals as goal
 pub invariant_of-result : goal.invariant_of-result
 invariant_of-result g c =
     let tickets = c.renewal.inside in
-    let number_even : length tickets.numbers ≡ length c.self.inside.number_objects.entries = subst (λ rows. length tickets.numbers ≡ length rows.number_objects.entries) (sym c.self.view_is) (subst (λ t. length t.numbers ≡ length c.args.self.number_objects.entries) (sym c.renewal.view_is) c.requires.numbers.same_length) in
-    let text_even : length tickets.texts ≡ length c.self.inside.text_objects.entries = subst (λ rows. length tickets.texts ≡ length rows.text_objects.entries) (sym c.self.view_is) (subst (λ t. length t.texts ≡ length c.args.self.text_objects.entries) (sym c.renewal.view_is) c.requires.texts.same_length) in
+    let number_same_length : length tickets.numbers ≡ length c.self.inside.number_objects.records = subst (λ rows. length tickets.numbers ≡ length rows.number_objects.records) (sym c.self.view_is) (subst (λ t. length t.numbers ≡ length c.args.self.number_objects.records) (sym c.renewal.view_is) c.requires.numbers.same_length) in
+    let text_same_length : length tickets.texts ≡ length c.self.inside.text_objects.records = subst (λ rows. length tickets.texts ≡ length rows.text_objects.records) (sym c.self.view_is) (subst (λ t. length t.texts ≡ length c.args.self.text_objects.records) (sym c.renewal.view_is) c.requires.texts.same_length) in
     rows-renewed g.S.FarTickets.content g.N.FarTickets.content _ c.renew.result c.renew-2.result c.renew.ensures.lists c.renew-2.ensures.lists c.self.invariant
-    (ap names_of c.renew.ensures.renewed ∙ renewed-named c.self.inside.number_objects tickets.numbers number_even) c.renew.ensures.clean
-    (ap names_of c.renew-2.ensures.renewed ∙ renewed-named c.self.inside.text_objects tickets.texts text_even) c.renew-2.ensures.clean
+    (ap names_of c.renew.ensures.renewed ∙ renewed-named c.self.inside.number_objects tickets.numbers number_same_length) c.renew.ensures.clean
+    (ap names_of c.renew-2.ensures.renewed ∙ renewed-named c.self.inside.text_objects tickets.texts text_same_length) c.renew-2.ensures.clean
 
 pub returns-clause-cells : goal.returns-clause-cells
 returns-clause-cells g c =
@@ -20,7 +20,7 @@ returns-clause-cells g c =
     renewed-cells g.S.FarTickets.content g.N.FarTickets.content old c.renew.result c.renew-2.result c.renew.ensures.lists c.renew-2.ensures.lists ∙ ap (cells_of g.S.FarTickets.content) c.self.view_is
 
 pub returns-clause-store : goal.returns-clause-store
-returns-clause-store g c = λ name here. record {
-  numbers = c.renew.ensures.store name (subst (λ t. AreTicketsHere g.N.FarTickets.is_of name t.numbers) (sym c.renewal.view_is) here.numbers);
-  texts = c.renew-2.ensures.store name (subst (λ t. AreTicketsHere g.N.FarTickets.is_of name t.texts) (sym c.renewal.view_is) here.texts);
+returns-clause-store g c = λ id here. record {
+  numbers = c.renew.ensures.store id (subst (λ t. AreTicketsHere g.N.FarTickets.is_of id t.numbers) (sym c.renewal.view_is) here.numbers);
+  texts = c.renew-2.ensures.store id (subst (λ t. AreTicketsHere g.N.FarTickets.is_of id t.texts) (sym c.renewal.view_is) here.texts);
 }

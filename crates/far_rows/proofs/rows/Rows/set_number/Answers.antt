@@ -123,7 +123,7 @@ returns-clause-numbers g c =
     ∙ ap (λ r. slice_set (all_numbers content r) i (slice_set (get_or (all_numbers content r) i []) place number)) c.self.view_is
 
 pub returns-clause-store : goal.returns-clause-store
-returns-clause-store g c = λ name here. c.set_in_group.ensures.store name (subst (λ r. AreHere g.S.FarTickets.is_of name r.number_objects) (sym c.self.view_is) here)
+returns-clause-store g c = λ id here. c.set_in_group.ensures.store id (subst (λ r. AreHere g.S.FarTickets.is_of id r.number_objects) (sym c.self.view_is) here)
 
 pub returns-clause-versions : goal.returns-clause-versions
 returns-clause-versions g c = λ o.

@@ -105,7 +105,7 @@ returns-clause-texts g c =
     ∙ ap (λ r. slice_set (all_texts content r) i (slice_set (get_or (all_texts content r) i []) c.args.place text)) c.self.view_is)
 
 pub returns-clause-store : goal.returns-clause-store
-returns-clause-store g c = λ name here. c.set.ensures.store name (subst (λ r. AreHere g.S.FarTickets.is_of name r.text_objects) (sym c.self.view_is) here)
+returns-clause-store g c = λ id here. c.set.ensures.store id (subst (λ r. AreHere g.S.FarTickets.is_of id r.text_objects) (sym c.self.view_is) here)
 
 pub returns-clause-memory : goal.returns-clause-memory
 returns-clause-memory g c =

@@ -9,6 +9,6 @@ use Rattle.far_rows_tests.proofs.rows.telling.text_owner.Goals as goal
 
 pub returns : goal.returns
 returns g c =
-    let named = slice_get-map (λ (e : ObjectRecord g.row.S-Ticket.Denot). e.name) c.text_objects.result.now.entries c.args.o ∙ c.name-name.ensures in
+    let named = slice_get-map (λ (e : ObjectRecord g.row.S-Ticket.Denot). e.name) c.text_objects.result.now.records c.args.o ∙ c.name-name.ensures in
     let own = subst (λ (m : Movement ℕ g.row.S-Ticket.Denot). slice_get (names_of m) c.args.o ≡ Some c.name-name.result) c.text_objects.ensures.objects named in
     c.kind.ensures ∙ text-owner g.S.FarTickets.content c.args.rows.now c.len-len.ensures.rows c.args.o c.name-name.result own

@@ -11,5 +11,5 @@ returns g c =
     let m = c.args.self.now in
     let both = all-local g.T.Elem.meaning g.S.FarTickets.content (IsSpelled g.T.Elem.in_range g.T.Elem.has_spelling g.T.Elem.spelling) m tracked in
     let order : c.len-local.result ≡ length m.order = c.len-local.ensures ∙ ap (λ k. length k.order) c.self.view_is in
-    let entries : c.len-all.result ≡ length m.entries = omega (arith, c.len-all.ensures, ap (λ k. length k.entries) c.self.view_is, c.self.inside.entries.ok.0) in
-    ((λ is. both.0 (sym order ∙ eqb-true c.len-local.result c.len-all.result is ∙ entries)), (λ local. eq-eqb c.len-local.result c.len-all.result (order ∙ both.1 local ∙ sym entries)))
+    let records : c.len-all.result ≡ length m.records = omega (arith, c.len-all.ensures, ap (λ k. length k.records) c.self.view_is, c.self.inside.records.ok.0) in
+    ((λ is. both.0 (sym order ∙ eqb-true c.len-local.result c.len-all.result is ∙ records)), (λ local. eq-eqb c.len-local.result c.len-all.result (order ∙ both.1 local ∙ sym records)))

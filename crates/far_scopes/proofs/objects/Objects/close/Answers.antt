@@ -10,7 +10,7 @@ pub returns-clause-store : goal.returns-clause-store
 returns-clause-store g c =
     let none = drop_all c.loop-o.o-index c.args.scope (rw (← c.scope.view_is, ← c.deref-o-items.ensures.value) c.loop-o-test.false) in
     let all : (after_close c.args.self.now c.args.scope).0 ≡ c.loop-o.self = c.loop-o.invariant.1 ∙ ap (λ objects. (after_close c.loop-o.self objects).0) none in
-    λ name here. subst (AreHere g.S.FarTickets.is_of name) all (here-closed g.S.FarTickets.is_of name c.args.self.now c.args.scope here)
+    λ id here. subst (AreHere g.S.FarTickets.is_of id) all (here-closed g.S.FarTickets.is_of id c.args.self.now c.args.scope here)
 
 pub returns-clause-lists : goal.returns-clause-lists
 returns-clause-lists g c =

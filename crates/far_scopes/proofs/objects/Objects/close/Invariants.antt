@@ -6,7 +6,7 @@ use Rattle.far_scopes.proofs.objects.Objects.close.Given as goal
 
 abbrev pub invariant-loop-o : goal.invariant-loop-o
 invariant-loop-o g l =
-    (length l.self.entries ≡ length l.fn.self.entries)
+    (length l.self.records ≡ length l.fn.self.records)
     × ((after_close l.fn.self l.fn.scope).0 ≡ (after_close l.self (drop l.o-index l.fn.scope)).0)
     × ((after_close l.fn.self l.fn.scope).1 ≡ l.taken + (after_close l.self (drop l.o-index l.fn.scope)).1)
     × (l.taken ≤ l.o-index)

@@ -9,11 +9,11 @@ invariant_of-self-2 g c =
 
 pub returns-clause-clean : goal.returns-clause-clean
 returns-clause-clean g c =
-    let old : Movement g.row.T.Denot g.row.S-Ticket.Denot = record { number = c.self.inside.number; max_writes = c.self.inside.max_writes; leavings = c.self.inside.leavings; memory = c.self.inside.memory; entries = c.self.inside.entries.items; order = c.self.inside.order } in
+    let old : Movement g.row.T.Denot g.row.S-Ticket.Denot = record { number = c.self.inside.number; max_writes = c.self.inside.max_writes; leavings = c.self.inside.leavings; memory = c.self.inside.memory; records = c.self.inside.records.items; order = c.self.inside.order } in
     λ clean. clean-compacted g.T.Elem.meaning g.S.FarTickets.content old c.compact.new.self c.args.segment c.in_ok-compact.ensures.ok c.in_ok-compact.ensures.lists (subst (AreClean g.T.Elem.meaning g.S.FarTickets.content) (sym c.self.view_is) clean)
 
 pub returns-clause-full : goal.returns-clause-full
 returns-clause-full g c = rw (← c.self.view_is) c.in_ok-compact.ensures.full
 
 pub returns-clause-store : goal.returns-clause-store
-returns-clause-store g c = λ name here. subst (AreHere g.S.FarTickets.is_of name) (sym c.self.view_is) here
+returns-clause-store g c = λ id here. subst (AreHere g.S.FarTickets.is_of id) (sym c.self.view_is) here

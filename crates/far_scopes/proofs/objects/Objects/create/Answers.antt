@@ -1,12 +1,12 @@
 use Rattle.std.proofs.Common.{◌≡◌, ◌<◌, ◌^◌, length, sym, ap, subst, ◌∙◌}
 use Rattle.far_scopes.specs.Placing.{removed}
 use Rattle.far_scopes.proofs.Undone.{uncreated-created}
-use Rattle.far_scopes.proofs.Comings.{tracked-made, lists-made, clean-made, last-made}
+use Rattle.far_scopes.proofs.Creations.{tracked-made, lists-made, clean-made, last-made}
 use Rattle.far_scopes.proofs.FitsAll.{fits-next}
 use Rattle.far_scopes.proofs.objects.Objects.create.Goals as goal
 
 pub invariant_of-self-2 : goal.invariant_of-self-2
-invariant_of-self-2 g c = rw (c.push_reserved.ensures.items, c.in_ok-add.ensures.ok, c.len-o.ensures, c.reserve.new.self.ok.0, c.reserve.ensures.items) (tracked-made g.T.Elem.meaning g.S.FarTickets.content _ _ c.self.invariant c.add-2.new.self _ c.args.name c.args.items.now (ap (λ m. m.words) c.in_default.ensures.ok) c.in_default.ensures.list c.requires.some (subst (λ m. length m.entries < 2 ^ 28) (sym c.self.view_is) c.requires.few))
+invariant_of-self-2 g c = rw (c.push_reserved.ensures.items, c.in_ok-add.ensures.ok, c.len-o.ensures, c.reserve.new.self.ok.0, c.reserve.ensures.items) (tracked-made g.T.Elem.meaning g.S.FarTickets.content _ _ c.self.invariant c.add-2.new.self _ c.args.name c.args.items.now (ap (λ m. m.words) c.in_default.ensures.ok) c.in_default.ensures.list c.requires.some (subst (λ m. length m.records < 2 ^ 28) (sym c.self.view_is) c.requires.few))
 
 pub returns-clause-list : goal.returns-clause-list
 returns-clause-list g c = rw (← c.self.view_is, c.push_reserved.ensures.items, c.reserve.ensures.items) (lists-made g.T.Elem.meaning g.S.FarTickets.content _ _ c.self.invariant c.add-2.new.self _ c.args.name c.args.items.now (ap (λ m. m.words) c.in_default.ensures.ok) c.in_default.ensures.list)

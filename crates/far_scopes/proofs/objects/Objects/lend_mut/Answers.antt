@@ -31,6 +31,6 @@ returns g c =
             subst (λ m. AreClean g.T.Elem.meaning g.S.FarTickets.content (overwritten m c.args.o 0 list)) c.mark.ensures.written
             (clean-overwritten g.T.Elem.meaning g.S.FarTickets.content (IsSpelled g.T.Elem.in_range g.T.Elem.has_spelling g.T.Elem.spelling) c.mark.new.self c.args.o 0 list list change c.mark.ensures.dirty (c.mark.ensures.clean clean));
         others = others-overwritten c.args.self.now c.args.o 0;
-        store = λ list name here. here-written c.args.self.now c.args.o g.S.FarTickets.is_of name here;
+        store = λ list id here. here-written c.args.self.now c.args.o g.S.FarTickets.is_of id here;
       },
     )

@@ -32,6 +32,6 @@ returns g c =
             subst (λ m. AreClean g.T.Elem.meaning g.S.FarTickets.content (overwritten m c.args.o c.args.from range)) c.mark.ensures.written
             (clean-range g.T.Elem.meaning g.S.FarTickets.content (IsSpelled g.T.Elem.in_range g.T.Elem.has_spelling g.T.Elem.spelling) c.args.self.now c.mark.new.self c.args.o c.args.from c.args.to c.mark.ensures.parts c.mark.ensures.lists c.mark.ensures.dirty alone range long (c.mark.ensures.clean clean));
         others = others-overwritten c.args.self.now c.args.o c.args.from;
-        store = λ list name here. here-written c.args.self.now c.args.o g.S.FarTickets.is_of name here;
+        store = λ list id here. here-written c.args.self.now c.args.o g.S.FarTickets.is_of id here;
       },
     )

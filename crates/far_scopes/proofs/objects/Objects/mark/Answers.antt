@@ -9,8 +9,8 @@ use Rattle.far_scopes.proofs.objects.Objects.mark.Goals as goal
 
 pub invariant_of-self : goal.invariant_of-self
 invariant_of-self g c =
-    let within = subst (λ m. c.args.o < length m.entries) (sym c.self.view_is) c.requires.within in
-    let was = word-read c.self.inside.entries.items c.args.o c.index_mut.result.now within c.index_mut.ensures.value in
+    let within = subst (λ m. c.args.o < length m.records) (sym c.self.view_is) c.requires.within in
+    let was = word-read c.self.inside.records.items c.args.o c.index_mut.result.now within c.index_mut.ensures.value in
     let local = subst (λ m. is_local m c.args.o ≡ true) (sym c.self.view_is) (local-written c.args.self.now c.args.o c.requires.free) in
     let version : version_of c.args.self.now c.args.o ≡ c.index_mut.result.now.version = rw (← c.self.view_is, was) refl in
     let left : c.index_mut.result.now.version < c.self.inside.max_writes = omega (arith, left-written c.args.self.now c.args.o c.requires.free, version, ap (λ m. m.max_writes) c.self.view_is) in
@@ -19,14 +19,14 @@ invariant_of-self g c =
 
 pub returns-clause-written : goal.returns-clause-written
 returns-clause-written g c =
-    let within = subst (λ m. c.args.o < length m.entries) (sym c.self.view_is) c.requires.within in
-    let was = word-read c.self.inside.entries.items c.args.o c.index_mut.result.now within c.index_mut.ensures.value in
+    let within = subst (λ m. c.args.o < length m.records) (sym c.self.view_is) c.requires.within in
+    let was = word-read c.self.inside.records.items c.args.o c.index_mut.result.now within c.index_mut.ensures.value in
     rw (c.mark.ensures.marked, c.touch.ensures, ← c.self.view_is, was) refl
 
 pub returns-clause-dirty : goal.returns-clause-dirty
 returns-clause-dirty g c =
-    let within = subst (λ m. c.args.o < length m.entries) (sym c.self.view_is) c.requires.within in
-    let was = word-read c.self.inside.entries.items c.args.o c.index_mut.result.now within c.index_mut.ensures.value in
+    let within = subst (λ m. c.args.o < length m.records) (sym c.self.view_is) c.requires.within in
+    let was = word-read c.self.inside.records.items c.args.o c.index_mut.result.now within c.index_mut.ensures.value in
     let local = subst (λ m. is_local m c.args.o ≡ true) (sym c.self.view_is) (local-written c.args.self.now c.args.o c.requires.free) in
     let version : version_of c.args.self.now c.args.o ≡ c.index_mut.result.now.version = rw (← c.self.view_is, was) refl in
     let left : c.index_mut.result.now.version < c.self.inside.max_writes = omega (arith, left-written c.args.self.now c.args.o c.requires.free, version, ap (λ m. m.max_writes) c.self.view_is) in
@@ -35,8 +35,8 @@ returns-clause-dirty g c =
 
 pub returns-clause-local : goal.returns-clause-local
 returns-clause-local g c =
-    let within = subst (λ m. c.args.o < length m.entries) (sym c.self.view_is) c.requires.within in
-    let was = word-read c.self.inside.entries.items c.args.o c.index_mut.result.now within c.index_mut.ensures.value in
+    let within = subst (λ m. c.args.o < length m.records) (sym c.self.view_is) c.requires.within in
+    let was = word-read c.self.inside.records.items c.args.o c.index_mut.result.now within c.index_mut.ensures.value in
     let local = subst (λ m. is_local m c.args.o ≡ true) (sym c.self.view_is) (local-written c.args.self.now c.args.o c.requires.free) in
     let version : version_of c.args.self.now c.args.o ≡ c.index_mut.result.now.version = rw (← c.self.view_is, was) refl in
     let left : c.index_mut.result.now.version < c.self.inside.max_writes = omega (arith, left-written c.args.self.now c.args.o c.requires.free, version, ap (λ m. m.max_writes) c.self.view_is) in
@@ -48,8 +48,8 @@ returns-clause-parts g c = rw (← c.self.view_is) c.mark.ensures.lists
 
 pub returns-clause-lists : goal.returns-clause-lists
 returns-clause-lists g c =
-    let within = subst (λ m. c.args.o < length m.entries) (sym c.self.view_is) c.requires.within in
-    let was = word-read c.self.inside.entries.items c.args.o c.index_mut.result.now within c.index_mut.ensures.value in
+    let within = subst (λ m. c.args.o < length m.records) (sym c.self.view_is) c.requires.within in
+    let was = word-read c.self.inside.records.items c.args.o c.index_mut.result.now within c.index_mut.ensures.value in
     let local = subst (λ m. is_local m c.args.o ≡ true) (sym c.self.view_is) (local-written c.args.self.now c.args.o c.requires.free) in
     let version : version_of c.args.self.now c.args.o ≡ c.index_mut.result.now.version = rw (← c.self.view_is, was) refl in
     let left : c.index_mut.result.now.version < c.self.inside.max_writes = omega (arith, left-written c.args.self.now c.args.o c.requires.free, version, ap (λ m. m.max_writes) c.self.view_is) in
@@ -58,8 +58,8 @@ returns-clause-lists g c =
 
 pub returns-clause-clean : goal.returns-clause-clean
 returns-clause-clean g c =
-    let within = subst (λ m. c.args.o < length m.entries) (sym c.self.view_is) c.requires.within in
-    let was = word-read c.self.inside.entries.items c.args.o c.index_mut.result.now within c.index_mut.ensures.value in
+    let within = subst (λ m. c.args.o < length m.records) (sym c.self.view_is) c.requires.within in
+    let was = word-read c.self.inside.records.items c.args.o c.index_mut.result.now within c.index_mut.ensures.value in
     let local = subst (λ m. is_local m c.args.o ≡ true) (sym c.self.view_is) (local-written c.args.self.now c.args.o c.requires.free) in
     let version : version_of c.args.self.now c.args.o ≡ c.index_mut.result.now.version = rw (← c.self.view_is, was) refl in
     let left : c.index_mut.result.now.version < c.self.inside.max_writes = omega (arith, left-written c.args.self.now c.args.o c.requires.free, version, ap (λ m. m.max_writes) c.self.view_is) in

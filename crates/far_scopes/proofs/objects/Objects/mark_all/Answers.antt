@@ -2,8 +2,8 @@ use Rattle.std.proofs.Common.{◌≡◌, ◌+◌, length, drop, None, refl, sym,
 use Rattle.std.specs.Prelude.{All}
 use Rattle.std.proofs.lemmas.List.Elements.{All-head}
 use Rattle.far_scopes.specs.Refusing.{write_refusal}
-use Rattle.far_scopes.specs.Replacing.{AreListedOnce, AreCleanBeside}
-use Rattle.far_scopes.specs.Effects.{written_all}
+use Rattle.far_scopes.specs.Replacing.{AreListedOnce, AreCleanElsewhere}
+use Rattle.far_scopes.specs.Effects.{after_write_all}
 use Rattle.far_scopes.proofs.Pins.{length-with}
 use Rattle.far_scopes.proofs.Relisted.{once-tail}
 use Rattle.far_scopes.proofs.MarkedAll.{next-is, free-rest, clean-rest}
@@ -23,11 +23,11 @@ loop-replacement-preserved g c =
     let rest = drop (c.loop-replacement.replacement-index + 1) c.args.lists.now in
     let free = subst (λ rs. All (λ s. write_refusal m s.object ≡ None) rs) next c.loop-replacement.invariant.2 in
     let once = subst (λ rs. AreListedOnce rs) next c.loop-replacement.invariant.3 in (
-      c.loop-replacement.invariant.0 ∙ ap (written_all m) next ∙ ap (λ w. written_all w rest) (sym c.mark.ensures.written),
-      ap (λ w. length w.entries) c.mark.ensures.written ∙ length-with m.entries r.object _ ∙ c.loop-replacement.invariant.1,
+      c.loop-replacement.invariant.0 ∙ ap (after_write_all m) next ∙ ap (λ w. after_write_all w rest) (sym c.mark.ensures.written),
+      ap (λ w. length w.records) c.mark.ensures.written ∙ length-with m.records r.object _ ∙ c.loop-replacement.invariant.1,
       free-rest m c.mark.new.self r.object c.mark.ensures.written r rest refl once free,
       once-tail r rest once,
       λ p. c.mark.ensures.lists p ∙ c.loop-replacement.invariant.4 p,
       λ clean. clean-rest m c.mark.new.self r.object c.mark.ensures.written r rest refl g.T.Elem.meaning g.S.FarTickets.content c.mark.ensures.dirty c.mark.ensures.lists
-          (subst (λ rs. AreCleanBeside g.T.Elem.meaning g.S.FarTickets.content m rs) next (c.loop-replacement.invariant.5 clean)),
+          (subst (λ rs. AreCleanElsewhere g.T.Elem.meaning g.S.FarTickets.content m rs) next (c.loop-replacement.invariant.5 clean)),
     )

@@ -8,29 +8,29 @@ use Rattle.far_scopes.proofs.objects.Objects.pin.Goals as goal
 
 pub invariant_of-self-2 : goal.invariant_of-self-2
 invariant_of-self-2 g c =
-    let within = subst (λ m. c.args.o < length m.entries) (sym c.self.view_is) c.requires in
-    let was = word-read c.self.inside.entries.items c.args.o c.index_mut-entry.result.now within c.index_mut-entry.ensures.value in
-    tracked-recorded g.T.Elem.meaning g.S.FarTickets.content _ _ c.self.invariant c.args.o c.index_mut-entry.result.now _ was
-    (λ word is. tracked-pins g.T.Elem.meaning g.S.FarTickets.content _ _ _ word _ c.index_mut-entry.result.now _ (c.self.invariant.each c.args.o word c.index_mut-entry.result.now is was) (λ away. absurd (true-or-false (is_local c.args.self.now c.args.o) (sym c.if-is_away.ensures) (rw (← c.self.view_is, is, away) refl))))
+    let within = subst (λ m. c.args.o < length m.records) (sym c.self.view_is) c.requires in
+    let was = word-read c.self.inside.records.items c.args.o c.index_mut-object_record.result.now within c.index_mut-object_record.ensures.value in
+    tracked-recorded g.T.Elem.meaning g.S.FarTickets.content _ _ c.self.invariant c.args.o c.index_mut-object_record.result.now _ was
+    (λ word is. tracked-pins g.T.Elem.meaning g.S.FarTickets.content _ _ _ word _ c.index_mut-object_record.result.now _ (c.self.invariant.each c.args.o word c.index_mut-object_record.result.now is was) (λ away. absurd (true-or-false (is_local c.args.self.now c.args.o) (sym c.if-is_away.ensures) (rw (← c.self.view_is, is, away) refl))))
 
 pub returns-clause-pinned : goal.returns-clause-pinned
 returns-clause-pinned g c =
-    let within = subst (λ m. c.args.o < length m.entries) (sym c.self.view_is) c.requires in
-    let was = word-read c.self.inside.entries.items c.args.o c.index_mut-entry.result.now within c.index_mut-entry.ensures.value in
+    let within = subst (λ m. c.args.o < length m.records) (sym c.self.view_is) c.requires in
+    let was = word-read c.self.inside.records.items c.args.o c.index_mut-object_record.result.now within c.index_mut-object_record.ensures.value in
     rw (← c.self.view_is, was) refl
 
 pub returns-clause-clean : goal.returns-clause-clean
 returns-clause-clean g c =
-    let within = subst (λ m. c.args.o < length m.entries) (sym c.self.view_is) c.requires in
-    let was = word-read c.self.inside.entries.items c.args.o c.index_mut-entry.result.now within c.index_mut-entry.ensures.value in
-    λ clean. clean-recorded g.T.Elem.meaning g.S.FarTickets.content _ _ c.self.invariant c.args.o c.index_mut-entry.result.now _ was refl (subst (AreClean g.T.Elem.meaning g.S.FarTickets.content) (sym c.self.view_is) clean)
+    let within = subst (λ m. c.args.o < length m.records) (sym c.self.view_is) c.requires in
+    let was = word-read c.self.inside.records.items c.args.o c.index_mut-object_record.result.now within c.index_mut-object_record.ensures.value in
+    λ clean. clean-recorded g.T.Elem.meaning g.S.FarTickets.content _ _ c.self.invariant c.args.o c.index_mut-object_record.result.now _ was refl (subst (AreClean g.T.Elem.meaning g.S.FarTickets.content) (sym c.self.view_is) clean)
 
 pub returns-clause-refused : goal.returns-clause-refused
 returns-clause-refused g c =
-    let within = subst (λ m. c.args.o < length m.entries) (sym c.self.view_is) c.requires in
-    let was = word-read c.self.inside.entries.items c.args.o c.index_mut-entry.result.now within c.index_mut-entry.ensures.value in
-    let pins : pins_of c.args.self.now c.args.o ≡ c.index_mut-entry.result.now.pins = rw (← c.self.view_is, was) refl in
-    rw (← c.if-is_away.ensures, pins, ne_eqb c.index_mut-entry.result.now.pins 65535 c.if-entry.false) refl
+    let within = subst (λ m. c.args.o < length m.records) (sym c.self.view_is) c.requires in
+    let was = word-read c.self.inside.records.items c.args.o c.index_mut-object_record.result.now within c.index_mut-object_record.ensures.value in
+    let pins : pins_of c.args.self.now c.args.o ≡ c.index_mut-object_record.result.now.pins = rw (← c.self.view_is, was) refl in
+    rw (← c.if-is_away.ensures, pins, ne_eqb c.index_mut-object_record.result.now.pins 65535 c.if-object_record.false) refl
 
 pub returns-clause-lists : goal.returns-clause-lists
 returns-clause-lists g c =

@@ -25,7 +25,7 @@ loop-k-preserved g c =
     let is = c.in_default.ensures.pinned in
     let next : suc c.loop-k.k ≡ c.loop-k.k + 1 = omega arith in (
       is ∙ ap (λ m. after_pin m o) c.loop-k.invariant.0 ∙ sym (pinned_all-last c.args.self.now (take c.loop-k.k c.args.objects.now) o) ∙ ap (after_pin_all c.args.self.now) (sym (take-suc c.args.objects.now c.loop-k.k 0 c.loop-k-test.true) ∙ ap (λ n. take n c.args.objects.now) next),
-      ap (λ m. length m.entries) is ∙ length-with c.loop-k.self.entries o _ ∙ c.loop-k.invariant.1,
+      ap (λ m. length m.records) is ∙ length-with c.loop-k.self.records o _ ∙ c.loop-k.invariant.1,
       c.loop-k.invariant.2 ∙ at_drop_more (pins_overflow c.loop-k.self) c.args.objects.now c.loop-k.k 0 c.loop-k-test.true ∙ overflow-later c.loop-k.self o rest local.0 c.in_default.ensures.refused ∙ ap (λ m. pins_overflow m rest) (sym is),
       ap (λ m. first_absent m rest) is ∙ first_absent-pinned c.loop-k.self o rest ∙ local.1,
       λ clean. c.in_default.ensures.clean (c.loop-k.invariant.4 clean),

@@ -5,21 +5,21 @@ use Rattle.std.specs.Vec.Iter.{into_iter_items}
 use Rattle.far_codec.specs.Spelling.{IsSpelled}
 use Rattle.far_scopes.specs.Memory.{place_of, list_in}
 use Rattle.far_scopes.specs.Movement.{list_of, AreClean, AreHere}
-use Rattle.far_scopes.proofs.Renewed.{entries-renewed, none-left, here-renewed, lists-renewed, clean-renewed, tracked-renewed}
+use Rattle.far_scopes.proofs.Renewed.{records-renewed, none-left, here-renewed, lists-renewed, clean-renewed, tracked-renewed}
 use Rattle.far_scopes.proofs.objects.Objects.renew.Given as given
 use Rattle.far_scopes.proofs.objects.Objects.renew.Goals as goal
 
 -- the records are those of the objects, each with its ticket of the renewal
-made : (g : given.Over) (c : goal.After-forget_copies g) → c.loop-entry.entries.items ≡ entries-renewed c.args.self.entries c.args.renewal
+made : (g : given.Over) (c : goal.After-forget_copies g) → c.loop-object_record.records.items ≡ records-renewed c.args.self.records c.args.renewal
 made g c =
-    let olds = into_iter_items (zip_first c.loop-entry.entry-iterator) in
-    let tickets = into_iter_items (zip_second c.loop-entry.entry-iterator) in
-    let inv = c.loop-entry.invariant in
-    let none : entries-renewed olds tickets ≡ [] = none-left olds tickets inv.2 (elim c.in-None.ensures.steps [
+    let olds = into_iter_items (zip_first c.loop-object_record.entry-iterator) in
+    let tickets = into_iter_items (zip_second c.loop-object_record.entry-iterator) in
+    let inv = c.loop-object_record.invariant in
+    let none : records-renewed olds tickets ≡ [] = none-left olds tickets inv.2 (elim c.in-None.ensures.steps [
       | inl (rest, spent) ↦ inl (sym inv.3 ∙ spent.0)
       | inr (rest, spent) ↦ inr (sym inv.4 ∙ spent.0)
     ]) in
-    sym (append-nil c.loop-entry.entries.items) ∙ ap (λ l. c.loop-entry.entries.items ++ l) (sym none) ∙ inv.0
+    sym (append-nil c.loop-object_record.records.items) ∙ ap (λ l. c.loop-object_record.records.items ++ l) (sym none) ∙ inv.0
 
 pub returns-clause-renewed : goal.returns-clause-renewed
 returns-clause-renewed g c = rw (made g c, c.forget_copies.ensures.renewed, ← c.self.view_is) refl
@@ -39,4 +39,4 @@ pub returns-clause-clean : goal.returns-clause-clean
 returns-clause-clean g c = subst (AreClean g.T.Elem.meaning g.N.FarTickets.content) (sym (returns-clause-renewed g c)) (clean-renewed g.T.Elem.meaning g.S.FarTickets.content g.N.FarTickets.content (IsSpelled g.T.Elem.in_range g.T.Elem.has_spelling g.T.Elem.spelling) c.args.self c.args.renewal c.requires)
 
 pub returns-clause-store : goal.returns-clause-store
-returns-clause-store g c = λ name here. subst (AreHere g.N.FarTickets.is_of name) (sym (returns-clause-renewed g c)) (here-renewed g.T.Elem.meaning g.S.FarTickets.content g.N.FarTickets.content (IsSpelled g.T.Elem.in_range g.T.Elem.has_spelling g.T.Elem.spelling) c.args.self c.args.renewal c.requires g.N.FarTickets.is_of name here)
+returns-clause-store g c = λ id here. subst (AreHere g.N.FarTickets.is_of id) (sym (returns-clause-renewed g c)) (here-renewed g.T.Elem.meaning g.S.FarTickets.content g.N.FarTickets.content (IsSpelled g.T.Elem.in_range g.T.Elem.has_spelling g.T.Elem.spelling) c.args.self c.args.renewal c.requires g.N.FarTickets.is_of id here)

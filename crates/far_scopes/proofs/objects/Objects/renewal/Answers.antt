@@ -38,5 +38,5 @@ loop-o-preserved g c =
 
 pub returns-clause-renews : goal.returns-clause-renews
 returns-clause-renews g c =
-    let all : length c.args.self.now.entries ≡ c.loop-o.o = omega (arith, c.loop-o-test.false, c.loop-o.auto.o-end, c.len-o-end.ensures, ap (λ m. length m.entries) c.self.view_is, c.self.inside.entries.ok.0) in
+    let all : length c.args.self.now.records ≡ c.loop-o.o = omega (arith, c.loop-o-test.false, c.loop-o.auto.o-end, c.len-o-end.ensures, ap (λ m. length m.records) c.self.view_is, c.self.inside.records.ok.0) in
     renews-all g.S.FarTickets.content g.N.FarTickets.content c.args.self.now c.loop-o.tickets.items c.loop-o.o c.loop-o.invariant.0 all c.loop-o.invariant.1

@@ -10,5 +10,5 @@ invariant-loop-o g l =
     (length l.tickets.items ≡ l.o)
     × ((p : ℕ) → p < l.o → option_map g.N.FarTickets.content (ticket_in l.tickets.items p) ≡ cond (is_local l.self p) None (option_map g.S.FarTickets.content (ticket_of l.self p)))
     × AreTicketsHere g.N.FarTickets.is_of (g.N.FarTickets.store_id l.new_store) l.tickets.items
-    × (length l.self.entries ≤ vec_capacity l.tickets)
+    × (length l.self.records ≤ vec_capacity l.tickets)
     × (l.meter ≡ l.initial.meter)

@@ -1,39 +1,39 @@
 use Rattle.std.proofs.Common.{◌≡◌, ◌<◌, length, None, refl, sym, subst}
 use Rattle.far_scopes.specs.Refusing.{replace_refusal}
-use Rattle.far_scopes.proofs.Replacements.{entry-was, tracked-mid, free-mid, lists-new, clean-new}
+use Rattle.far_scopes.proofs.Replacements.{object_record-was, tracked-mid, free-mid, lists-new, clean-new}
 use Rattle.far_scopes.specs.Movement.{AreHere}
 use Rattle.far_scopes.proofs.Framing.{here-replaced}
 use Rattle.far_scopes.proofs.objects.Objects.replace.Goals as goal
 
 pub invariant_of-self-2 : goal.invariant_of-self-2
 invariant_of-self-2 g c =
-    let within = subst (λ m. c.args.o < length m.entries) (sym c.self.view_is) c.requires.within in
+    let within = subst (λ m. c.args.o < length m.records) (sym c.self.view_is) c.requires.within in
     let free = subst (λ m. replace_refusal m c.args.o (length c.args.items.now) ≡ None) (sym c.self.view_is) (sym c.in_ok-may_replace.ensures) in
     tracked-mid g.T.Elem.meaning g.S.FarTickets.content _ _ c.self.invariant c.args.o within c.index_mut.result.now c.index_mut.ensures.value c.args.items.now free c.replace.new.self c.in_ok-replace.ensures.ok c.in_ok-replace.ensures.list c.requires.some
 
 pub mark-requires-clause-free : goal.mark-requires-clause-free
 mark-requires-clause-free g c κs outlives =
-    let within = subst (λ m. c.args.o < length m.entries) (sym c.self.view_is) c.requires.within in
+    let within = subst (λ m. c.args.o < length m.records) (sym c.self.view_is) c.requires.within in
     let free = subst (λ m. replace_refusal m c.args.o (length c.args.items.now) ≡ None) (sym c.self.view_is) (sym c.in_ok-may_replace.ensures) in
     free-mid g.T.Elem.meaning g.S.FarTickets.content _ _ c.self.invariant c.args.o within c.index_mut.result.now c.index_mut.ensures.value c.args.items.now free c.replace.new.self c.in_ok-replace.ensures.ok c.in_ok-replace.ensures.list
 
 pub returns-clause-replaced : goal.returns-clause-replaced
 returns-clause-replaced g c =
-    let within = subst (λ m. c.args.o < length m.entries) (sym c.self.view_is) c.requires.within in
+    let within = subst (λ m. c.args.o < length m.records) (sym c.self.view_is) c.requires.within in
     let free = subst (λ m. replace_refusal m c.args.o (length c.args.items.now) ≡ None) (sym c.self.view_is) (sym c.in_ok-may_replace.ensures) in
-    rw (c.mark.ensures.written, c.in_ok-replace.ensures.ok, ← c.self.view_is, entry-was g.T.Elem.meaning g.S.FarTickets.content _ _ c.self.invariant c.args.o within c.index_mut.result.now c.index_mut.ensures.value c.args.items.now free c.replace.new.self c.in_ok-replace.ensures.ok c.in_ok-replace.ensures.list) refl
+    rw (c.mark.ensures.written, c.in_ok-replace.ensures.ok, ← c.self.view_is, object_record-was g.T.Elem.meaning g.S.FarTickets.content _ _ c.self.invariant c.args.o within c.index_mut.result.now c.index_mut.ensures.value c.args.items.now free c.replace.new.self c.in_ok-replace.ensures.ok c.in_ok-replace.ensures.list) refl
 
 pub returns-clause-list : goal.returns-clause-list
 returns-clause-list g c =
-    let within = subst (λ m. c.args.o < length m.entries) (sym c.self.view_is) c.requires.within in
+    let within = subst (λ m. c.args.o < length m.records) (sym c.self.view_is) c.requires.within in
     let free = subst (λ m. replace_refusal m c.args.o (length c.args.items.now) ≡ None) (sym c.self.view_is) (sym c.in_ok-may_replace.ensures) in
     rw (← c.self.view_is) (lists-new g.T.Elem.meaning g.S.FarTickets.content _ _ c.self.invariant c.args.o within c.index_mut.result.now c.index_mut.ensures.value c.args.items.now free c.replace.new.self c.in_ok-replace.ensures.ok c.in_ok-replace.ensures.list c.mark.new.self c.mark.ensures.written c.mark.ensures.lists)
 
 pub returns-clause-clean : goal.returns-clause-clean
 returns-clause-clean g c =
-    let within = subst (λ m. c.args.o < length m.entries) (sym c.self.view_is) c.requires.within in
+    let within = subst (λ m. c.args.o < length m.records) (sym c.self.view_is) c.requires.within in
     let free = subst (λ m. replace_refusal m c.args.o (length c.args.items.now) ≡ None) (sym c.self.view_is) (sym c.in_ok-may_replace.ensures) in
     rw (← c.self.view_is) (clean-new g.T.Elem.meaning g.S.FarTickets.content _ _ c.self.invariant c.args.o within c.index_mut.result.now c.index_mut.ensures.value c.args.items.now free c.replace.new.self c.in_ok-replace.ensures.ok c.in_ok-replace.ensures.list c.mark.new.self c.mark.ensures.written c.mark.ensures.parts c.mark.ensures.dirty)
 
 pub returns-clause-store : goal.returns-clause-store
-returns-clause-store g c = λ name here. subst (AreHere g.S.FarTickets.is_of name) (sym (returns-clause-replaced g c)) (here-replaced c.args.self.now c.args.o c.args.items.now g.S.FarTickets.is_of name here)
+returns-clause-store g c = λ id here. subst (AreHere g.S.FarTickets.is_of id) (sym (returns-clause-replaced g c)) (here-replaced c.args.self.now c.args.o c.args.items.now g.S.FarTickets.is_of id here)

@@ -41,47 +41,47 @@ returns-in_err-replace_all-clause-refused g c =
 pub invariant_of-self-2 : goal.invariant_of-self-2
 invariant_of-self-2 g c =
     let here = subst (λ m. first_absent m (map (λ r. r.object) c.args.lists.now) ≡ None) (sym c.self.view_is) (sym c.in_ok-all_here.ensures) in
-    let entries = c.set_lens.ensures ∙ ap (λ es. with_lens es c.args.lists.now) c.deref_mut.ensures.value in
-    let items = with_items_is c.self.inside.entries c.set_lens.new.entries (ap (λ es. length es) entries ∙ length-lens c.self.inside.entries.items c.args.lists.now ∙ sym c.self.inside.entries.ok.0) in
-    rw (items, entries) (tracked-mid g.T.Elem.meaning g.S.FarTickets.content _ _ c.self.invariant c.args.lists.now c.requires.some c.requires.once here c.replace_all.new.self c.in_ok-replace_all.ensures.ok c.in_ok-replace_all.ensures.lists)
+    let records = c.set_lens.ensures ∙ ap (λ es. with_lens es c.args.lists.now) c.deref_mut.ensures.value in
+    let items = with_items_is c.self.inside.records c.set_lens.new.records (ap (λ es. length es) records ∙ length-lens c.self.inside.records.items c.args.lists.now ∙ sym c.self.inside.records.ok.0) in
+    rw (items, records) (tracked-mid g.T.Elem.meaning g.S.FarTickets.content _ _ c.self.invariant c.args.lists.now c.requires.some c.requires.once here c.replace_all.new.self c.in_ok-replace_all.ensures.ok c.in_ok-replace_all.ensures.lists)
 
 pub mark_all-requires-clause-free : goal.mark_all-requires-clause-free
 mark_all-requires-clause-free g c κs within =
     let here = subst (λ m. first_absent m (map (λ r. r.object) c.args.lists.now) ≡ None) (sym c.self.view_is) (sym c.in_ok-all_here.ensures) in
-    let entries = c.set_lens.ensures ∙ ap (λ es. with_lens es c.args.lists.now) c.deref_mut.ensures.value in
-    let items = with_items_is c.self.inside.entries c.set_lens.new.entries (ap (λ es. length es) entries ∙ length-lens c.self.inside.entries.items c.args.lists.now ∙ sym c.self.inside.entries.ok.0) in
+    let records = c.set_lens.ensures ∙ ap (λ es. with_lens es c.args.lists.now) c.deref_mut.ensures.value in
+    let items = with_items_is c.self.inside.records c.set_lens.new.records (ap (λ es. length es) records ∙ length-lens c.self.inside.records.items c.args.lists.now ∙ sym c.self.inside.records.ok.0) in
     let checked = sym c.all_writable-checked.ensures ∙ checked-free _ _ c.in_ok-replace_all.ensures.free in
     let free = subst (λ m. first_of (any_written_out m c.args.lists.now ∷ []) ≡ None) (sym c.self.view_is) checked in
-    rw (items, entries) (free-mid g.T.Elem.meaning g.S.FarTickets.content _ _ c.self.invariant c.args.lists.now c.requires.some c.requires.once here c.replace_all.new.self c.in_ok-replace_all.ensures.ok c.in_ok-replace_all.ensures.lists free)
+    rw (items, records) (free-mid g.T.Elem.meaning g.S.FarTickets.content _ _ c.self.invariant c.args.lists.now c.requires.some c.requires.once here c.replace_all.new.self c.in_ok-replace_all.ensures.ok c.in_ok-replace_all.ensures.lists free)
 
 pub returns-clause-lists : goal.returns-clause-lists
 returns-clause-lists g c =
     let here = subst (λ m. first_absent m (map (λ r. r.object) c.args.lists.now) ≡ None) (sym c.self.view_is) (sym c.in_ok-all_here.ensures) in
-    let entries = c.set_lens.ensures ∙ ap (λ es. with_lens es c.args.lists.now) c.deref_mut.ensures.value in
-    let items = with_items_is c.self.inside.entries c.set_lens.new.entries (ap (λ es. length es) entries ∙ length-lens c.self.inside.entries.items c.args.lists.now ∙ sym c.self.inside.entries.ok.0) in
+    let records = c.set_lens.ensures ∙ ap (λ es. with_lens es c.args.lists.now) c.deref_mut.ensures.value in
+    let items = with_items_is c.self.inside.records c.set_lens.new.records (ap (λ es. length es) records ∙ length-lens c.self.inside.records.items c.args.lists.now ∙ sym c.self.inside.records.ok.0) in
     rw (← c.self.view_is) (lists-new g.T.Elem.meaning g.S.FarTickets.content _ _ c.self.invariant c.args.lists.now c.requires.some c.requires.once here c.replace_all.new.self c.in_ok-replace_all.ensures.ok c.in_ok-replace_all.ensures.lists
-    c.mark_all.new.self (rw (items, entries) at c.mark_all.ensures.lists))
+    c.mark_all.new.self (rw (items, records) at c.mark_all.ensures.lists))
 
 pub returns-clause-clean : goal.returns-clause-clean
 returns-clause-clean g c =
     let here = subst (λ m. first_absent m (map (λ r. r.object) c.args.lists.now) ≡ None) (sym c.self.view_is) (sym c.in_ok-all_here.ensures) in
-    let entries = c.set_lens.ensures ∙ ap (λ es. with_lens es c.args.lists.now) c.deref_mut.ensures.value in
-    let items = with_items_is c.self.inside.entries c.set_lens.new.entries (ap (λ es. length es) entries ∙ length-lens c.self.inside.entries.items c.args.lists.now ∙ sym c.self.inside.entries.ok.0) in
-    λ clean. (rw (items, entries) at c.mark_all.ensures.clean) (clean-mid g.T.Elem.meaning g.S.FarTickets.content _ _ c.self.invariant c.args.lists.now c.requires.some c.requires.once here c.replace_all.new.self c.in_ok-replace_all.ensures.ok c.in_ok-replace_all.ensures.lists
+    let records = c.set_lens.ensures ∙ ap (λ es. with_lens es c.args.lists.now) c.deref_mut.ensures.value in
+    let items = with_items_is c.self.inside.records c.set_lens.new.records (ap (λ es. length es) records ∙ length-lens c.self.inside.records.items c.args.lists.now ∙ sym c.self.inside.records.ok.0) in
+    λ clean. (rw (items, records) at c.mark_all.ensures.clean) (clean-mid g.T.Elem.meaning g.S.FarTickets.content _ _ c.self.invariant c.args.lists.now c.requires.some c.requires.once here c.replace_all.new.self c.in_ok-replace_all.ensures.ok c.in_ok-replace_all.ensures.lists
     (subst (AreClean g.T.Elem.meaning g.S.FarTickets.content) (sym c.self.view_is) clean))
 
 pub returns-clause-count : goal.returns-clause-count
 returns-clause-count g c =
-    let entries = c.set_lens.ensures ∙ ap (λ es. with_lens es c.args.lists.now) c.deref_mut.ensures.value in
-    let long = ap (λ es. length es) entries ∙ length-lens c.self.inside.entries.items c.args.lists.now in
-    let items = with_items_is c.self.inside.entries c.set_lens.new.entries (long ∙ sym c.self.inside.entries.ok.0) in
-    c.mark_all.ensures.count ∙ ap (λ es. length es) items ∙ long ∙ ap (λ m. length m.entries) c.self.view_is
+    let records = c.set_lens.ensures ∙ ap (λ es. with_lens es c.args.lists.now) c.deref_mut.ensures.value in
+    let long = ap (λ es. length es) records ∙ length-lens c.self.inside.records.items c.args.lists.now in
+    let items = with_items_is c.self.inside.records c.set_lens.new.records (long ∙ sym c.self.inside.records.ok.0) in
+    c.mark_all.ensures.count ∙ ap (λ es. length es) items ∙ long ∙ ap (λ m. length m.records) c.self.view_is
 
 pub returns-in_err-replace_all-clause-store : goal.returns-in_err-replace_all-clause-store
-returns-in_err-replace_all-clause-store g c = λ name here. subst (AreHere g.S.FarTickets.is_of name) (sym c.self.view_is) here
+returns-in_err-replace_all-clause-store g c = λ id here. subst (AreHere g.S.FarTickets.is_of id) (sym c.self.view_is) here
 
 pub returns-clause-store : goal.returns-clause-store
 returns-clause-store g c =
-    let entries = c.set_lens.ensures ∙ ap (λ es. with_lens es c.args.lists.now) c.deref_mut.ensures.value in
-    let items = with_items_is c.self.inside.entries c.set_lens.new.entries (ap (λ es. length es) entries ∙ length-lens c.self.inside.entries.items c.args.lists.now ∙ sym c.self.inside.entries.ok.0) in
-    λ name here. rw c.mark_all.ensures.written (here-replaced_all g.S.FarTickets.is_of name c.args.self.now _ c.args.lists.now (items ∙ entries ∙ ap (λ m. with_lens m.entries c.args.lists.now) c.self.view_is) here)
+    let records = c.set_lens.ensures ∙ ap (λ es. with_lens es c.args.lists.now) c.deref_mut.ensures.value in
+    let items = with_items_is c.self.inside.records c.set_lens.new.records (ap (λ es. length es) records ∙ length-lens c.self.inside.records.items c.args.lists.now ∙ sym c.self.inside.records.ok.0) in
+    λ id here. rw c.mark_all.ensures.written (here-replaced_all g.S.FarTickets.is_of id c.args.self.now _ c.args.lists.now (items ∙ records ∙ ap (λ m. with_lens m.records c.args.lists.now) c.self.view_is) here)

@@ -8,29 +8,29 @@ use Rattle.far_scopes.proofs.objects.Objects.unpin.Goals as goal
 
 pub invariant_of-self-2 : goal.invariant_of-self-2
 invariant_of-self-2 g c =
-    let within = subst (λ m. c.args.o < length m.entries) (sym c.self.view_is) c.requires in
-    let was = word-read c.self.inside.entries.items c.args.o c.index_mut-entry.result.now within c.index_mut-entry.ensures.value in
-    tracked-recorded g.T.Elem.meaning g.S.FarTickets.content _ _ c.self.invariant c.args.o c.index_mut-entry.result.now _ was
-    (λ word is. let t = c.self.invariant.each c.args.o word c.index_mut-entry.result.now is was in tracked-pins g.T.Elem.meaning g.S.FarTickets.content _ _ _ word _ c.index_mut-entry.result.now _ t (λ away. absurd (c.if-entry-eq0.false (t.away away).0)))
+    let within = subst (λ m. c.args.o < length m.records) (sym c.self.view_is) c.requires in
+    let was = word-read c.self.inside.records.items c.args.o c.index_mut-object_record.result.now within c.index_mut-object_record.ensures.value in
+    tracked-recorded g.T.Elem.meaning g.S.FarTickets.content _ _ c.self.invariant c.args.o c.index_mut-object_record.result.now _ was
+    (λ word is. let t = c.self.invariant.each c.args.o word c.index_mut-object_record.result.now is was in tracked-pins g.T.Elem.meaning g.S.FarTickets.content _ _ _ word _ c.index_mut-object_record.result.now _ t (λ away. absurd (c.if-object_record-eq0.false (t.away away).0)))
 
 pub returns-clause-unpinned : goal.returns-clause-unpinned
 returns-clause-unpinned g c =
-    let within = subst (λ m. c.args.o < length m.entries) (sym c.self.view_is) c.requires in
-    let was = word-read c.self.inside.entries.items c.args.o c.index_mut-entry.result.now within c.index_mut-entry.ensures.value in
+    let within = subst (λ m. c.args.o < length m.records) (sym c.self.view_is) c.requires in
+    let was = word-read c.self.inside.records.items c.args.o c.index_mut-object_record.result.now within c.index_mut-object_record.ensures.value in
     rw (← c.self.view_is, was) refl
 
 pub returns-clause-clean : goal.returns-clause-clean
 returns-clause-clean g c =
-    let within = subst (λ m. c.args.o < length m.entries) (sym c.self.view_is) c.requires in
-    let was = word-read c.self.inside.entries.items c.args.o c.index_mut-entry.result.now within c.index_mut-entry.ensures.value in
-    λ clean. clean-recorded g.T.Elem.meaning g.S.FarTickets.content _ _ c.self.invariant c.args.o c.index_mut-entry.result.now _ was refl (subst (AreClean g.T.Elem.meaning g.S.FarTickets.content) (sym c.self.view_is) clean)
+    let within = subst (λ m. c.args.o < length m.records) (sym c.self.view_is) c.requires in
+    let was = word-read c.self.inside.records.items c.args.o c.index_mut-object_record.result.now within c.index_mut-object_record.ensures.value in
+    λ clean. clean-recorded g.T.Elem.meaning g.S.FarTickets.content _ _ c.self.invariant c.args.o c.index_mut-object_record.result.now _ was refl (subst (AreClean g.T.Elem.meaning g.S.FarTickets.content) (sym c.self.view_is) clean)
 
 pub returns-clause-refused : goal.returns-clause-refused
 returns-clause-refused g c =
-    let within = subst (λ m. c.args.o < length m.entries) (sym c.self.view_is) c.requires in
-    let was = word-read c.self.inside.entries.items c.args.o c.index_mut-entry.result.now within c.index_mut-entry.ensures.value in
-    let pins : pins_of c.args.self.now c.args.o ≡ c.index_mut-entry.result.now.pins = rw (← c.self.view_is, was) refl in
-    rw (pins, ne_eqb c.index_mut-entry.result.now.pins 0 c.if-entry-eq0.false) refl
+    let within = subst (λ m. c.args.o < length m.records) (sym c.self.view_is) c.requires in
+    let was = word-read c.self.inside.records.items c.args.o c.index_mut-object_record.result.now within c.index_mut-object_record.ensures.value in
+    let pins : pins_of c.args.self.now c.args.o ≡ c.index_mut-object_record.result.now.pins = rw (← c.self.view_is, was) refl in
+    rw (pins, ne_eqb c.index_mut-object_record.result.now.pins 0 c.if-object_record-eq0.false) refl
 
 pub returns-clause-lists : goal.returns-clause-lists
 returns-clause-lists g c =

@@ -3,4 +3,4 @@ use Rattle.far_scopes.proofs.Pins.{length-pinned_all}
 use Rattle.far_scopes_tests.proofs.scopes.calls.enter.Goals as goal
 
 pub returns-clause-count : goal.returns-clause-count
-returns-clause-count g c = ap (λ m. length m.entries) c.in_ok-scope.ensures.pinned ∙ length-pinned_all c.args.objects.now c.args.listed.now
+returns-clause-count g c = ap (λ m. length m.records) c.in_ok-scope.ensures.pinned ∙ length-pinned_all c.args.objects.now c.args.listed.now

@@ -20,13 +20,13 @@ use Rattle.far_table.proofs.live_table.LiveTable.holds_still.Goals as goal
 pub returns-then-eq-clause-exact : goal.returns-then-eq-clause-exact
 returns-then-eq-clause-exact g c =
     let t = c.self.inside.rows in
-    let slots = c.self.inside.aggregates in
+    let registry = c.self.inside.aggregates in
     let b = c.build.inside in
     let spec = c.in-Some.spec.now in
     let held = c.held-held.ensures.held in
     let flags = slice_eq-Decides booleans_Decides c.alive.result.now c.flags.result.now c.eq.result c.eq.ensures in
-    let found = an-aggregate (aggregate_in slots b.aggregate) spec c.in-Some.ensures in
-    let checked = subst (IsChecked t.schema) found.is (checked-at t.schema (registered_of slots) b.aggregate c.self.invariant.checked) in
+    let found = an-aggregate (aggregate_in registry b.aggregate) spec c.in-Some.ensures in
+    let checked = subst (IsChecked t.schema) found.is (checked-at t.schema (registered_of registry) b.aggregate c.self.invariant.checked) in
     let right = ap (λ (s : Spec). spec_refusal t.schema s) (sym found.same) ∙ checked in
     let below = needed-below c.an_aggregate_is_served_by_the_columns_of_its_schema.ensures t.held t.schema c.held-held.ensures.kinds spec right in
     let number = c.if-build-number.false ∙ c.number.ensures ∙ ap (λ (r : Rows g.row.S-Ticket.Denot). r.number_objects.number) held in
@@ -35,18 +35,18 @@ returns-then-eq-clause-exact g c =
     let build : Build g.row.S-Ticket.Denot = record { number = b.number; aggregate = b.aggregate; registration = b.registration; group = b.group; job = b.job } in
     let exact = subst (λ (tickets : List (ℕ × g.row.S-Ticket.Denot)). IsTrue c.are_still.result ↔ AllNeeded (length t.held.column_indexes) spec (λ column. HaveOneNumber g.S.FarTickets.number_of (copy_of t.held column b.group) (ticket_for tickets column))) c.tickets.ensures
     (subst (λ (r : Rows g.row.S-Ticket.Denot). IsTrue c.are_still.result ↔ AllNeeded (length r.column_indexes) spec (λ column. HaveOneNumber g.S.FarTickets.number_of (copy_of r column b.group) (ticket_for c.tickets.result.now column))) held c.are_still.ensures.exact) in
-    rw (← c.self.view_is, ← c.build.view_is) (tickets-decide g.S.FarTickets.number_of (state_of t c.self.inside.registrations slots) build spec c.in-Some-registration.registration c.are_still.result number c.if-build-registration.false same alive below exact c.in-Some.ensures c.in-Some-registration.ensures (sym c.is_left.ensures ∙ c.if-not-is_left.false))
+    rw (← c.self.view_is, ← c.build.view_is) (tickets-decide g.S.FarTickets.number_of (state_of t c.self.inside.registrations registry) build spec c.in-Some-registration.registration c.are_still.result number c.if-build-registration.false same alive below exact c.in-Some.ensures c.in-Some-registration.ensures (sym c.is_pending_in.ensures ∙ c.if-not-is_pending_in.false))
 
 pub returns-then-eq-clause-copies : goal.returns-then-eq-clause-copies
 returns-then-eq-clause-copies g c = λ yes.
     let t = c.self.inside.rows in
-    let slots = c.self.inside.aggregates in
+    let registry = c.self.inside.aggregates in
     let b = c.build.inside in
     let spec = c.in-Some.spec.now in
     let held = c.held-held.ensures.held in
     let flags = slice_eq-Decides booleans_Decides c.alive.result.now c.flags.result.now c.eq.result c.eq.ensures in
-    let found = an-aggregate (aggregate_in slots b.aggregate) spec c.in-Some.ensures in
-    let checked = subst (IsChecked t.schema) found.is (checked-at t.schema (registered_of slots) b.aggregate c.self.invariant.checked) in
+    let found = an-aggregate (aggregate_in registry b.aggregate) spec c.in-Some.ensures in
+    let checked = subst (IsChecked t.schema) found.is (checked-at t.schema (registered_of registry) b.aggregate c.self.invariant.checked) in
     let right = ap (λ (s : Spec). spec_refusal t.schema s) (sym found.same) ∙ checked in
     let below = needed-below c.an_aggregate_is_served_by_the_columns_of_its_schema.ensures t.held t.schema c.held-held.ensures.kinds spec right in
     let same = sym c.spec-2.ensures ∙ c.is_same.ensures.0 c.if-not-is_same.false in

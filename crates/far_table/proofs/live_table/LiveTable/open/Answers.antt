@@ -15,4 +15,4 @@ invariant_of-result g c =
 
 -- there is no object yet, so no ticket
 pub returns-clause-here : goal.returns-clause-here
-returns-clause-here g c = λ name. subst (AreAt g.S.FarTickets.is_of name) (sym c.in_ok-rows.ensures.opened.held) record { numbers = λ o. tt; texts = λ o. tt }
+returns-clause-here g c = λ id. subst (AreAt g.S.FarTickets.is_of id) (sym c.in_ok-rows.ensures.opened.held) record { numbers = λ o. tt; texts = λ o. tt }

@@ -34,11 +34,11 @@ fold_pieces-requires-clause-begun g c κs within = λ group below.
 pub fold_pieces-requires-clause-may_fold : goal.fold_pieces-requires-clause-may_fold
 fold_pieces-requires-clause-may_fold g c κs within =
     let t = c.self.inside.rows in
-    let slots = c.self.inside.aggregates in
+    let registry = c.self.inside.aggregates in
     let spec = c.in-Some.spec.now in
     let law = c.an_aggregate_is_served_by_the_columns_of_its_schema.ensures in
-    let found = an-aggregate (aggregate_in slots c.args.a) spec c.in-Some.ensures in
-    let checked = subst (IsChecked t.schema) found.is (checked-at t.schema (registered_of slots) c.args.a c.self.invariant.checked) in
+    let found = an-aggregate (aggregate_in registry c.args.a) spec c.in-Some.ensures in
+    let checked = subst (IsChecked t.schema) found.is (checked-at t.schema (registered_of registry) c.args.a c.self.invariant.checked) in
     let right = ap (λ (s : Spec). spec_refusal t.schema s) (sym found.same) ∙ checked in
     subst (λ (r : Rows g.row.S-Ticket.Denot). MayFold r spec) (sym c.held-held.ensures.held) record {
       tests = (law t.schema spec (λ c. true) right (λ c within. refl)).tests;
@@ -59,9 +59,9 @@ answer_of-requires-clause-partials g c =
 pub returns-clause-answer : goal.returns-clause-answer
 returns-clause-answer g c =
     let t = c.self.inside.rows in
-    let slots = c.self.inside.aggregates in
+    let registry = c.self.inside.aggregates in
     let spec = c.in-Some.spec.now in
-    let found = an-aggregate (aggregate_in slots c.args.a) spec c.in-Some.ensures in
+    let found = an-aggregate (aggregate_in registry c.args.a) spec c.in-Some.ensures in
     let whole = pieces-whole g.S.FarTickets.content spec c.held-held.result.now c.group_count-count.result c.cut_for.result.long c.cut_for.result.pieces c.in_ok-pieces.pieces.items c.in_ok-pieces.ensures.len c.in_ok-pieces.ensures.each
     t c.limits.result.now c.len-places.result c.in_ok-partials.partials.items c.held-held.ensures.held c.held-held.ensures.places c.held-held.ensures.size c.limits.ensures.same c.group_count-count.ensures.value c.in_ok-partials.ensures.whole c.cut_for.ensures.all c.in_ok-partials.ensures.partials in
     IfOk-weaker c.answer_of.result _ _ (λ answer told.
@@ -72,11 +72,11 @@ returns-clause-answer g c =
 pub total_answer-requires-clause-may_fold : goal.total_answer-requires-clause-may_fold
 total_answer-requires-clause-may_fold g c κs within =
     let t = c.self.inside.rows in
-    let slots = c.self.inside.aggregates in
+    let registry = c.self.inside.aggregates in
     let spec = c.in-Some.spec.now in
     let law = c.an_aggregate_is_served_by_the_columns_of_its_schema.ensures in
-    let found = an-aggregate (aggregate_in slots c.args.a) spec c.in-Some.ensures in
-    let checked = subst (IsChecked t.schema) found.is (checked-at t.schema (registered_of slots) c.args.a c.self.invariant.checked) in
+    let found = an-aggregate (aggregate_in registry c.args.a) spec c.in-Some.ensures in
+    let checked = subst (IsChecked t.schema) found.is (checked-at t.schema (registered_of registry) c.args.a c.self.invariant.checked) in
     let right = ap (λ (s : Spec). spec_refusal t.schema s) (sym found.same) ∙ checked in
     subst (λ (r : Rows g.row.S-Ticket.Denot). MayFold r spec) (sym c.held-held.ensures.held) record {
       tests = (law t.schema spec (λ c. true) right (λ c within. refl)).tests;
@@ -91,9 +91,9 @@ pub returns-in-Totals-clause-answer : goal.returns-in-Totals-clause-answer
 returns-in-Totals-clause-answer g c =
     let content = g.S.FarTickets.content in
     let t = c.self.inside.rows in
-    let slots = c.self.inside.aggregates in
+    let registry = c.self.inside.aggregates in
     let spec = c.in-Some.spec.now in
-    let found = an-aggregate (aggregate_in slots c.args.a) spec c.in-Some.ensures in
+    let found = an-aggregate (aggregate_in registry c.args.a) spec c.in-Some.ensures in
     IfOk-weaker c.total_answer.result _ _ (λ answer told.
     subst (λ (s : State g.row.S-Ticket.Denot). IsAnswerNow s.table c.args.a answer) c.self.view_is
     (subst (λ o. IsSomeAnd o (λ aggregate. answer ≡ answer_over aggregate.spec (rows_of t.places))) (sym found.is)

@@ -6,7 +6,7 @@ use Rattle.far_types.specs.Table.{in_group}
 use Rattle.far_rows.specs.Rows.{cells_of}
 use Rattle.far_aggregates.specs.Aggregates.{aggregate_in}
 use Rattle.far_aggregates.specs.Accumulators.{Keeps, registered_of}
-use Rattle.far_aggregates.specs.Lending.{IsServed, SlotIsServed}
+use Rattle.far_aggregates.specs.Lending.{IsServed, EntryIsServed}
 use Rattle.far_table.specs.Groups.{GroupRows, has_column, places_here}
 use Rattle.far_table.specs.State.{IsChecked}
 use Rattle.far_table.proofs.LiveEdits.{kept-fit}
@@ -20,19 +20,19 @@ pub build_at-requires-clause-served : goal.build_at-requires-clause-served
 build_at-requires-clause-served g c =
     let content = g.S.FarTickets.content in
     let t = c.self.inside.rows in
-    let slots = c.self.inside.aggregates in
+    let registry = c.self.inside.aggregates in
     let spec = c.in-Some.spec.now in
-    let found = an-aggregate (aggregate_in slots c.args.a) spec c.in-Some.ensures in
+    let found = an-aggregate (aggregate_in registry c.args.a) spec c.in-Some.ensures in
     let counted : c.args.group < c.groups.result = c.if-group-groups.false in
     let first : c.args.group * t.limits.group < length t.places = begun c.args.group t.limits.group (length t.places) (omega (arith, c.limits.ensures.bounds.group_low)) (subst (λ (n : ℕ). c.args.group < n) c.groups.ensures counted) in
     let long = sym (ap length c.held-held.ensures.places ∙ length-places (cells_of content t.held) t.held.alive) in
     let inside = begun-at c.args.group t.held t.held refl t.limits.group (length t.places) c.held-held.ensures.size long first in
-    let checked = subst (IsChecked t.schema) found.is (checked-at t.schema (registered_of slots) c.args.a c.self.invariant.checked) in
+    let checked = subst (IsChecked t.schema) found.is (checked-at t.schema (registered_of registry) c.args.a c.self.invariant.checked) in
     let right = ap (λ (s : Spec). spec_refusal t.schema s) (sym found.same) ∙ checked in
     let served = scan-served content t.held c.held-held.ensures.rows c.args.group inside c.an_aggregate_is_served_by_the_columns_of_its_schema.ensures t.schema c.held-held.ensures.kinds spec right c.in_ok-may_scan.ensures in
     let lent : GroupRows g.row.S-Ticket.Denot = record { rows = t.held; group = c.args.group } in
-    subst (λ (group : GroupRows g.row.S-Ticket.Denot). SlotIsServed (has_column group) (aggregate_in slots c.args.a)) (sym c.group.ensures)
-    (subst (SlotIsServed (has_column lent)) (sym found.is) (subst (IsServed (has_column lent)) (sym found.same) served))
+    subst (λ (group : GroupRows g.row.S-Ticket.Denot). EntryIsServed (has_column group) (aggregate_in registry c.args.a)) (sym c.group.ensures)
+    (subst (EntryIsServed (has_column lent)) (sym found.is) (subst (IsServed (has_column lent)) (sym found.same) served))
 
 pub build_at-requires-clause-kept : goal.build_at-requires-clause-kept
 build_at-requires-clause-kept g c =
@@ -51,7 +51,7 @@ pub invariant_of-self : goal.invariant_of-self
 invariant_of-self g c =
     let content = g.S.FarTickets.content in
     let t = c.self.inside.rows in
-    let slots = c.self.inside.aggregates in
+    let registry = c.self.inside.aggregates in
     let same = c.limits.ensures.same in
     let here =
     ap (places_here content) c.group.ensures
@@ -59,6 +59,6 @@ invariant_of-self g c =
     ∙ ap (λ (limits : Limits). in_group limits.group c.args.group t.places) (sym same) in
     record {
       registrations_few = c.self.invariant.registrations_few;
-      kept = subst (λ (limits : Limits). Keeps limits.group t.places c.build_at.new.self) same (c.build_at.ensures.kept t.places here (subst (λ (limits : Limits). Keeps limits.group t.places slots) (sym same) c.self.invariant.kept));
-      checked = scanned-checked t.schema (registered_of slots) (registered_of c.build_at.new.self) c.args.a c.args.group c.build_at.result c.build_at.ensures.registered c.build_at.ensures.unchanged c.self.invariant.checked;
+      kept = subst (λ (limits : Limits). Keeps limits.group t.places c.build_at.new.self) same (c.build_at.ensures.kept t.places here (subst (λ (limits : Limits). Keeps limits.group t.places registry) (sym same) c.self.invariant.kept));
+      checked = scanned-checked t.schema (registered_of registry) (registered_of c.build_at.new.self) c.args.a c.args.group c.build_at.result c.build_at.ensures.registered c.build_at.ensures.unchanged c.self.invariant.checked;
     }

@@ -2,7 +2,7 @@ use Rattle.std.proofs.Common.{◌∙◌, sym, subst, refl, arith, List}
 use Rattle.std.proofs.lemmas.Result.{err_from_is_err_and}
 use Rattle.far_types.specs.declared.edit.Edit.TheVariants as edit
 use Rattle.far_types.specs.Lent.{lent_cell}
-use Rattle.far_aggregates.specs.Accumulators.{Slot, Keeps, PlacesFit}
+use Rattle.far_aggregates.specs.Accumulators.{RegistryEntry, Keeps, PlacesFit}
 use Rattle.far_rows.specs.Setting.{cell_of}
 use Rattle.far_table.specs.State.{State}
 use Rattle.far_table.specs.TableRows.{TableRows}
@@ -44,21 +44,21 @@ returns-in_err-pending-clause-err g c =
     let p = err_from_is_err_and c.from_residual-in_err-pending.result c.from_residual-in_err-pending.ensures.1 in
     let t = c.self.inside.rows in
     let n = c.self.inside.registrations in
-    let slots = c.self.inside.aggregates in
+    let registry = c.self.inside.aggregates in
     let e = c.in_err-pending.ensures in
-    rw (p.1, p.2) (refuses-memory (state_of t n slots) c.args.self.now (state_of t n c.change_in.new.self) (edit.Set c.args.place c.args.column c.args.cell) c.in_err-pending.field-0.0 c.self.view_is
-    (shown-same t n slots c.change_in.new.self e.registered)
+    rw (p.1, p.2) (refuses-memory (state_of t n registry) c.args.self.now (state_of t n c.change_in.new.self) (edit.Set c.args.place c.args.column c.args.cell) c.in_err-pending.field-0.0 c.self.view_is
+    (shown-same t n registry c.change_in.new.self e.registered)
     c.in_ok-value.ensures.refused e.memory)
 
 pub invariant_of-self-in-Err : goal.invariant_of-self-in-Err
 invariant_of-self-in-Err g c =
     let t = c.self.inside.rows in
     let n = c.self.inside.registrations in
-    let slots = c.self.inside.aggregates in
+    let registry = c.self.inside.aggregates in
     let e = c.in_ok-pending.ensures in
-    let kept = subst (λ (now : List Slot). Keeps t.limits.group t.places now) (sym c.undo.ensures.undo) (e.undo.kept t.limits.group t.places c.self.invariant.kept) in
+    let kept = subst (λ (now : List RegistryEntry). Keeps t.limits.group t.places now) (sym c.undo.ensures.undo) (e.undo.kept t.limits.group t.places c.self.invariant.kept) in
     subst (λ (rows : TableRows g.row.S-Ticket.Denot). IsLive rows n c.undo.new.self) (sym c.in-Err.ensures.err)
-    (same-live t n slots c.undo.new.self (c.undo.ensures.registered ∙ e.registered) c.self.invariant kept)
+    (same-live t n registry c.undo.new.self (c.undo.ensures.registered ∙ e.registered) c.self.invariant kept)
 
 pub retract_row-requires-clause-inside : goal.retract_row-requires-clause-inside
 retract_row-requires-clause-inside g c κs within =

@@ -4,7 +4,7 @@ use Rattle.far_types.specs.declared.cell.Kind.{Kind}
 use Rattle.far_types.specs.declared.limits.Limits.{Limits}
 use Rattle.far_types.specs.Bounds.{spec_refusal}
 use Rattle.far_types.specs.Table.{Registered, groups}
-use Rattle.far_aggregates.specs.Accumulators.{Slot, Keeps, registered_of}
+use Rattle.far_aggregates.specs.Accumulators.{RegistryEntry, Keeps, registered_of}
 use Rattle.far_table.specs.Live.{state_of}
 use Rattle.far_table.specs.State.{State, AreChecked}
 use Rattle.far_table.specs.Watching.{lowest_free, registered_at, watch_refusal}
@@ -44,7 +44,7 @@ returns-in_err-register-clause-err g c =
     let count = ap (λ (s : State g.row.S-Ticket.Denot). s.table.registrations) c.self.view_is in
     let nothing = watch-free table c.args.spec right c.in-Some.a free (λ all. omega (arith, count, c.if-self-eq4294967296.false, all)) in
     rw (p.1, p.2) (
-      ap (λ (slots : List Slot). state_of inside.rows inside.registrations slots) c.in_err-register.ensures.unchanged ∙ c.self.view_is,
+      ap (λ (registry : List RegistryEntry). state_of inside.rows inside.registrations registry) c.in_err-register.ensures.unchanged ∙ c.self.view_is,
       for-memory (watch_refusal table c.args.spec) _ nothing c.in_err-register.ensures.memory,
     )
 
@@ -72,8 +72,8 @@ returns-clause-ok g c =
     let count = ap (λ (s : State g.row.S-Ticket.Denot). s.table.registrations) c.self.view_is in
     let put : Option Registered → List (Option Registered) = λ aggregate. slice_set (registered_of inside.aggregates) a aggregate in
     let groups-are =
-    ap (λ (limits : Limits). put (Some (record { spec = c.args.spec; registration = inside.registrations; unbuilt = replicate (groups limits.group c.len-places.result) true }))) c.limits.ensures.same
-    ∙ ap (λ (count : ℕ). put (Some (record { spec = c.args.spec; registration = inside.registrations; unbuilt = replicate (groups rows.limits.group count) true }))) c.len-places.ensures.len in
+    ap (λ (limits : Limits). put (Some (record { spec = c.args.spec; registration = inside.registrations; pending = replicate (groups limits.group c.len-places.result) true }))) c.limits.ensures.same
+    ∙ ap (λ (count : ℕ). put (Some (record { spec = c.args.spec; registration = inside.registrations; pending = replicate (groups rows.limits.group count) true }))) c.len-places.ensures.len in
     record {
       due = watch-free table c.args.spec right a free (λ all. omega (arith, count, c.if-self-eq4294967296.false, all));
       number = free;

@@ -84,7 +84,7 @@ returns-in_err-may_push-clause-refused g c =
     let due = insert-due content inside.schema inside.limits inside.rows new_row inside.edits kept c.args.row row free in
     let last = first_of ((inside.edits == inside.limits.edits, refusal.EditsUsedUp) ∷ []) in
     let seen = ap (λ (t : TableRows g.row.S-Ticket.Denot). edit_due (asked t) (edit.Insert c.args.row)) c.self.view_is in
-    rw (p.1, p.2) (ap (λ o. option_or o last) (c.in_err-may_push.ensures.plain inside.limits c.self.invariant.laid) ∙ due ∙ seen)
+    rw (p.1, p.2) (ap (λ o. option_or o last) (c.in_err-may_push.ensures.plain inside.limits c.self.invariant.layout) ∙ due ∙ seen)
 
 pub returns-clause-refused : goal.returns-clause-refused
 returns-clause-refused g c =
@@ -99,7 +99,7 @@ returns-clause-refused g c =
     let due = insert-due content inside.schema inside.limits inside.rows new_row inside.edits kept c.args.row row free in
     let last = first_of ((inside.edits == inside.limits.edits, refusal.EditsUsedUp) ∷ []) in
     let seen = ap (λ (t : TableRows g.row.S-Ticket.Denot). edit_due (asked t) (edit.Insert c.args.row)) c.self.view_is in
-    c.may_count.ensures ∙ ap (λ o. option_or o last) (c.in_ok-may_push.ensures.plain inside.limits c.self.invariant.laid) ∙ due ∙ seen
+    c.may_count.ensures ∙ ap (λ o. option_or o last) (c.in_ok-may_push.ensures.plain inside.limits c.self.invariant.layout) ∙ due ∙ seen
 
 pub returns-clause-free : goal.returns-clause-free
 returns-clause-free g c =
@@ -115,7 +115,7 @@ returns-clause-free g c =
     let last = first_of ((inside.edits == inside.limits.edits, refusal.EditsUsedUp) ∷ []) in
     let table = rows_in content inside.schema inside.limits inside.rows new_row inside.edits in
     on-ok c.may_count.result (edit_due (asked table) (edit.Insert c.args.row))
-    (c.may_count.ensures ∙ ap (λ o. option_or o last) (c.in_ok-may_push.ensures.plain inside.limits c.self.invariant.laid) ∙ due)
+    (c.may_count.ensures ∙ ap (λ o. option_or o last) (c.in_ok-may_push.ensures.plain inside.limits c.self.invariant.layout) ∙ due)
     (λ none. record {
       due = ap (λ cells. edit_due (asked table) (edit.Insert cells)) row ∙ sym none;
       objects = sym c.in_ok-may_push.ensures.refused;

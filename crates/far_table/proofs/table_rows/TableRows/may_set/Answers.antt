@@ -95,7 +95,7 @@ returns-in_err-may_set-clause-refused g c =
     let due = set-due content inside.schema inside.limits inside.rows inside.new_row inside.edits c.self.invariant c.len-len.ensures.rows c.args.column c.args.place c.new-value.result s.0 s.1 below c.args.cell c.new-value.ensures.cell free in
     let last = first_of ((inside.edits == inside.limits.edits, refusal.EditsUsedUp) ∷ []) in
     let seen = ap (λ (t : TableRows g.row.S-Ticket.Denot). edit_due (asked t) (edit.Set c.args.place c.args.column c.args.cell)) c.self.view_is in
-    rw (p.1, p.2) (ap (λ o. option_or o last) (c.in_err-may_set.ensures.plain inside.limits c.self.invariant.laid) ∙ due ∙ seen)
+    rw (p.1, p.2) (ap (λ o. option_or o last) (c.in_err-may_set.ensures.plain inside.limits c.self.invariant.layout) ∙ due ∙ seen)
 
 pub returns-in_err-may_count-clause-refused : goal.returns-in_err-may_count-clause-refused
 returns-in_err-may_count-clause-refused g c =
@@ -113,7 +113,7 @@ returns-in_err-may_count-clause-refused g c =
     let last = first_of ((inside.edits == inside.limits.edits, refusal.EditsUsedUp) ∷ []) in
     let seen = ap (λ (t : TableRows g.row.S-Ticket.Denot). edit_due (asked t) (edit.Set c.args.place c.args.column c.args.cell)) c.self.view_is in
     let used = sym (ap (λ (t : TableRows g.row.S-Ticket.Denot). first_of ((t.edits == t.limits.edits, refusal.EditsUsedUp) ∷ [])) c.self.view_is) in
-    rw (p.1, p.2) (c.in_err-may_count.ensures ∙ used ∙ ap (λ o. option_or o last) (c.in_ok-may_set.ensures.plain inside.limits c.self.invariant.laid) ∙ due ∙ seen)
+    rw (p.1, p.2) (c.in_err-may_count.ensures ∙ used ∙ ap (λ o. option_or o last) (c.in_ok-may_set.ensures.plain inside.limits c.self.invariant.layout) ∙ due ∙ seen)
 
 pub returns-clause-refused : goal.returns-clause-refused
 returns-clause-refused g c =
@@ -130,7 +130,7 @@ returns-clause-refused g c =
     let last = first_of ((inside.edits == inside.limits.edits, refusal.EditsUsedUp) ∷ []) in
     let seen = ap (λ (t : TableRows g.row.S-Ticket.Denot). edit_due (asked t) (edit.Set c.args.place c.args.column c.args.cell)) c.self.view_is in
     let used = sym (ap (λ (t : TableRows g.row.S-Ticket.Denot). first_of ((t.edits == t.limits.edits, refusal.EditsUsedUp) ∷ [])) c.self.view_is) in
-    c.in_ok-may_count.ensures ∙ used ∙ ap (λ o. option_or o last) (c.in_ok-may_set.ensures.plain inside.limits c.self.invariant.laid) ∙ due ∙ seen
+    c.in_ok-may_count.ensures ∙ used ∙ ap (λ o. option_or o last) (c.in_ok-may_set.ensures.plain inside.limits c.self.invariant.layout) ∙ due ∙ seen
 
 pub returns-clause-free : goal.returns-clause-free
 returns-clause-free g c =
@@ -147,7 +147,7 @@ returns-clause-free g c =
     let last = first_of ((inside.edits == inside.limits.edits, refusal.EditsUsedUp) ∷ []) in
     let used = sym (ap (λ (t : TableRows g.row.S-Ticket.Denot). first_of ((t.edits == t.limits.edits, refusal.EditsUsedUp) ∷ [])) c.self.view_is) in
     let table = rows_in content inside.schema inside.limits inside.rows inside.new_row inside.edits in
-    let none = c.in_ok-may_count.ensures ∙ used ∙ ap (λ o. option_or o last) (c.in_ok-may_set.ensures.plain inside.limits c.self.invariant.laid) ∙ due in
+    let none = c.in_ok-may_count.ensures ∙ used ∙ ap (λ o. option_or o last) (c.in_ok-may_set.ensures.plain inside.limits c.self.invariant.layout) ∙ due in
     subst (λ (t : TableRows g.row.S-Ticket.Denot). MayPut content t c.args.column c.args.place c.new-value.result) c.self.view_is
     record {
       of_kind = kind ∙ ap Some (sym c.new-value.ensures.kind);

@@ -26,7 +26,7 @@ invariant_of-self-2 g c =
     let may : MayPut content table c.args.column c.args.place value = subst (λ (t : TableRows g.row.S-Ticket.Denot). MayPut content t c.args.column c.args.place value) (sym c.self.view_is) c.requires in
     let s = column_index-of (slice_get old.column_indexes c.args.column) (kind_in value) may.of_kind in
     let done = c.in_ok-set.ensures in
-    let moved = subst (λ found. IfSome found (λ slot. c.set.new.self ≡ set_in content old slot c.args.place value)) s.1 done.set.moved in
+    let moved = subst (λ found. IfSome found (λ object_record. c.set.new.self ≡ set_in content old object_record c.args.place value)) s.1 done.set.moved in
     set-kept content g.S.FarTickets.is_of inside.schema inside.limits old inside.new_row inside.edits c.self.invariant (edits-left (asked table) (edit.Set c.args.place c.args.column (cell_of value)) may.due) c.set.new.self s.0 c.args.column c.args.place value moved done.kept c.fitting-cell.ensures.fits done.places
 
 pub returns-clause-put : goal.returns-clause-put

@@ -10,4 +10,4 @@ returns-clause-used g c =
     let items : c.self.inside.objects.items ≡ c.args.self.now.objects = ap (λ t. t.objects) c.self.view_is in
     let within = subst (λ os. c.args.group < length os) (sym items) c.requires.begun in
     let read = get_or_read c.self.inside.objects.items c.args.group c.index.result.now within c.index.ensures 0 in
-    subst (λ o. o < length c.args.objects.now.entries) (sym (read ∙ ap (λ os. get_or os c.args.group 0) items)) (in-use _ g.S.FarTickets.content _ c.args.objects.now c.number-number.ensures.tracked _ _ here)
+    subst (λ o. o < length c.args.objects.now.records) (sym (read ∙ ap (λ os. get_or os c.args.group 0) items)) (in-use _ g.S.FarTickets.content _ c.args.objects.now c.number-number.ensures.tracked _ _ here)

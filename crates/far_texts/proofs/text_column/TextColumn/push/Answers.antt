@@ -4,7 +4,7 @@ use Rattle.far_texts.specs.Texts.{Lists, lists_of, texts_in, IsTextColumn, AreDi
 use Rattle.far_texts.specs.Effects.{last_object}
 use Rattle.far_texts.proofs.Changed.{keeps-others-new, keeps-same}
 use Rattle.far_scopes.proofs.Outcomes.{by-outcome, on-ok, by-outcomes, on-both}
-use Rattle.far_texts.proofs.Beside.{pushed-disjoint}
+use Rattle.far_texts.proofs.Disjoint.{pushed-disjoint}
 use Rattle.far_texts.proofs.Pushing.{form-is, pushed-begun, pushed-longer, next-alone, next-behind, begun-is, begun-texts, longer-is, longer-texts, longer-others, push-short, moved-begun, moved-longer}
 use Rattle.far_texts.proofs.text_column.TextColumn.push.Goals as goal
 
@@ -30,9 +30,9 @@ returns-then-begins_group-clause-is g c =
     let text = c.args.text.now in
     let bytes = c.in_ok-form.form.items in
     let new : Lists = lists_of content c.begin_group.new.objects in
-    let o = length m.entries in
-    let fresh = c.known_before_push.ensures.fresh in
-    let has = c.known_before_push.ensures.groups in
+    let o = length m.records in
+    let fresh = c.next_object_is_unused.ensures.fresh in
+    let has = c.next_object_is_unused.ensures.groups in
     let begins = sym c.begins_group.ensures ∙ c.if-begins_group.true in
     let short = subst (λ n. n ≤ column.limit) (sym c.in_ok-form.ensures.length) (push-short content m column text c.in_ok-may_push.ensures) in
     by-outcomes c.begin_group.result c.begin_group.ensures.list c.begin_group.ensures.pushed c.begin_group.ensures.err c.begin_group.ensures.kept
@@ -49,9 +49,9 @@ returns-then-begins_group-clause-texts g c =
     let text = c.args.text.now in
     let bytes = c.in_ok-form.form.items in
     let new : Lists = lists_of content c.begin_group.new.objects in
-    let o = length m.entries in
-    let fresh = c.known_before_push.ensures.fresh in
-    let has = c.known_before_push.ensures.groups in
+    let o = length m.records in
+    let fresh = c.next_object_is_unused.ensures.fresh in
+    let has = c.next_object_is_unused.ensures.groups in
     let begins = sym c.begins_group.ensures ∙ c.if-begins_group.true in
     on-both c.begin_group.result c.begin_group.ensures.list c.begin_group.ensures.pushed
     (λ changes now. ap (texts_in new) (now ∙ pushed-begun column o begins)
@@ -66,9 +66,9 @@ returns-then-begins_group-clause-others g c =
     let text = c.args.text.now in
     let bytes = c.in_ok-form.form.items in
     let new : Lists = lists_of content c.begin_group.new.objects in
-    let o = length m.entries in
-    let fresh = c.known_before_push.ensures.fresh in
-    let has = c.known_before_push.ensures.groups in
+    let o = length m.records in
+    let fresh = c.next_object_is_unused.ensures.fresh in
+    let has = c.next_object_is_unused.ensures.groups in
     let begins = sym c.begins_group.ensures ∙ c.if-begins_group.true in
     by-outcome c.begin_group.result c.begin_group.ensures.list c.begin_group.ensures.err
     (λ changes. keeps-others-new old new o (Some bytes) (subst (λ b. ChangesList old new o (Some b)) c.deref.ensures.value changes) column fresh)
@@ -77,7 +77,7 @@ returns-then-begins_group-clause-others g c =
 pub returns-then-begins_group-clause-disjoint : goal.returns-then-begins_group-clause-disjoint
 returns-then-begins_group-clause-disjoint g c =
     by-outcome c.begin_group.result c.begin_group.ensures.pushed c.begin_group.ensures.kept
-    (λ now. λ d is disjoint. subst (λ w. AreDisjoint w d) (sym now) (pushed-disjoint (lists_of g.S.FarTickets.content c.args.objects.now) c.args.self.now d (length c.args.objects.now.entries) c.known_before_push.ensures.fresh is disjoint))
+    (λ now. λ d is disjoint. subst (λ w. AreDisjoint w d) (sym now) (pushed-disjoint (lists_of g.S.FarTickets.content c.args.objects.now) c.args.self.now d (length c.args.objects.now.records) c.next_object_is_unused.ensures.fresh is disjoint))
     (λ kept. λ d is disjoint. subst (λ w. AreDisjoint w d) (sym kept) disjoint)
 
 pub returns-clause-moved : goal.returns-clause-moved
@@ -102,11 +102,11 @@ returns-clause-is g c =
     let text = c.args.text.now in
     let bytes = c.in_ok-form.form.items in
     let new : Lists = lists_of content c.extend_group.new.objects in
-    let has = c.known_before_push.ensures.groups in
+    let has = c.next_object_is_unused.ensures.groups in
     let begins = sym c.begins_group.ensures ∙ c.if-begins_group.false in
     let short = subst (λ n. n ≤ column.limit) (sym c.in_ok-form.ensures.length) (push-short content m column text c.in_ok-may_push.ensures) in
     by-outcomes c.extend_group.result c.extend_group.ensures.list c.extend_group.ensures.pushed c.extend_group.ensures.err c.extend_group.ensures.kept
-    (λ changes now. subst (IsTextColumn new) (sym (now ∙ pushed-longer column (length m.entries) begins))
+    (λ changes now. subst (IsTextColumn new) (sym (now ∙ pushed-longer column (length m.records) begins))
     (longer-is old new column c.requires.is has begins bytes (subst (λ b. ChangesList old new (last_object column) (Some b)) c.deref-else-begins_group.ensures.value changes) text (c.in_ok-form.ensures.texts ∙ next-behind old column text begins) c.in_ok-form.ensures.form short))
     (λ err kept. subst (IsTextColumn new) (sym kept) (subst (λ w. IsTextColumn (lists_of content w) column) (sym err) c.requires.is))
 
@@ -119,10 +119,10 @@ returns-clause-texts g c =
     let text = c.args.text.now in
     let bytes = c.in_ok-form.form.items in
     let new : Lists = lists_of content c.extend_group.new.objects in
-    let has = c.known_before_push.ensures.groups in
+    let has = c.next_object_is_unused.ensures.groups in
     let begins = sym c.begins_group.ensures ∙ c.if-begins_group.false in
     on-both c.extend_group.result c.extend_group.ensures.list c.extend_group.ensures.pushed
-    (λ changes now. ap (texts_in new) (now ∙ pushed-longer column (length m.entries) begins)
+    (λ changes now. ap (texts_in new) (now ∙ pushed-longer column (length m.records) begins)
     ∙ longer-texts old new column c.requires.is has begins bytes (subst (λ b. ChangesList old new (last_object column) (Some b)) c.deref-else-begins_group.ensures.value changes) text (c.in_ok-form.ensures.texts ∙ next-behind old column text begins))
 
 pub returns-clause-others : goal.returns-clause-others
@@ -134,7 +134,7 @@ returns-clause-others g c =
     let text = c.args.text.now in
     let bytes = c.in_ok-form.form.items in
     let new : Lists = lists_of content c.extend_group.new.objects in
-    let has = c.known_before_push.ensures.groups in
+    let has = c.next_object_is_unused.ensures.groups in
     let begins = sym c.begins_group.ensures ∙ c.if-begins_group.false in
     by-outcome c.extend_group.result c.extend_group.ensures.list c.extend_group.ensures.err
     (λ changes. longer-others old new column c.requires.is has begins bytes (subst (λ b. ChangesList old new (last_object column) (Some b)) c.deref-else-begins_group.ensures.value changes))
@@ -143,5 +143,5 @@ returns-clause-others g c =
 pub returns-clause-disjoint : goal.returns-clause-disjoint
 returns-clause-disjoint g c =
     by-outcome c.extend_group.result c.extend_group.ensures.pushed c.extend_group.ensures.kept
-    (λ now. λ d is disjoint. subst (λ w. AreDisjoint w d) (sym now) (pushed-disjoint (lists_of g.S.FarTickets.content c.args.objects.now) c.args.self.now d (length c.args.objects.now.entries) c.known_before_push.ensures.fresh is disjoint))
+    (λ now. λ d is disjoint. subst (λ w. AreDisjoint w d) (sym now) (pushed-disjoint (lists_of g.S.FarTickets.content c.args.objects.now) c.args.self.now d (length c.args.objects.now.records) c.next_object_is_unused.ensures.fresh is disjoint))
     (λ kept. λ d is disjoint. subst (λ w. AreDisjoint w d) (sym kept) disjoint)

@@ -11,7 +11,7 @@ position_in-requires-clause-group g c κs within =
     let long : c.len.result ≡ groups = c.len.ensures ∙ c.self.inside.objects.ok.0 in
     let some = subst (λ (v : Vector g.row.T.Denot). is_full v ≡ false) (sym c.self.view_is) c.requires.begun in
     let ne = eqb-false c.self.inside.len (groups * c.self.inside.size) some in
-    let room : c.self.inside.len < groups * c.self.inside.size = omega (arith, ne, c.self.invariant.shaped.enough) in
+    let space : c.self.inside.len < groups * c.self.inside.size = omega (arith, ne, c.self.invariant.shaped.enough) in
     ap (λ n. n - 1) long
-    ∙ sym (next-group groups c.self.inside.size c.self.inside.len room c.self.invariant.shaped.needed)
+    ∙ sym (next-group groups c.self.inside.size c.self.inside.len space c.self.invariant.shaped.needed)
     ∙ ap (λ (v : Vector g.row.T.Denot). c.self.inside.len / v.size) c.self.view_is

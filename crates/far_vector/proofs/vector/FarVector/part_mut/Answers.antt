@@ -9,7 +9,7 @@ use Rattle.far_vector.specs.Effects.{range_written}
 use Rattle.far_vector.proofs.Checked.{within-written, group-written, free-written}
 use Rattle.far_vector.proofs.VectorLaws.{part-fits, object-there}
 use Rattle.far_vector.proofs.WritingLaws.{elements-written, vector-written}
-use Rattle.far_vector.proofs.Apart.{untouched}
+use Rattle.far_vector.proofs.Disjoint.{untouched}
 use Rattle.far_vector.proofs.RangeLaws.{some-weaker, at-place, range-lent, Changes, written-is, changes-is, others-range, places-range}
 use Rattle.far_vector.proofs.vector.FarVector.part_mut.Given.{Over}
 use Rattle.far_vector.proofs.vector.FarVector.part_mut.Goals as goal
@@ -107,6 +107,6 @@ returns g c = (
     lists = others g c;
     others = λ range. at-place g.T.Elem.meaning g.S.FarTickets.content c.args.objects.now c.args.vector.now (λ p size. ChangesObject c.args.objects.now (overwritten (written c.args.objects.now p) p (c.args.from % size) range) p) c.args.from c.writable_at-o.result c.vector.inside.size c.writable_at-o.ensures.object (size-is g c) (c.lend_range_mut.ensures.others range);
     clean = λ range long clean. subst (λ (m : Movement g.row.T.Denot g.row.S-Ticket.Denot). AreClean g.T.Elem.meaning g.S.FarTickets.content m) (is-written g c range) (c.lend_range_mut.ensures.clean range (omega (arith, long)) clean);
-    store = λ range name here. subst (λ (m : Movement g.row.T.Denot g.row.S-Ticket.Denot). AreHere g.S.FarTickets.is_of name m) (is-written g c range) (c.lend_range_mut.ensures.store range name here);
+    store = λ range id here. subst (λ (m : Movement g.row.T.Denot g.row.S-Ticket.Denot). AreHere g.S.FarTickets.is_of id m) (is-written g c range) (c.lend_range_mut.ensures.store range id here);
   },
 )

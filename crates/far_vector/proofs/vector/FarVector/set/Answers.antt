@@ -3,7 +3,7 @@ use Rattle.far_scopes.specs.Movement.{list_of}
 use Rattle.far_vector.specs.Vector.{Vector, IsShaped, WritesPlaces, KeepsOthers, elements, object_at}
 use Rattle.far_vector.proofs.VectorLaws.{object-there, length-elements}
 use Rattle.far_vector.proofs.WritingLaws.{elements-written, vector-written, one-written}
-use Rattle.far_vector.proofs.Apart.{untouched}
+use Rattle.far_vector.proofs.Disjoint.{untouched}
 use Rattle.far_vector.proofs.vector.FarVector.set.Goals as goal
 
 pub returns-clause-elements : goal.returns-clause-elements

@@ -5,7 +5,7 @@ use Rattle.far_vector.specs.Vector.{Vector, WritesPlaces, KeepsOthers, elements,
 use Rattle.far_vector.proofs.Checked.{place-set, free-set}
 use Rattle.far_vector.proofs.VectorLaws.{object-there, length-elements}
 use Rattle.far_vector.proofs.WritingLaws.{elements-written, vector-written, one-written}
-use Rattle.far_vector.proofs.Apart.{untouched}
+use Rattle.far_vector.proofs.Disjoint.{untouched}
 use Rattle.far_vector.proofs.vector.FarVector.set_in_group.Given.{Over}
 use Rattle.far_vector.proofs.vector.FarVector.set_in_group.Goals as goal
 

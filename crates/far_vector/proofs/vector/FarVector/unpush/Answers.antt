@@ -11,8 +11,8 @@ pub invariant_of-self : goal.invariant_of-self
 invariant_of-self g c =
     let objs : c.pop.new.self.items ≡ take (length c.self.inside.objects.items - 1) c.self.inside.objects.items = search rules in
     let alone = subst (λ (v : Vector g.row.T.Denot). v.len ≡ (length v.objects - 1) * v.size + 1) (sym c.self.view_is) c.requires.alone in
-    let last = subst (λ (v : Vector g.row.T.Denot). slice_get v.objects (length v.objects - 1) ≡ Some (length c.args.objects.now.entries - 1)) (sym c.self.view_is) c.requires.last in
-    let within = slice_get_within c.self.inside.objects.items (length c.self.inside.objects.items - 1) (length c.args.objects.now.entries - 1) last in
+    let last = subst (λ (v : Vector g.row.T.Denot). slice_get v.objects (length v.objects - 1) ≡ Some (length c.args.objects.now.records - 1)) (sym c.self.view_is) c.requires.last in
+    let within = slice_get_within c.self.inside.objects.items (length c.self.inside.objects.items - 1) (length c.args.objects.now.records - 1) last in
     rw objs record {
       shaped = shaped-unpushed _ c.self.invariant.shaped (omega (arith, within)) alone;
       long = c.self.invariant.long;
@@ -26,21 +26,21 @@ module _ (g : Over) (c : goal.After-uncreate g) where
   alone : c.self.inside.len ≡ (length c.self.inside.objects.items - 1) * c.self.inside.size + 1
   alone = subst (λ (v : Vector g.row.T.Denot). v.len ≡ (length v.objects - 1) * v.size + 1) (sym c.self.view_is) c.requires.alone
 
-  last : slice_get c.self.inside.objects.items (length c.self.inside.objects.items - 1) ≡ Some (length c.args.objects.now.entries - 1)
-  last = subst (λ (v : Vector g.row.T.Denot). slice_get v.objects (length v.objects - 1) ≡ Some (length c.args.objects.now.entries - 1)) (sym c.self.view_is) c.requires.last
+  last : slice_get c.self.inside.objects.items (length c.self.inside.objects.items - 1) ≡ Some (length c.args.objects.now.records - 1)
+  last = subst (λ (v : Vector g.row.T.Denot). slice_get v.objects (length v.objects - 1) ≡ Some (length c.args.objects.now.records - 1)) (sym c.self.view_is) c.requires.last
 
 pub returns-clause-elements : goal.returns-clause-elements
 returns-clause-elements g c =
     let is = subst (λ (v : Vector g.row.T.Denot). IsVector (list_of g.T.Elem.meaning g.S.FarTickets.content c.args.objects.now) v) (sym c.self.view_is) c.requires.is in
-    rw (← c.self.view_is, objects-are g c) (elements-unpushed (list_of g.T.Elem.meaning g.S.FarTickets.content c.args.objects.now) (list_of g.T.Elem.meaning g.S.FarTickets.content c.uncreate.new.self) _ c.self.invariant.shaped is (alone g c) (length c.args.objects.now.entries - 1) (last g c) c.uncreate.ensures.list.others)
+    rw (← c.self.view_is, objects-are g c) (elements-unpushed (list_of g.T.Elem.meaning g.S.FarTickets.content c.args.objects.now) (list_of g.T.Elem.meaning g.S.FarTickets.content c.uncreate.new.self) _ c.self.invariant.shaped is (alone g c) (length c.args.objects.now.records - 1) (last g c) c.uncreate.ensures.list.others)
 
 pub returns-clause-is : goal.returns-clause-is
 returns-clause-is g c =
     let is = subst (λ (v : Vector g.row.T.Denot). IsVector (list_of g.T.Elem.meaning g.S.FarTickets.content c.args.objects.now) v) (sym c.self.view_is) c.requires.is in
-    rw (objects-are g c) (vector-unpushed (list_of g.T.Elem.meaning g.S.FarTickets.content c.args.objects.now) (list_of g.T.Elem.meaning g.S.FarTickets.content c.uncreate.new.self) _ c.self.invariant.shaped is (alone g c) (length c.args.objects.now.entries - 1) (last g c) c.uncreate.ensures.list.others)
+    rw (objects-are g c) (vector-unpushed (list_of g.T.Elem.meaning g.S.FarTickets.content c.args.objects.now) (list_of g.T.Elem.meaning g.S.FarTickets.content c.uncreate.new.self) _ c.self.invariant.shaped is (alone g c) (length c.args.objects.now.records - 1) (last g c) c.uncreate.ensures.list.others)
 
 pub returns-clause-disjoint : goal.returns-clause-disjoint
 returns-clause-disjoint g c = λ w is-w disjoint.
     let is = subst (λ (v : Vector g.row.T.Denot). IsVector (list_of g.T.Elem.meaning g.S.FarTickets.content c.args.objects.now) v) (sym c.self.view_is) c.requires.is in
     let disjoint' = subst (λ (v : Vector g.row.T.Denot). AreDisjoint v w) (sym c.self.view_is) disjoint in
-    rw (objects-are g c) (untouched-unpushed (list_of g.T.Elem.meaning g.S.FarTickets.content c.args.objects.now) (list_of g.T.Elem.meaning g.S.FarTickets.content c.uncreate.new.self) _ c.self.invariant.shaped is (alone g c) (length c.args.objects.now.entries - 1) (last g c) c.uncreate.ensures.list.others w is-w disjoint')
+    rw (objects-are g c) (untouched-unpushed (list_of g.T.Elem.meaning g.S.FarTickets.content c.args.objects.now) (list_of g.T.Elem.meaning g.S.FarTickets.content c.uncreate.new.self) _ c.self.invariant.shaped is (alone g c) (length c.args.objects.now.records - 1) (last g c) c.uncreate.ensures.list.others w is-w disjoint')

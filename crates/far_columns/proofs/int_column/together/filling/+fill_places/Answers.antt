@@ -46,7 +46,7 @@ pub returns-clause-pushed : goal.returns-clause-pushed
 returns-clause-pushed g t c = λ n.
     let begun = All-head (λ (v : Vector (Option ℤ)). is_full v ≡ false) c.in-Some.column.now c.in-Some.columns.now (subst (λ l. All (λ (v : Vector (Option ℤ)). is_full v ≡ false) l) c.in-Some.ensures.cases.0 c.requires.begun) in
     pushed-first n (n + 1) c.in-Some.column.now c.push.new.self c.in-Some.columns.now c.fill_places.new.columns c.args.columns.now c.in-Some.ensures.cases.0
-    (c.in-Ok.ensures.pushed ∙ begun-same c.in-Some.column.now (length c.args.objects.now.entries) n begun) (c.fill_places.ensures.pushed (n + 1)) refl
+    (c.in-Ok.ensures.pushed ∙ begun-same c.in-Some.column.now (length c.args.objects.now.records) n begun) (c.fill_places.ensures.pushed (n + 1)) refl
 
 pub returns-clause-numbers : goal.returns-clause-numbers
 returns-clause-numbers g t c =
@@ -76,4 +76,4 @@ returns-clause-clean g t c = λ clean. c.fill_places.ensures.clean (c.push.ensur
 pub returns-clause-count : goal.returns-clause-count
 returns-clause-count g t c =
     let begun = All-head (λ (v : Vector (Option ℤ)). is_full v ≡ false) c.in-Some.column.now c.in-Some.columns.now (subst (λ l. All (λ (v : Vector (Option ℤ)). is_full v ≡ false) l) c.in-Some.ensures.cases.0 c.requires.begun) in
-    c.fill_places.ensures.count ∙ ap (λ w. length w.entries) c.in-Ok.ensures.written ∙ count-same c.args.objects.now c.in-Some.column.now c.in-Some-split_first.number.now begun
+    c.fill_places.ensures.count ∙ ap (λ w. length w.records) c.in-Ok.ensures.written ∙ count-same c.args.objects.now c.in-Some.column.now c.in-Some-split_first.number.now begun

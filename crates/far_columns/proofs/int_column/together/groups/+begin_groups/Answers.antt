@@ -54,14 +54,14 @@ pub unpush-requires-clause-local : goal.unpush-requires-clause-local
 unpush-requires-clause-local g t c κs within =
     let full = first-has (λ (v : Vector (Option ℤ)). is_full v ≡ true) c.in-Some.column.now c.in-Some.columns.now c.args.columns.now c.in-Some.ensures.cases.0 c.requires.begin in
     let more = one-more c.args.objects.now c.push.new.objects c.in-Some.column.now c.push.new.self _ full c.in_ok-push.ensures.pushed c.in_ok-push.ensures.written in
-    let number : length c.args.objects.now.entries ≡ length c.push.new.objects.entries - 1 = omega (arith, more) in
+    let number : length c.args.objects.now.records ≡ length c.push.new.objects.records - 1 = omega (arith, more) in
     rw c.in-Err.ensures.err.1 (subst (λ o. is_local c.push.new.objects o ≡ true) number (c.in_ok-push.ensures.last full).0)
 
 pub unpush-requires-clause-unpinned : goal.unpush-requires-clause-unpinned
 unpush-requires-clause-unpinned g t c κs within =
     let full = first-has (λ (v : Vector (Option ℤ)). is_full v ≡ true) c.in-Some.column.now c.in-Some.columns.now c.args.columns.now c.in-Some.ensures.cases.0 c.requires.begin in
     let more = one-more c.args.objects.now c.push.new.objects c.in-Some.column.now c.push.new.self _ full c.in_ok-push.ensures.pushed c.in_ok-push.ensures.written in
-    let number : length c.args.objects.now.entries ≡ length c.push.new.objects.entries - 1 = omega (arith, more) in
+    let number : length c.args.objects.now.records ≡ length c.push.new.objects.records - 1 = omega (arith, more) in
     rw c.in-Err.ensures.err.1 (subst (λ o. pins_of c.push.new.objects o ≡ 0) number (c.in_ok-push.ensures.last full).1)
 
 pub returns-in-Err-clause-refused : goal.returns-in-Err-clause-refused
@@ -82,7 +82,7 @@ pub returns-clause-pushed : goal.returns-clause-pushed
 returns-clause-pushed g t c =
     let full = first-has (λ (v : Vector (Option ℤ)). is_full v ≡ true) c.in-Some.column.now c.in-Some.columns.now c.args.columns.now c.in-Some.ensures.cases.0 c.requires.begin in
     let more = one-more c.args.objects.now c.push.new.objects c.in-Some.column.now c.push.new.self _ full c.in_ok-push.ensures.pushed c.in_ok-push.ensures.written in
-    pushed-first (length c.args.objects.now.entries) (length c.push.new.objects.entries) c.in-Some.column.now c.push.new.self c.in-Some.columns.now c.begin_groups.new.columns c.args.columns.now c.in-Some.ensures.cases.0
+    pushed-first (length c.args.objects.now.records) (length c.push.new.objects.records) c.in-Some.column.now c.push.new.self c.in-Some.columns.now c.begin_groups.new.columns c.args.columns.now c.in-Some.ensures.cases.0
     c.in_ok-push.ensures.pushed c.in_default-begin_groups.ensures.pushed more
 
 pub returns-clause-numbers : goal.returns-clause-numbers

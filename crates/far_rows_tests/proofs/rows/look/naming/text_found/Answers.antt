@@ -7,5 +7,5 @@ use Rattle.far_rows_tests.proofs.rows.look.naming.text_found.Goals as goal
 
 pub returns : goal.returns
 returns g c =
-    let named = slice_get-map (λ (e : ObjectRecord g.row.S-Ticket.Denot). e.name) c.text_objects.result.now.entries c.args.o ∙ c.name-name.ensures in
+    let named = slice_get-map (λ (e : ObjectRecord g.row.S-Ticket.Denot). e.name) c.text_objects.result.now.records c.args.o ∙ c.name-name.ensures in
     answered c.args.rows.now _ _ (object.Text c.args.o) (c.text_objects.ensures.owned c.args.o c.name-name.result named) c.object.result c.object.ensures.object c.object.ensures.refused

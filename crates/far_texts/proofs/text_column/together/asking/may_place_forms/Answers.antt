@@ -9,7 +9,7 @@ use Rattle.far_texts.specs.Together.{all_begin, next_forms}
 use Rattle.far_scopes.proofs.FirstCases.{first-append, first-none}
 use Rattle.far_texts.specs.RefusingTogether.{any_full, some_written_out, last_tests}
 use Rattle.far_texts.proofs.Checking.{none-begin}
-use Rattle.far_texts.proofs.Asking.{lens-from, lens-some, any-out, room-longer, first-asked}
+use Rattle.far_texts.proofs.Asking.{lens-from, lens-some, any-out, space-longer, first-asked}
 use Rattle.far_texts.proofs.text_column.together.asking.may_place_forms.Goals as goal
 
 pub fits_in_order-requires-clause-some : goal.fits_in_order-requires-clause-some
@@ -18,21 +18,21 @@ fits_in_order-requires-clause-some g c κs within =
 
 pub all_writable-requires-clause-begun : goal.all_writable-requires-clause-begun
 all_writable-requires-clause-begun g c κs within =
-    none-begin (lists_of g.S.FarTickets.content c.args.objects.now) c.args.columns.now c.requires.are c.known_groups.ensures (sym c.all_begin.ensures ∙ c.if-all_begin.false)
+    none-begin (lists_of g.S.FarTickets.content c.args.objects.now) c.args.columns.now c.requires.are c.all_have_groups.ensures (sym c.all_begin.ensures ∙ c.if-all_begin.false)
 
 pub returns : goal.returns
 returns g c =
     let m = c.args.objects.now in
     let lists : Lists = lists_of g.S.FarTickets.content m in
     let columns = c.args.columns.now in
-    let n = length m.entries in
+    let n = length m.records in
     let forms = next_forms lists n columns c.args.texts.now in
     let fits : fit_in_order (spaces_of m.memory.state) (lens-from lists n columns c.args.texts.now) ≡ true = ap (fit_in_order (spaces_of m.memory.state)) (sym (c.in_ok-lens.ensures.lens n)) ∙ sym c.if-not-fits_in_order.ensures in
     let begins : all_begin columns ≡ false = sym c.all_begin.ensures ∙ c.if-all_begin.false in
-    let begun = none-begin lists columns c.requires.are c.known_groups.ensures begins in
+    let begun = none-begin lists columns c.requires.are c.all_have_groups.ensures begins in
     c.all_writable.ensures
     ∙ ap (λ (b : Bool). first_of ((b, refusal.EditsUsedUp) ∷ [])) (any-out m lists n columns c.args.texts.now c.requires.same_length begun)
-    ∙ room-longer (some_written_out m forms) (fit_in_order (spaces_of m.memory.state) (lens-from lists n columns c.args.texts.now)) (all_begin columns) fits begins
+    ∙ space-longer (some_written_out m forms) (fit_in_order (spaces_of m.memory.state) (lens-from lists n columns c.args.texts.now)) (all_begin columns) fits begins
     ∙ sym (first-none (any_full lists columns c.args.texts.now) (last_tests g.S.FarTickets.content m columns c.args.texts.now) c.in_ok-lens.ensures.refused)
 
 pub returns-in_err-lens : goal.returns-in_err-lens
@@ -53,7 +53,7 @@ returns-then-not-fits_in_order g c =
     let lists : Lists = lists_of content m in
     let columns = c.args.columns.now in
     let texts = c.args.texts.now in
-    let n = length m.entries in
+    let n = length m.records in
     let used = some_written_out m (next_forms lists n columns texts) in
     let out : fit_in_order (spaces_of m.memory.state) (lens-from lists n columns texts) ≡ false = ap (fit_in_order (spaces_of m.memory.state)) (sym (c.in_ok-lens.ensures.lens n)) ∙ sym c.if-not-fits_in_order.ensures in
     sym (first-none (any_full lists columns texts) (last_tests content m columns texts) c.in_ok-lens.ensures.refused
@@ -66,7 +66,7 @@ returns-then-all_begin g c =
     let lists : Lists = lists_of content m in
     let columns = c.args.columns.now in
     let texts = c.args.texts.now in
-    let n = length m.entries in
+    let n = length m.records in
     let used = some_written_out m (next_forms lists n columns texts) in
     let fits : fit_in_order (spaces_of m.memory.state) (lens-from lists n columns texts) ≡ true = ap (fit_in_order (spaces_of m.memory.state)) (sym (c.in_ok-lens.ensures.lens n)) ∙ sym c.if-not-fits_in_order.ensures in
     let begins : all_begin columns ≡ true = sym c.all_begin.ensures ∙ c.if-all_begin.true in

@@ -15,7 +15,7 @@ use Rattle.far_texts.proofs.Asking.{away-asked, begun-asked, ok-follows}
 use Rattle.far_texts.proofs.text_column.together.checking.may_measure_forms.Goals as goal
 
 pub all_here-requires-clause-begun : goal.all_here-requires-clause-begun
-all_here-requires-clause-begun g c κs within = none-begin (lists_of g.S.FarTickets.content c.args.objects.now) c.args.columns.now c.requires c.known_groups.ensures (sym c.all_begin.ensures ∙ c.if-all_begin.false)
+all_here-requires-clause-begun g c κs within = none-begin (lists_of g.S.FarTickets.content c.args.objects.now) c.args.columns.now c.requires c.all_have_groups.ensures (sym c.all_begin.ensures ∙ c.if-all_begin.false)
 
 pub returns-then-all_begin-clause-refused : goal.returns-then-all_begin-clause-refused
 returns-then-all_begin-clause-refused g c = begun-asked (any_too_long c.args.texts.now) (absents c.args.objects.now c.args.columns.now) (all_begin c.args.columns.now) c.in_ok-all_short.ensures (sym c.all_begin.ensures ∙ c.if-all_begin.true)
@@ -31,6 +31,6 @@ pub returns-clause-here : goal.returns-clause-here
 returns-clause-here g c =
     let m = c.args.objects.now in
     let columns = c.args.columns.now in
-    let begun = none-begin (lists_of g.S.FarTickets.content m) columns c.requires c.known_groups.ensures (sym c.all_begin.ensures ∙ c.if-all_begin.false) in
+    let begun = none-begin (lists_of g.S.FarTickets.content m) columns c.requires c.all_have_groups.ensures (sym c.all_begin.ensures ∙ c.if-all_begin.false) in
     ok-follows c.all_here.result (first_of (absents m columns)) (All (λ (d : Texts). next_length_refusal g.S.FarTickets.content m d ≡ None) columns) c.all_here.ensures
     (λ free k d below. here-longer m g.S.FarTickets.content (slice_index_or columns k d) (begun k d below) (none-due (λ (t : Texts). absent m (last_object t)) columns free k d below))

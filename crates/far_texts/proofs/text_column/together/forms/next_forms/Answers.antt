@@ -30,7 +30,7 @@ loop-k-preserved g c =
     let k = c.loop-k.k in
     let column = c.index-columns-k.result in
     let text = c.index-texts-k.result in
-    let n = length c.args.objects.now.entries in
+    let n = length c.args.objects.now.records in
     let inside : k < length texts = omega (arith, c.requires.same_length, c.loop-k-test.true) in
     let short = none-full-at lists columns texts c.requires.short k column text
     (slice_get_read columns (length columns) k column refl c.loop-k-test.true c.index-columns-k.is)

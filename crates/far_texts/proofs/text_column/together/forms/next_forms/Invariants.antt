@@ -7,7 +7,7 @@ use Rattle.far_texts.proofs.text_column.together.forms.next_forms.Given as goal
 abbrev pub invariant-loop-k : goal.invariant-loop-k
 invariant-loop-k g l =
     let lists = lists_of g.S.FarTickets.content l.objects in
-    let n = length l.objects.entries in
+    let n = length l.objects.records in
     (given_forms l.forms.items ++ next_forms lists (n + l.k) (drop l.k l.columns) (drop l.k l.texts) ≡ next_forms lists n l.columns l.texts)
     × ((j : ℕ) (c : Texts) (text : Option (List ℕ)) → j < l.k → slice_get l.columns j ≡ Some c → slice_get l.texts j ≡ Some text → IsNextForm lists c text)
     × (length l.forms.items ≡ l.k)

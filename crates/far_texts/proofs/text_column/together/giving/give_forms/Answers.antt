@@ -7,7 +7,7 @@ use Rattle.far_scopes.specs.declared.replacement.Replacement.{Replacement}
 use Rattle.far_scopes.specs.Refusing.{first_absent, replace_all_refusal}
 use Rattle.far_texts.specs.Texts.{Texts, Lists, AreDisjoint, lists_of, texts_in}
 use Rattle.far_texts.specs.Effects.{begins_group}
-use Rattle.far_texts.specs.Together.{AreColumns, all_begin, next_forms, given_forms, all_created, ChangesTo, KeepsColumns}
+use Rattle.far_texts.specs.Together.{AreColumns, all_begin, next_forms, given_forms, after_create_all, ChangesTo, KeepsColumns}
 use Rattle.far_texts.specs.RefusingTogether.{first_tests, push_texts_refusal}
 use Rattle.far_scopes.proofs.Outcomes.{by-outcome, on-ok, by-outcomes, on-both}
 use Rattle.far_texts.proofs.Checking.{none-begin}
@@ -29,7 +29,7 @@ begin_groups-requires-clause-same_length g c κs within =
     let old : Lists = lists_of content m in
     let columns = c.args.columns.now in
     let texts = c.args.texts.now in
-    let n = length m.entries in
+    let n = length m.records in
     let are = c.requires.are in
     let groups = c.requires.groups in
     let fresh = c.requires.fresh in
@@ -46,7 +46,7 @@ begin_groups-requires-clause-some g c κs within =
     let old : Lists = lists_of content m in
     let columns = c.args.columns.now in
     let texts = c.args.texts.now in
-    let n = length m.entries in
+    let n = length m.records in
     let are = c.requires.are in
     let groups = c.requires.groups in
     let fresh = c.requires.fresh in
@@ -63,7 +63,7 @@ begin_groups-requires-clause-numbered g c κs within =
     let old : Lists = lists_of content m in
     let columns = c.args.columns.now in
     let texts = c.args.texts.now in
-    let n = length m.entries in
+    let n = length m.records in
     let are = c.requires.are in
     let groups = c.requires.groups in
     let fresh = c.requires.fresh in
@@ -84,7 +84,7 @@ extend_groups-requires-clause-some g c κs within =
     let old : Lists = lists_of content m in
     let columns = c.args.columns.now in
     let texts = c.args.texts.now in
-    let n = length m.entries in
+    let n = length m.records in
     let are = c.requires.are in
     let groups = c.requires.groups in
     let fresh = c.requires.fresh in
@@ -102,7 +102,7 @@ extend_groups-requires-clause-within g c κs within =
     let old : Lists = lists_of content m in
     let columns = c.args.columns.now in
     let texts = c.args.texts.now in
-    let n = length m.entries in
+    let n = length m.records in
     let are = c.requires.are in
     let groups = c.requires.groups in
     let fresh = c.requires.fresh in
@@ -120,7 +120,7 @@ extend_groups-requires-clause-once g c κs within =
     let old : Lists = lists_of content m in
     let columns = c.args.columns.now in
     let texts = c.args.texts.now in
-    let n = length m.entries in
+    let n = length m.records in
     let are = c.requires.are in
     let groups = c.requires.groups in
     let fresh = c.requires.fresh in
@@ -138,7 +138,7 @@ returns-then-all_begin-clause-begun g c =
     let old : Lists = lists_of content m in
     let columns = c.args.columns.now in
     let texts = c.args.texts.now in
-    let n = length m.entries in
+    let n = length m.records in
     let are = c.requires.are in
     let groups = c.requires.groups in
     let fresh = c.requires.fresh in
@@ -146,7 +146,7 @@ returns-then-all_begin-clause-begun g c =
     let forms = c.args.forms.now in
     let is : given_forms forms ≡ next_forms old n columns texts = c.requires.forms in
     let begins : all_begin columns ≡ true = sym c.all_begin.ensures ∙ c.if-all_begin.true in
-    on-ok c.begin_groups.result c.begin_groups.ensures.created (λ made _. made ∙ ap (all_created m columns) is)
+    on-ok c.begin_groups.result c.begin_groups.ensures.created (λ made _. made ∙ ap (after_create_all m columns) is)
 
 pub returns-then-all_begin-clause-replaced : goal.returns-then-all_begin-clause-replaced
 returns-then-all_begin-clause-replaced g c =
@@ -155,7 +155,7 @@ returns-then-all_begin-clause-replaced g c =
     let old : Lists = lists_of content m in
     let columns = c.args.columns.now in
     let texts = c.args.texts.now in
-    let n = length m.entries in
+    let n = length m.records in
     let are = c.requires.are in
     let groups = c.requires.groups in
     let fresh = c.requires.fresh in
@@ -172,7 +172,7 @@ returns-then-all_begin-clause-lists g c =
     let old : Lists = lists_of content m in
     let columns = c.args.columns.now in
     let texts = c.args.texts.now in
-    let n = length m.entries in
+    let n = length m.records in
     let are = c.requires.are in
     let groups = c.requires.groups in
     let fresh = c.requires.fresh in
@@ -190,7 +190,7 @@ returns-then-all_begin-clause-are g c =
     let old : Lists = lists_of content m in
     let columns = c.args.columns.now in
     let texts = c.args.texts.now in
-    let n = length m.entries in
+    let n = length m.records in
     let are = c.requires.are in
     let groups = c.requires.groups in
     let fresh = c.requires.fresh in
@@ -210,7 +210,7 @@ returns-then-all_begin-clause-texts g c =
     let old : Lists = lists_of content m in
     let columns = c.args.columns.now in
     let texts = c.args.texts.now in
-    let n = length m.entries in
+    let n = length m.records in
     let are = c.requires.are in
     let groups = c.requires.groups in
     let fresh = c.requires.fresh in
@@ -229,7 +229,7 @@ returns-then-all_begin-clause-others g c =
     let old : Lists = lists_of content m in
     let columns = c.args.columns.now in
     let texts = c.args.texts.now in
-    let n = length m.entries in
+    let n = length m.records in
     let are = c.requires.are in
     let groups = c.requires.groups in
     let fresh = c.requires.fresh in
@@ -245,7 +245,7 @@ returns-then-all_begin-clause-others g c =
 pub returns-then-all_begin-clause-disjoint : goal.returns-then-all_begin-clause-disjoint
 returns-then-all_begin-clause-disjoint g c =
     let old : Lists = lists_of g.S.FarTickets.content c.args.objects.now in
-    let n = length c.args.objects.now.entries in
+    let n = length c.args.objects.now.records in
     by-outcome c.begin_groups.result c.begin_groups.ensures.pushed c.begin_groups.ensures.kept
     (λ now d is disjoint. subst (All (λ x. AreDisjoint x d)) (sym now) (stays-disjoint old n c.args.columns.now c.requires.are c.requires.groups c.requires.fresh d is disjoint))
     (λ kept d is disjoint. subst (All (λ x. AreDisjoint x d)) (sym kept) disjoint)
@@ -257,7 +257,7 @@ returns-then-all_begin-clause-free g c =
     let old : Lists = lists_of content m in
     let columns = c.args.columns.now in
     let texts = c.args.texts.now in
-    let n = length m.entries in
+    let n = length m.records in
     let are = c.requires.are in
     let groups = c.requires.groups in
     let fresh = c.requires.fresh in
@@ -274,7 +274,7 @@ returns-then-all_begin-clause-refused g c =
     let old : Lists = lists_of content m in
     let columns = c.args.columns.now in
     let texts = c.args.texts.now in
-    let n = length m.entries in
+    let n = length m.records in
     let are = c.requires.are in
     let groups = c.requires.groups in
     let fresh = c.requires.fresh in
@@ -292,7 +292,7 @@ returns-else-all_begin-clause-begun g c =
     let old : Lists = lists_of content m in
     let columns = c.args.columns.now in
     let texts = c.args.texts.now in
-    let n = length m.entries in
+    let n = length m.records in
     let are = c.requires.are in
     let groups = c.requires.groups in
     let fresh = c.requires.fresh in
@@ -310,7 +310,7 @@ returns-else-all_begin-clause-replaced g c =
     let old : Lists = lists_of content m in
     let columns = c.args.columns.now in
     let texts = c.args.texts.now in
-    let n = length m.entries in
+    let n = length m.records in
     let are = c.requires.are in
     let groups = c.requires.groups in
     let fresh = c.requires.fresh in
@@ -328,7 +328,7 @@ returns-else-all_begin-clause-lists g c =
     let old : Lists = lists_of content m in
     let columns = c.args.columns.now in
     let texts = c.args.texts.now in
-    let n = length m.entries in
+    let n = length m.records in
     let are = c.requires.are in
     let groups = c.requires.groups in
     let fresh = c.requires.fresh in
@@ -347,7 +347,7 @@ returns-else-all_begin-clause-are g c =
     let old : Lists = lists_of content m in
     let columns = c.args.columns.now in
     let texts = c.args.texts.now in
-    let n = length m.entries in
+    let n = length m.records in
     let are = c.requires.are in
     let groups = c.requires.groups in
     let fresh = c.requires.fresh in
@@ -368,7 +368,7 @@ returns-else-all_begin-clause-texts g c =
     let old : Lists = lists_of content m in
     let columns = c.args.columns.now in
     let texts = c.args.texts.now in
-    let n = length m.entries in
+    let n = length m.records in
     let are = c.requires.are in
     let groups = c.requires.groups in
     let fresh = c.requires.fresh in
@@ -388,7 +388,7 @@ returns-else-all_begin-clause-others g c =
     let old : Lists = lists_of content m in
     let columns = c.args.columns.now in
     let texts = c.args.texts.now in
-    let n = length m.entries in
+    let n = length m.records in
     let are = c.requires.are in
     let groups = c.requires.groups in
     let fresh = c.requires.fresh in
@@ -405,7 +405,7 @@ returns-else-all_begin-clause-others g c =
 pub returns-else-all_begin-clause-disjoint : goal.returns-else-all_begin-clause-disjoint
 returns-else-all_begin-clause-disjoint g c =
     let old : Lists = lists_of g.S.FarTickets.content c.args.objects.now in
-    let n = length c.args.objects.now.entries in
+    let n = length c.args.objects.now.records in
     by-outcome c.extend_groups.result c.extend_groups.ensures.pushed c.extend_groups.ensures.kept
     (λ now d is disjoint. subst (All (λ x. AreDisjoint x d)) (sym (now n)) (stays-disjoint old n c.args.columns.now c.requires.are c.requires.groups c.requires.fresh d is disjoint))
     (λ kept d is disjoint. subst (All (λ x. AreDisjoint x d)) (sym kept) disjoint)
@@ -417,7 +417,7 @@ returns-else-all_begin-clause-free g c =
     let old : Lists = lists_of content m in
     let columns = c.args.columns.now in
     let texts = c.args.texts.now in
-    let n = length m.entries in
+    let n = length m.records in
     let are = c.requires.are in
     let groups = c.requires.groups in
     let fresh = c.requires.fresh in
@@ -437,7 +437,7 @@ returns-else-all_begin-clause-refused g c =
     let old : Lists = lists_of content m in
     let columns = c.args.columns.now in
     let texts = c.args.texts.now in
-    let n = length m.entries in
+    let n = length m.records in
     let are = c.requires.are in
     let groups = c.requires.groups in
     let fresh = c.requires.fresh in
@@ -456,11 +456,11 @@ returns-then-all_begin-clause-count g c =
     let m = c.args.objects.now in
     let columns = c.args.columns.now in
     let begins : all_begin columns ≡ true = sym c.all_begin.ensures ∙ c.if-all_begin.true in
-    on-ok c.begin_groups.result c.begin_groups.ensures.count (λ count. count ∙ sym (ap (λ (b : Bool). length m.entries + (if b then length columns else 0)) begins))
+    on-ok c.begin_groups.result c.begin_groups.ensures.count (λ count. count ∙ sym (ap (λ (b : Bool). length m.records + (if b then length columns else 0)) begins))
 
 pub returns-else-all_begin-clause-count : goal.returns-else-all_begin-clause-count
 returns-else-all_begin-clause-count g c =
     let m = c.args.objects.now in
     let columns = c.args.columns.now in
     let begins : all_begin columns ≡ false = sym c.all_begin.ensures ∙ c.if-all_begin.false in
-    on-ok c.extend_groups.result c.extend_groups.ensures.count (λ count. count ∙ omega arith ∙ sym (ap (λ (b : Bool). length m.entries + (if b then length columns else 0)) begins))
+    on-ok c.extend_groups.result c.extend_groups.ensures.count (λ count. count ∙ omega arith ∙ sym (ap (λ (b : Bool). length m.records + (if b then length columns else 0)) begins))

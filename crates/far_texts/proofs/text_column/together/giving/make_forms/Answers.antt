@@ -11,16 +11,16 @@ pub next_form-requires-clause-few : goal.next_form-requires-clause-few
 next_form-requires-clause-few g c κs within =
     let columns = c.args.columns.now in
     let old : Lists = lists_of g.S.FarTickets.content c.args.objects.now in
-    λ k d below begins. c.requires.few (list_all-from_AllPass begins_group columns (all-begin old columns c.requires.are c.known_together.ensures.groups k d below begins))
+    λ k d below begins. c.requires.few (list_all-from_AllPass begins_group columns (all-begin old columns c.requires.are c.next_objects_are_unused.ensures.groups k d below begins))
 
 pub next_form-requires-clause-here : goal.next_form-requires-clause-here
-next_form-requires-clause-here g c κs within = all-here g.S.FarTickets.content c.args.objects.now c.args.columns.now c.args.texts.now c.requires.first c.requires.are c.known_together.ensures.groups
+next_form-requires-clause-here g c κs within = all-here g.S.FarTickets.content c.args.objects.now c.args.columns.now c.args.texts.now c.requires.first c.requires.are c.next_objects_are_unused.ensures.groups
 
 pub next_form-requires-clause-short : goal.next_form-requires-clause-short
 next_form-requires-clause-short g c κs within = none-full g.S.FarTickets.content c.args.objects.now c.args.columns.now c.args.texts.now c.requires.first
 
 pub give_forms-given-requires-clause-here : goal.give_forms-given-requires-clause-here
-give_forms-given-requires-clause-here g c κs within = all-here g.S.FarTickets.content c.args.objects.now c.args.columns.now c.args.texts.now c.requires.first c.requires.are c.known_together.ensures.groups
+give_forms-given-requires-clause-here g c κs within = all-here g.S.FarTickets.content c.args.objects.now c.args.columns.now c.args.texts.now c.requires.first c.requires.are c.next_objects_are_unused.ensures.groups
 
 pub give_forms-given-requires-clause-forms : goal.give_forms-given-requires-clause-forms
 give_forms-given-requires-clause-forms g c κs within = ap given_forms c.from_ref.ensures.value ∙ c.in_ok-form.ensures.form
@@ -29,16 +29,16 @@ pub next_forms-requires-clause-few : goal.next_forms-requires-clause-few
 next_forms-requires-clause-few g c κs within =
     let columns = c.args.columns.now in
     let old : Lists = lists_of g.S.FarTickets.content c.args.objects.now in
-    λ k d below begins. c.requires.few (list_all-from_AllPass begins_group columns (all-begin old columns c.requires.are c.known_together.ensures.groups k d below begins))
+    λ k d below begins. c.requires.few (list_all-from_AllPass begins_group columns (all-begin old columns c.requires.are c.next_objects_are_unused.ensures.groups k d below begins))
 
 pub next_forms-requires-clause-here : goal.next_forms-requires-clause-here
-next_forms-requires-clause-here g c κs within = all-here g.S.FarTickets.content c.args.objects.now c.args.columns.now c.args.texts.now c.requires.first c.requires.are c.known_together.ensures.groups
+next_forms-requires-clause-here g c κs within = all-here g.S.FarTickets.content c.args.objects.now c.args.columns.now c.args.texts.now c.requires.first c.requires.are c.next_objects_are_unused.ensures.groups
 
 pub next_forms-requires-clause-short : goal.next_forms-requires-clause-short
 next_forms-requires-clause-short g c κs within = none-full g.S.FarTickets.content c.args.objects.now c.args.columns.now c.args.texts.now c.requires.first
 
 pub give_forms-requires-clause-here : goal.give_forms-requires-clause-here
-give_forms-requires-clause-here g c κs within = all-here g.S.FarTickets.content c.args.objects.now c.args.columns.now c.args.texts.now c.requires.first c.requires.are c.known_together.ensures.groups
+give_forms-requires-clause-here g c κs within = all-here g.S.FarTickets.content c.args.objects.now c.args.columns.now c.args.texts.now c.requires.first c.requires.are c.next_objects_are_unused.ensures.groups
 
 pub give_forms-requires-clause-forms : goal.give_forms-requires-clause-forms
 give_forms-requires-clause-forms g c κs within = ap given_forms c.deref.ensures.value ∙ c.in_ok-forms.ensures.forms

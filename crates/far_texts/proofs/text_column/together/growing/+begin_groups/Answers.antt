@@ -13,8 +13,8 @@ pub begin_groups-requires-clause-groups : goal.begin_groups-requires-clause-grou
 begin_groups-requires-clause-groups g t c κs within =
     let m = c.args.objects.now in
     let more = count-created m c.create.new.self _ _ c.in_ok-o.ensures.created in
-    All-weaker (λ (d : Texts). length d.objects ≤ length m.entries) (λ (d : Texts). length d.objects ≤ length c.create.new.self.entries) (λ d few. omega (arith, few, more)) c.in-Some.columns.now
-    (All-rest (λ (d : Texts). length d.objects ≤ length m.entries) c.in-Some.column.now c.in-Some.columns.now c.args.columns.now c.in-Some.ensures.cases.0 c.requires.groups)
+    All-weaker (λ (d : Texts). length d.objects ≤ length m.records) (λ (d : Texts). length d.objects ≤ length c.create.new.self.records) (λ d few. omega (arith, few, more)) c.in-Some.columns.now
+    (All-rest (λ (d : Texts). length d.objects ≤ length m.records) c.in-Some.column.now c.in-Some.columns.now c.args.columns.now c.in-Some.ensures.cases.0 c.requires.groups)
 
 pub begin_groups-requires-clause-some : goal.begin_groups-requires-clause-some
 begin_groups-requires-clause-some g t c κs within =
@@ -24,25 +24,25 @@ pub begin_groups-requires-clause-numbered : goal.begin_groups-requires-clause-nu
 begin_groups-requires-clause-numbered g t c κs within =
     let m = c.args.objects.now in
     let more = count-created m c.create.new.self _ _ c.in_ok-o.ensures.created in
-    let rest = numbered-rest (length m.entries) c.in-Some-split_first.form.now c.in-Some-split_first.forms.now c.args.forms.now c.in-Some-split_first.ensures.cases.0 c.requires.numbered in
+    let rest = numbered-rest (length m.records) c.in-Some-split_first.form.now c.in-Some-split_first.forms.now c.args.forms.now c.in-Some-split_first.ensures.cases.0 c.requires.numbered in
     λ k d below. let at = rest k d below in omega (arith, at, more)
 
 pub invariant_of-column-2 : goal.invariant_of-column-2
 invariant_of-column-2 g t c =
     let m = c.args.objects.now in
     let first = All-head (λ (d : Texts). begins_group d ≡ true) c.in-Some.column.now c.in-Some.columns.now (subst (λ l. All (λ (d : Texts). begins_group d ≡ true) l) c.in-Some.ensures.cases.0 c.requires.begin) in
-    let few = All-head (λ (d : Texts). length d.objects ≤ length m.entries) c.in-Some.column.now c.in-Some.columns.now (subst (λ l. All (λ (d : Texts). length d.objects ≤ length m.entries) l) c.in-Some.ensures.cases.0 c.requires.groups) in
+    let few = All-head (λ (d : Texts). length d.objects ≤ length m.records) c.in-Some.column.now c.in-Some.columns.now (subst (λ l. All (λ (d : Texts). length d.objects ≤ length m.records) l) c.in-Some.ensures.cases.0 c.requires.groups) in
     let begins = subst (λ t. begins_group t ≡ true) (sym c.column.view_is) first in
     let some : length c.in-Some.columns.now + 1 ≡ length c.args.columns.now = c.in-Some.ensures.cases.1 in
-    let room : length c.in-Some.column.now.objects < 2 ^ 28 = omega (arith, few, some, c.requires.few) in
-    rw (c.push_reserved.ensures.items, c.in_ok-reserve.ensures.items) (has-more _ c.in_ok-o.o c.column.invariant begins (subst (λ t. length t.objects < 2 ^ 28) (sym c.column.view_is) room))
+    let space : length c.in-Some.column.now.objects < 2 ^ 28 = omega (arith, few, some, c.requires.few) in
+    rw (c.push_reserved.ensures.items, c.in_ok-reserve.ensures.items) (has-more _ c.in_ok-o.o c.column.invariant begins (subst (λ t. length t.objects < 2 ^ 28) (sym c.column.view_is) space))
 
 pub returns-clause-pushed : goal.returns-clause-pushed
 returns-clause-pushed g t c =
     let m = c.args.objects.now in
     let first = All-head (λ (d : Texts). begins_group d ≡ true) c.in-Some.column.now c.in-Some.columns.now (subst (λ l. All (λ (d : Texts). begins_group d ≡ true) l) c.in-Some.ensures.cases.0 c.requires.begin) in
     let items = c.column.inside.objects.items in
-    pushed-more (length m.entries) (length c.create.new.self.entries) _ _ c.in-Some.columns.now _ c.args.columns.now
+    pushed-more (length m.records) (length c.create.new.self.records) _ _ c.in-Some.columns.now _ c.args.columns.now
     (c.in-Some.ensures.cases.0 ∙ ap (λ (d : Texts). d ∷ c.in-Some.columns.now) (sym c.column.view_is)) (subst (λ t. begins_group t ≡ true) (sym c.column.view_is) first)
     (c.push_reserved.ensures.items ∙ ap (λ l. l ++ c.in_ok-o.o ∷ []) c.in_ok-reserve.ensures.items ∙ ap (λ o. items ++ o ∷ []) c.in_ok-o.ensures.number)
     (count-created m c.create.new.self _ _ c.in_ok-o.ensures.created) c.in_default-begin_groups.ensures.pushed
@@ -51,17 +51,17 @@ pub returns-clause-lists : goal.returns-clause-lists
 returns-clause-lists g t c =
     let m = c.args.objects.now in
     let lists : Lists = lists_of g.S.FarTickets.content m in
-    let first = numbered-first (length m.entries) c.in-Some-split_first.form.now c.in-Some-split_first.forms.now c.args.forms.now c.in-Some-split_first.ensures.cases.0 c.requires.numbered in
-    let rest = numbered-rest (length m.entries) c.in-Some-split_first.form.now c.in-Some-split_first.forms.now c.args.forms.now c.in-Some-split_first.ensures.cases.0 c.requires.numbered in
+    let first = numbered-first (length m.records) c.in-Some-split_first.form.now c.in-Some-split_first.forms.now c.args.forms.now c.in-Some-split_first.ensures.cases.0 c.requires.numbered in
+    let rest = numbered-rest (length m.records) c.in-Some-split_first.form.now c.in-Some-split_first.forms.now c.args.forms.now c.in-Some-split_first.ensures.cases.0 c.requires.numbered in
     subst (λ l. ChangesTo lists (lists_of g.S.FarTickets.content c.begin_groups.new.objects) (given_forms l)) (sym c.in-Some-split_first.ensures.cases.0)
-    (changes-more lists (lists_of g.S.FarTickets.content c.create.new.self) (lists_of g.S.FarTickets.content c.begin_groups.new.objects) (length m.entries) _ _ _ _ first c.deref.ensures.value
-    (numbered-disjoint (length m.entries) c.in-Some-split_first.forms.now rest) c.in_ok-o.ensures.list c.in_default-begin_groups.ensures.lists)
+    (changes-more lists (lists_of g.S.FarTickets.content c.create.new.self) (lists_of g.S.FarTickets.content c.begin_groups.new.objects) (length m.records) _ _ _ _ first c.deref.ensures.value
+    (numbered-disjoint (length m.records) c.in-Some-split_first.forms.now rest) c.in_ok-o.ensures.list c.in_default-begin_groups.ensures.lists)
 
 pub returns-clause-clean : goal.returns-clause-clean
 returns-clause-clean g t c = λ clean. c.begin_groups.ensures.clean (c.create.ensures.clean clean)
 
 pub returns-clause-store : goal.returns-clause-store
-returns-clause-store g t c = λ name here. c.begin_groups.ensures.store name (c.create.ensures.store name here)
+returns-clause-store g t c = λ id here. c.begin_groups.ensures.store id (c.create.ensures.store id here)
 
 pub returns-clause-count : goal.returns-clause-count
 returns-clause-count g t c =

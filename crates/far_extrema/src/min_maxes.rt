@@ -1,0 +1,117 @@
+// The least and the greatest value by key, in a tree map.
+ghost use Rattle.std.specs.Prelude.{◌≡◌, ◌≢◌, None, false, IsTrue, is_some, IfOk, IfErr, OnOk, OnErr, map, ℤ, ◌≤ℤ◌, ◌<ℤ◌, Option};
+ghost use Rattle.std.specs.BTreeMap.{IsOrdered};
+ghost use Rattle.std.specs.FinMap as fin;
+ghost use Rattle.far_types.specs.declared.key.Key.{Key};
+ghost use Rattle.far_types.specs.Keys.{line_cmp};
+ghost use Rattle.far_types.specs.Effects.{join_min_maxes};
+ghost use Rattle.far_extrema.specs.MinMaxes.{extrema_of, with_min_max, put_min_max};
+
+use far_types::{Key, Refusal, clone_key};
+use std::alloc::Global;
+use std::collections::BTreeMap;
+
+/// The least and the greatest of the values that stand under a key.
+pub type MinMax = (i64, i64);
+
+/// What stands by key.
+pub type MinMaxes = BTreeMap<Option<Key>, MinMax>;
+
+/// The least and the greatest of two min-maxes together.
+pub fn merge_two(min_max: MinMax, more: MinMax) -> MinMax
+    ensures { result ≡ join_min_maxes min_max more }
+{
+    (min_max.0.min(more.0), min_max.1.max(more.1))
+}
+
+/// Whether a value is within a min-max, its ends included, so that it changes nothing there.
+pub fn is_within(value: i64, min_max: MinMax) -> bool
+    ensures { IsTrue result → (min_max.0 ≤ℤ value) × (value ≤ℤ min_max.1) }
+{
+    min_max.0 <= value && value <= min_max.1
+}
+
+/// Whether a value is strictly within a min-max, its ends left out, so that the min-max stays without it.
+#[inline(always)]
+pub fn is_strictly_within(value: i64, min_max: MinMax) -> bool
+    ensures { IsTrue result → (min_max.0 <ℤ value) × (value <ℤ min_max.1) }
+{
+    min_max.0 < value && value < min_max.1
+}
+
+/// A min-max more under a key that is there. Says whether it is. Allocates nothing.
+fn widen(min_maxes: &mut MinMaxes, key: &Option<Key>, more: MinMax) -> bool
+    ensures there { result ≡ is_some (fin.get (extrema_of min_maxes.old.entries) key.now) }
+    ensures widened { IsTrue result → extrema_of min_maxes.new.entries ≡ with_min_max (extrema_of min_maxes.old.entries) key.now more }
+    ensures absent { result ≡ false → min_maxes.new.entries ≡ min_maxes.old.entries }
+{
+    match min_maxes.get_mut(key) {
+        Some(min_max) => {
+            *min_max = merge_two(*min_max, more);
+            true
+        }
+        None => false,
+    }
+}
+
+/// A min-max more under a key, which is dropped where it is there already.
+pub fn observe(min_maxes: &mut MinMaxes, key: Option<Key>, more: MinMax) -> Result<(), Refusal>
+    ensures ok { OnOk result (extrema_of min_maxes.new.entries ≡ with_min_max (extrema_of min_maxes.old.entries) key more) }
+    ensures err { OnErr result (min_maxes.new.entries ≡ min_maxes.old.entries) }
+    ensures only_new { OnErr result (fin.get (extrema_of min_maxes.old.entries) key ≡ None) }
+    ensures memory { IfErr result (λ e. e ≡ Refusal.NoMemory) }
+{
+    if !widen(min_maxes, &key, more) {
+        min_maxes.insert(key, more)?;
+    }
+    Ok(())
+}
+
+/// A min-max more under a key, of which a clone is made where it is new.
+pub fn observe_under(min_maxes: &mut MinMaxes, key: &Option<Key>, more: MinMax) -> Result<(), Refusal>
+    ensures ok { OnOk result (extrema_of min_maxes.new.entries ≡ with_min_max (extrema_of min_maxes.old.entries) key.now more) }
+    ensures err { OnErr result (min_maxes.new.entries ≡ min_maxes.old.entries) }
+    ensures only_new { OnErr result (fin.get (extrema_of min_maxes.old.entries) key.now ≡ None) }
+    ensures memory { IfErr result (λ e. e ≡ Refusal.NoMemory) }
+{
+    if !widen(min_maxes, key, more) {
+        min_maxes.insert(clone_key(key)?, more)?;
+    }
+    Ok(())
+}
+
+/// What stands under a key. Allocates nothing.
+pub fn min_max_under(min_maxes: &MinMaxes, key: &Option<Key>) -> Option<MinMax>
+    ensures { result ≡ fin.get (extrema_of min_maxes.now.entries) key.now }
+{
+    min_maxes.get(key).copied()
+}
+
+/// A min-max in place of the one under a key that is there; none makes the key go. Allocates nothing.
+pub fn put(min_maxes: &mut MinMaxes, key: &Option<Key>, min_max: Option<MinMax>)
+    requires { fin.get (extrema_of min_maxes.old.entries) key.now ≢ None }
+    ensures { extrema_of min_maxes.new.entries ≡ put_min_max (extrema_of min_maxes.old.entries) key.now min_max }
+{
+    match min_max {
+        None => {
+            min_maxes.remove(key);
+        }
+        Some(min_max) => match min_maxes.get_mut(key) {
+            Some(previous) => *previous = min_max,
+            None => unreachable!(),
+        },
+    }
+}
+
+/// The lines of the min-maxes, by their keys, of which clones are made.
+pub fn lines(alloc: Global, min_maxes: &MinMaxes) -> Result<Vec<(Option<Key>, i64, i64)>, Refusal>
+    ensures ok { IfOk result (λ lines. lines.items ≡ map (λ (entry : Option Key × (ℤ × ℤ)). (entry.0, entry.1.0, entry.1.1)) min_maxes.now.entries) }
+    ensures ordered { IsOrdered line_cmp min_maxes.now }
+    ensures memory { IfErr result (λ e. e ≡ Refusal.NoMemory) }
+{
+    let mut lines = Vec::with_capacity(alloc, min_maxes.len())?;
+    for (key, min_max) in min_maxes {
+        lines.push((clone_key(key)?, min_max.0, min_max.1))?;
+    }
+    Ok(lines)
+}

@@ -1,0 +1,7 @@
+use Rattle.std.proofs.Common.{take}
+use Rattle.std.specs.Prelude.{All}
+use Rattle.far_vector.specs.Vector.{IsShaped}
+use Rattle.far_rows.proofs.rows.pushing.all_are_shaped.Given as goal
+
+abbrev pub invariant-loop-column : goal.invariant-loop-column
+invariant-loop-column l = All IsShaped (take l.column-index l.columns)

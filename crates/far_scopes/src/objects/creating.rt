@@ -1,0 +1,71 @@
+// Objects that are made, and the last one unmade.
+ghost use Rattle.std.specs.Prelude.{◌≡◌, ◌-◌, ◌<◌, ◌^◌, ◌↔◌, ◌⊎◌, ◌∷◌, length, false, true, Some, None, OnOk, OnErr, IfOk, IfErr, IsErrOf, ℕ, List};
+ghost use Rattle.far_log.specs.RegionState.{fits_in, spaces_of, fit_in_order};
+ghost use Rattle.far_scopes.specs.Memory.{ChangesList};
+ghost use Rattle.far_scopes.specs.Movement.{list_of, AreClean, is_local, pins_of, AreHere, ChangesObject};
+ghost use Rattle.far_scopes.specs.Effects.{after_create, after_uncreate};
+
+use super::{ObjectRecord, Objects};
+use far_codec::Elem;
+use far_store::FarTickets;
+use far_types::{Name, Refusal};
+
+impl<T: Elem, S: FarTickets> Objects<T, S> {
+    /// Makes an object of this list, and answers its number, which is the next: it is local, dirty, hot and used last,
+    /// and was never written, away or pinned. `uncreate` undoes it (`undone`). Lists of further lengths that found space in
+    /// order behind this one still do (`next`).
+    ///
+    /// Refused with `RegionFull` (17) exactly if no segment has the space, else with `NoMemory` (1) alone; then nothing
+    /// is changed.
+    pub fn create(&mut self, name: Name, items: &[T]) -> Result<u32, Refusal>
+        requires some { 0 < length items.now }
+        requires few { length self.old.records < 2 ^ 28 }
+        ensures number { IfOk result (λ o. o ≡ length self.old.records) }
+        ensures created { OnOk result (self.new ≡ after_create self.old name items.now) }
+        ensures list { OnOk result (ChangesList (list_of T.meaning S.content self.old) (list_of T.meaning S.content self.new) (length self.old.records) (Some items.now)) }
+        ensures undone { OnOk result (after_uncreate self.new ≡ self.old) }
+        ensures last { OnOk result ((is_local self.new (length self.old.records) ≡ true) × (pins_of self.new (length self.old.records) ≡ 0)) }
+        ensures next { OnOk result ((lens : List ℕ) → fit_in_order (spaces_of self.old.memory.state) (length items.now ∷ lens) ≡ fit_in_order (spaces_of self.new.memory.state) lens) }
+        ensures clean { AreClean T.meaning S.content self.old → AreClean T.meaning S.content self.new }
+        ensures others { OnOk result (ChangesObject self.old self.new (length self.old.records)) }
+        ensures store { (id : List ℕ) → AreHere S.is_of id self.old → AreHere S.is_of id self.new }
+        ensures full { IsErrOf result Refusal.RegionFull ↔ (fits_in self.old.memory.state (length items.now) ≡ false) }
+        ensures refused { IfErr result (λ e. (e ≡ Refusal.RegionFull) ⊎ (e ≡ Refusal.NoMemory)) }
+        ensures err { OnErr result (self.new ≡ self.old) }
+    {
+        if !self.memory.fits(items.len()) {
+            return Err(Refusal::RegionFull);
+        }
+        self.records.reserve(1)?;
+        let o = self.records.len() as u32;
+        self.order.add(o)?;
+        if let Err(refusal) = self.memory.add(items) {
+            self.order.remove(o);
+            return Err(refusal);
+        }
+        self.records.push_reserved(ObjectRecord {
+            name,
+            len: items.len(),
+            version: 0,
+            leavings: 0,
+            pins: 0,
+            ticket: None,
+        });
+        Ok(o)
+    }
+
+    /// Unmakes the last object, which is local and has no pin. Allocates nothing.
+    pub fn uncreate(&mut self)
+        requires local { is_local self.old (length self.old.records - 1) ≡ true }
+        requires unpinned { pins_of self.old (length self.old.records - 1) ≡ 0 }
+        ensures uncreated { self.new ≡ after_uncreate self.old }
+        ensures list { ChangesList (list_of T.meaning S.content self.old) (list_of T.meaning S.content self.new) (length self.old.records - 1) None }
+        ensures clean { AreClean T.meaning S.content self.old → AreClean T.meaning S.content self.new }
+        ensures others { ChangesObject self.old self.new (length self.old.records - 1) }
+        ensures store { (id : List ℕ) → AreHere S.is_of id self.old → AreHere S.is_of id self.new }
+    {
+        self.memory.remove_last();
+        self.records.pop();
+        self.order.remove(self.records.len() as u32);
+    }
+}
