@@ -15,7 +15,7 @@ use far_types::{CellRef, Kind, Limits, Refusal, Schema};
 use std::alloc::Global;
 use values::{four_numbers, four_texts, one_number, one_text, sixteen_numbers};
 
-/// Row groups of 64 places; 1,024 objects of numbers, or about 1,350 of 64 texts of eight bytes, find space in a segment.
+/// Row groups of 64 places; 1,024 objects of numbers, or about 1,350 of 64 texts of eight bytes, fit in a segment.
 const LIMITS: Limits = Limits {
     group: 64,
     places: 65_536,

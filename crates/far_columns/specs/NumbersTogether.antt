@@ -63,7 +63,7 @@ module _ {K : Type 0} where
     abbrev pub some_written_out : Bool × Refusal
     some_written_out = (list_any (λ c. (written_out m (object_at c c.len)).0) columns, refusal.EditsUsedUp)
 
-    -- new row groups, placed in order, do not find space
+    -- new row groups, placed in order, do not fit
     abbrev pub no_space_for_groups : Bool × Refusal
     no_space_for_groups = (not (fit_in_order (spaces_of m.memory.state) (map (λ c. c.size) columns)), refusal.RegionFull)
 

@@ -98,8 +98,8 @@ text-again : (v : Option (List ℕ)) → text_cell (text_of (text_cell v)) ≡ t
 text-again None = refl
 text-again (Some text) = refl
 
-touched-few : (size from to : ℕ) → overlapped_count size from to ≤ to
-touched-few size from to = elim (cases_lt from to) [
+overlapped-few : (size from to : ℕ) → overlapped_count size from to ≤ to
+overlapped-few size from to = elim (cases_lt from to) [
   | inl more ↦ (let count : overlapped_count size from to ≡ (to - 1) / size + 1 - from / size = rw (lt-ltb from to more) refl in let down = div-le_self (to - 1) size in omega (arith, count, down, more))
   | inr past ↦ (let count : overlapped_count size from to ≡ 0 = rw (le-ltb from to past) refl in omega (arith, count))
 ]
@@ -121,7 +121,7 @@ module _ (table : Table) (some : 0 < table.limits.group) (column from to : ℕ) 
   few = (let long = ap length all in let short = length-take (to - from) (drop from table.places) in omega (arith, long, short, near))
 
   count : length pieces < 2 ^ 63
-  count = (let long = length-pieces table.places table.limits.group from to in let most = touched-few table.limits.group from to in omega (arith, long, most, near))
+  count = (let long = length-pieces table.places table.limits.group from to in let most = overlapped-few table.limits.group from to in omega (arith, long, most, near))
 
   each-lent : (lents : List (Numbers × List Bool)) → Each (IsOf int_cell number_of number-again) (flat_map (λ (piece : Piece). piece.cells) (map ints_lent lents))
   each-lent [] = tt

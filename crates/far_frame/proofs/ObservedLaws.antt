@@ -12,8 +12,8 @@ use Rattle.far_types.specs.declared.refusal.Refusal.{Refusal}
 use Rattle.far_types.specs.declared.refusal.Refusal.TheVariants as refusal
 use Rattle.far_types.specs.FirstOf.{first_of}
 use Rattle.far_scopes.specs.Refusing.{refusal_in}
-use Rattle.far_vector.specs.Pieces.{touched as overlapped_groups, overlapped_count}
-use Rattle.far_vector.proofs.PieceLaws.{touched-step, rest, rows}
+use Rattle.far_vector.specs.Pieces.{overlapped_groups, overlapped_count}
+use Rattle.far_vector.proofs.PieceLaws.{overlapped-step, rest, rows}
 use Rattle.far_prefetcher.specs.Strides.{history_of, with_access}
 use Rattle.far_rows.specs.declared.column_index.ColumnIndex.{ColumnIndex}
 use Rattle.far_rows.specs.declared.object.Object.{Object}
@@ -25,8 +25,8 @@ use Rattle.far_frame.specs.State.{State, live}
 use Rattle.far_frame.specs.Lending.{AreObserved, all_used, all_observed}
 
 -- the row groups that have some of the places up to one: that of the first, and those of the places behind it
-pub touched-next : (size from to : ℕ) → 0 < size → from < to → overlapped_groups size from to ≡ from / size ∷ overlapped_groups size ((from / size + 1) * size) to
-touched-next size from to some more = touched-step size some from to more ∙ ap (λ l. from / size ∷ l) (behind (cases_lt ((from / size + 1) * size) to)) where
+pub overlapped-next : (size from to : ℕ) → 0 < size → from < to → overlapped_groups size from to ≡ from / size ∷ overlapped_groups size ((from / size + 1) * size) to
+overlapped-next size from to some more = overlapped-step size some from to more ∙ ap (λ l. from / size ∷ l) (behind (cases_lt ((from / size + 1) * size) to)) where
   next : ℕ
   next = (from / size + 1) * size
 
@@ -44,8 +44,8 @@ touched-next size from to some more = touched-step size some from to more ∙ ap
       let left : rest size some from to more ≡ 0 = elim (cases_lt (from / size) ((to - 1) / size)) [ inl later ↦ absurd (let over = rows size some from to more later in omega (arith, over, down, past, more)) | inr at ↦ omega (arith, at) ] in
       (ap (range_with_len (from / size + 1)) left ∙ ap (range_with_len (next / size)) (sym none)))
 
-pub touched-none : (size from to : ℕ) → to ≤ from → overlapped_groups size from to ≡ []
-touched-none size from to past = (let none : overlapped_count size from to ≡ 0 = rw (le-ltb from to past) refl in ap (range_with_len (from / size)) none)
+pub overlapped-none : (size from to : ℕ) → to ≤ from → overlapped_groups size from to ≡ []
+overlapped-none size from to past = (let none : overlapped_count size from to ≡ 0 = rw (le-ltb from to past) refl in ap (range_with_len (from / size)) none)
 
 module _ {K : Type 0} (old : State K) (column group : ℕ) where
   abbrev used : Rows K

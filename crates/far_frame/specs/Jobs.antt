@@ -158,7 +158,7 @@ module _ {K : Type 0} where
       Installs (work.Fetched fetched) new = Alters (IsMoved (IsInstalled content number_of fetched)) old new
       Installs _ new = ⊥
 
-      -- or it is not: what it rests on does not hold any more, its object finds no space, or memory is wanted. Any other job is
+      -- or it is not: what it rests on does not hold any more, its object does not fit, or memory is wanted. Any other job is
       -- stale here
       abbrev pub InstallRefusal : WorkOf K → Refusal → Type 0
       InstallRefusal (work.Fetched fetched) given = ((given ≡ refusal.StaleJob) × ¬ (IsFetchAccepted number_of old.rows fetched))

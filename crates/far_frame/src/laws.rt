@@ -54,7 +54,7 @@ pub fn an_answer_is_over_the_rows_now<S: FarTickets>()
 {}
 
 /// An edit that is accepted does to the rows what it does to the plain list, and one that is refused is refused as the
-/// plain list refuses it, or because an object is away or finds no space, or for lack of memory where nothing else refuses it.
+/// plain list refuses it, or because an object is away or does not fit, or for lack of memory where nothing else refuses it.
 pub fn an_edit_is_that_of_the_plain_list<S: FarTickets>()
     ensures inserted { (old : World S.Ticket) → (e : Edit) → (place : ℕ) → (new : World S.Ticket) → IsStep S.content S.number_of old (step.Edit e) (reply.Place place) new → new.state.table ≡ edited e old.state.table }
     ensures done { (old : World S.Ticket) → (e : Edit) → (new : World S.Ticket) → IsStep S.content S.number_of old (step.Edit e) reply.Done new → new.state.table ≡ edited e old.state.table }

@@ -1,6 +1,6 @@
 //! Random steps of every kind on a world that goes over several stores, against plain lists, reply by reply.
 //!
-//! The lists know how long each list and far form is, so where each lies, when one finds no space, and which object goes away first. How
+//! The lists know how long each list and far form is, so where each lies, when one does not fit, and which object goes away first. How
 //! many pins an object has no call tells, so at each look all are taken off and put on again. How old a far copy of a dirty one is, none
 //! tells either.
 mod aggregates;

@@ -1,4 +1,4 @@
--- Lists that find space segment by segment are those that find space one after the other.
+-- Lists that fit segment by segment are those that fit one after the other.
 use Rattle.std.proofs.Common.{◌≡◌, ℕ, suc, ◌+◌, ◌-◌, ◌<◌, Bool, true, false, List, [], ◌∷◌, length, Option, Some, None, eqb, refl, sym, ap, ◌∙◌, inl, inr, arith}
 use Rattle.std.specs.Prelude.{slice_set, slice_index, nat_le, All}
 use Rattle.std.specs.List.{list_all, position_or_len}

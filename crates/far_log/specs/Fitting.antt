@@ -1,4 +1,4 @@
--- Several lists that find space, seen segment by segment.
+-- Several lists that fit, seen segment by segment.
 -- Internal: no public contract cites it.
 use Rattle.std.specs.Prelude.{ℕ, ◌-◌, ◌==◌, nat_le, if◌then◌else◌, Bool, true, false, List, [], ◌∷◌, slice_set, slice_index}
 use Rattle.std.specs.Option.{option_map_or}

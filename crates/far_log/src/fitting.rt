@@ -1,4 +1,4 @@
-// Whether several lists find space, one after the other.
+// Whether several lists fit, one after the other.
 ghost use Rattle.std.specs.Prelude.{◌≡◌, ◌==◌};
 ghost use Rattle.std.specs.List.{list_all};
 ghost use Rattle.far_log.specs.Fitting.{once_filled};

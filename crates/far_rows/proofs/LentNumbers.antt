@@ -15,7 +15,7 @@ use Rattle.far_types.specs.FirstOf.{first_of}
 use Rattle.far_scopes.specs.Movement.{Movement, is_local}
 use Rattle.far_scopes.specs.Refusing.{absent, first_absent}
 use Rattle.far_vector.specs.Vector.{Vector}
-use Rattle.far_vector.specs.Pieces.{first_overlapped, overlapped_count, touched, pieces_of}
+use Rattle.far_vector.specs.Pieces.{first_overlapped, overlapped_count, overlapped_groups, pieces_of}
 use Rattle.far_vector.specs.Refusing.{pieces_refusal}
 use Rattle.far_columns.specs.Numbers.{Numbers, numbers_in, with_flags}
 use Rattle.far_scopes.proofs.FirstCases.{first-append}
@@ -69,14 +69,14 @@ module _ {K : Type 0} (content : K → List ℕ) (r : Rows K) (are : AreRows con
   pub range-read : slice_range (numbers_in content r.number_objects c) from to ≡ slice_range (numbers_of content r (column_index.Number i)) from to
   range-read = ap (λ (ns : Numbers). slice_range ns from to) (sym (numbers-read content r are i c within read))
 
-  pub part-refused : pieces_refusal r.number_objects c from to ≡ first_of (no_range r from to ∷ map (λ g. told_at r g (column_index.Number i)) (touched r.size from to))
+  pub part-refused : pieces_refusal r.number_objects c from to ≡ first_of (no_range r from to ∷ map (λ g. told_at r g (column_index.Number i)) (overlapped_groups r.size from to))
   part-refused =
-      let cases : ℕ → List (Bool × Refusal) = λ s. map (absent-of r.number_objects c.objects) (touched s from to) in
+      let cases : ℕ → List (Bool × Refusal) = λ s. map (absent-of r.number_objects c.objects) (overlapped_groups s from to) in
       let range : ℕ → Bool × Refusal = λ len. (nat_lt to from || nat_lt len to, refusal.OutOfRange) in
       ap (option_or (first_of (range c.len ∷ []))) (absent-range r.number_objects c.objects (first_overlapped c.size from) (overlapped_count c.size from to))
       ∙ sym (first-append (range c.len ∷ []) (cases c.size))
       ∙ (λ k. first_of (range (same_length.1 k) ∷ cases (same_length.0 k)))
-      ∙ ap (λ (f : ℕ → Bool × Refusal). first_of (no_range r from to ∷ map f (touched r.size from to))) (λ k g. sym (absent-number content r are g i c within read) k)
+      ∙ ap (λ (f : ℕ → Bool × Refusal). first_of (no_range r from to ∷ map f (overlapped_groups r.size from to))) (λ k g. sym (absent-number content r are g i c within read) k)
 
 -- a column whose index is known
 module _ {K : Type 0} (content : K → List ℕ) (r : Rows K) (column i from to : ℕ) (lies : slice_get r.column_indexes column ≡ Some (column_index.Number i)) where
@@ -85,11 +85,11 @@ module _ {K : Type 0} (content : K → List ℕ) (r : Rows K) (column i from to 
       ap (option_map (λ (cells : List Cell). slice_range cells from to)) (slice_get-map (column_in (all_numbers content r) (all_texts content r)) r.column_indexes column ∙ ap (option_map (column_in (all_numbers content r) (all_texts content r))) lies)
       ∙ ap Some (range-map int_cell (numbers_of content r (column_index.Number i)) from to ∙ ap (map int_cell) (sym is))
 
-  pub part-due : AreRows content r → ints_refusal r column from to ≡ first_of (no_range r from to ∷ map (λ g. told_at r g (column_index.Number i)) (touched r.size from to))
+  pub part-due : AreRows content r → ints_refusal r column from to ≡ first_of (no_range r from to ∷ map (λ g. told_at r g (column_index.Number i)) (overlapped_groups r.size from to))
   part-due are =
       ap (λ (s : Option ColumnIndex). first_of (
       (is_none s, refusal.NoColumn)
       ∷ (is_text (option_map kind_of s), refusal.WrongKind)
       ∷ no_range r from to
-      ∷ map (λ g. option_map_or (absent_at r column g) s (false, refusal.StaleJob)) (touched r.size from to))) lies
-      ∙ sym (range-named content r are column (column_index.Number i) lies from to (touched r.size from to))
+      ∷ map (λ g. option_map_or (absent_at r column g) s (false, refusal.StaleJob)) (overlapped_groups r.size from to))) lies
+      ∙ sym (range-named content r are column (column_index.Number i) lies from to (overlapped_groups r.size from to))

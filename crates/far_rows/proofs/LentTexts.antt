@@ -14,7 +14,7 @@ use Rattle.far_types.specs.Bounds.{is_int}
 use Rattle.far_types.specs.FirstOf.{first_of}
 use Rattle.far_scopes.specs.Movement.{Movement}
 use Rattle.far_scopes.specs.Refusing.{first_absent}
-use Rattle.far_vector.specs.Pieces.{touched}
+use Rattle.far_vector.specs.Pieces.{overlapped_groups}
 use Rattle.far_texts.specs.Texts.{Texts, HasGroups, lists_of, texts_in}
 use Rattle.far_texts.specs.Lending.{texts_refusal as column_refusal}
 use Rattle.far_scopes.proofs.FirstCases.{first-append}
@@ -37,9 +37,9 @@ or-swap false true = refl
 or-swap false false = refl
 
 -- the objects of a part, of which an empty one has none
-touched-by : {X K : Type 0} (m : Movement X K) (os : List ℕ) (some : Bool) (first end : ℕ) → first_absent m (if some then slice_range os first end else []) ≡ first_of (map (absent-of m os) (range_with_len first (if some then end - first else 0)))
-touched-by m os true first end = absent-range m os first (end - first)
-touched-by m os false first end = refl
+overlapped-by : {X K : Type 0} (m : Movement X K) (os : List ℕ) (some : Bool) (first end : ℕ) → first_absent m (if some then slice_range os first end else []) ≡ first_of (map (absent-of m os) (range_with_len first (if some then end - first else 0)))
+overlapped-by m os true first end = absent-range m os first (end - first)
+overlapped-by m os false first end = refl
 
 -- parts of two lists are as long as each other where the lists are
 range-length : {X Y : Type 0} (xs : List X) (ys : List Y) (from to : ℕ) → length xs ≡ length ys → length (slice_range ys from to) ≡ length (slice_range xs from to)
@@ -76,14 +76,14 @@ module _ {K : Type 0} (content : K → List ℕ) (r : Rows K) (are : AreRows con
           ap (map (λ (t : Option (List ℕ) × Bool). t.1)) is
           ∙ seconds-zip (slice_range (texts_in (lists_of content r.text_objects) c) from to) (slice_range r.alive from to) same_length-parts
 
-  pub part-refused : column_refusal r.text_objects c from to ≡ first_of (no_range r from to ∷ map (λ g. told_at r g (column_index.Text i)) (touched r.size from to))
+  pub part-refused : column_refusal r.text_objects c from to ≡ first_of (no_range r from to ∷ map (λ g. told_at r g (column_index.Text i)) (overlapped_groups r.size from to))
   part-refused =
-      let cases : ℕ → List (Bool × Refusal) = λ s. map (absent-of r.text_objects c.objects) (touched s from to) in
+      let cases : ℕ → List (Bool × Refusal) = λ s. map (absent-of r.text_objects c.objects) (overlapped_groups s from to) in
       let range : ℕ → Bool × Refusal = λ len. (nat_lt to from || nat_lt len to, refusal.OutOfRange) in
-      (λ k. option_or (first_of ((or-swap (nat_lt c.len to) (nat_lt to from) k, refusal.OutOfRange) ∷ [])) (touched-by r.text_objects c.objects (nat_lt from to) (from / c.size) ((to - 1) / c.size + 1) k))
+      (λ k. option_or (first_of ((or-swap (nat_lt c.len to) (nat_lt to from) k, refusal.OutOfRange) ∷ [])) (overlapped-by r.text_objects c.objects (nat_lt from to) (from / c.size) ((to - 1) / c.size + 1) k))
       ∙ sym (first-append (range c.len ∷ []) (cases c.size))
       ∙ (λ k. first_of (range (same_length.1 k) ∷ cases (same_length.0 k)))
-      ∙ ap (λ (f : ℕ → Bool × Refusal). first_of (no_range r from to ∷ map f (touched r.size from to))) (λ k g. sym (absent-text content r are g i c within read) k)
+      ∙ ap (λ (f : ℕ → Bool × Refusal). first_of (no_range r from to ∷ map f (overlapped_groups r.size from to))) (λ k g. sym (absent-text content r are g i c within read) k)
 
 -- a column whose index is known
 module _ {K : Type 0} (content : K → List ℕ) (r : Rows K) (column i from to : ℕ) (lies : slice_get r.column_indexes column ≡ Some (column_index.Text i)) where
@@ -92,11 +92,11 @@ module _ {K : Type 0} (content : K → List ℕ) (r : Rows K) (column i from to 
       ap (option_map (λ (cells : List Cell). slice_range cells from to)) (slice_get-map (column_in (all_numbers content r) (all_texts content r)) r.column_indexes column ∙ ap (option_map (column_in (all_numbers content r) (all_texts content r))) lies)
       ∙ ap Some (range-map text_cell (texts_of content r (column_index.Text i)) from to ∙ ap (map text_cell) (sym is) ∙ map-map text_cell (λ (t : Option (List ℕ) × Bool). t.0) lent)
 
-  pub part-due : AreRows content r → texts_refusal r column from to ≡ first_of (no_range r from to ∷ map (λ g. told_at r g (column_index.Text i)) (touched r.size from to))
+  pub part-due : AreRows content r → texts_refusal r column from to ≡ first_of (no_range r from to ∷ map (λ g. told_at r g (column_index.Text i)) (overlapped_groups r.size from to))
   part-due are =
       ap (λ (s : Option ColumnIndex). first_of (
       (is_none s, refusal.NoColumn)
       ∷ (is_int (option_map kind_of s), refusal.WrongKind)
       ∷ no_range r from to
-      ∷ map (λ g. option_map_or (absent_at r column g) s (false, refusal.StaleJob)) (touched r.size from to))) lies
-      ∙ sym (range-named content r are column (column_index.Text i) lies from to (touched r.size from to))
+      ∷ map (λ g. option_map_or (absent_at r column g) s (false, refusal.StaleJob)) (overlapped_groups r.size from to))) lies
+      ∙ sym (range-named content r are column (column_index.Text i) lies from to (overlapped_groups r.size from to))

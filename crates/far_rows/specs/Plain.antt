@@ -31,7 +31,7 @@ module _ {K : Type 0} (content : K → List ℕ) (limits : Limits) (r : Rows K) 
       let e : Edit = edit.Insert (row_of r.column_indexes values)
       in first_of (append_tests r (is_too_full e) (text_parts content limits r e (length (places_in content r) / limits.group)))
 
-  -- its form, written alone, finds no space; a number needs none
+  -- its form, written alone, does not fit; a number needs none
   abbrev pub no_space_alone : Edit → ℕ → ℕ → Object → Bool × Refusal
   no_space_alone e column g (object.Number o) = (false, refusal.RegionFull)
   no_space_alone e column g (object.Text o) = (not (fits_in r.text_objects.memory.state (text_object_length limits column g (places_after e (places_in content r)))), refusal.RegionFull)
@@ -42,7 +42,7 @@ module _ {K : Type 0} (content : K → List ℕ) (limits : Limits) (r : Rows K) 
   writes_used (object.Text o) = written_out r.text_objects o
 
   -- why a value may not be put in a column of a place: an object of its row group is away; a text object would be too long;
-  -- it finds no space; the column's object was written too often
+  -- it does not fit; the column's object was written too often
   abbrev pub cell_set_refusal : ℕ → ℕ → NewCell → Option Refusal
   cell_set_refusal column place value =
       let e : Edit = edit.Set place column (cell_of value)

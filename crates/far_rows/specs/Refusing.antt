@@ -11,7 +11,7 @@ use Rattle.far_scopes.specs.Refusing.{absent, written_out}
 use Rattle.far_texts.specs.Texts.{Lists, lists_of}
 use Rattle.far_texts.specs.Together.{next_forms}
 use Rattle.far_texts.specs.RefusingTogether.{any_full}
-use Rattle.far_vector.specs.Pieces.{touched}
+use Rattle.far_vector.specs.Pieces.{overlapped_groups}
 use Rattle.far_rows.specs.declared.column_index.ColumnIndex.{ColumnIndex}
 use Rattle.far_rows.specs.declared.column_index.ColumnIndex.TheVariants as column_index
 use Rattle.far_rows.specs.ColumnIndexes.{Values, kind_of}
@@ -69,21 +69,21 @@ module _ {K : Type 0} (r : Rows K) where
 
   -- a part of a column of numbers, whose row groups are looked at in order
   abbrev pub ints_refusal : ℕ → ℕ → ℕ → Option Refusal
-  ints_refusal column from to = first_of (no_column column ∷ of_texts column ∷ no_range from to ∷ map (absent_in column) (touched r.size from to))
+  ints_refusal column from to = first_of (no_column column ∷ of_texts column ∷ no_range from to ∷ map (absent_in column) (overlapped_groups r.size from to))
 
   -- likewise of texts
   abbrev pub texts_refusal : ℕ → ℕ → ℕ → Option Refusal
-  texts_refusal column from to = first_of (no_column column ∷ of_numbers column ∷ no_range from to ∷ map (absent_in column) (touched r.size from to))
+  texts_refusal column from to = first_of (no_column column ∷ of_numbers column ∷ no_range from to ∷ map (absent_in column) (overlapped_groups r.size from to))
 
   -- the next place is the first of a row group
   abbrev pub begins : Bool
   begins = length r.alive % r.size == 0
 
-  -- text objects of these lengths, placed in order, find no space
+  -- text objects of these lengths, placed in order, do not fit
   abbrev pub no_space_for_texts : List ℕ → Bool × Refusal
   no_space_for_texts lengths = (not (fit_in_order (spaces_of r.text_objects.memory.state) lengths), refusal.RegionFull)
 
-  -- where a row group begins: its objects of numbers, placed in order, find no space
+  -- where a row group begins: its objects of numbers, placed in order, do not fit
   abbrev pub no_space_for_numbers : Bool × Refusal
   no_space_for_numbers = (begins && not (fit_in_order (spaces_of r.number_objects.memory.state) (replicate (length r.numbers) r.size)), refusal.RegionFull)
 
@@ -97,7 +97,7 @@ module _ {K : Type 0} (r : Rows K) where
   some_written_out g = (list_any (is_written_out g) r.column_indexes, refusal.EditsUsedUp)
 
   -- the tests of an appended row: an object of its row group is away; a text object would be too long; the text objects that
-  -- it writes, which have these lengths, find no space; or its objects of numbers; an object was written too often
+  -- it writes, which have these lengths, do not fit; or its objects of numbers; an object was written too often
   abbrev pub append_tests : Bool → List ℕ → List (Bool × Refusal)
   append_tests too_long lengths =
       let g : ℕ = length r.alive / r.size

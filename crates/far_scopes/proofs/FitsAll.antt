@@ -1,4 +1,4 @@
--- Whether several lists find space, once the first of them is placed.
+-- Whether several lists fit, once the first of them is placed.
 use Rattle.std.proofs.Common.{◌≡◌, ℕ, inl, inr, Bool, true, false, List, ◌∷◌, length, map, Option, Some, None, refl, sym, ap, ◌∙◌}
 use Rattle.std.specs.Prelude.{is_some}
 use Rattle.far_log.specs.RegionState.{RegionState, spaces_of, target_of, fits_in, fit_in_order}

@@ -30,11 +30,11 @@ module _ {X : Type 0} where
     pub here : All (λ r. new r.object ≡ Some r.list.items) lists
     pub others : (p : ℕ) → IsUnlisted lists p → new p ≡ old p
 
-  -- the new lists do not find space, placed one after the other
+  -- the new lists do not fit, placed one after the other
   abbrev pub no_space_for_all : RegionState X → List (Replacement X) → Bool × Refusal
   no_space_for_all state lists = (not (fit_in_order (spaces_of state) (map (λ r. length r.list.items) lists)), refusal.RegionFull)
 
-  -- the first of the new lists finds space, where there is one
+  -- the first of the new lists fits, where there is one
   abbrev pub first_fits : RegionState X → List (Replacement X) → Bool
   first_fits state [] = true
   first_fits state (r ∷ rs) = fits_in state (length r.list.items)

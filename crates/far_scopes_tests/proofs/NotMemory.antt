@@ -1,4 +1,4 @@
--- What finds no space is not refused for lack of memory.
+-- What does not fit is not refused for lack of memory.
 use Rattle.std.proofs.Common.{◌≡◌, ◌≢◌, Bool, true, false}
 use Rattle.std.specs.Prelude.{Result, IfErr}
 use Rattle.std.specs.declared.result.Result.TheVariants.{Ok, Err}

@@ -69,7 +69,7 @@ module _ {K : Type 0} (content : K → List ℕ) (schema : List Kind) (limits : 
   abbrev last : Option Refusal
   last = first_of ((used, refusal.EditsUsedUp) ∷ [])
 
-  -- the text that a set writes finds no space
+  -- the text that a set writes does not fit
   abbrev crowded : Edit → ℕ → ℕ → Bool
   crowded e c g = not (fits_in held.text_objects.memory.state (text_object_length limits c g (places_after e t.places)))
 

@@ -27,7 +27,7 @@ module _ {K : Type 0} (s : State K) where
   abbrev pub length_after : Edit → ℕ → ℕ
   length_after e column = text_object_length s.table.limits column (group_of e) (places_after e s.table.places)
 
-  -- what the edit writes finds no space beside all that is there: an insert places the texts of all columns and then, where a
+  -- what the edit writes does not fit beside all that is there: an insert places the texts of all columns and then, where a
   -- row group begins, numbers; a set places its text
   abbrev pub no_space : Edit → List (Bool × Refusal)
   no_space (edit.Insert row) = no_space_for_texts s.rows (map (λ c. length_after (edit.Insert row) c.column) s.rows.texts) ∷ no_space_for_numbers s.rows ∷ []

@@ -31,7 +31,7 @@ module _ {K : Type 0} where
     pub free : pins_by old carried ≡ 0
     pub away : new ≡ after_commit old carried
 
-  -- a carried fetch is accepted, its object finds space, and is back
+  -- a carried fetch is accepted, its object fits, and is back
   pub record IsInstalled (content : K → List ℕ) (number_of : K → ℕ) (fetched : ByKind (CarriedFetch K) (CarriedFetch K)) (old new : Rows K) : Type 0 where
     pub accepted : IsFetchAccepted number_of old fetched
     pub space : ¬ (HasNoSpace content old fetched)

@@ -80,7 +80,7 @@ module _ {K : Type 0} (m : Movement ℕ K) where
   pub last-here : (content : K → List ℕ) (c : Texts) → begins_group c ≡ false → next_length_refusal content m c ≡ None → None ≡ first_of (absent m (last_object c) ∷ [])
   last-here content c begun free = sym (sym (ap (λ (b : Bool). first_of (cond b [] (absent m (last_object c) ∷ []))) begun) ∙ free)
 
--- where the forms find space and row groups are begun, it is left whether the objects may be written
+-- where the forms fit and row groups are begun, it is left whether the objects may be written
 pub space-longer : (used : Bool × Refusal) (fits begins : Bool) → fits ≡ true → begins ≡ false → first_of (used ∷ []) ≡ first_of ((not fits, RegionFull) ∷ cond begins [] (used ∷ []))
 space-longer used false begins space begun = absurd cc
 space-longer used true true space begun = absurd cc

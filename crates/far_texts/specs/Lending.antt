@@ -10,12 +10,12 @@ use Rattle.far_texts.specs.Texts.{Texts, Lists, HasGroups, lists_of, IsTextColum
 use Rattle.far_texts.specs.Refusing.{text_refusal}
 
 -- the objects of the row groups that a part touches; an empty part touches none
-abbrev pub touched : Texts → ℕ → ℕ → List ℕ
-touched c from to = if nat_lt from to then slice_range c.objects (from / c.size) ((to - 1) / c.size + 1) else []
+abbrev pub overlapped_objects : Texts → ℕ → ℕ → List ℕ
+overlapped_objects c from to = if nat_lt from to then slice_range c.objects (from / c.size) ((to - 1) / c.size + 1) else []
 
 abbrev pub texts_refusal : {K : Type 0} → Movement ℕ K → Texts → ℕ → ℕ → Option Refusal
 texts_refusal m c from to =
-    option_or (first_of ((nat_lt c.len to || nat_lt to from, refusal.OutOfRange) ∷ [])) (first_absent m (touched c from to))
+    option_or (first_of ((nat_lt c.len to || nat_lt to from, refusal.OutOfRange) ∷ [])) (first_absent m (overlapped_objects c from to))
 
 -- the texts of so many places from this one on are there and can be lent
 pub record AreLent {K : Type 0} (content : K → List ℕ) (m : Movement ℕ K) (c : Texts) (place count : ℕ) : Type 0 where

@@ -25,7 +25,7 @@ module _ {K : Type 0} where
   abbrev pub absents : Movement ℕ K → List Texts → List (Bool × Refusal)
   absents m columns = map (λ c. absent m (last_object c)) columns
 
-  -- new forms, placed in order, do not find space
+  -- new forms, placed in order, do not fit
   abbrev pub no_space_for : Movement ℕ K → List (ℕ × List ℕ) → Bool × Refusal
   no_space_for m forms = (not (fit_in_order (spaces_of m.memory.state) (map (λ form. length form.1) forms)), refusal.RegionFull)
 

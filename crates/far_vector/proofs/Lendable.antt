@@ -11,7 +11,7 @@ use Rattle.far_vector.specs.Vector.{Vector, IsShaped, object_at}
 use Rattle.far_vector.specs.Pieces.{first_overlapped, overlapped_count}
 use Rattle.far_vector.specs.Refusing.{no_range, crosses, unless_empty, part_refusal, pieces_refusal}
 use Rattle.far_vector.proofs.VectorLaws.{group-within}
-use Rattle.far_vector.proofs.PieceLaws.{g-low, further, one-group, count-step, touched-last, next-group, next-count}
+use Rattle.far_vector.proofs.PieceLaws.{g-low, further, one-group, count-step, overlapped-last, next-group, next-count}
 
 option_or-none : {A : Type 0} (a b : Option A) → option_or a b ≡ None → (a ≡ None) × (b ≡ None)
 option_or-none None b is = (refl, is)
@@ -75,5 +75,5 @@ module _ {X K : Type 0} (m : Movement X K) (v : Vector X) (from to : ℕ) (free 
           | inl later ↦ rw (next-count v.size shaped.some from to more later, next-group v.size shaped.some from to more later) both.1
           | inr past ↦ (
               let same : (to - 1) / v.size ≡ from / v.size = omega (arith, past, g-low v.size shaped.some from to more) in
-              rw (touched-last v.size shaped.some from to more same, le-ltb to to (omega arith)) refl)
+              rw (overlapped-last v.size shaped.some from to more same, le-ltb to to (omega arith)) refl)
         ])

@@ -8,7 +8,7 @@ use Rattle.std.proofs.lemmas.List.{length-map, drop-drop}
 use Rattle.std.proofs.lemmas.List.Elements.{All-cons, All-nil}
 use Rattle.std.proofs.lemmas.List.Edits.{between_none, length-between}
 use Rattle.std.proofs.Math.Seq.{take-add}
-use Rattle.far_vector.specs.Pieces.{first_overlapped, overlapped_count, touched, piece, pieces_of}
+use Rattle.far_vector.specs.Pieces.{first_overlapped, overlapped_count, overlapped_groups, piece, pieces_of}
 
 -- a row group is found again from its first place, and from its last
 group-of : (size g a n : ℕ) → a < size → n ≡ g * size + a → n / size ≡ g
@@ -25,7 +25,7 @@ map-range f h a (suc n) same = rw (same a (omega arith)) (ap (λ l. h a ∷ l) (
 
 module _ {X : Type 0} (xs : List X) (size : ℕ) where
   pub length-pieces : (from to : ℕ) → length (pieces_of xs size from to) ≡ overlapped_count size from to
-  length-pieces from to = length-map (touched size from to) (piece xs size from to) ∙ length-range (first_overlapped size from) (overlapped_count size from to)
+  length-pieces from to = length-map (overlapped_groups size from to) (piece xs size from to) ∙ length-range (first_overlapped size from) (overlapped_count size from to)
 
 module _ (size : ℕ) (some : 0 < size) (from to : ℕ) (more : from < to) where
   abbrev pub g : ℕ
@@ -68,11 +68,11 @@ module _ (size : ℕ) (some : 0 < size) (from to : ℕ) (more : from < to) where
   count-step = count ∙ (let e : (to - 1) / size + 1 - g ≡ suc rest = omega (arith, g-low) in e)
 
   -- the row groups of a part are its first and those of what is left
-  pub touched-step : touched size from to ≡ g ∷ range_with_len (g + 1) rest
-  touched-step = rw count (let e : (to - 1) / size + 1 - g ≡ suc rest = omega (arith, g-low) in rw e refl)
+  pub overlapped-step : overlapped_groups size from to ≡ g ∷ range_with_len (g + 1) rest
+  overlapped-step = rw count (let e : (to - 1) / size + 1 - g ≡ suc rest = omega (arith, g-low) in rw e refl)
 
-  pub touched-last : (to - 1) / size ≡ g → end ≡ to
-  touched-last same = let rows : (to - 1) / size * size ≡ g * size = ap (λ k. k * size) same in omega (arith, rows, last, last-below)
+  pub overlapped-last : (to - 1) / size ≡ g → end ≡ to
+  overlapped-last same = let rows : (to - 1) / size * size ≡ g * size = ap (λ k. k * size) same in omega (arith, rows, last, last-below)
 
   module _ (later : g < (to - 1) / size) where
     pub rows : (g + 1) * size ≤ (to - 1) / size * size
@@ -111,12 +111,12 @@ module _ {X : Type 0} (xs : List X) (size : ℕ) (some : 0 < size) where
       | inr past ↦ (
           let same : (to - 1) / size ≡ from / size = omega (arith, past, g-low size some from to more) in
           let none : rest size some from to more ≡ 0 = omega (arith, past) in
-          rw (none, touched-last size some from to more same) (sym (none-pieces to)))
+          rw (none, overlapped-last size some from to more same) (sym (none-pieces to)))
     ]
 
     -- the pieces of a part are its first and those of what is left
     pub pieces-step : pieces_of xs size from to ≡ slice_range xs from (end size some from to more) ∷ pieces_of xs size (end size some from to more) to
-    pieces-step = ap (map (piece xs size from to)) (touched-step size some from to more) ∙ ap (λ p. p ∷ map (piece xs size from to) (range_with_len (from / size + 1) (rest size some from to more))) head ∙ ap (λ l. slice_range xs from (end size some from to more) ∷ l) tail
+    pieces-step = ap (map (piece xs size from to)) (overlapped-step size some from to more) ∙ ap (λ p. p ∷ map (piece xs size from to) (range_with_len (from / size + 1) (rest size some from to more))) head ∙ ap (λ l. slice_range xs from (end size some from to more) ∷ l) tail
 
   -- a part is what two of it are, one behind the other
   joined-two : (from mid to : ℕ) → from ≤ mid → mid ≤ to → slice_range xs from mid ++ slice_range xs mid to ≡ slice_range xs from to

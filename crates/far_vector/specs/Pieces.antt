@@ -9,8 +9,8 @@ first_overlapped size from = from / size
 abbrev pub overlapped_count : ℕ → ℕ → ℕ → ℕ
 overlapped_count size from to = if nat_lt from to then (to - 1) / size + 1 - from / size else 0
 
-abbrev pub touched : ℕ → ℕ → ℕ → List ℕ
-touched size from to = range_with_len (first_overlapped size from) (overlapped_count size from to)
+abbrev pub overlapped_groups : ℕ → ℕ → ℕ → List ℕ
+overlapped_groups size from to = range_with_len (first_overlapped size from) (overlapped_count size from to)
 
 module _ {X : Type 0} where
   -- what row group g has of the elements `from` up to `to`
@@ -19,4 +19,4 @@ module _ {X : Type 0} where
 
   -- the part, a piece for each row group that holds some of it
   abbrev pub pieces_of : List X → ℕ → ℕ → ℕ → List (List X)
-  pieces_of elements size from to = map (piece elements size from to) (touched size from to)
+  pieces_of elements size from to = map (piece elements size from to) (overlapped_groups size from to)

@@ -64,7 +64,7 @@ static CASES: [Case; 8] = [
         ..AGENT
     },
     Case {
-        name: "a call refused for want of memory can be made again",
+        name: "a call that ran out of memory can be made again",
         capacity: 2,
         lines: &[Put(&[1, 2, 3], Ok(0)), Get(Ok(&[1, 2, 3]))],
         ..AGENT

@@ -24,7 +24,7 @@ use groups::{begin_groups, unbegin_groups};
 /// refused for memory alone.
 ///
 /// Refused as `push_numbers` is: where row groups begin with `RegionFull` (17) exactly if the new objects, placed one after
-/// the other, do not find space beside all that is there; elsewhere with `Absent` (16) exactly if some column's last object is
+/// the other, do not fit beside all that is there; elsewhere with `Absent` (16) exactly if some column's last object is
 /// away, naming the first such, else with `EditsUsedUp` (24) exactly if some last object was written as often as objects
 /// may be.
 pub fn may_push_numbers<S: FarTickets>(

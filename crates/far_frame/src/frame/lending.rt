@@ -2,7 +2,7 @@
 ghost use Rattle.std.specs.Prelude.{◌≡◌, ℕ, List, true, None, [], ◌∷◌, slice_get, IfOk, IfErr, OnOk, OnErr};
 ghost use Rattle.far_types.specs.MayRefuse.{MayRefuse};
 ghost use Rattle.far_scopes.specs.Refusing.{refusal_in};
-ghost use Rattle.far_vector.specs.Pieces.{touched};
+ghost use Rattle.far_vector.specs.Pieces.{overlapped_groups};
 ghost use Rattle.far_rows.specs.Jobs.{AreAt};
 ghost use Rattle.far_rows.specs.Moving.{object_refusal};
 ghost use Rattle.far_frame.specs.declared.step.Reply.{Reply};
@@ -43,7 +43,7 @@ impl<S: FarTickets> Frame<S> {
 
     /// Records an access to each row group that has places `from` up to `to` of a column, in order. Allocates nothing.
     pub(crate) fn record_accesses(&mut self, column: u32, from: u32, to: u32)
-        ensures accesses { AreObserved column (touched self.old.rows.size from to) self.old self.new }
+        ensures accesses { AreObserved column (overlapped_groups self.old.rows.size from to) self.old self.new }
         ensures here { (id : List ℕ) → AreAt S.is_of id self.old.rows → AreAt S.is_of id self.new.rows }
     {
         let size = self.scope().size();

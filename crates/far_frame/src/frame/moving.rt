@@ -134,7 +134,7 @@ impl<S: FarTickets> Frame<S> {
     /// Brings the object of a carried fetch back; each row, aggregate and answer stays.
     ///
     /// Refused with `StaleJob` (20) for any other job, and where what the job rests on does not hold any more: the object is local,
-    /// or was away again since; else with `RegionFull` (17) if it finds no space; else with `NoMemory` (1) alone. Then nothing is
+    /// or was away again since; else with `RegionFull` (17) if it does not fit; else with `NoMemory` (1) alone. Then nothing is
     /// changed.
     pub fn install(&mut self, store: &S, job: &Job<S>) -> Result<(), Refusal>
         requires here { AreAt S.is_of (S.store_id store.now) self.old.rows }

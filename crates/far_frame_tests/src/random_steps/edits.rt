@@ -96,7 +96,7 @@ impl Plain {
         is_long.then_some(Refusal::ChunkFull)
     }
 
-    // Why one more edit is not accepted: its objects find no space, or the edits are used up.
+    // Why one more edit is not accepted: its objects do not fit, or the edits are used up.
     fn last_refusal(&self, fits: bool) -> Option<Refusal> {
         let is_last = self.edits >= self.limits.edits;
         (!fits)
@@ -104,7 +104,7 @@ impl Plain {
             .or(is_last.then_some(Refusal::EditsUsedUp))
     }
 
-    // Whether the list that an object gets, once a place has this value, finds space beside all that is there. Numbers get one only where
+    // Whether the list that an object gets, once a place has this value, fits beside all that is there. Numbers get one only where
     // their row group begins.
     fn reserve_one(&mut self, place: u32, column: u32, value: Value, begins: bool) -> bool {
         let (kind, group) = (kind_of(column), place / SIZE);
@@ -157,7 +157,7 @@ impl Plain {
             .or(self.long_refusal(self.len, values))
     }
 
-    /// A row more. It finds space, where it begins a row group for objects that have no list yet, and is appended.
+    /// A row more. It fits, where it begins a row group for objects that have no list yet, and is appended.
     pub fn insert(&mut self, values: &Values, width: u32) -> Due<'static> {
         let place = self.len;
         let refusal = self.insert_refusal(values, width);

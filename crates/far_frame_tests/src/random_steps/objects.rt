@@ -173,7 +173,7 @@ impl Plain {
         None
     }
 
-    /// Whether the next list of an object finds space, and if it does its space.
+    /// Whether the next list of an object fits. If it does, it takes its space.
     pub fn reserve(&mut self, o: usize, kind: Kind, len: u32) -> bool {
         let part = self.spot(kind, len);
         self.objects[o % OBJECTS].next = part;

@@ -29,7 +29,7 @@ impl<S: FarTickets> Rows<S> {
     ///
     /// Refused with `Absent` (16) exactly if some object of the place's row group is away, naming the first in the order of
     /// the columns; else with `ChunkFull` (11) exactly if it is a text whose form would be longer than one may be; else
-    /// with `RegionFull` (17) exactly if it is a text whose form finds no space beside the old one; else with
+    /// with `RegionFull` (17) exactly if it is a text whose form does not fit beside the old one; else with
     /// `EditsUsedUp` (24) exactly if the object was written as often as objects may be. Where it is not refused, `set`
     /// can be refused with `NoMemory` (1) alone, and of a number not at all.
     pub fn may_set(&self, column: usize, place: usize, value: &NewCell) -> Result<(), Refusal>

@@ -13,7 +13,7 @@ use far_types::Refusal;
 
 impl<T: Elem> LocalMemory<T> {
     /// Gives listed objects, which are local, other lists: places all new ones, in order, before it drops an old one.
-    /// Where they find space the answer is `checked`. Refused, nothing is changed.
+    /// Where they fit the answer is `checked`. Refused, nothing is changed.
     ///
     /// Until all are placed, each new list is that of a further object behind the others.
     pub fn replace_all(

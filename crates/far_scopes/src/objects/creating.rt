@@ -12,7 +12,7 @@ use far_types::{Name, Refusal};
 
 impl<T: Elem, S: FarTickets> Objects<T, S> {
     /// Makes an object of this list, and answers its number, which is the next: it is local, dirty, hot and used last,
-    /// and was never written, away or pinned. `uncreate` undoes it (`undone`). Lists of further lengths that found space in
+    /// and was never written, away or pinned. `uncreate` undoes it (`undone`). Lists of further lengths that fitted in
     /// order behind this one still do (`next`).
     ///
     /// Refused with `RegionFull` (17) exactly if no segment has the space, else with `NoMemory` (1) alone; then nothing

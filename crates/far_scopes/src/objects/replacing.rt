@@ -64,7 +64,7 @@ impl<T: Elem, S: FarTickets> Objects<T, S> {
     /// is the one that was used last. Their tickets stay.
     ///
     /// Refused with `Absent` (16) exactly if a listed object is away, naming the first such; else with `RegionFull`
-    /// (17) if the new parts, placed one after the other, do not find space beside all that is there; else with
+    /// (17) if the new parts, placed one after the other, do not fit beside all that is there; else with
     /// `EditsUsedUp` (24) if some listed object was written as often as objects may be; and with `NoMemory` (1) if a
     /// growth was refused, which may come before it is seen that 17 or 24 applies, but only if the first new part finds
     /// space. Then nothing is changed.

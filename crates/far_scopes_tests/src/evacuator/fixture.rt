@@ -78,7 +78,7 @@ impl<'a, T: Element, S: FarStore> Fixture<'a, T, S> {
         Ok(())
     }
 
-    /// Makes a call, once more where it is refused for want of memory and left the objects as they were. Answers the number
+    /// Makes a call, once more where it is refused for lack of memory and left the objects as they were. Answers the number
     /// that it gives, and 0 where it gives none. An object number that is not in use is refused.
     pub fn make(&mut self, alloc: Global, call: &Call<&[T]>) -> Result<u32, Refusal> {
         let before = digest_of(&self.objects);

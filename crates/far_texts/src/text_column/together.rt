@@ -29,7 +29,7 @@ use std::alloc::Global;
 /// Refused with `TextTooLong` (7) exactly if some text has more than 4,096 bytes, else with `Absent` (16) exactly where
 /// the row groups are begun and some column's last object is away, naming the first such; else with `ChunkFull` (11)
 /// exactly if some new form would be longer than its column's may be; else with `RegionFull` (17) if the new forms,
-/// placed one after the other, do not find space beside all that is there; else with `EditsUsedUp` (24) if the row
+/// placed one after the other, do not fit beside all that is there; else with `EditsUsedUp` (24) if the row
 /// groups are begun and some last object was written as often as objects may be; and with `NoMemory` (1) if an allocation
 /// failed, which may come before it is seen that 17 or 24 applies. Then nothing is changed.
 pub fn push_texts<S: FarTickets>(

@@ -66,7 +66,7 @@ pub(super) fn all_writable<S: FarTickets>(
     Ok(())
 }
 
-// Whether new row groups, placed in order, find space.
+// Whether new row groups, placed in order, fit.
 pub(super) fn groups_fit<S: FarTickets>(
     objects: &Objects<Option<i64>, S>,
     columns: &[IntColumn],

@@ -256,7 +256,7 @@ pub static CASES: [Case; 17] = [
             (Find(0, 0, Text(X, 1)), Ok(())),
         ]),
     },
-    // Of two long texts more the first would find space; two short ones find it.
+    // Of two long texts more the first would fit; two short ones both fit.
     Case {
         name: "a row group without room in the second column changes nothing",
         layout: THREE_ONES,

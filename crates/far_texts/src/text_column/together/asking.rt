@@ -68,7 +68,7 @@ fn all_writable<S: FarTickets>(
     Ok(())
 }
 
-// Whether no new form is longer than it may be, the new forms find space, and objects that get another form may be written. The
+// Whether no new form is longer than it may be, the new forms fit, and objects that get another form may be written. The
 // length of each form is found once.
 fn may_place_forms<S: FarTickets>(
     objects: &Objects<u8, S>,
@@ -97,7 +97,7 @@ fn may_place_forms<S: FarTickets>(
 /// Refused as `push_texts` is, but never for lack of memory: with `TextTooLong` (7) exactly if some text has more than
 /// 4,096 bytes, else with `Absent` (16) exactly if the row groups are begun and some column's last object is away,
 /// naming the first such; else with `ChunkFull` (11) exactly if some new form would be longer than its column's may be;
-/// else with `RegionFull` (17) exactly if the new forms, placed one after the other, do not find space beside all that is
+/// else with `RegionFull` (17) exactly if the new forms, placed one after the other, do not fit beside all that is
 /// there; else with `EditsUsedUp` (24) exactly if the row groups are begun and some last object was written as often as
 /// objects may be. Where it is not refused, `push_texts` and `fill_texts` can be refused with `NoMemory` (1) alone.
 pub fn may_push_texts<S: FarTickets>(

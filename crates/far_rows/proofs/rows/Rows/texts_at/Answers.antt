@@ -3,7 +3,7 @@ use Rattle.std.specs.Prelude.{slice_range, IfOk}
 use Rattle.std.specs.List.{zip}
 use Rattle.std.proofs.lemmas.Result.{IfOk-weaker}
 use Rattle.far_types.specs.FirstOf.{first_of}
-use Rattle.far_vector.specs.Pieces.{touched}
+use Rattle.far_vector.specs.Pieces.{overlapped_groups}
 use Rattle.far_texts.specs.Texts.{lists_of, texts_in}
 use Rattle.far_rows.specs.declared.column_index.ColumnIndex.TheVariants as column_index
 use Rattle.far_rows.specs.Rows.{Rows}
@@ -57,4 +57,4 @@ returns-clause-refused g c =
     let column = subst (λ (r : Rows g.row.S-Ticket.Denot). c.args.text < length r.texts) (sym c.self.view_is) c.requires in
     c.texts.ensures.refused
     ∙ part-refused g.S.FarTickets.content _ c.self.invariant c.args.text c.args.from c.args.to c.index-column.result.now column c.index-column.ensures
-    ∙ ap (λ (r : Rows g.row.S-Ticket.Denot). first_of (no_range r c.args.from c.args.to ∷ map (λ h. told_at r h (column_index.Text c.args.text)) (touched r.size c.args.from c.args.to))) c.self.view_is
+    ∙ ap (λ (r : Rows g.row.S-Ticket.Denot). first_of (no_range r c.args.from c.args.to ∷ map (λ h. told_at r h (column_index.Text c.args.text)) (overlapped_groups r.size c.args.from c.args.to))) c.self.view_is
