@@ -37,7 +37,7 @@ some_not : {A : Type 0} (x : A) (o : Option A) → o ≡ Some x → o ≢ None
 some_not x None h e = cc
 some_not x (Some y) h e = cc
 
--- what was seen in a row group is there
+-- what was observed in a row group is there
 observed-there : (g : ℕ) (gs : List Extrema) (p : Pair) → g < length gs → fin.get (group_at (slice_set gs g (with_observed (group_at gs g) p)) g) p.0 ≢ None
 observed-there g gs p l =
     let m = group_at gs g in

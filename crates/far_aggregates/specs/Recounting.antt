@@ -1,4 +1,4 @@
--- Row groups that were folded apart, and are merged into an aggregate one after the other.
+-- Row groups that were folded separately, and are merged into an aggregate one after the other.
 use Rattle.std.specs.Prelude.{◌≡◌, ℕ, zero, suc, ◌+◌, ◌-◌, List, [], ◌∷◌, slice_set}
 use Rattle.std.specs.FinMap as fin
 use Rattle.far_types.specs.declared.spec.Spec.{Spec}

@@ -5,7 +5,7 @@ use Rattle.std.proofs.lemmas.List.{get_or_default}
 
 pub not-behind : (xs : List ℕ) (at i j d : ℕ) → at < length xs → i < at + 1 → at ≤ i → i < j → j < length xs
     → ((k e : ℕ) → 0 ≤ k → k < length (take (length xs - (at + 1)) (drop (at + 1) xs)) → eqb (get_or (take (length xs - (at + 1)) (drop (at + 1) xs)) k e) (get_or xs at 0) ≡ false) → get_or xs i d ≢ get_or xs j d
-not-behind xs at i j d within lt le apart end differs same =
+not-behind xs at i j d within lt le distinct end differs same =
     let k : ℕ = j - (at + 1) in
     let here : at + 1 + k ≡ j = omega arith in
     let i-is : i ≡ at = omega arith in

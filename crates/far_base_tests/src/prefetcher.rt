@@ -54,7 +54,7 @@ fn the_next_two_groups_of_a_stride_are_proposed_where_they_exist(rt: HostRuntime
 }
 
 // Whether groups that were seen of all three columns are proposed for the first, and none for the second.
-fn are_proposed_apart(alloc: Global, prefetcher: &mut Prefetcher) -> Result<bool, Refusal> {
+fn are_proposed_distinct(alloc: Global, prefetcher: &mut Prefetcher) -> Result<bool, Refusal> {
     prefetcher.saw(1, 9);
     prefetcher.saw(2, 0);
     all(&[
@@ -63,11 +63,11 @@ fn are_proposed_apart(alloc: Global, prefetcher: &mut Prefetcher) -> Result<bool
     ])
 }
 
-fn has_histories_apart(alloc: Global) -> Result<bool, Refusal> {
-    are_proposed_apart(alloc, &mut after(alloc, &[0, 1, 2, 3])?)
+fn has_histories_distinct(alloc: Global) -> Result<bool, Refusal> {
+    are_proposed_distinct(alloc, &mut after(alloc, &[0, 1, 2, 3])?)
 }
 
 #[test]
 fn each_column_has_a_history_of_its_own(rt: HostRuntime) {
-    must_be(&rt, has_histories_apart(rt.alloc()), Ok(true));
+    must_be(&rt, has_histories_distinct(rt.alloc()), Ok(true));
 }

@@ -32,7 +32,7 @@ pub(crate) struct Times {
     /// For as many readings of its gauge after them.
     pub(crate) readings: u128,
     /// For readings of a gauge while another session wrote that stripe.
-    pub(crate) beside: u128,
+    pub(crate) concurrent: u128,
     /// How many these were.
     pub(crate) readings_beside: u128,
 }
@@ -41,7 +41,7 @@ pub(crate) struct Times {
 const NO_TIMES: Times = Times {
     edits: 0,
     readings: 0,
-    beside: 0,
+    concurrent: 0,
     readings_beside: 0,
 };
 
@@ -180,7 +180,7 @@ fn time_reader<N: Naming, B: Site, R: Wait + Clock>(
         return Err(Refusal::OutOfRange);
     };
     Ok(Times {
-        beside: since(rt, start),
+        concurrent: since(rt, start),
         readings_beside: u128::from(readings),
         ..NO_TIMES
     })
@@ -230,7 +230,7 @@ fn slowest(all: Vec<Result<Times, Refusal>>) -> Result<Times, Refusal> {
         };
         slowest.edits = slowest.edits.max(times.edits);
         slowest.readings = slowest.readings.max(times.readings);
-        slowest.beside = slowest.beside.max(times.beside);
+        slowest.concurrent = slowest.concurrent.max(times.concurrent);
         slowest.readings_beside = slowest.readings_beside.max(times.readings_beside);
     }
     Ok(slowest)

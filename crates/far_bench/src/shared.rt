@@ -41,7 +41,7 @@ pub(crate) fn measure<R: Threads + Wait + Clock + Sync>(
         return None;
     };
     let reading = two
-        .beside
+        .concurrent
         .saturating_mul(u128::from(edits))
         .checked_div(two.readings_beside)
         .unwrap_or(0);

@@ -73,7 +73,7 @@ changes-same m v x = elim (cases_Bool (is_full v)) [ inl full ↦ rw full refl |
 pub count-same : {K : Type 0} (m : Movement (Option ℤ) K) (v : Vector (Option ℤ)) (x : Option ℤ) → is_full v ≡ false → length (pushed_in m v x).records ≡ length m.records
 count-same m v x begun = rw begun (length-with m.records (object_at v v.len) (λ object_record. record object_record { version = object_record.version + 1 }))
 
--- apart either way
+-- disjoint either way
 pub disjoint-turned : (v w : Vector (Option ℤ)) → AreDisjoint v w → AreDisjoint w v
 disjoint-turned v w disjoint k d within j e inside same = disjoint j e inside k d within (sym same)
 

@@ -230,7 +230,7 @@ impl IntColumn {
         ensures same_length { IfOk result (λ lents. All (λ lent. length lent.1 ≡ length lent.0) lents) }
         ensures refused { refusal_in result ≡ pieces_refusal objects.now self.now from to }
     {
-        // It tells that there are as many numbers as it says.
+        // For the proof: that there are as many numbers as it says.
         let _len = self.vector.len();
         let pieces = self.vector.pieces(objects, from, to)?;
         Ok(Lents::new(pieces, alive.flags(from, to)))

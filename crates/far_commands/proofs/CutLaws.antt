@@ -9,11 +9,11 @@ use Rattle.far_commands.specs.Cuts.{CutOff, IsFront, PrintsCut}
 
 -- nothing was printed
 pub cut-none : (why : ShellFault) (answer : List ℕ → Type 0) → (why ≡ fault.BadStart → ⊥) → (why ≡ fault.Turns → ⊥) → CutOff why answer []
-cut-none fault.BadStart answer other apart = other refl
-cut-none fault.Input answer other apart = refl
-cut-none fault.Output answer other apart = inl refl
-cut-none fault.Memory answer other apart = inl refl
-cut-none fault.Turns answer other apart = apart refl
+cut-none fault.BadStart answer other distinct = other refl
+cut-none fault.Input answer other distinct = refl
+cut-none fault.Output answer other distinct = inl refl
+cut-none fault.Memory answer other distinct = inl refl
+cut-none fault.Turns answer other distinct = distinct refl
 
 -- the faults that may come behind a front
 pub cut-output : (why : ShellFault) (answer : List ℕ → Type 0) (text rest : List ℕ) → why ≡ fault.Output → answer (text ++ rest) → CutOff why answer text
@@ -34,7 +34,7 @@ cut-more fault.Memory a b text f h = front-more a b text f h
 cut-more fault.Turns a b text f h = h
 
 pub prints-cut-none : (why : ShellFault) (answer : List ℕ → Type 0) (u v : Option (List ℕ)) (held left : List ℕ) → (why ≡ fault.BadStart → ⊥) → (why ≡ fault.Turns → ⊥) → Prints u held [] v left → PrintsCut why answer u held v left
-prints-cut-none why answer u v held left other apart p = ([], p, cut-none why answer other apart)
+prints-cut-none why answer u v held left other distinct p = ([], p, cut-none why answer other distinct)
 
 pub prints-cut-more : (why : ShellFault) (a b : List ℕ → Type 0) (u v w : Option (List ℕ)) (held mid left : List ℕ) → ((said : List ℕ) → a said → b said) → Prints u held [] v mid
     → PrintsCut why a v mid w left → PrintsCut why b u held w left

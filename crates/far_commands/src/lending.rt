@@ -156,7 +156,7 @@ pub fn lent<S: FarTickets>(
     ensures memory { IfErr result (λ e. e ≡ Refusal.NoMemory) }
 {
     let view = frame.scope();
-    // It tells that a row group has a place.
+    // For the proof: that a row group has a place.
     let _size = view.size();
     reply.truncate(0);
     if from >= to {

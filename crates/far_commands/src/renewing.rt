@@ -85,7 +85,7 @@ fn go_on<S: FarStore, A: Resources<S>>(
     migrate(world, empty, store)
 }
 
-/// Goes on with a new store of this capacity, and prints `renewed`, or the refusal. It stands apart, since the tables that move
+/// Goes on with a new store of this capacity, and prints `renewed`, or the refusal. It is a function of its own, since the tables that move
 /// have a large frame, which each command would pay for.
 #[inline(never)]
 pub fn renew<S: FarStore, A: Resources<S>>(

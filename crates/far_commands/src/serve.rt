@@ -3,7 +3,7 @@ ghost use Rattle.std.specs.Prelude.{◌≡◌, ℕ, List, ◌++◌, ◌+◌, ◌
 ghost use Rattle.far_frame.specs.State.{live};
 ghost use Rattle.far_commands.specs.Cuts.{Fails, FailsBy, Lists, PrintsCut};
 ghost use Rattle.far_script.specs.Faults.{IfInput};
-ghost use Rattle.far_script.specs.Flow.{Holds, IsShort, Prints, Reads, Stops, has_failed, spanned};
+ghost use Rattle.far_script.specs.Flow.{Holds, IsShort, Prints, Reads, Stops, has_failed, bytes_in};
 ghost use Rattle.far_script.specs.Printing.{numbered_text};
 ghost use Rattle.far_commands.specs.Listings.{listing_of};
 ghost use Rattle.far_commands.specs.Replies.{Serves, Takes, done_text, reply_text, AnswersLine};
@@ -36,7 +36,7 @@ fn done(step: &Step) -> &'static str
 }
 
 /// Makes a page the line of a reply, or the lines of an answer or of a part of a column. The text is that of a reply that has nothing
-/// to say. It stands apart: built into each way to it, it would call what adds to a page.
+/// to say. It is a function of its own: built into each way to it, it would call what adds to a page.
 #[inline(never)]
 fn print_reply(page: &mut Page, done: &str, reply: &Reply) -> Result<(), Refusal>
     ensures ok { OnOk result (page.new ≡ reply_text done.now reply.now) }
@@ -199,9 +199,9 @@ pub fn answer_line<S: FarStore, A: Resources<S>, R: Source + Drop, W: Write>(
 ) -> Result<(), ShellFault>
     requires held { Holds R.Read input.old line }
     requires few { progress.old.number < 4294967295 }
-    ensures ok { OnOk result ((rows : List ℕ) × (text : List ℕ) × Reads R.Read input.old rows input.new × Prints (W.contents writer.old) output.old.page text (W.contents writer.new) output.new.page × AnswersLine S.FarTickets progress.old (spanned R.Read input.old line) rows text progress.new) }
-    ensures err { IfErr result (λ fault. PrintsCut fault (λ said. Lists progress.old (spanned R.Read input.old line) said) (W.contents writer.old) output.old.page (W.contents writer.new) output.new.page) }
-    ensures stopped { IfErr result (λ fault. IfInput fault (Stops R.Read (λ behind rest. Fails (IsShort R.Read R.may_fail input.old input.new rest) progress.old.world.state.table.schema (spanned R.Read input.old line) behind) input.old input.new)) }
+    ensures ok { OnOk result ((rows : List ℕ) × (text : List ℕ) × Reads R.Read input.old rows input.new × Prints (W.contents writer.old) output.old.page text (W.contents writer.new) output.new.page × AnswersLine S.FarTickets progress.old (bytes_in R.Read input.old line) rows text progress.new) }
+    ensures err { IfErr result (λ fault. PrintsCut fault (λ said. Lists progress.old (bytes_in R.Read input.old line) said) (W.contents writer.old) output.old.page (W.contents writer.new) output.new.page) }
+    ensures stopped { IfErr result (λ fault. IfInput fault (Stops R.Read (λ behind rest. Fails (IsShort R.Read R.may_fail input.old input.new rest) progress.old.world.state.table.schema (bytes_in R.Read input.old line) behind) input.old input.new)) }
     ensures failed { IfErr result (λ fault. fault ≡ ShellFault.Output → has_failed output.new ≡ true) }
     ensures asked { input.new.source.reads ≤ input.old.source.reads }
 {

@@ -52,8 +52,8 @@ set-present b os g o l h q = elim (q == g) as (λ t. (q == g) ≡ t → at (pres
   elsewhere : (q < b) ⊎ (b ≤ q) → (q ≡ g → ⊥) → at (present b (set os (g - b) o)) q ≡ at (present b os) q
   elsewhere (inl m) n = from-present b (set os (g - b) o) q m ∙ sym (from-present b os q m)
   elsewhere (inr m) n =
-      let apart : (q - b) ≢ (g - b) = λ e. n (omega arith) in
-      at-number b (set os (g - b) o) q m ∙ get_or-set_other os (g - b) (q - b) o None apart ∙ sym (at-number b os q m)
+      let distinct : (q - b) ≢ (g - b) = λ e. n (omega arith) in
+      at-number b (set os (g - b) o) q m ∙ get_or-set_other os (g - b) (q - b) o None distinct ∙ sym (at-number b os q m)
 
 -- the min-maxes of elements, joined
 abbrev pub all_elements : List (Option (ℤ × ℤ)) → Option (ℤ × ℤ)

@@ -326,7 +326,7 @@ put-own m g k x there h q = elim (h == g) as (λ a. (h == g) ≡ a → min_max_a
   | false ↦ λ e. refl
 ] refl
 
--- a value that is seen
+-- a value that is observed
 pub observed-in : (m m' : Holders) (count g : ℕ) (k : Option Key) (v : ℤ) (o : Option (ℤ × ℤ)) → AreReserved count m → min_max_at m g k ≡ o → g < count → IsPut m g k (Some (widened v o)) m' → groups_in m' count ≡ slice_set (groups_in m count) g (with_observed (group_at (groups_in m count) g) (k, v))
 observed-in m m' count g k v o kept previous l put =
     put-in m m' count g k (Some (widened v o)) l put

@@ -7,7 +7,7 @@ pub record BlockState : Type 0 where
   pub min_maxes : MinMaxes
   pub first : ℕ
 
--- the min-maxes that stand in elements, of row groups from this one on
+-- the min-maxes of the elements that have one, of row groups from this one on
 abbrev pub present : ℕ → List (Option (ℤ × ℤ)) → MinMaxes
 present first [] = []
 present first (None ∷ elements) = present (first + 1) elements

@@ -1,4 +1,4 @@
--- Row groups of a column that are seen: their objects are used, and they are remembered.
+-- Row groups of a column that are accessed: their objects are used, and they are remembered.
 use Rattle.std.proofs.Common.{◌≡◌, ℕ, ◌+◌, ◌-◌, ◌*◌, ◌/◌, ◌<◌, ◌≤◌, ◌⊎◌, List, [], ◌∷◌, Option, None, Some, Result, inl, inr, refl, sym, ap, ◌∙◌, arith}
 use Rattle.std.specs.Prelude.{is_none, option_map, slice_get, slice_set, OnOk, OnErr, IsSomeAnd}
 use Rattle.std.specs.declared.result.Result.TheVariants.{Ok, Err}
@@ -73,12 +73,12 @@ module _ {K : Type 0} (old : State K) (column group : ℕ) where
   pub one-accesses : (new : LiveState K) → IsMoved (IsTouched column group) (live old) new → AreObserved column (group ∷ []) old (now new)
   one-accesses new moved = record { table = moved.table; rows = is-used (object_at old.rows column group) new.rows moved.rows; accesses = refl }
 
-  -- a row group is seen, whether or not there is such an object
+  -- a row group is accessed, whether or not there is such an object
   pub accesses-anyhow : (new : LiveState K) (r : Result Unit Refusal) → OnOk r (IsMoved (IsTouched column group) (live old) new) → OnErr r (new ≡ live old) → refusal_in r ≡ object_refusal old.rows column group → AreObserved column (group ∷ []) old (now new)
   accesses-anyhow new (Ok done) moved same due = one-accesses new moved
   accesses-anyhow new (Err e) moved same due = record { table = ap (λ (s : LiveState K). s.table) same; rows = ap (λ (s : LiveState K). s.rows) same ∙ sym (unused e due); accesses = refl }
 
--- some row groups were seen, and these are left
+-- some row groups were accessed, and these are left
 pub record IsObserving {K : Type 0} (column : ℕ) (all left : List ℕ) (old mid : State K) : Type 0 where
   pub table : mid.table ≡ old.table
   pub rows : all_used mid.rows column left ≡ all_used old.rows column all

@@ -139,7 +139,7 @@ module _ {K : Type 0} where
         ⊎ ((given ≡ refusal.Pinned) × IsEvacAccepted number_of old.rows carried × (pins_by old.rows carried ≢ 0))
     CommitRefusal _ given = given ≡ refusal.StaleJob
 
-    -- a job is an offloaded build that was carried and is accepted, and its row group is built in
+    -- a job is an offloaded build that was carried and is accepted, and its row group is scanned
     abbrev pub Merges : WorkOf K → State K → Type 0
     Merges (work.Offloaded build) new = Alters (λ before after. IsMerged number_of before build after) old new
     Merges _ new = ⊥

@@ -150,7 +150,7 @@ impl<S: FarTickets> Frame<S> {
     }
 
     /// Builds the rows of a row group into an aggregate. Refused with `NoAggregate` (12), `OutOfRange` (14) if no place
-    /// is in the row group, `StaleJob` (20) if it is built in already, `Absent` (16) if the object of a column that the
+    /// is in the row group, `StaleJob` (20) if it is scanned already, `Absent` (16) if the object of a column that the
     /// aggregate needs is away, naming the lowest such column, and `NoMemory` (1).
     pub fn scan_group(&mut self, a: u32, group: u32) -> Result<(), Refusal>
         ensures ok { OnOk result (Accepts S.content self.old (step.ScanGroup a group) reply.Done self.new) }
@@ -194,7 +194,7 @@ impl<S: FarTickets> Frame<S> {
     pub fn places(&self) -> u32
         ensures { result ≡ length self.now.table.places }
     {
-        // They tell that a table has at most 16,777,216 places.
+        // For the proof: that a table has at most 16,777,216 places.
         let _limits = self.table.rows().limits();
         self.table.rows().len() as u32
     }

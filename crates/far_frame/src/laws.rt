@@ -40,7 +40,7 @@ ghost use Rattle.far_frame.specs.Worlds.{AreNumbered, IsSpent, World};
 use far_store::FarTickets;
 
 /// After any list of steps the rows are those of the plain list under the edits that were accepted, whatever was
-/// registered, built in and asked between them.
+/// registered, scanned and asked between them.
 pub fn rows_are_those_of_the_plain_list<S: FarTickets>()
     ensures { (old : World S.Ticket) → (steps : List Step) → (replies : List Reply) → (new : World S.Ticket) → IsRun S.content S.number_of old steps replies new → new.state.table.places ≡ plain_rows steps replies old.state.table.places }
 {}
@@ -119,7 +119,7 @@ pub fn a_merge_is_a_scan<S: FarTickets>()
 {}
 
 /// A job that is stale changes nothing but that its number is spent: one that was accepted, is of another kind or phase, or whose
-/// object was written or away since; or a build whose row group was edited, built in otherwise, or whose aggregate is another now.
+/// object was written or away since; or a build whose row group was edited, scanned otherwise, or whose aggregate is another now.
 /// One that is spent or was never begun is stale, whichever step names it.
 pub fn a_stale_job_changes_nothing<S: FarTickets>()
     ensures committed { (old : World S.Ticket) → (n : ℕ) → (new : World S.Ticket) → IsStep S.content S.number_of old (step.Commit n) (reply.Refused Refusal.StaleJob) new → new ≡ record old { jobs = without_job old.jobs n } }

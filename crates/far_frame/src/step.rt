@@ -68,7 +68,7 @@ pub enum Step {
     Commit(u64),
     /// Ends the job of a number, a fetch that was carried: its object is back.
     Install(u64),
-    /// Ends the job of a number, an offloaded build that was carried: its row group is built in.
+    /// Ends the job of a number, an offloaded build that was carried: its row group is scanned.
     Merge(u64),
     /// Compacts a segment, the second, of the objects of a kind.
     Compact(Kind, u32),

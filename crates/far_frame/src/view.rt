@@ -115,7 +115,7 @@ impl<'a, S: FarTickets> View<'a, S> {
         ensures column_index { result ≡ option_map kind_of (slice_get self.now.rows.column_indexes column) }
     {
         let rows = self.table.rows();
-        // It tells that the kinds are those of the columns.
+        // For the proof: that the kinds are those of the columns.
         let _held = rows.held();
         rows.schema().get(column as usize)
     }
@@ -128,7 +128,7 @@ impl<'a, S: FarTickets> View<'a, S> {
         ensures small { result ≤ 2 ^ 16 }
     {
         let rows = self.table.rows();
-        // It tells that the rows are cut as the limits say.
+        // For the proof: that the rows are cut as the limits say.
         let _held = rows.held();
         rows.limits().group as usize
     }
@@ -144,7 +144,7 @@ impl<'a, S: FarTickets> View<'a, S> {
         ensures refused { refusal_in result ≡ ints_refusal self.now.rows column from to }
     {
         let rows = self.table.rows();
-        // They tell what the rows are, and how many.
+        // For the proof: what the rows are, and how many.
         let _len = rows.len();
         let _limits = rows.limits();
         rows.held()
@@ -162,7 +162,7 @@ impl<'a, S: FarTickets> View<'a, S> {
         ensures refused { refusal_in result ≡ texts_refusal self.now.rows column from to }
     {
         let rows = self.table.rows();
-        // It tells what the rows are.
+        // For the proof: what the rows are.
         let _len = rows.len();
         rows.held()
             .texts(column as usize, from as usize, to as usize)
@@ -177,7 +177,7 @@ impl<'a, S: FarTickets> View<'a, S> {
         ensures refused { refusal_in result ≡ text_refusal self.now.rows column place }
     {
         let rows = self.table.rows();
-        // It tells what the rows are.
+        // For the proof: what the rows are.
         let _len = rows.len();
         rows.held().text(column as usize, place as usize)
     }

@@ -111,7 +111,7 @@ pub enum Call {
     MayEvac(u32, u32),
     /// Looks whether a row group can be scanned into an aggregate: `StaleJob` says no.
     MayScan(u32, u32),
-    /// Looks whether it can be built in from the store.
+    /// Looks whether it can be built from the store.
     MayOffload(u32, u32),
     /// Looks which object goes away first.
     Coldest,

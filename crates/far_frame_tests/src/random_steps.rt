@@ -356,7 +356,7 @@ fn first_wrong_run<R: Threads + Wait + Sync>(
     Ok(None)
 }
 
-/// Each kind of step is accepted in some run, worlds go on with another store and are refused to, and each refusal is due but want of
+/// Each kind of step is accepted in some run, worlds go on with another store and are refused to, and each refusal is due but lack of
 /// memory, a bad schema and a text that is too long.
 const DUE: u64 = 0x7F_FFFF_017F_FF78;
 

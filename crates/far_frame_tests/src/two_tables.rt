@@ -252,7 +252,7 @@ fn is_told_apart<S: FarStore>(
     both(is_stale, is_told_at_its_end(alloc, own, other, store, end))
 }
 
-/// The same of jobs of each kind: both objects go away, and one is built in from the store and comes back.
+/// The same of jobs of each kind: both objects go away, and one is built from the store and comes back.
 fn all_are_told_apart<S: FarStore>(
     alloc: Global,
     own: &mut Frame<S>,

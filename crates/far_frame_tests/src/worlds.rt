@@ -205,7 +205,7 @@ const THIRD_OF_EACH: Calls = &[
     (Call::Faults(2), Due::Done),
 ];
 
-/// The row groups are away and none is built in. The first read of a build from the store fails.
+/// The row groups are away and none is scanned. The first read of a build from the store fails.
 const FIRST_OFFLOAD: Calls = &[
     (Call::Evac(0, 0), Due::Job(0)),
     (Call::Carry(0), Due::Done),
@@ -271,7 +271,7 @@ const STRIDE: Calls = &[
     (Call::Lend(0, 8, 10), Due::Refused(Refusal::OutOfRange)),
 ];
 
-/// A row group that is away is built in from the store, as a scan builds in the other.
+/// A row group that is away is built from the store, as a scan builds the other.
 const BUILT: Calls = &[
     (Call::Watch(TOTALS), Due::Aggregate(1)),
     (Call::Offload(1, 0), Due::Refused(Refusal::StaleJob)),

@@ -237,7 +237,7 @@ pub fn add_under(by_key: &mut ByKey, key: &Option<Key>, more: CountSum) -> Resul
     }
 }
 
-/// A count and a sum more under a key, where it may have no place yet. It stands apart from `add_under`, which so stays
+/// A count and a sum more under a key, where it may have no place yet. It is no part of `add_under`, which so stays
 /// short, and is handed numbers, which need no memory.
 #[inline(never)]
 fn add_elsewhere(

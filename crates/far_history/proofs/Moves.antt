@@ -104,10 +104,10 @@ rises p by v words views h at =
 
 -- a pass takes the session of another
 pub sits_down : (p : Planned) (by : ℕ) (v : View) (other : ℕ) (w : View) → Merges (Kept p) by v other w (joined v w) nobody
-sits_down p by v other w words views h at apart there =
+sits_down p by v other w words views h at distinct there =
     let mine = h.each by v at in
     let both : View = joined v w in
-    let theirs = set_each (λ j u. j ≡ other → Fits h.keeper_at h.owner h.given h.log j u) views by both (λ j u ne e' _. h.each j u e') (λ same. absurd (apart (sym same))) other w there refl in
+    let theirs = set_each (λ j u. j ≡ other → Fits h.keeper_at h.owner h.given h.log j u) views by both (λ j u ne e' _. h.each j u e') (λ same. absurd (distinct (sym same))) other w there refl in
     let owner : ℕ → ℕ = λ m. cond (nat_eq (h.owner m) other) by (h.owner m) in
     let P : ℕ → View → Type 0 = Fits h.keeper_at owner h.given h.log in
     let Q : ℕ → View → Type 0 = λ j u. j ≢ other → P j u in record {

@@ -15,7 +15,7 @@ use Rattle.far_log.specs.declared.skip.Skip.{Skip}
 use Rattle.far_log.specs.Skipping.{IsSkip, IsSpaced}
 use Rattle.far_log.proofs.Skipped.{skip-set, skip-less}
 
--- lists that have elements, laid one behind the other
+-- lists that have elements, placed one behind the other
 module _ {X : Type 0} (pick : ℕ → List X) where
   abbrev layout-at : ℕ → List ℕ → List (Part X)
   layout-at from order = layout_from from (map pick order)

@@ -36,7 +36,7 @@ module _ {X : Type 0} where
   abbrev others : ℕ → List (Part X) → List (Part X)
   others offset ps = filter (λ p. not (eqb p.offset offset)) ps
 
-  -- lists laid one behind the other end where their lengths say
+  -- lists placed one behind the other end where their lengths say
   pub fill-layout_from : (from : ℕ) (xss : List (List X)) → fill_from from (layout_from from xss) ≡ from + total xss
   fill-layout_from from [] = omega arith
   fill-layout_from from (xs ∷ xss) = omega (arith, fill-layout_from (from + length xs) xss, sum_by-cons (λ (ys : List X). length ys) xs xss)

@@ -8,7 +8,7 @@ use Rattle.far_log.specs.RegionState.{Part, SegmentState, end_of, fill_from, fil
 use Rattle.far_log.specs.Effects.{with_part, without_part, with_list, written, written_over, overwritten, replaced}
 
 module _ {X : Type 0} where
-  -- parts that are laid from some place on are laid from any place before it
+  -- parts that are placed from some place on are placed from any place before it
   pub layout-before : (f from size : ℕ) (ps : List (Part X)) → f ≤ from → IsLayoutFrom from ps size → IsLayoutFrom f ps size
   layout-before f from size [] le h = omega arith
   layout-before f from size (p ∷ ps) le h = (omega (arith, h.0), h.1, h.2)

@@ -66,7 +66,7 @@ module _ {X : Type 0} where
   abbrev pub list_or_none : List (Part X) → ℕ → List X
   list_or_none parts offset = unwrap_or (list_at parts offset) []
 
-  -- the parts that begin at these offsets, laid in this order from the segment's beginning on
+  -- the parts that begin at these offsets, placed in this order from the segment's beginning on
   abbrev pub gathered : List (Part X) → List ℕ → List (Part X)
   gathered parts order = layout_from 0 (map (list_or_none parts) order)
 

@@ -1,4 +1,4 @@
--- Which row groups of a column are proposed after those that were seen.
+-- Which row groups of a column are proposed after those that were accessed.
 use Rattle.std.specs.Prelude.{ℕ, Bool, ℤ, pos, negsuc, ◌+ℤ◌, ◌-ℤ◌, List, [], ◌∷◌, ◌++◌, Option, None, Some, if◌then◌else◌, nat_lt, not, ◌&&◌, slice_index_or, filter_map}
 use Rattle.std.specs.Ordering.{int_eq}
 use Rattle.circular_buffer.specs.Buffer.{keep_last}
@@ -7,7 +7,7 @@ use Rattle.circular_buffer.specs.Buffer.{keep_last}
 abbrev pub history_of : List (List ℕ) → ℕ → List ℕ
 history_of histories column = slice_index_or histories column []
 
--- a history after one more group was seen: the last eight groups, oldest first
+-- a history after one more group was accessed: the last eight groups, oldest first
 abbrev pub with_access : List ℕ → ℕ → List ℕ
 with_access history group = keep_last 8 (history ++ group ∷ [])
 

@@ -1,4 +1,4 @@
-// The last groups that were seen of one column.
+// The last groups that were accessed of one column.
 ghost use Rattle.std.specs.Prelude.{◌≡◌, ◌≤◌, ◌<◌, [], ◌++◌, length, IfOk, IfErr, IfNone, IfSome, OnOk};
 ghost use Rattle.std.specs.Option.{option_to_list};
 ghost use Rattle.circular_buffer.specs.Buffer.{keep_last};
@@ -12,7 +12,7 @@ use std::marker::Model;
 // How many groups a column remembers.
 const REMEMBERED: usize = 8;
 
-/// The access history of one column: the last 8 row groups that were seen of it. Contracts see the list of their
+/// The access history of one column: the last 8 row groups that were accessed of it. Contracts see the list of their
 /// numbers, oldest first.
 #[derive(Drop)]
 pub struct History {
@@ -64,7 +64,7 @@ impl History {
         }
     }
 
-    // The last four groups, where so many were seen.
+    // The last four groups, where so many were accessed.
     fn last_four(&self) -> Option<[u32; 4]>
         ensures fewer { IfNone result (length self.now < 4) }
         ensures four { IfSome result (λ last. (4 ≤ length self.now) × (keep_last 4 self.now ≡ last)) }

@@ -8,7 +8,7 @@ use std::alloc::Global;
 use std::marker::Model;
 
 /// What was read lately of each column, and what to fetch next by it. Contracts see one list for each column: the
-/// numbers of the last 8 row groups that were seen, oldest first.
+/// numbers of the last 8 row groups that were accessed, oldest first.
 ///
 /// After the prefetcher of AIFM (Ruan et al., OSDI 2020), which proposes from a window of recent accesses too.
 #[derive(Drop)]
@@ -25,10 +25,10 @@ impl Model for Prefetcher {
 }
 
 impl Prefetcher {
-    /// A prefetcher of so many columns, of which nothing was seen yet, with space for all that it will remember.
+    /// A prefetcher of so many columns, of which nothing was accessed yet, with space for all that it will remember.
     /// Refused with `NoMemory` (1) alone.
     pub fn new(alloc: Global, columns: u32) -> Result<Prefetcher, Refusal>
-        ensures unseen { IfOk result (λ prefetcher. prefetcher ≡ replicate columns []) }
+        ensures empty { IfOk result (λ prefetcher. prefetcher ≡ replicate columns []) }
         ensures memory { IfErr result (λ e. e ≡ Refusal.NoMemory) }
     {
         let mut histories = Vec::with_capacity(alloc, columns as usize)?;

@@ -38,9 +38,9 @@ module _ {K : Type 0} where
   once_more object_record = record object_record { version = object_record.version + 1 }
 
   -- these are written, one after the other
-  abbrev raised : List (ObjectRecord K) → List ℕ → List (ObjectRecord K)
-  raised records [] = records
-  raised records (o ∷ os) = raised (with_record records o once_more) os
+  abbrev counted : List (ObjectRecord K) → List ℕ → List (ObjectRecord K)
+  counted records [] = records
+  counted records (o ∷ os) = counted (with_record records o once_more) os
 
   with-later : (e : ObjectRecord K) (records : List (ObjectRecord K)) (o : ℕ) (change : ObjectRecord K → ObjectRecord K) → with_record (e ∷ records) (suc o) change ≡ e ∷ with_record records o change
   with-later e records o change = found (slice_get records o) where
@@ -71,23 +71,23 @@ module _ {K : Type 0} where
   writes-new (e ∷ records) name n zero = refl
   writes-new (e ∷ records) name n (suc p) = writes-new records name n p
 
-  raised-others : (records : List (ObjectRecord K)) (os : List ℕ) (p : ℕ) → All (λ o. o ≢ p) os → writes (raised records os) p ≡ writes records p
-  raised-others records [] p others = refl
-  raised-others records (o ∷ os) p others =
-      raised-others (with_record records o once_more) os p (All-tail (λ q. q ≢ p) o os others)
+  counted-others : (records : List (ObjectRecord K)) (os : List ℕ) (p : ℕ) → All (λ o. o ≢ p) os → writes (counted records os) p ≡ writes records p
+  counted-others records [] p others = refl
+  counted-others records (o ∷ os) p others =
+      counted-others (with_record records o once_more) os p (All-tail (λ q. q ≢ p) o os others)
       ∙ writes-other records o p (λ same. All-head (λ q. q ≢ p) o os others (sym same))
 
   -- each at most once
-  raised-once : (records : List (ObjectRecord K)) (os : List ℕ) → AreOnce os → (p : ℕ) → writes (raised records os) p ≤ writes records p + 1
-  raised-once records [] once p = omega arith
-  raised-once records (o ∷ os) once p = elim (cases_eq p o) [
+  counted-once : (records : List (ObjectRecord K)) (os : List ℕ) → AreOnce os → (p : ℕ) → writes (counted records os) p ≤ writes records p + 1
+  counted-once records [] once p = omega arith
+  counted-once records (o ∷ os) once p = elim (cases_eq p o) [
     | inl same ↦
-        let rest = raised-others (with_record records o once_more) os o once.0 in
+        let rest = counted-others (with_record records o once_more) os o once.0 in
         let here = writes-with records o in
-        let at : writes (raised (with_record records o once_more) os) o ≤ writes records o + 1 = omega (arith, rest, here) in
-        subst (λ q. writes (raised (with_record records o once_more) os) q ≤ writes records q + 1) (sym same) at
+        let at : writes (counted (with_record records o once_more) os) o ≤ writes records o + 1 = omega (arith, rest, here) in
+        subst (λ q. writes (counted (with_record records o once_more) os) q ≤ writes records q + 1) (sym same) at
     | inr other ↦
-        let rest = raised-once (with_record records o once_more) os once.1 p in
+        let rest = counted-once (with_record records o once_more) os once.1 p in
         let here = writes-other records o p other in
         omega (arith, rest, here)
   ]
@@ -99,12 +99,12 @@ module _ {K : Type 0} where
   one-made : (m : Movement (Option ℤ) K) (c : Vector (Option ℤ)) (x : Option ℤ) (p : ℕ) → is_full c ≡ true → writes (pushed_in m c x).records p ≡ writes m.records p
   one-made m c x p full = rw full (writes-new m.records _ _ p)
 
-  all-written : (m : Movement (Option ℤ) K) (columns : NumberColumns) (numbers : Numbers) → length numbers ≡ length columns → All (λ c. is_full c ≡ false) columns → (all_pushed_in m columns numbers).records ≡ raised m.records (map (λ c. object_at c c.len) columns)
+  all-written : (m : Movement (Option ℤ) K) (columns : NumberColumns) (numbers : Numbers) → length numbers ≡ length columns → All (λ c. is_full c ≡ false) columns → (all_pushed_in m columns numbers).records ≡ counted m.records (map (λ c. object_at c c.len) columns)
   all-written m [] numbers same_length not = refl
   all-written m (c ∷ columns) [] same_length not = absurd (omega (arith, same_length))
   all-written m (c ∷ columns) (x ∷ numbers) same_length not =
       all-written (pushed_in m c x) columns numbers (omega (arith, same_length)) (All-tail (λ d. is_full d ≡ false) c columns not)
-      ∙ ap (λ (l : List (ObjectRecord K)). raised l (map (λ (d : Vector (Option ℤ)). object_at d d.len) columns)) (one-written m c x (All-head (λ d. is_full d ≡ false) c columns not))
+      ∙ ap (λ (l : List (ObjectRecord K)). counted l (map (λ (d : Vector (Option ℤ)). object_at d d.len) columns)) (one-written m c x (All-head (λ d. is_full d ≡ false) c columns not))
 
   all-made : (m : Movement (Option ℤ) K) (columns : NumberColumns) (numbers : Numbers) (p : ℕ) → All (λ c. is_full c ≡ true) columns → writes (all_pushed_in m columns numbers).records p ≡ writes m.records p
   all-made m [] numbers p full = refl
@@ -142,7 +142,7 @@ module _ {K : Type 0} (content : K → List ℕ) where
         let not : All (λ c. is_full c ≡ false) columns = λ k d below. number-begun size len some not_divides (get_or columns k d) (are k d below) in
         let shaped : All IsShaped columns = λ k d below. (are k d below).shaped in
         let last = map (λ (c : Vector (Option ℤ)). object_at c c.len) columns in
-        subst (λ (l : List (ObjectRecord K)). writes l o ≤ writes m.records o + 1) (sym (all-written m columns numbers same_length not)) (raised-once m.records last (numbers-once columns shaped not all_disjoint.all_disjoint.disjoint) o)
+        subst (λ (l : List (ObjectRecord K)). writes l o ≤ writes m.records o + 1) (sym (all-written m columns numbers same_length not)) (counted-once m.records last (numbers-once columns shaped not all_disjoint.all_disjoint.disjoint) o)
   ]
 
 -- texts
@@ -151,16 +151,16 @@ module _ {K : Type 0} where
   lens-kept records [] p = refl
   lens-kept records (r ∷ rs) p = lens-kept (with_record records r.object (λ object_record. record object_record { len = length r.list.items })) rs p ∙ writes-len records r.object (length r.list.items) p
 
-  all-raised : (m : Movement ℕ K) (lists : List (Replacement ℕ)) → (after_write_all m lists).records ≡ raised m.records (map (λ f. f.0) (given_forms lists))
-  all-raised m [] = refl
-  all-raised m (r ∷ rs) = all-raised (written m r.object) rs
+  all-counted : (m : Movement ℕ K) (lists : List (Replacement ℕ)) → (after_write_all m lists).records ≡ counted m.records (map (λ f. f.0) (given_forms lists))
+  all-counted m [] = refl
+  all-counted m (r ∷ rs) = all-counted (written m r.object) rs
 
   replaced-once : (m : Movement ℕ K) (lists : List (Replacement ℕ)) → AreOnce (map (λ f. f.0) (given_forms lists)) → (p : ℕ) → version_of (after_replace_all m lists) p ≤ version_of m p + 1
   replaced-once m lists once p =
       let objects = map (λ (f : ℕ × List ℕ). f.0) (given_forms lists) in
       let lens = lens-kept m.records lists p in
-      let after = raised-once (with_lens m.records lists) objects once p in
-      let same : writes (after_replace_all m lists).records p ≡ writes (raised (with_lens m.records lists) objects) p = ap (λ l. writes l p) (all-raised _ lists) in
+      let after = counted-once (with_lens m.records lists) objects once p in
+      let same : writes (after_replace_all m lists).records p ≡ writes (counted (with_lens m.records lists) objects) p = ap (λ l. writes l p) (all-counted _ lists) in
       omega (arith, lens, after, same)
 
   texts-made : (m : Movement ℕ K) (columns : List Texts) (forms : List (ℕ × List ℕ)) (p : ℕ) → version_of (after_create_all m columns forms) p ≡ version_of m p
@@ -216,10 +216,10 @@ module _ {K : Type 0} (content : K → List ℕ) (size len : ℕ) (columns : Lis
 
 -- one object is written
 pub written-once : {X K : Type 0} (m : Movement X K) (o p : ℕ) → version_of (written m o) p ≤ version_of m p + 1
-written-once m o p = raised-once m.records (o ∷ []) (All-nil (λ q. q ≢ o), (cc)) p
+written-once m o p = counted-once m.records (o ∷ []) (All-nil (λ q. q ≢ o), (cc)) p
 
 pub replaced-version : {X K : Type 0} (m : Movement X K) (o n p : ℕ) → writes (with_record (with_record m.records o (λ object_record. record object_record { len = n })) o once_more) p ≤ version_of m p + 1
 replaced-version m o n p =
     let records = with_record m.records o (λ object_record. record object_record { len = n }) in
-    let more = raised-once records (o ∷ []) (All-nil (λ q. q ≢ o), (cc)) p in
+    let more = counted-once records (o ∷ []) (All-nil (λ q. q ≢ o), (cc)) p in
     omega (arith, more, writes-len m.records o n p)

@@ -91,9 +91,9 @@ starts-later (Some xs) None came a first b bytes rest p e h = absurd p
 starts-later (Some xs) (Some ys) came a first b bytes rest p e h =
     ap (λ (t : List ℕ). a ++ t) p ∙ sym (append_assoc a came ys) ∙ ap (λ (t : List ℕ). t ++ ys) e ∙ append_assoc first b ys ∙ ap (λ (t : List ℕ). first ++ t) h ∙ sym (append_assoc first bytes rest)
 
-starts-apart : (known : Option (List ℕ)) (a bytes more rest : List ℕ) → IfSome known (λ coming. a ++ coming ≡ (bytes ++ more) ++ rest) → IfSome known (λ coming. a ++ coming ≡ bytes ++ (more ++ rest))
-starts-apart None a bytes more rest h = tt
-starts-apart (Some xs) a bytes more rest h = h ∙ append_assoc bytes more rest
+starts-separate : (known : Option (List ℕ)) (a bytes more rest : List ℕ) → IfSome known (λ coming. a ++ coming ≡ (bytes ++ more) ++ rest) → IfSome known (λ coming. a ++ coming ≡ bytes ++ (more ++ rest))
+starts-separate None a bytes more rest h = tt
+starts-separate (Some xs) a bytes more rest h = h ∙ append_assoc bytes more rest
 
 starts-here : (known : Option (List ℕ)) (a : List ℕ) → IfSome known (λ coming. a ++ coming ≡ a ++ unwrap_or known [])
 starts-here None a = tt
@@ -156,7 +156,7 @@ module _ {R : Type 0} (read : Ghosts R) where
 
   pub starts-split : (input : Input R read) (bytes more rest : List ℕ) → StartsWith read input (bytes ++ more) rest → StartsWith read input bytes (more ++ rest)
   starts-split input bytes more rest h = (
-    starts-apart (read.remaining input.source.reader) (unread read input) bytes more rest h.0,
+    starts-separate (read.remaining input.source.reader) (unread read input) bytes more rest h.0,
     λ spent. sym (append_assoc bytes more rest) ∙ h.1 spent,
   )
 

@@ -35,11 +35,11 @@ module _ {R : Type 0} (read : Ghosts R) where
 
   -- a span lies within what is held of a script
   abbrev pub Holds : Input R read → ByteRange → Type 0
-  Holds input span = (span.from ≤ span.to) × (span.to ≤ length input.held)
+  Holds input byte_range = (byte_range.from ≤ byte_range.to) × (byte_range.to ≤ length input.held)
 
   -- the bytes of a span
-  abbrev pub spanned : Input R read → ByteRange → List ℕ
-  spanned input span = slice_range input.held span.from span.to
+  abbrev pub bytes_in : Input R read → ByteRange → List ℕ
+  bytes_in input byte_range = slice_range input.held byte_range.from byte_range.to
 
   -- bytes of a script were taken: what was held before and what came from the reader were taken, or are held still. What
   -- came counts, each read gave a byte as long as the end was not found, and nothing comes after the end
@@ -54,14 +54,14 @@ module _ {R : Type 0} (read : Ghosts R) where
 
   -- a line was taken without its end: with the line feed behind it, or the last one, which has none
   abbrev pub TakesLine : Input R read → Line → Input R read → Type 0
-  TakesLine old (line.Whole span) new =
-      (raw : List ℕ) × (list_any (λ c. c == 10) raw ≡ false) × (spanned new span ≡ strip_last 13 raw) × Reads old (raw ++ 10 ∷ []) new
-  TakesLine old (line.Last span) new =
-      (list_any (λ c. c == 10) (spanned new span) ≡ false) × (unread new ≡ []) × (new.source.ended ≡ true) × Reads old (spanned new span) new
+  TakesLine old (line.Whole byte_range) new =
+      (raw : List ℕ) × (list_any (λ c. c == 10) raw ≡ false) × (bytes_in new byte_range ≡ strip_last 13 raw) × Reads old (raw ++ 10 ∷ []) new
+  TakesLine old (line.Last byte_range) new =
+      (list_any (λ c. c == 10) (bytes_in new byte_range) ≡ false) × (unread new ≡ []) × (new.source.ended ≡ true) × Reads old (bytes_in new byte_range) new
 
-  abbrev pub span_of : Line → ByteRange
-  span_of (line.Whole span) = span
-  span_of (line.Last span) = span
+  abbrev pub byte_range_of : Line → ByteRange
+  byte_range_of (line.Whole byte_range) = byte_range
+  byte_range_of (line.Last byte_range) = byte_range
 
   -- nothing comes any more
   abbrev pub IsSpent : Input R read → Type 0

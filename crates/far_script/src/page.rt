@@ -127,7 +127,7 @@ fn write_record(alloc: Global, field: &[u8]) -> Result<Vec<u8>, Refusal>
 }
 
 impl Page {
-    /// Adds a field that the csv writer quotes. It stands apart, since the writer has a large frame, which each call would pay
+    /// Adds a field that the csv writer quotes. It is a function of its own, since the writer has a large frame, which each call would pay
     /// for.
     #[inline(never)]
     fn quoted_field(&mut self, field: &[u8]) -> Result<(), Refusal>

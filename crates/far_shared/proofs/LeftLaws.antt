@@ -75,7 +75,7 @@ set-fewer (y ∷ ys) zero (suc b) x less = no-more _ _ refl
 set-fewer (y ∷ ys) (suc a) zero x less = no-more _ _ refl
 set-fewer (y ∷ ys) (suc a) (suc b) x less = set-fewer ys a b x less
 
--- a row group that is built in is one less
+-- a row group that is scanned is one less
 pub built-fewer : (aggregate : Option Registered) (g : ℕ) → is_pending_in aggregate g ≡ true → pending_in (scanned_entry g aggregate) ≤ pending_in aggregate
 built-fewer None g left = absurd (let off : false ≡ true = left in cc)
 built-fewer (Some r) g left = one-less _ _ (left-cleared r.pending g left)

@@ -1,4 +1,4 @@
--- Row groups that are built in change no row, and how that is refused.
+-- Row groups that are scanned change no row, and how that is refused.
 use Rattle.std.proofs.Common.{◌≡◌, ◌≢◌, ℕ, zero, suc, ◌+◌, Bool, true, false, not, List, [], ◌∷◌, length, ap, sym, ◌∙◌, subst, refl, Option, None, Some, IsSomeAnd, Result, IfOk, IfErr, OnOk}
 use Rattle.std.specs.declared.result.Result.TheVariants.{Ok, Err}
 use Rattle.std.specs.Prelude.{◌<◌, ◌≤◌, IsErrOf, is_none, slice_get, slice_set, nat_lt}
@@ -61,7 +61,7 @@ some-left : (aggregate : Option Registered) (g : ℕ) → is_pending_in aggregat
 some-left None g h none = (let off : false ≡ true = h in cc)
 some-left (Some r) g h none = (let on : is_pending r.pending g ≡ true = h in let off = none_left r.pending g none in cc)
 
--- a row group that is left is built in
+-- a row group that is left is scanned
 pub scanned-keeps : (t : Table) (b g : ℕ) → is_pending_in (aggregate_at t b) g ≡ true → KeepsRows t (scanned_at b g t)
 scanned-keeps t b g h = record {
   schema = refl;

@@ -45,7 +45,7 @@ IsOf fold.Totals (answer.Extrema lines) = ⊥
 IsOf fold.Extrema (answer.Totals lines) = ⊥
 IsOf fold.Extrema (answer.Extrema lines) = Unit {0}
 
--- why tables with so many row groups left do not answer: some are to be built in, or memory is wanted
+-- why tables with so many row groups left do not answer: some are pending, or memory is wanted
 abbrev pub LeftRefusal : ℕ → Refusal → Type 0
 LeftRefusal some given = ((some ≢ 0) × (given ≡ refusal.Building some)) ⊎ ((some ≡ 0) × (given ≡ refusal.NoMemory))
 

@@ -87,12 +87,12 @@ module _ {K : Type 0} (s : State K) where
   abbrev pub IsAllScanned : Type 0
   IsAllScanned = (a g : ℕ) → is_pending_in (aggregate_at s.table a) g ≡ false
 
-  -- a row group that is left is built in by a job, or none is left
+  -- a row group that is left is built by a job, or none is left
   abbrev pub IsBuildJob : Option (JobRecord K) → Type 0
   IsBuildJob None = IsAllScanned
   IsBuildJob (Some job) = (a : ℕ) × (g : ℕ) × (is_pending_in (aggregate_at s.table a) g ≡ true) × IsOffloadJob s a g job
 
-  -- why a row group that is left is not built in by a job: the far store does not have what it needs, or memory is wanted
+  -- why a row group that is left is not built by a job: the far store does not have what it needs, or memory is wanted
   abbrev pub BuildRefusal : Refusal → Type 0
   BuildRefusal given = (a : ℕ) × (g : ℕ) × (is_pending_in (aggregate_at s.table a) g ≡ true) × MayRefuse (offload_refusal (live s) (aggregate_at s.table a) g) true given
 
@@ -108,7 +108,7 @@ module _ {K : Type 0} (s : State K) where
   BeginRefusal (work.Fetch stripe name) given = fetch_refusal s.rows name.column name.group ≡ Some given
   BeginRefusal (work.Build stripe) given = BuildRefusal given
 
-  -- a row group that is left is built in by a scan where it can be, else by a job
+  -- a row group that is left is built by a scan where it can be, else by a job
   abbrev pub BeginsBuild : Building (JobRecord K) → Type 0
   BeginsBuild building.Nothing = IsAllScanned
   BeginsBuild (building.Scan a g) = (is_pending_in (aggregate_at s.table a) g ≡ true) × (scan_refusal (live s) (aggregate_at s.table a) g ≡ None)

@@ -72,7 +72,7 @@ fn both<A: Drop, B: Drop, T, F: FnOnce(A, B) -> T + Drop>(
     }
 }
 
-/// One thing beside another. Refused with `NoMemory` (1) exactly if the other found no memory.
+/// One thing with another. Refused with `NoMemory` (1) exactly if the other found no memory.
 fn with_other<A: Drop, B: Drop>(one: A, other: Result<B, AllocError>) -> Result<(A, B), Refusal>
     ensures one { IfOk result (λ both. both.0 ≡ one) }
     ensures other { IfOk result (λ both. IsOkAnd other (λ y. y ≡ both.1)) }

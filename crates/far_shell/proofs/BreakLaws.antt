@@ -107,11 +107,11 @@ module _ {R : Type 0} (read : Ghosts R) {S K : Type 0} (tickets : Tickets S K) (
   -- a script breaks off between two lines
   pub breaks-between : (first after new : Input R read) (a b : Option (List ℕ)) (h k : List ℕ) (old at : At K) (bytes text : List ℕ) (why : ShellFault) → (why ≡ fault.BadStart → ⊥) → (why ≡ fault.Turns → ⊥)
       → Reads read first bytes after → Prints a h text b k → Answers tickets old bytes text at → IfInput why unseen → IfInput why (Stops read (λ bytes rest. IsOneLine bytes) after new) → Ending first new a b h k old why
-  breaks-between first after new a b h k old at bytes text fault.BadStart other apart p q r u s = absurd (other refl)
-  breaks-between first after new a b h k old at bytes text fault.Input other apart p q r u s = stopped first after new a b h k old at bytes text p q r (s.0, s.1, s.2, s.3, inl (s.4, inl u))
-  breaks-between first after new a b h k old at bytes text fault.Output other apart p q r u s = between first after new a b h k old at bytes text fault.Output tt (refl, inl refl) p q r
-  breaks-between first after new a b h k old at bytes text fault.Memory other apart p q r u s = between first after new a b h k old at bytes text fault.Memory tt (refl, inl refl) p q r
-  breaks-between first after new a b h k old at bytes text fault.Turns other apart p q r u s = absurd (apart refl)
+  breaks-between first after new a b h k old at bytes text fault.BadStart other distinct p q r u s = absurd (other refl)
+  breaks-between first after new a b h k old at bytes text fault.Input other distinct p q r u s = stopped first after new a b h k old at bytes text p q r (s.0, s.1, s.2, s.3, inl (s.4, inl u))
+  breaks-between first after new a b h k old at bytes text fault.Output other distinct p q r u s = between first after new a b h k old at bytes text fault.Output tt (refl, inl refl) p q r
+  breaks-between first after new a b h k old at bytes text fault.Memory other distinct p q r u s = between first after new a b h k old at bytes text fault.Memory tt (refl, inl refl) p q r
+  breaks-between first after new a b h k old at bytes text fault.Turns other distinct p q r u s = absurd (distinct refl)
 
   -- within a line
   within-line : (first before mid new : Input R read) (a b c d : Option (List ℕ)) (h k l m : List ℕ) (old at : At K) (raw bytes text front : List ℕ) (why : ShellFault)
@@ -219,8 +219,8 @@ module _ {R : Type 0} (read : Ghosts R) (unseen : Type 0) where
   -- no command was read yet
   pub breaks-first : (first before new : Input R read) (a b : Option (List ℕ)) (h k blank : List ℕ) (blanks : List (List ℕ)) (why : ShellFault) → (why ≡ fault.BadStart → ⊥) → (why ≡ fault.Turns → ⊥)
       → Reads read first blank before → Blank blank blanks → Prints a h [] b k → IfInput why (Stops read (λ bytes rest. HasNoTurn unseen (IsOver read new rest) (λ line behind. ¬ (IsUtf8 line)) bytes) before new) → Starting first new a b h k why
-  breaks-first first before new a b h k blank blanks fault.BadStart other apart p empty q s = absurd (other refl)
-  breaks-first first before new a b h k blank blanks fault.Input other apart p empty q s = (
+  breaks-first first before new a b h k blank blanks fault.BadStart other distinct p empty q s = absurd (other refl)
+  breaks-first first before new a b h k blank blanks fault.Input other distinct p empty q s = (
     blank ++ s.0,
     s.1,
     [],
@@ -228,9 +228,9 @@ module _ {R : Type 0} (read : Ghosts R) (unseen : Type 0) where
     q,
     (record { blanks = blanks; blank = blank; empty = empty; next = s.0; none = s.4; whole = refl }, refl),
   )
-  breaks-first first before new a b h k blank blanks fault.Output other apart p empty q s = ([], coming read first, [], (starts read first first [] (reads-none read first first refl), tt), q, refl)
-  breaks-first first before new a b h k blank blanks fault.Memory other apart p empty q s = ([], coming read first, [], (starts read first first [] (reads-none read first first refl), tt), q, refl)
-  breaks-first first before new a b h k blank blanks fault.Turns other apart p empty q s = absurd (apart refl)
+  breaks-first first before new a b h k blank blanks fault.Output other distinct p empty q s = ([], coming read first, [], (starts read first first [] (reads-none read first first refl), tt), q, refl)
+  breaks-first first before new a b h k blank blanks fault.Memory other distinct p empty q s = ([], coming read first, [], (starts read first first [] (reads-none read first first refl), tt), q, refl)
+  breaks-first first before new a b h k blank blanks fault.Turns other distinct p empty q s = absurd (distinct refl)
 
   -- the first command is no first line
   pub rejects-first : (old mid : Input R read) (u w : Option (List ℕ)) (held l left first line text : List ℕ) (why : ShellFault)

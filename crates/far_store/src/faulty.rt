@@ -28,7 +28,7 @@ impl<S> Model for FaultyStore<S> {
 
 impl<S> FaultyStore<S> {
     /// A store over `store` whose put number `failing_put` and whose get number `failing_get` are answered with
-    /// `FarFault` (21). Calls are counted from 1, and 0 stands for none. A call that is refused for want of
+    /// `FarFault` (21). Calls are counted from 1, and 0 stands for none. A call that is refused for lack of
     /// memory is not counted. Allocates nothing.
     pub fn new(store: S, failing_put: u64, failing_get: u64) -> FaultyStore<S>
         ensures { result ≡ store }

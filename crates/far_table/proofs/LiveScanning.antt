@@ -98,7 +98,7 @@ built-checked : (schema : List Kind) (g : ℕ) (found : Option Registered) → I
 built-checked schema g None checked = tt
 built-checked schema g (Some r) checked = checked
 
--- what is registered may be had over the schema still, whether a row group was built in or not
+-- what is registered may be had over the schema still, whether a row group was scanned or not
 pub scanned-checked : {A : Type 0} (schema : List Kind) (aggregates after : List (Option Registered)) (a g : ℕ) (r : Result A Refusal)
     → OnOk r (after ≡ slice_set aggregates a (scanned_entry g (joined (slice_get aggregates a)))) → OnErr r (after ≡ aggregates) → AreChecked schema aggregates → AreChecked schema after
 scanned-checked schema aggregates after a g (Ok x) built same checked = subst (AreChecked schema) (sym built) (checked-put schema aggregates a _ checked (built-checked schema g (joined (slice_get aggregates a)) (checked-at schema aggregates a checked)))

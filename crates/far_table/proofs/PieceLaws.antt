@@ -1,4 +1,4 @@
--- Pieces that are folded apart come to what the whole table does.
+-- Pieces that are folded separately come to what the whole table does.
 use Rattle.std.proofs.Common.{◌≡◌, ◌⊎◌, inl, inr, ℕ, zero, suc, ◌+◌, ◌-◌, ◌*◌, ◌<◌, ◌≤◌, Bool, true, false, List, [], ◌∷◌, ◌++◌, length, min, max, refl, sym, ap, subst, ◌∙◌, arith, slice_index_or, Result, Ok, Err}
 use Rattle.std.specs.Prelude.{◌==◌, ◌&&◌, cond, IfOk, IsOk, OnOk, is_ok}
 use Rattle.std.proofs.Math.Nat.{mul_comm, mul-le-mul_right, lt_of_mul-lt-mul_right}

@@ -1,4 +1,4 @@
--- Why an aggregate is not registered, or a row group not built in.
+-- Why an aggregate is not registered, or a row group not scanned.
 use Rattle.std.proofs.Common.{◌≡◌, ◌≢◌, ℕ, zero, suc, ◌<◌, ◌≤◌, Bool, true, false, not, List, [], ◌∷◌, set, Option, None, Some, refl, subst, sym, ap, ◌∙◌, arith}
 use Rattle.std.specs.Prelude.{◌^◌, ◌==◌, cond, is_none, nat_lt}
 use Rattle.std.specs.Option.{option_or}

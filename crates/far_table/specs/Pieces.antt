@@ -1,4 +1,4 @@
--- Pieces of a table that are folded apart and put together.
+-- Pieces of a table that are folded separately and put together.
 -- Internal: no public contract cites it.
 use Rattle.std.specs.Prelude.{◌≡◌, ℕ, ◌-◌, ◌*◌, ◌≤◌, min, List, [], ◌∷◌, ◌++◌, take, drop, IfOk, IsOk}
 use Rattle.std.specs.List.{AllByRecursion}

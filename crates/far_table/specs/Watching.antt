@@ -1,4 +1,4 @@
--- The aggregates of a table over objects: which are registered, forgotten, built in and asked, and why that is refused.
+-- The aggregates of a table over objects: which are registered, forgotten, scanned and asked, and why that is refused.
 use Rattle.std.specs.Prelude.{◌≡◌, ℕ, ◌+◌, ◌^◌, ◌==◌, ◌&&◌, not, Bool, nat_lt, List, [], ◌∷◌, length, Option, None, Some, is_none, slice_get, slice_set}
 use Rattle.std.specs.Option.{option_or}
 use Rattle.far_types.specs.declared.spec.Spec.{Spec}
@@ -43,7 +43,7 @@ module _ {K : Type 0} where
   needed_from r spec g n [] = []
   needed_from r spec g n (s ∷ column_indexes) = (needs spec n && (told_at r g s).0, refusal.Absent n g) ∷ needed_from r spec g (n + 1) column_indexes
 
-  -- a row group is built in where it has a place, is still pending, and the columns that the aggregate needs are local
+  -- a row group is scanned where it has a place, is still pending, and the columns that the aggregate needs are local
   abbrev pub scan_refusal : State K → Option Registered → ℕ → Option Refusal
   scan_refusal s None g = Some refusal.NoAggregate
   scan_refusal s (Some aggregate) g = first_of (

@@ -125,7 +125,7 @@ impl<S: FarTickets> LiveTable<S> {
     {
         let value = self.rows.may_set(column, place, cell)?;
         let size = self.rows.limits().group;
-        // They tell how many places there are, and that their rows have all columns.
+        // For the proof: how many places there are, and that their rows have all columns.
         let _before = self.rows.len();
         let _held = self.rows.held();
         let Ok(row) = self.rows.row(place as usize) else {
@@ -144,7 +144,7 @@ impl<S: FarTickets> LiveTable<S> {
             self.aggregates.undo(pending);
             return Err(refusal);
         }
-        // It tells that the numbers of the places are those of 64 bits.
+        // For the proof: that the numbers of the places are those of 64 bits.
         let _after = self.rows.len();
         retract_row(&self.rows, &mut self.aggregates, place, pending);
         Ok(())
@@ -159,7 +159,7 @@ impl<S: FarTickets> LiveTable<S> {
     {
         let row = self.rows.may_remove(place)?;
         let size = self.rows.limits().group;
-        // It tells how many places there are, and that their numbers are those of 64 bits.
+        // For the proof: how many places there are, and that their numbers are those of 64 bits.
         let _len = self.rows.len();
         let pending = self
             .aggregates
@@ -189,7 +189,7 @@ fn retract_row<S: FarTickets>(
         aggregates.retract_totals(pending);
         return;
     }
-    // It tells what the rows are.
+    // For the proof: what the rows are.
     let _held = rows.held();
     an_aggregate_is_served_by_the_columns_of_its_schema();
     aggregates.retract(&rows.group(pending.row_group()), pending);

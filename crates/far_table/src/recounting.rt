@@ -1,4 +1,4 @@
-// Pieces of a table that are folded apart, on threads, and put together.
+// Pieces of a table that are folded separately, on threads, and put together.
 ghost use Rattle.std.specs.Prelude.{◌≡◌, ◌+◌, ◌*◌, ◌<◌, ◌≤◌, ◌^◌, ◌++◌, ℕ, length, max, IfOk, IfErr, IsOk, OnOk, slice_index_or};
 ghost use Rattle.far_rows.specs.Jobs.{AreAt};
 ghost use Rattle.far_rows.specs.Places.{places_in};

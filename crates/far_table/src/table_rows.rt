@@ -158,7 +158,7 @@ impl<S: FarTickets> TableRows<S> {
         ensures places { self.now.places ≡ places_in S.content self.now.held }
         ensures size { self.now.held.size ≡ self.now.limits.group }
     {
-        // It tells what the rows are.
+        // For the proof: what the rows are.
         let _len = self.rows.len();
         &self.rows
     }
@@ -168,7 +168,7 @@ impl<S: FarTickets> TableRows<S> {
     pub(crate) fn new_row_ref(&self) -> NewRowRef<'_>
         ensures { result ≡ row_of self.now.held.column_indexes self.now.new_row }
     {
-        // It tells that each index is that of a column.
+        // For the proof: that each index is that of a column.
         let _len = self.rows.len();
         self.new_row.row_ref(self.rows.column_indexes())
     }

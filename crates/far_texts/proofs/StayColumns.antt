@@ -22,7 +22,7 @@ object-of c o g q here = elim (cases_Bool (begins_group c)) [
   | inr not ↦ inl (sym (ap (λ (b : Bool). slice_get (cond b (c.objects ++ o ∷ []) c.objects) g) not) ∙ here)
 ]
 
--- two columns that get new objects stay apart
+-- two columns that get new objects stay disjoint
 pub disjoint-pushed : (c d : Texts) (n o p : ℕ) → AreDisjoint c d → ((g q : ℕ) → slice_get c.objects g ≡ Some q → q < n) → ((g q : ℕ) → slice_get d.objects g ≡ Some q → q < n) → n ≤ o → n ≤ p → o ≢ p → AreDisjoint (pushed c o) (pushed d p)
 disjoint-pushed c d n o p disjoint below_c below_d new_o new_p two g h q here there = elim (object-of c o g q here) [
   | inl mine ↦ elim (object-of d p h q there) [

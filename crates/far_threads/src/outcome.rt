@@ -4,6 +4,7 @@ ghost use Rattle.std.specs.Prelude.{◌≡◌};
 use far_history::Reading;
 use far_types::Answer;
 use std::alloc::{AllocError, AllocFailed};
+use std::fmt;
 
 /// What a run of sessions leaves, as it is read when all sessions have ended.
 #[derive(Drop, Debug)]
@@ -22,6 +23,21 @@ pub enum Stop {
     /// An edit was tried 10,000 times, or was refused for what no other try mends. Or the closed stripes answer otherwise than the shared
     /// table did: no run has met it, and no clause rules it out.
     Turns,
+}
+
+/// Prints why the run ended, as a sentence without a full stop.
+impl fmt::Display for Stop {
+    ghost use Rattle.std.specs.Prelude.{Some};
+    ghost use Rattle.far_threads.specs.Stops.{sentence_of};
+
+    ghost output = { λ stop. Some (sentence_of stop) };
+
+    fn fmt<W: fmt::Write>(&self, f: &mut fmt::Formatter<W>) -> fmt::Result {
+        match self {
+            Stop::Memory => f.write_str("memory ran out"),
+            Stop::Turns => f.write_str("an edit could not be made"),
+        }
+    }
 }
 
 impl From<AllocError> for Stop {

@@ -33,7 +33,7 @@ static LINES: Lines<'static> = Lines::Extrema(&[(Name::Nobody, 5, 5), (Name::Wor
 
 static ONE_LINE: Lines<'static> = Lines::Extrema(&[(Name::Nobody, -6, 5)]);
 
-/// Whether rows of which one is refused for lack of memory are all seen once it is accepted.
+/// Whether rows of which one is refused for lack of memory are all observed once it is accepted.
 fn observes_all(alloc: Global, group: &mut GroupExtrema) -> Result<bool, Refusal> {
     observe_all(alloc, group, &ROWS)?;
     LINES.are_of(group.answer(alloc))

@@ -221,7 +221,7 @@ fn a_min_max_follows_a_row_and_is_put_back(rt: HostRuntime) {
     must_be(&rt, a_min_max_follows_rows_alone(rt.alloc()), Ok(true));
 }
 
-/// Whether rows under a key that a row group has are seen without memory, and each call returns what stood there. The first row
+/// Whether rows under a key that a row group has are observed without memory, and each call returns what stood there. The first row
 /// alone may be refused for lack of memory.
 fn knows_a_key(live: &mut LiveExtrema, key: &Option<Key>) -> Result<bool, Refusal> {
     live.make_room(1);

@@ -66,7 +66,7 @@ impl Line {
             Line::Get(wanted) => is_got(store, alloc, last, buffer, wanted),
             Line::Fill(count) => are_drawn(store, alloc, count),
             Line::StaysFull(puts, length) => stays_full(store, alloc, puts, length),
-            Line::TellsApart(bytes) => is_told_apart(store, alloc, last, bytes),
+            Line::TellsApart(bytes) => is_told_distinct(store, alloc, last, bytes),
             Line::ToShelf => is_carried_to_shelf(store, alloc),
             Line::FromShelf => is_carried_from_shelf(store, alloc),
             Line::JoinsMeters => are_joined(store, alloc, last, buffer),
@@ -173,7 +173,7 @@ fn stays_full<S: FarStore>(store: &S, alloc: Global, puts: u32, length: usize) -
 }
 
 // Whether the ticket of a content is not the same as the last.
-fn is_told_apart<S: FarStore>(
+fn is_told_distinct<S: FarStore>(
     store: &S,
     alloc: Global,
     last: &Option<S::Ticket>,
@@ -202,7 +202,7 @@ fn are_joined<S: FarStore>(
     let (mut first, mut second) = (Meter::new(), Meter::new());
     let _ = store.put(alloc, &mut first, &[1]).err();
     let _ = store.get(alloc, &mut second, ticket, buffer).err();
-    let apart = [first.faults(), second.faults()];
+    let distinct = [first.faults(), second.faults()];
     first.join(second);
-    apart == [1, 1] && first.faults() == 2
+    distinct == [1, 1] && first.faults() == 2
 }

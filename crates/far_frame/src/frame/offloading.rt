@@ -23,7 +23,7 @@ impl<S: FarTickets> Frame<S> {
 
     /// Whether an offloaded build would begin, running out of memory aside. Allocates nothing.
     ///
-    /// Refused with `NoAggregate` (12), `OutOfRange` (14) if no place of the row group is used, `StaleJob` (20) if it is built in
+    /// Refused with `NoAggregate` (12), `OutOfRange` (14) if no place of the row group is used, `StaleJob` (20) if it is scanned
     /// already, or the object of a column that the aggregate needs is dirty: the first that applies. A clean object may be local or away.
     pub fn may_offload(&self, a: u32, group: u32) -> Result<(), Refusal>
         ensures refused { refusal_in result ≡ offload_refusal (live self.now) (aggregate_at self.now.table a) group }

@@ -272,7 +272,7 @@ impl Plain {
             && self.offload_refusal(job.aggregate, job.group).is_none()
     }
 
-    // The row group of a build is built in.
+    // The row group of a build is scanned.
     fn merge(&mut self, job: &Job) -> Option<Refusal> {
         if !self.aggregate(job.aggregate).registered {
             Some(Refusal::NoAggregate)

@@ -50,7 +50,7 @@ impl<S: FarTickets> Rows<S> {
         ensures refused { refusal_in result ≡ push_refusal S.content self.now row.now }
         ensures plain { (limits : Limits) → AreOf limits self.now → refusal_in result ≡ insert_refusal S.content limits self.now row.now }
     {
-        // They tell what rows are, and that no text is too long.
+        // For the proof: what rows are, and that no text is too long.
         let _len = self.len();
         let _texts = row.texts();
         self.may_push_values(row)

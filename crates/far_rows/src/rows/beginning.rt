@@ -35,7 +35,7 @@ impl<S: FarTickets> Rows<S> {
         ensures free { OnOk result (evac_refusal self.now column group ≡ None) }
         ensures refused { IfErr result (MayRefuse (evac_refusal self.now column group) true) }
     {
-        // It tells what the rows are, so that an object that is away is told by the name that it bears.
+        // For the proof: what the rows are, so that an object that is away is told by the name that it bears.
         let _len = self.len();
         let job = match self.object(column, group)? {
             Object::Number(o) => ByKind::Numbers(self.begin_numbers(alloc, store, o)?),

@@ -38,7 +38,7 @@ impl<S: FarTickets> Rows<S> {
         ensures form { IfOk result IsLent }
         ensures refused { refusal_in result ≡ evac_refusal self.now column group }
     {
-        // It tells what rows are.
+        // For the proof: what rows are.
         let _len = self.len();
         match self.object(column, group)? {
             Object::Number(o) => {

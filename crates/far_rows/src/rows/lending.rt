@@ -50,7 +50,7 @@ impl<S: FarTickets> Rows<S> {
         ensures refused { refusal_in result ≡ first_of (no_range self.now from to ∷ map (λ g. told_at self.now g (ColumnIndex.Number number)) (overlapped_groups self.now.size from to)) }
     {
         let column = &self.numbers[number];
-        // It tells that there are as many numbers as it says.
+        // For the proof: that there are as many numbers as it says.
         let _len = column.len();
         column.lent(&self.number_objects, &self.alive, from, to)
     }
@@ -84,7 +84,7 @@ impl<S: FarTickets> Rows<S> {
         ensures refused { refusal_in result ≡ first_of (no_range self.now from to ∷ map (λ g. told_at self.now g (ColumnIndex.Text text)) (overlapped_groups self.now.size from to)) }
     {
         let column = &self.texts[text];
-        // It tells that a row group is begun for each place.
+        // For the proof: that a row group is begun for each place.
         let _len = column.len();
         column.texts(&self.text_objects, self.alive.all(), from, to)
     }

@@ -147,7 +147,7 @@ impl<S: FarTickets> Rows<S> {
         ensures memory { IfErr result (λ e. e ≡ Refusal.NoMemory) }
         ensures err { OnErr result (self.new ≡ self.old) }
     {
-        // They tell what rows are, and that no text is too long.
+        // For the proof: what rows are, and that no text is too long.
         let _len = self.len();
         let _texts = row.texts();
         self.push_row(alloc, row)?;

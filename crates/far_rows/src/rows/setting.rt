@@ -39,7 +39,7 @@ impl<S: FarTickets> Rows<S> {
         ensures refused { refusal_in result ≡ set_refusal S.content self.now column place value.now }
         ensures plain { (limits : Limits) → AreOf limits self.now → refusal_in result ≡ cell_set_refusal S.content limits self.now column place value.now }
     {
-        // It tells what rows are.
+        // For the proof: what rows are.
         let _len = self.len();
         self.may_set_value(column, place, value)
     }
@@ -50,7 +50,7 @@ impl<S: FarTickets> Rows<S> {
         requires of_kind { option_map kind_of (slice_get self.now.column_indexes column) ≡ Some (kind_in value.now) }
         ensures { refusal_in result ≡ set_refusal S.content self.now column place value.now }
     {
-        // It tells that each index is that of a column.
+        // For the proof: that each index is that of a column.
         let _len = self.len();
         let group = self.group_of(place);
         self.here(group)?;
@@ -70,7 +70,7 @@ impl<S: FarTickets> Rows<S> {
         requires { place < length self.now.alive }
         ensures { result ≡ place / self.now.size }
     {
-        // It tells that there are fewer places than numbers of 32 bits.
+        // For the proof: that there are fewer places than numbers of 32 bits.
         let _len = self.len();
         self.reciprocal.quotient(place, self.size as usize) as u32
     }
@@ -83,7 +83,7 @@ impl<S: FarTickets> Rows<S> {
         requires group { group ≡ place / self.now.size }
         ensures { refusal_in result ≡ option_and_then (λ v. number_set_refusal self.now.number_objects v place) (slice_get self.now.numbers i) }
     {
-        // They tell what rows are, and of all objects that one with a list is in use.
+        // For the proof: what rows are, and of all objects that one with a list is in use.
         let _len = self.len();
         let _number = self.number_objects.number();
         let Some(o) = self.numbers[i].object(group) else {
@@ -101,7 +101,7 @@ impl<S: FarTickets> Rows<S> {
         ensures store { (id : List ℕ) → AreHere S.is_of id self.old.number_objects → AreHere S.is_of id self.new.number_objects }
         ensures versions { (o : ℕ) → version_of self.new.number_objects o ≤ version_of self.old.number_objects o + 1 }
     {
-        // It tells what rows are.
+        // For the proof: what rows are.
         let _len = self.len();
         let group = self.group_of(place);
         self.numbers[i].set_in_group(&mut self.number_objects, group, place, number);
@@ -149,7 +149,7 @@ impl<S: FarTickets> Rows<S> {
         ensures memory { IfErr result (λ e. e ≡ Refusal.NoMemory) }
         ensures err { OnErr result (self.new ≡ self.old) }
     {
-        // It tells what rows are.
+        // For the proof: what rows are.
         let _len = self.len();
         self.set_value(alloc, column, place, value)?;
         Ok(())
@@ -175,7 +175,7 @@ impl<S: FarTickets> Rows<S> {
         ensures memory { IfErr result (λ e. e ≡ Refusal.NoMemory) }
         ensures err { OnErr result (self.new ≡ self.old) }
     {
-        // It tells that each index is that of a column.
+        // For the proof: that each index is that of a column.
         let _len = self.len();
         match (self.column_indexes[column], value) {
             (ColumnIndex::Number(i), NewCell::Number(number)) => {

@@ -118,12 +118,12 @@ static CASES: [Case; 4] = [
         ..CASE
     },
     Case {
-        name: "a row group without room for its numbers is refused",
+        name: "a row group without space for its numbers is refused",
         parts: &[FOUR_ROWS, NO_NUMBERS],
         ..CASE
     },
     Case {
-        name: "a row group without room for its texts is refused",
+        name: "a row group without space for its texts is refused",
         limits: ONE_SEGMENT,
         parts: &[NO_TEXTS],
         ..CASE

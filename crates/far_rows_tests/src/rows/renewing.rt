@@ -68,37 +68,37 @@ static CASES: [Case; 10] = [
         ..CASE
     },
     Case {
-        name: "nothing needs no room",
+        name: "nothing needs no space",
         capacity: 0,
         parts: &[THREE_ROWS, PUT, &[HAS_THREE]],
         ..CASE
     },
     Case {
-        name: "no room for numbers",
+        name: "no space for numbers",
         capacity: 0,
         parts: &[THREE_ROWS, NUMBERS_AWAY, NO_SPACE, NUMBERS_BACK],
         ..CASE
     },
     Case {
-        name: "no room for texts",
+        name: "no space for texts",
         capacity: 0,
         parts: &[THREE_ROWS, TEXTS_AWAY, NO_SPACE, TEXTS_BACK],
         ..CASE
     },
     Case {
-        name: "room for one of two",
+        name: "space for one of two",
         capacity: 1,
         parts: &[THREE_ROWS, TWO_AWAY, NO_SPACE, TWO_BACK],
         ..CASE
     },
     Case {
-        name: "room for two",
+        name: "space for two",
         capacity: 2,
         parts: &[THREE_ROWS, TWO_AWAY, PUT, TWO_BACK],
         ..CASE
     },
     Case {
-        name: "room for three of four",
+        name: "space for three of four",
         capacity: 3,
         parts: &[THREE_ROWS, EACH_AWAY, NO_SPACE, EACH_BACK],
         ..CASE

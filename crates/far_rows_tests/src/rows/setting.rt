@@ -136,7 +136,7 @@ static CASES: [Case; 5] = [
         ..CASE
     },
     Case {
-        name: "a text without room beside the old one is not set",
+        name: "a text without space beside the old one is not set",
         limits: TWO_SEGMENTS,
         parts: &[NO_SPACE],
         ..CASE

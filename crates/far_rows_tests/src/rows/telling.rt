@@ -17,7 +17,7 @@ fn number_owner<S: FarTickets>(rows: &Rows<S>, o: u32) -> Option<Kind>
     requires { o < length rows.now.number_objects.records }
     ensures { result ≡ Some Kind.Int }
 {
-    // It tells whose each object is.
+    // For the proof: whose each object is.
     let _len = rows.len();
     let name = rows.number_objects().name(o);
     rows.kind(name.column as usize)
@@ -28,7 +28,7 @@ fn text_owner<S: FarTickets>(rows: &Rows<S>, o: u32) -> Option<Kind>
     requires { o < length rows.now.text_objects.records }
     ensures { result ≡ Some Kind.Text }
 {
-    // It tells whose each object is.
+    // For the proof: whose each object is.
     let _len = rows.len();
     let name = rows.text_objects().name(o);
     rows.kind(name.column as usize)
@@ -40,7 +40,7 @@ fn object_begun<S: FarTickets>(rows: &Rows<S>, column: usize, group: u32) -> Res
     requires used { group * rows.now.size < length rows.now.alive }
     ensures { IsOk result }
 {
-    // It tells that each column has as many objects as row groups are begun.
+    // For the proof: that each column has as many objects as row groups are begun.
     let _len = rows.len();
     rows.object(column, group)
 }

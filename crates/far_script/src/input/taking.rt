@@ -3,7 +3,7 @@ ghost use Rattle.std.specs.Prelude.{◌↔◌, ◌≡◌, ◌≢◌, ◌==◌, �
 ghost use Rattle.std.specs.Io.BufRead.{strip_last};
 ghost use Rattle.std.specs.List.{list_any};
 ghost use Rattle.far_script.specs.Faults.{IfInput};
-ghost use Rattle.far_script.specs.Flow.{Holds, IsShort, IsUnseen, Prints, Reads, Stops, TakesLine, has_failed, span_of, spanned, unread};
+ghost use Rattle.far_script.specs.Flow.{Holds, IsShort, IsUnseen, Prints, Reads, Stops, TakesLine, has_failed, byte_range_of, bytes_in, unread};
 ghost use Rattle.far_script.specs.Lines.{IsOneLine};
 
 use super::{ByteRange, Input, Line};
@@ -91,7 +91,7 @@ impl<R: Source + Drop> Input<R> {
         output: &mut Output,
         writer: &mut W,
     ) -> Result<Line, ShellFault>
-        ensures line { IfOk result (λ line. Holds R.Read self.new (span_of R.Read line) × TakesLine R.Read self.old line self.new) }
+        ensures line { IfOk result (λ line. Holds R.Read self.new (byte_range_of R.Read line) × TakesLine R.Read self.old line self.new) }
         ensures fault { IfErr result (λ fault. fault ≢ ShellFault.BadStart) }
         ensures turns { IfErr result (λ fault. fault ≢ ShellFault.Turns) }
         ensures stopped { IfErr result (λ fault. IfInput fault (Stops R.Read (λ bytes rest. IsOneLine bytes) self.old self.new)) }
@@ -120,7 +120,7 @@ impl<R: Source + Drop> Input<R> {
         writer: &mut W,
         count: usize,
     ) -> Result<ByteRange, ShellFault>
-        ensures span { IfOk result (λ span. Holds R.Read self.new span × (length (spanned R.Read self.new span) ≡ count) × Reads R.Read self.old (spanned R.Read self.new span) self.new) }
+        ensures byte_range { IfOk result (λ byte_range. Holds R.Read self.new byte_range × (length (bytes_in R.Read self.new byte_range) ≡ count) × Reads R.Read self.old (bytes_in R.Read self.new byte_range) self.new) }
         ensures fault { IfErr result (λ fault. fault ≢ ShellFault.BadStart) }
         ensures turns { IfErr result (λ fault. fault ≢ ShellFault.Turns) }
         ensures stopped { IfErr result (λ fault. IfInput fault (Stops R.Read (λ bytes rest. (length bytes < count) × IsShort R.Read R.may_fail self.old self.new rest) self.old self.new)) }
@@ -142,12 +142,12 @@ impl<R: Source + Drop> Input<R> {
     }
 
     /// The text of a line or of a load that was just taken. Where it is no UTF-8, the fault is `Input`.
-    pub fn text(&self, span: ByteRange) -> Result<&str, ShellFault>
-        requires { Holds R.Read self.now span }
-        ensures ok { IfOk result (λ text. (text.now ≡ spanned R.Read self.now span) × IsUtf8 text.now) }
-        ensures fault { IfErr result (λ fault. (fault ≡ ShellFault.Input) × ¬ (IsUtf8 (spanned R.Read self.now span))) }
+    pub fn text(&self, byte_range: ByteRange) -> Result<&str, ShellFault>
+        requires { Holds R.Read self.now byte_range }
+        ensures ok { IfOk result (λ text. (text.now ≡ bytes_in R.Read self.now byte_range) × IsUtf8 text.now) }
+        ensures fault { IfErr result (λ fault. (fault ≡ ShellFault.Input) × ¬ (IsUtf8 (bytes_in R.Read self.now byte_range))) }
     {
-        let bytes = &self.held.as_slice()[span.from..span.to];
+        let bytes = &self.held.as_slice()[byte_range.from..byte_range.to];
         if self.is_ascii {
             return Ok(unsafe { str::from_utf8_unchecked(bytes) });
         }

@@ -67,16 +67,16 @@ impl Page {
         Ok(())
     }
 
-    /// The same of any number. It stands apart, since long numbers are seldom.
+    /// The same of any number. It is a function of its own, since long numbers are seldom.
     #[inline(never)]
     fn long_number(&mut self, number: u64) -> Result<(), Refusal>
         ensures ok { OnOk result (self.new ≡ self.old ++ decimal number) }
         ensures memory { IfErr result (λ e. e ≡ Refusal.NoMemory) }
     {
-        let mut room = [0u8; 40];
-        let start = write_digits(number, &mut room, DIGITS);
+        let mut buffer = [0u8; 40];
+        let start = write_digits(number, &mut buffer, DIGITS);
         // As many bytes are copied at all times, so that no call has to look how many. Those behind the digits go again.
-        self.bytes(&room[start..start + DIGITS])?;
+        self.bytes(&buffer[start..start + DIGITS])?;
         let len = self.len() - start;
         self.truncate(len);
         Ok(())
@@ -106,7 +106,7 @@ impl Page {
         }
     }
 
-    /// The same of a number of more than 64 bits, which are seldom. It stands apart, since its digits have a large frame, which each
+    /// The same of a number of more than 64 bits, which are seldom. It is a function of its own, since its digits have a large frame, which each
     /// call would pay for.
     #[inline(never)]
     fn very_wide(&mut self, number: i128) -> Result<(), Refusal>

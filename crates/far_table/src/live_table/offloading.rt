@@ -46,7 +46,7 @@ impl<S: FarTickets> LiveTable<S> {
 
     /// Whether `begin_offload` would begin, out of memory aside. Allocates nothing.
     ///
-    /// Refused with `NoAggregate` (12); `OutOfRange` (14) if the row group has no place; `StaleJob` (20) if it is built in already, or
+    /// Refused with `NoAggregate` (12); `OutOfRange` (14) if the row group has no place; `StaleJob` (20) if it is scanned already, or
     /// the object of a column that the aggregate needs is dirty: the first of these that applies. A clean object may be local or away.
     pub fn may_offload(&self, a: u32, group: u32) -> Result<(), Refusal>
         ensures { refusal_in result ≡ offload_refusal self.now (aggregate_at self.now.table a) group }

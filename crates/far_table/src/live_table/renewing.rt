@@ -11,7 +11,7 @@ use far_store::{FarRead, FarStore, FarTickets, Meter};
 use far_types::Refusal;
 
 impl<S: FarRead> LiveTable<S> {
-    /// Puts the content of each object that is away into another store, those of numbers before those of texts, each by rising
+    /// Puts the content of each object that is away into another store, those of numbers before those of texts, each by ascending
     /// object number, and makes all space that `renew` needs. The table stays as it is.
     ///
     /// Refused with `FarFault` (21) if one of the stores fails, exactly if the meter rises, by one; with `FarFull` (22) where

@@ -60,7 +60,7 @@ impl<S: FarTickets> LiveTable<S> {
         ensures ok { OnOk result (IsScanned self.old self.new a group) }
         ensures err { IfErr result (λ e. Refuses (scan_refusal self.old (aggregate_at self.old.table a) group) true self.old e self.new) }
     {
-        // They tell what the rows are, and how many places there are.
+        // For the proof: what the rows are, and how many places there are.
         let _held = self.rows.held();
         let _len = self.rows.len();
         let Some(spec) = self.aggregates.spec(a) else {

@@ -55,7 +55,7 @@ impl<S: FarTickets> TableRows<S> {
         ensures cell { IfOk result (λ value. cell_of value ≡ cell) }
         ensures free { IfOk result (MayPut S.content self.now column place) }
     {
-        // It tells what the rows are.
+        // For the proof: what the rows are.
         let _len = self.rows.len();
         cell_faults(&self.schema, column, self.is_alive(place as usize), &cell)?;
         let Some(kind) = self.schema.get(column as usize) else {
@@ -75,7 +75,7 @@ impl<S: FarTickets> TableRows<S> {
         ensures refused { refusal_in result ≡ edit_due (asked self.now) (edit.Remove place) }
         ensures row { IfOk result (λ row. option_map (λ p. p.cells) (slice_get self.now.places place) ≡ Some row) }
     {
-        // It tells what always holds of the rows.
+        // For the proof: what always holds of the rows.
         let _len = self.rows.len();
         living(self.is_alive(place as usize))?;
         let row = self.row(place as usize)?;
@@ -90,7 +90,7 @@ impl<S: FarTickets> TableRows<S> {
         requires { group * self.now.limits.group < length self.now.places }
         ensures { refusal_in result ≡ first_of (needed_from self.now.held spec.now group 0 self.now.held.column_indexes) }
     {
-        // It tells what the rows are.
+        // For the proof: what the rows are.
         let _len = self.rows.len();
         for column in 0..self.schema.len() {
             if spec.needs(column as u32) {

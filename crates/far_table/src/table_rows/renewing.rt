@@ -12,7 +12,7 @@ use far_types::Refusal;
 use std::alloc::Global;
 
 impl<S: FarRead> TableRows<S> {
-    /// Puts the content of each object that is away into another store, those of numbers before those of texts, each by rising
+    /// Puts the content of each object that is away into another store, those of numbers before those of texts, each by ascending
     /// object number, and makes all space that `renew` needs. The rows stay as they are.
     ///
     /// Refused with `FarFault` (21) if one of the stores fails, exactly if the meter rises, by one; with `FarFull` (22) where

@@ -1,7 +1,7 @@
 use Rattle.std.proofs.Common.{◌≡◌, ◌<◌, ◌+◌, ℕ, List, Option, Some, codes, inl, inr, [], refl, sym, ap, subst, ◌∙◌, arith}
 use Rattle.far_frame.specs.State.{State, live}
 use Rattle.far_script.specs.declared.fault.ShellFault.TheVariants as fault
-use Rattle.far_script.specs.Flow.{IsShort, spanned}
+use Rattle.far_script.specs.Flow.{IsShort, bytes_in}
 use Rattle.far_script.specs.Printing.{numbered_text}
 use Rattle.far_commands.specs.declared.command.Command.{Command}
 use Rattle.far_commands.specs.declared.command.Command.TheVariants as command
@@ -22,14 +22,14 @@ returns-then-is_empty-clause-ok g c = (
   [],
   reads-none g.R.Read _ _ refl,
   prints-none (g.W.Write.contents c.args.writer.now) c.args.output.now.page,
-  answers-empty g.S.FarTickets c.args.progress.now (spanned g.R.Read c.args.input.now c.args.line) (range-empty c.args.input.now.held c.args.line.from c.args.line.to (grind (arith, c.if-is_empty.ensures))),
+  answers-empty g.S.FarTickets c.args.progress.now (bytes_in g.R.Read c.args.input.now c.args.line) (range-empty c.args.input.now.held c.args.line.from c.args.line.to (grind (arith, c.if-is_empty.ensures))),
 )
 
 pub returns-in-Ok-Some-clause-ok : goal.returns-in-Ok-Some-clause-ok
 returns-in-Ok-Some-clause-ok g c =
     let kinds = c.as_slice.ensures ∙ c.schema.ensures ∙ ap (λ (s : State g.row.S-Ticket.Denot). s.table.schema) c.frame.ensures in
     let some = rw (c.in_ok-text.ensures.ok.0, kinds) at (sym c.in-Ok-Some.ensures.command ∙ c.in-Ok-Some.field-0-is) in
-    let line = spanned g.R.Read c.args.input.now c.args.line in
+    let line = bytes_in g.R.Read c.args.input.now c.args.line in
     let old : At g.row.S-Ticket.Denot = record { world = c.progress.inside.world; number = c.progress.inside.number } in
     let new : At g.row.S-Ticket.Denot = record { world = c.serve_command.new.world; number = c.progress.inside.number + 1 } in
     let shown : c.args.line.from < c.args.line.to = grind (arith, c.if-is_empty.ensures) in
@@ -47,7 +47,7 @@ pub returns-in-Ok-None-clause-ok : goal.returns-in-Ok-None-clause-ok
 returns-in-Ok-None-clause-ok g c =
     let kinds = c.as_slice.ensures ∙ c.schema.ensures ∙ ap (λ (s : State g.row.S-Ticket.Denot). s.table.schema) c.frame.ensures in
     let none = rw (c.in_ok-text.ensures.ok.0, kinds) at (sym c.in-Ok-None.ensures.command ∙ c.in-Ok-None.field-0-is) in
-    let line = spanned g.R.Read c.args.input.now c.args.line in
+    let line = bytes_in g.R.Read c.args.input.now c.args.line in
     let old : At g.row.S-Ticket.Denot = record { world = c.progress.inside.world; number = c.progress.inside.number } in
     let new : At g.row.S-Ticket.Denot = record { world = c.progress.inside.world; number = c.progress.inside.number + 1 } in
     let text = numbered_text (codes "syntax command") (c.progress.inside.number + 1) in
@@ -80,7 +80,7 @@ pub returns-in-Ok-Some-clause-err : goal.returns-in-Ok-Some-clause-err
 returns-in-Ok-Some-clause-err g c =
     let kinds = c.as_slice.ensures ∙ c.schema.ensures ∙ ap (λ (s : State g.row.S-Ticket.Denot). s.table.schema) c.frame.ensures in
     let some = rw (c.in_ok-text.ensures.ok.0, kinds) at (sym c.in-Ok-Some.ensures.command ∙ c.in-Ok-Some.field-0-is) in
-    let line = spanned g.R.Read c.args.input.now c.args.line in
+    let line = bytes_in g.R.Read c.args.input.now c.args.line in
     let world = c.progress.inside.world in
     each-fault c.serve_command.result _ _ (λ why p. (
       p.0,
@@ -92,7 +92,7 @@ returns-in-Ok-Some-clause-err g c =
 pub returns-in_err-text-clause-stopped : goal.returns-in_err-text-clause-stopped
 returns-in_err-text-clause-stopped g c =
     let f = c.in_err-text.ensures.fault in
-    let line = spanned g.R.Read c.args.input.now c.args.line in
+    let line = bytes_in g.R.Read c.args.input.now c.args.line in
     handed-on c.from_residual.result fault.Input _ (rw f.0 at c.from_residual.ensures.1)
     (stops-here g.R.Read c.args.input.now c.args.input.now (λ behind rest. Fails (IsShort g.R.Read g.R.Source.may_fail c.args.input.now c.args.input.now rest) c.args.progress.now.world.state.table.schema line behind) refl (λ e. e) (leaves-same _ _) (inl f.1))
 
@@ -101,7 +101,7 @@ returns-in-Ok-Some-clause-stopped g c =
     let short = λ (rest : List ℕ). IsShort g.R.Read g.R.Source.may_fail c.args.input.now c.serve_command.new.input rest in
     let kinds = c.as_slice.ensures ∙ c.schema.ensures ∙ ap (λ (s : State g.row.S-Ticket.Denot). s.table.schema) c.frame.ensures in
     let some = rw (c.in_ok-text.ensures.ok.0, kinds) at (sym c.in-Ok-Some.ensures.command ∙ c.in-Ok-Some.field-0-is) in
-    let line = spanned g.R.Read c.args.input.now c.args.line in
+    let line = bytes_in g.R.Read c.args.input.now c.args.line in
     each-fault c.serve_command.result _ _ (λ why stopped. if-input why _ _ (λ s. stops-more g.R.Read c.args.input.now c.serve_command.new.input (λ behind rest. FailsBy (short rest) (Some c.in-Ok-Some.command) behind) (λ behind rest. Fails (short rest) c.args.progress.now.world.state.table.schema line behind)
     (λ bytes rest f. subst (λ (at : At g.row.S-Ticket.Denot). Fails (short rest) at.world.state.table.schema line bytes) c.progress.view_is (inr (subst (λ (asked : Option Command). FailsBy (short rest) asked bytes) (sym some) f))) s) stopped)
     c.serve_command.ensures.stopped

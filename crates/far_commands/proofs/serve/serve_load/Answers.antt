@@ -1,7 +1,7 @@
 use Rattle.std.proofs.Common.{ℕ, List, [], length, ◌<◌, inl, inr, refl, subst}
 use Rattle.std.specs.Prelude.{⊤, IsUtf8, Some}
 use Rattle.far_script.specs.declared.fault.ShellFault.TheVariants as fault
-use Rattle.far_script.specs.Flow.{IsShort, spanned}
+use Rattle.far_script.specs.Flow.{IsShort, bytes_in}
 use Rattle.far_script.proofs.FlowLaws.{prints, prints-nothing-then}
 use Rattle.far_script.proofs.StopLaws.{each-fault, handed-on, if-input, leaves-same, stops-here, stops-more, stops-then}
 use Rattle.far_commands.specs.declared.command.Command.TheVariants as command
@@ -12,10 +12,10 @@ use Rattle.far_commands.proofs.serve.serve_load.Goals as goal
 
 pub returns-clause-ok : goal.returns-clause-ok
 returns-clause-ok g c =
-    let s = c.in_ok-rows.ensures.span in
+    let s = c.in_ok-rows.ensures.byte_range in
     let t = c.in_ok-text.ensures.ok in
     printed-ok c.add_printed.result c.load-printed.result _ _ _ c.add_printed.ensures.printed c.add_printed.ensures.ok c.load-printed.ensures.ok (λ added loaded. (
-      spanned g.R.Read c.bytes.new.self c.in_ok-rows.rows,
+      bytes_in g.R.Read c.bytes.new.self c.in_ok-rows.rows,
       c.load-printed.new.reply,
       s.2,
       prints-nothing-then _ _ _ c.args.output.now.page c.bytes.new.output.page c.load-printed.new.reply _ c.bytes.ensures.printed (prints (g.W.Write.contents c.bytes.new.writer) c.bytes.new.output.page c.load-printed.new.reply c.add_printed.new.self.page added),
@@ -43,9 +43,9 @@ returns-in_err-rows-clause-stopped g c =
 
 pub returns-in_err-text-clause-stopped : goal.returns-in_err-text-clause-stopped
 returns-in_err-text-clause-stopped g c =
-    let s = c.in_ok-rows.ensures.span in
+    let s = c.in_ok-rows.ensures.byte_range in
     let count = c.args.count in
-    let rows = spanned g.R.Read c.bytes.new.self c.in_ok-rows.rows in
+    let rows = bytes_in g.R.Read c.bytes.new.self c.in_ok-rows.rows in
     let f = c.in_err-text.ensures.fault in
     handed-on c.from_residual-in_err-text.result fault.Input _ (rw f.0 at c.from_residual-in_err-text.ensures.1)
     (stops-then g.R.Read c.args.input.now c.bytes.new.self c.bytes.new.self rows (λ bytes rest. ⊤)

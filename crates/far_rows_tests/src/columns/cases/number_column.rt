@@ -77,7 +77,7 @@ pub static CASES: [Case; 10] = [
     },
     // A ninth number of two row groups has no space.
     Case {
-        name: "a row group without room is refused",
+        name: "a row group without space is refused",
         layout: TWO_GROUPS,
         count: 8,
         script: Script::Lines(&[(Push(0, Number(9)), REGION_FULL), (Len(0, 8), Ok(()))]),
@@ -125,7 +125,7 @@ pub static CASES: [Case; 10] = [
     },
     // Eight numbers fill their row groups, and the last can be set.
     Case {
-        name: "a number without room is refused",
+        name: "a number without space is refused",
         layout: TWO_FIVES,
         count: 8,
         script: Script::Lines(&[

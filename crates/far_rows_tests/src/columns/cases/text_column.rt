@@ -249,7 +249,7 @@ pub static CASES: [Case; 14] = [
     },
     // While there is space for another form.
     Case {
-        name: "a row group written too often is told where there is room",
+        name: "a row group written too often is told where there is space",
         layout: WRITTEN_OUT_WITH_SPACE,
         count: 2,
         script: Script::Lines(&[
@@ -258,7 +258,7 @@ pub static CASES: [Case; 14] = [
         ]),
     },
     Case {
-        name: "a text that begins a row group needs room",
+        name: "a text that begins a row group needs space",
         layout: ONE_SEGMENT,
         count: 4,
         script: Script::Lines(&[

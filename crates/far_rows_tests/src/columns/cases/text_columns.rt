@@ -189,7 +189,7 @@ pub static CASES: [Case; 17] = [
         ]),
     },
     Case {
-        name: "used up objects of several texts are told where there is room",
+        name: "used up objects of several texts are told where there is space",
         layout: FOUR_SEGMENTS,
         count: 0,
         script: Script::Lines(&[
@@ -242,7 +242,7 @@ pub static CASES: [Case; 17] = [
     },
     // Three segments have no space for two forms beside two old ones, and space for one.
     Case {
-        name: "new forms find room beside the old ones or nothing changes",
+        name: "new forms fit beside the old ones or nothing changes",
         layout: THREE_SEGMENTS,
         count: 0,
         script: Script::Lines(&[
@@ -258,7 +258,7 @@ pub static CASES: [Case; 17] = [
     },
     // Of two long texts more the first would fit; two short ones both fit.
     Case {
-        name: "a row group without room in the second column changes nothing",
+        name: "a row group without space in the second column changes nothing",
         layout: THREE_ONES,
         count: 0,
         script: Script::Lines(&[

@@ -32,7 +32,7 @@ pub static SCRIPTS: &[Script] = &[
         ..SCRIPT
     },
     Script {
-        name: "an object unmade gives back its number and its room",
+        name: "an object unmade gives back its number and its space",
         lines: &[
             (Create(0, &[1, 2, 3, 4]), Ok(())),
             (Create(1, &[5, 6, 7, 8]), Ok(())),

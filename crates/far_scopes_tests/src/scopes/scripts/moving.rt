@@ -55,7 +55,7 @@ pub static SCRIPTS: &[Script] = &[
         ..SCRIPT
     },
     Script {
-        name: "an object that finds no room stays away until there is some",
+        name: "an object that does not fit stays away until there is some",
         lines: &[
             (Create(3, &[1, 2, 3, 4]), Ok(())),
             (Create(1, &[5, 6, 7, 8]), Ok(())),
@@ -98,7 +98,7 @@ pub static SCRIPTS: &[Script] = &[
     },
     // The second goes away first.
     Script {
-        name: "contents are put by rising object number",
+        name: "contents are put by ascending object number",
         lines: &[
             (Create(0, &[3]), Ok(())),
             (Create(1, &[3]), Ok(())),

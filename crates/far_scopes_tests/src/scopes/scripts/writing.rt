@@ -101,7 +101,7 @@ pub static SCRIPTS: &[Script] = &[
         ..SCRIPT
     },
     Script {
-        name: "want of room is told before used up writes",
+        name: "lack of space is told before used up writes",
         lines: &[
             (Create(0, &[1, 2]), Ok(())),
             (Create(1, &[3, 4]), Ok(())),

@@ -19,8 +19,8 @@ loop-turn-preserved g c =
 pub returns-in_err-flush-clause-printed : goal.returns-in_err-flush-clause-printed
 returns-in_err-flush-clause-printed g c = prints-then-nothing _ _ _ c.args.output.now.page [] c.loop-turn.output.page _ c.loop-turn.invariant.1 c.flush.ensures.printed
 
-pub returns-then-len-self-clause-span : goal.returns-then-len-self-clause-span
-returns-then-len-self-clause-span g c =
+pub returns-then-len-self-clause-byte_range : goal.returns-then-len-self-clause-byte_range
+returns-then-len-self-clause-byte_range g c =
     let e = c.take.ensures in
     let low = c.if-len-self.true in
     let known = c.loop-turn.self.known in (
