@@ -1,4 +1,4 @@
-// Row groups that are proposed after others were seen.
+// Row groups that are proposed after others were accessed.
 ghost use Rattle.std.specs.Prelude.{◌≡◌, length, IfOk};
 
 use crate::cases::{Case, all, all_are_right, is_list, must_be};
@@ -6,42 +6,42 @@ use far_prefetcher::Prefetcher;
 use far_types::Refusal;
 use std::alloc::Global;
 
-// Column 0 of three, after these groups were seen of it.
-fn after(alloc: Global, seen: &[u32]) -> Result<Prefetcher, Refusal>
+// Column 0 of three, after these groups were accessed of it.
+fn after(alloc: Global, accessed: &[u32]) -> Result<Prefetcher, Refusal>
     ensures columns { IfOk result (λ prefetcher. length prefetcher ≡ 3) }
 {
     let mut prefetcher = Prefetcher::new(alloc, 3)?;
-    for group in seen {
+    for group in accessed {
         prefetcher.saw(0, *group);
     }
     Ok(prefetcher)
 }
 
-// The groups that were seen of a column, how many it has, and those that are proposed then.
-struct Seen(&'static [u32], u32, &'static [u32]);
+// The groups that were accessed of a column, how many it has, and those that are proposed then.
+struct Accessed(&'static [u32], u32, &'static [u32]);
 
-impl Case for Seen {
+impl Case for Accessed {
     fn is_right(&self, alloc: Global) -> Result<bool, Refusal> {
         let prefetcher = after(alloc, self.0)?;
         is_list(prefetcher.proposals(alloc, 0, self.1), self.2)
     }
 }
 
-static CASES: [Seen; 14] = [
-    Seen(&[7, 5, 3, 1], 8, &[]),
-    Seen(&[0, 0, 0, 0], 8, &[]),
-    Seen(&[0, 1, 2, 3], 5, &[4]),
-    Seen(&[0, 1, 2], 6, &[]),
-    Seen(&[0, 1, 2, 3], 6, &[4, 5]),
-    Seen(&[0, 1, 2, 3], 4, &[]),
-    Seen(&[9, 7, 5, 3], 10, &[1]),
-    Seen(&[8, 7, 6, 5], 10, &[4, 3]),
-    Seen(&[0, 2, 3, 4], 9, &[]),
-    Seen(&[0, 1, 2, 4], 9, &[]),
-    Seen(&[0, 1, 3, 4], 9, &[]),
-    Seen(&[4, 3, 2, 1], 9, &[0]),
-    Seen(&[5, 5, 5, 5, 5, 9, 0, 3, 6, 9], 13, &[12]),
-    Seen(
+static CASES: [Accessed; 14] = [
+    Accessed(&[7, 5, 3, 1], 8, &[]),
+    Accessed(&[0, 0, 0, 0], 8, &[]),
+    Accessed(&[0, 1, 2, 3], 5, &[4]),
+    Accessed(&[0, 1, 2], 6, &[]),
+    Accessed(&[0, 1, 2, 3], 6, &[4, 5]),
+    Accessed(&[0, 1, 2, 3], 4, &[]),
+    Accessed(&[9, 7, 5, 3], 10, &[1]),
+    Accessed(&[8, 7, 6, 5], 10, &[4, 3]),
+    Accessed(&[0, 2, 3, 4], 9, &[]),
+    Accessed(&[0, 1, 2, 4], 9, &[]),
+    Accessed(&[0, 1, 3, 4], 9, &[]),
+    Accessed(&[4, 3, 2, 1], 9, &[0]),
+    Accessed(&[5, 5, 5, 5, 5, 9, 0, 3, 6, 9], 13, &[12]),
+    Accessed(
         &[4294967292, 4294967293, 4294967294, 4294967295],
         4294967295,
         &[],
@@ -53,7 +53,7 @@ fn the_next_two_groups_of_a_stride_are_proposed_where_they_exist(rt: HostRuntime
     all_are_right(&rt, rt.alloc(), &CASES);
 }
 
-// Whether groups that were seen of all three columns are proposed for the first, and none for the second.
+// Whether groups that were accessed of all three columns are proposed for the first, and none for the second.
 fn are_proposed_distinct(alloc: Global, prefetcher: &mut Prefetcher) -> Result<bool, Refusal> {
     prefetcher.saw(1, 9);
     prefetcher.saw(2, 0);

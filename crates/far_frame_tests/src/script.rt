@@ -140,7 +140,7 @@ fn is_answered_once<S: FarStore, R: Threads + Sync>(
     due: Due<'_>,
 ) -> Result<bool, Refusal> {
     match call {
-        Call::Row(_) | Call::Coldest => is_seen(world, call, due),
+        Call::Row(_) | Call::Coldest => is_shown(world, call, due),
         Call::Recount(_, _) | Call::RecountAgain(_, _) => {
             is_due(recounted(rt, world.frame(), world.store(), call), due, 1)
         }
@@ -149,7 +149,7 @@ fn is_answered_once<S: FarStore, R: Threads + Sync>(
 }
 
 // Whether a row, or the object that goes away first, is this.
-fn is_seen<S: FarStore>(world: &World<S>, call: Call, due: Due<'_>) -> Result<bool, Refusal> {
+fn is_shown<S: FarStore>(world: &World<S>, call: Call, due: Due<'_>) -> Result<bool, Refusal> {
     match call {
         Call::Row(place) => Ok(is_row_due(world.frame().scope().row(place), due)),
         _ => is_job_due(world.frame().begin_coldest(world.store()), due),

@@ -20,7 +20,7 @@ pub struct Place {
 /// The last row group of a column that was lent, how far it is from the one before, and how often in turn each was so far from the one
 /// before.
 #[derive(Clone, Copy)]
-pub struct Seen {
+pub struct Accesses {
     pub last: i64,
     pub stride: i64,
     pub times: u32,
@@ -37,7 +37,7 @@ pub struct Plain {
     pub edits: u64,
     pub uses: u64,
     pub objects: [Object; OBJECTS],
-    pub seen: [Seen; 4],
+    pub accesses: [Accesses; 4],
     pub aggregates: [Aggregate; NUMBERS],
     pub registrations: u64,
     pub begun: u64,
@@ -54,7 +54,7 @@ const NO_PLACE: Place = Place {
 };
 
 /// No row group is so far from another.
-const UNSEEN: Seen = Seen {
+const NO_ACCESSES: Accesses = Accesses {
     last: -1_000,
     stride: 0,
     times: 0,
@@ -70,7 +70,7 @@ impl Plain {
             edits: 0,
             uses: 0,
             objects: [NEW; OBJECTS],
-            seen: [UNSEEN; 4],
+            accesses: [NO_ACCESSES; 4],
             aggregates: [FREE; NUMBERS],
             registrations: 0,
             begun: 0,
@@ -131,13 +131,13 @@ impl Plain {
         let object = &mut self.objects[index(column, group) % OBJECTS];
         object.hot = true;
         object.used = now;
-        let seen = &mut self.seen[column as usize % 4];
-        *seen = seen_after(*seen, i64::from(group));
+        let accesses = &mut self.accesses[column as usize % 4];
+        *accesses = accesses_after(*accesses, i64::from(group));
     }
 
     // Whether a row group may be the next of a column: it is so far on as three in turn were from the one before.
-    fn may_come(&self, seen: Seen, group: i64) -> bool {
-        seen.times >= 3 && seen.stride != 0 && group >= 0 && group < i64::from(self.groups())
+    fn may_come(&self, accesses: Accesses, group: i64) -> bool {
+        accesses.times >= 3 && accesses.stride != 0 && group >= 0 && group < i64::from(self.groups())
     }
 
     /// What to fetch next of a column: those of the next two row groups that are there.
@@ -145,10 +145,10 @@ impl Plain {
         if column >= COLUMNS {
             return Due::Refused(Refusal::NoColumn);
         }
-        let seen = self.seen[column as usize % 4];
-        let first = seen.last.wrapping_add(seen.stride);
-        let second = first.wrapping_add(seen.stride);
-        let (is_first, is_second) = (self.may_come(seen, first), self.may_come(seen, second));
+        let accesses = self.accesses[column as usize % 4];
+        let first = accesses.last.wrapping_add(accesses.stride);
+        let second = first.wrapping_add(accesses.stride);
+        let (is_first, is_second) = (self.may_come(accesses, first), self.may_come(accesses, second));
         let lowest = if is_first { first } else { second };
         self.next = [number(lowest), number(second)];
         let count = usize::from(is_first).saturating_add(usize::from(is_second));
@@ -245,10 +245,10 @@ fn has_some(group: u32, from: u32, to: u32) -> bool {
 }
 
 // What was seen of a column once one more row group of it is lent.
-fn seen_after(seen: Seen, group: i64) -> Seen {
-    let stride = group.wrapping_sub(seen.last);
-    let times = if stride == seen.stride { seen.times } else { 0 };
-    Seen {
+fn accesses_after(accesses: Accesses, group: i64) -> Accesses {
+    let stride = group.wrapping_sub(accesses.last);
+    let times = if stride == accesses.stride { accesses.times } else { 0 };
+    Accesses {
         last: group,
         stride,
         times: times.saturating_add(1),

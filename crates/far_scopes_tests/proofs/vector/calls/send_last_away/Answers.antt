@@ -1,4 +1,4 @@
-use Rattle.far_vector.proofs.Apart.{vector-kept}
+use Rattle.far_vector.proofs.Disjoint.{vector-kept}
 use Rattle.far_scopes_tests.proofs.vector.calls.send_last_away.Goals as goal
 
 pub returns : goal.returns
