@@ -130,8 +130,8 @@ fn insert_records<S: FarStore, R: Read>(
     Err(Refusal::NoMemory)
 }
 
-/// Inserts the records of a text by the csv reader. It is a function of its own, since the reader has a large frame, which each command would pay
-/// for.
+/// Inserts the records of a text by the csv reader. It is a function of its own, since the reader has a large frame, which each command
+/// would pay for.
 #[inline(never)]
 fn load_records<S: FarStore>(
     alloc: Global,

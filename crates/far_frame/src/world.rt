@@ -155,9 +155,9 @@ impl<S: FarStore> World<S> {
 
 /// Serves steps in order, with one reply to each: the replies and the new state are a run of the plain table from the
 /// old one. So after any list of steps, in which edits, registrations, lendings, pins and every phase of evacuations, fetches and
-/// offloaded builds follow one another anyhow, each aggregate that answers gives what folding it over the rows as they are gives, each lent slice is
-/// that part of its column, each edit's reply is the plain list's, and a refused step changes no row, column or answer. A number of a job
-/// that is spent stays spent. Refused with `NoMemory` (1) alone, before any step, and then nothing is changed.
+/// offloaded builds follow one another anyhow, each aggregate that answers gives what folding it over the rows as they are gives, each lent
+/// slice is that part of its column, each edit's reply is the plain list's, and a refused step changes no row, column or answer. A number
+/// of a job that is spent stays spent. Refused with `NoMemory` (1) alone, before any step, and then nothing is changed.
 pub fn run<S: FarStore>(world: &mut World<S>, steps: Vec<Step>) -> Result<Vec<Reply>, Refusal>
     requires few { world.old.faults + length steps.items < 2 ^ 63 }
     ensures run { IfOk result (λ replies. IsRun S.content S.number_of world.old steps.items replies.items world.new) }

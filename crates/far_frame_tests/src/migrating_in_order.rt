@@ -1,5 +1,5 @@
-//! In which order a world that goes on with another store puts its contents there: those of numbers before those of texts, each by ascending
-//! object number, whichever went away first.
+//! In which order a world that goes on with another store puts its contents there: those of numbers before those of texts, each by
+//! ascending object number, whichever went away first.
 use crate::answers::Due;
 use crate::call::Call;
 use crate::call::Value::{Int, Missing, Text};

@@ -1,4 +1,5 @@
-//! A list of steps that is served by one call. The call is refused before any step or not at all, so one that finds no memory is made again.
+//! A list of steps that is served by one call. The call is refused before any step or not at all, so one that finds no memory is made
+//! again.
 use crate::answers::{Due, is_reply};
 use crate::call::Value::{Int, Missing};
 use crate::call::{Call, TOTALS, step};
@@ -88,7 +89,8 @@ fn replies<S: FarStore>(
     }
 }
 
-/// The index of the first reply that is not what it should be, of row groups of this size. Nothing can be said where a step found no memory.
+/// The index of the first reply that is not what it should be, of row groups of this size. Nothing can be said where a step found no
+/// memory.
 fn first_wrong_in(replies: &[Reply], calls: Calls, size: u32) -> Result<Option<usize>, Refusal> {
     for (at, (_, due)) in calls.iter().enumerate() {
         match replies.get(at) {

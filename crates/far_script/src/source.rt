@@ -6,7 +6,8 @@ ghost use Rattle.std.specs.Io.KnownBytes.{ReadConsumes};
 use std::io;
 use std::io::Read;
 
-/// A reader of which contracts know whether a read may fail. So a script that ends by a failed read shows that readers of its type may fail.
+/// A reader of which contracts know whether a read may fail. So a script that ends by a failed read shows that readers of its type may
+/// fail.
 ///
 /// Bytes at hand never fail. Any other reader goes into [`Fallible`].
 pub trait Source: Read {

@@ -13,8 +13,9 @@ use std::sync::Wait;
 // Blocks with nothing in them, which lie between the blocks of the cells.
 pub(crate) type Spacers = Vec<Vec<u64>>;
 
-/// The four cells, and no stripe's lock. What holds each is padded, so that no two holders are on one cache line. The words of each lie in a
-/// block of their own, and spacers lie between these blocks. So an edit of one stripe does not slow the readings of another stripe's gauge.
+/// The four cells, and no stripe's lock. What holds each is padded, so that no two holders are on one cache line. The words of each lie in
+/// a block of their own, and spacers lie between these blocks. So an edit of one stripe does not slow the readings of another stripe's
+/// gauge.
 #[derive(Drop)]
 pub struct Cells<N: Naming, B: Rooms> {
     pub(crate) zero: CachePadded<Counter<N, B, 0>>,

@@ -164,8 +164,8 @@ impl<N: Naming, B: Site, S: FarTickets> Shared<N, B, S> {
     /// Registers an aggregate in all four stripes under one number, which is below 32, or in none. Holds all four write locks. All row
     /// groups that hold a place are still pending.
     ///
-    /// Refused with `BadSpec` (3), `NoColumn` (4) or `WrongKind` (5) exactly as `Spec::check` says; else with `TooManyAggregates` (13) where
-    /// a stripe has 32, or the lowest free numbers differ; else with `NoMemory` (1), and with `TooManyAggregates` (13) if a stripe
+    /// Refused with `BadSpec` (3), `NoColumn` (4) or `WrongKind` (5) exactly as `Spec::check` says; else with `TooManyAggregates` (13)
+    /// where a stripe has 32, or the lowest free numbers differ; else with `NoMemory` (1), and with `TooManyAggregates` (13) if a stripe
     /// registered 2^32. The four stripes then have the rows, objects and aggregates that they had.
     pub fn watch_all<R: Wait>(&self, rt: &R, spec: Spec) -> Result<u32, Refusal>
         ensures number { IfOk result (λ a. (a ≢ 0) × (a < 32)) }

@@ -192,8 +192,8 @@ fn flush_at<W: Write>(
 /// sessions no line is read, though its bytes may have come with that command.
 ///
 /// The faults are those of `run_script`. Afterwards no more reads are left than before, and each byte that came is taken off those that
-/// were left: also of a reader whose bytes nobody knows, as standard input. At the fault `Input` all whole lines that came are answered, and
-/// the next line or its load came and is no UTF-8, or lacks what did not come:
+/// were left: also of a reader whose bytes nobody knows, as standard input. At the fault `Input` all whole lines that came are answered,
+/// and the next line or its load came and is no UTF-8, or lacks what did not come:
 ///
 /// - the line its end; then the end of the script was not seen;
 /// - the load its bytes; then the end of the script was seen, and nothing is left behind them, or it was not seen.
@@ -233,11 +233,11 @@ pub fn run_input<T: AllocGlobal + Sync + Threads + Wait, R: Source + Drop, W: Wr
 /// is the whole script, as `run_threads` runs it: no line behind it is read.
 ///
 /// A script has at most 16,777,216 bytes and is read in at most 1,048,576 reads; past either the fault is `Input`, and so where a read
-/// fails, a line or the bytes of a load are no UTF-8, or the script ends inside a load. So a script of fewer than 1,048,576 bytes, which are
-/// known, does not end by `Input` if each line, and the bytes of each load, are UTF-8, all bytes of each load are there, and readers of this
-/// type never fail ([`a_short_script_at_hand_comes_whole`](crate::laws::a_short_script_at_hand_comes_whole)). What lies wholly before a fault
-/// is answered. Where a write fails, the fault is `Output`; where the shell itself is refused memory, `Memory`; where the first command opens
-/// no table and asks for no sessions, `BadStart`; where sessions give up on an edit, `Turns`.
+/// fails, a line or the bytes of a load are no UTF-8, or the script ends inside a load. So a script of fewer than 1,048,576 bytes, which
+/// are known, does not end by `Input` if each line, and the bytes of each load, are UTF-8, all bytes of each load are there, and readers of
+/// this type never fail ([`a_short_script_at_hand_comes_whole`](crate::laws::a_short_script_at_hand_comes_whole)). What lies wholly before
+/// a fault is answered. Where a write fails, the fault is `Output`; where the shell itself is refused memory, `Memory`; where the first
+/// command opens no table and asks for no sessions, `BadStart`; where sessions give up on an edit, `Turns`.
 ///
 /// The program does this:
 ///

@@ -63,8 +63,8 @@ impl Plain {
         }
     }
 
-    // How long the far form of a row group's texts is, once a place of it has this value: a head, what each value has, and a byte with a bit
-    // for each where some are missing.
+    // How long the far form of a row group's texts is, once a place of it has this value: a head, what each value has, and a byte with a
+    // bit for each where some are missing.
     fn form_len(&self, column: u32, group: u32, place: u32, value: Value) -> u32 {
         let first = group.saturating_mul(SIZE);
         let (mut len, mut mask) = (6u32, 0u32);

@@ -4,7 +4,8 @@ use super::plain::Plain;
 use crate::answers::Due;
 use far_types::{Kind, Limits, Name, Refusal};
 
-/// How many objects there are at most. An index is taken modulo this, which leaves each index of an object as it is: so no look-up can fail.
+/// How many objects there are at most. An index is taken modulo this, which leaves each index of an object as it is: so no look-up can
+/// fail.
 pub const OBJECTS: usize = 24;
 
 /// A part of a segment.

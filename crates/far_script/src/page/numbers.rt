@@ -106,8 +106,8 @@ impl Page {
         }
     }
 
-    /// The same of a number of more than 64 bits, which are seldom. It is a function of its own, since its digits have a large frame, which each
-    /// call would pay for.
+    /// The same of a number of more than 64 bits, which are seldom. It is a function of its own, since its digits have a large frame, which
+    /// each call would pay for.
     #[inline(never)]
     fn very_wide(&mut self, number: i128) -> Result<(), Refusal>
         ensures ok { OnOk result (self.new ≡ self.old ++ signed_decimal number) }
