@@ -33,11 +33,11 @@ module _ {R : Type 0} (read : Ghosts R) where
   abbrev pub unread : Input R read → List ℕ
   unread input = drop input.start input.held
 
-  -- a span lies within what is held of a script
+  -- a byte range lies within what is held of a script
   abbrev pub Holds : Input R read → ByteRange → Type 0
   Holds input byte_range = (byte_range.from ≤ byte_range.to) × (byte_range.to ≤ length input.held)
 
-  -- the bytes of a span
+  -- the bytes of a byte range
   abbrev pub bytes_in : Input R read → ByteRange → List ℕ
   bytes_in input byte_range = slice_range input.held byte_range.from byte_range.to
 

@@ -24,7 +24,7 @@ use far_texts::{TextColumn, fill_texts};
 use far_types::{Refusal, Text};
 use std::alloc::Global;
 
-// What each column of numbers knows of itself.
+// For the proof: gives `IsShaped` of each column of numbers.
 pub(super) fn all_are_shaped(columns: &[IntColumn])
     ensures { All IsShaped columns.now }
 {
@@ -33,7 +33,7 @@ pub(super) fn all_are_shaped(columns: &[IntColumn])
     }
 }
 
-// What each column of texts knows of itself.
+// For the proof: gives `HasGroups` of each column of texts.
 pub(super) fn all_have_groups(columns: &[TextColumn])
     ensures { All HasGroups columns.now }
 {

@@ -69,7 +69,7 @@ impl TextColumn {
         form_with_next(spare, form, text)
     }
 
-    // What is known of the column and of the objects before a text is pushed: the next object's number has no list.
+    // For the proof: the column has groups, and the next object's number has no list.
     pub(super) fn next_object_is_unused<S: FarTickets>(&self, objects: &Objects<u8, S>)
         requires { IsTextColumn (lists_of S.content objects.now) self.now }
         ensures objects { length self.now.objects ≤ length objects.now.records }

@@ -25,7 +25,7 @@ pub(super) fn all_begin(columns: &[IntColumn]) -> bool
     true
 }
 
-// What each column knows of itself.
+// For the proof: gives `IsShaped` of each column.
 pub(super) fn all_are_shaped(columns: &[IntColumn])
     ensures { All IsShaped columns.now }
 {

@@ -38,7 +38,7 @@ pub(super) fn all_begin(columns: &[TextColumn]) -> bool
     true
 }
 
-// What each column knows of itself.
+// For the proof: gives `HasGroups` of each column.
 pub(super) fn all_have_groups(columns: &[TextColumn])
     ensures { All HasGroups columns.now }
 {
