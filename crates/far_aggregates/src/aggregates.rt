@@ -125,7 +125,15 @@ impl Aggregates {
         ensures memory { IfErr result (λ e. e ≡ Refusal.NoMemory) }
     {
         self.reciprocal = Reciprocal::new(size as usize);
-        register(alloc, &mut self.registry, a, spec, registration, size, places)
+        register(
+            alloc,
+            &mut self.registry,
+            a,
+            spec,
+            registration,
+            size,
+            places,
+        )
     }
 
     /// No aggregate is under the number any more; there was one. Allocates nothing.

@@ -30,7 +30,11 @@ fn undo_one(entry: &mut Option<Aggregate>, group: u32, delta: &Option<Delta>)
         if let Some(delta) = delta {
             match &mut aggregate.accumulator {
                 Accumulator::Totals(live) => live.take(&delta.pair.0, delta.pair.1),
-                Accumulator::Extrema(live) => live.put_min_max(group, &delta.pair.0, delta.previous),
+                Accumulator::Extrema(live) => live.put_min_max(
+                    group,
+                    &delta.pair.0,
+                    delta.previous,
+                ),
             }
         }
     }

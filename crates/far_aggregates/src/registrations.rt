@@ -86,7 +86,11 @@ pub fn new_aggregate(
 }
 
 /// Puts an aggregate under a number, which is free.
-pub fn put(registry: &mut Vec<Option<Aggregate>>, a: u32, aggregate: Aggregate) -> Result<(), Refusal>
+pub fn put(
+    registry: &mut Vec<Option<Aggregate>>,
+    a: u32,
+    aggregate: Aggregate,
+) -> Result<(), Refusal>
     requires number { a < 32 }
     requires within { a ≤ length registry.old.items }
     requires numbers { length registry.old.items ≤ 32 }

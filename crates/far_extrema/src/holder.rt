@@ -3,8 +3,8 @@ ghost use Rattle.std.specs.Prelude.{◌≡◌, ◌≢◌, ◌∷◌, [], None, S
 ghost use Rattle.far_types.specs.Effects.{widened};
 ghost use Rattle.far_extrema.specs.Spreads.{at, IsSet, IsTopOf};
 
-use super::rows_left::RowsLeft;
 use super::min_maxes::{MinMax, is_strictly_within, is_within, merge_two};
+use super::rows_left::RowsLeft;
 use super::tournament::{Spare, Tournament};
 use far_types::Refusal;
 use std::alloc::Global;

@@ -11,8 +11,8 @@ ghost use Rattle.far_extrema.specs.MinMaxes.{extrema_of};
 ghost use Rattle.far_extrema.specs.Holders.{holders_of, min_max_at, reserved_at, line_of, IsPut, IsTopped, HaveSameReserved, HaveSameMinMaxes, KeepsReserved, IsReservedFor, IsGroup, IsCleared};
 
 use super::holder::Holder;
-use super::rows_left::RowsLeft;
 use super::min_maxes::{MinMax, MinMaxes};
+use super::rows_left::RowsLeft;
 use super::tournament::Spare;
 use far_types::{Key, Refusal, clone_key};
 use std::alloc::Global;
@@ -135,7 +135,11 @@ fn reserve_in(holders: &mut Holders, alloc: Global, key: &Option<Key>) -> Result
 
 /// Reserves memory for a row group more of each of these keys. Refused with `NoMemory` (1) alone, and then some may be
 /// reserved.
-pub fn reserve_all(holders: &mut Holders, alloc: Global, min_maxes: &MinMaxes) -> Result<(), Refusal>
+pub fn reserve_all(
+    holders: &mut Holders,
+    alloc: Global,
+    min_maxes: &MinMaxes,
+) -> Result<(), Refusal>
     ensures min_maxes { HaveSameMinMaxes (holders_of holders.old.entries) (holders_of holders.new.entries) }
     ensures reserved { OnOk result (IsReservedFor (extrema_of min_maxes.now.entries) (holders_of holders.new.entries)) }
     ensures memory { IfErr result (λ e. e ≡ Refusal.NoMemory) }

@@ -8,11 +8,11 @@ mod holder;
 mod holders;
 pub mod laws;
 pub mod live_extrema;
-pub mod rows_left;
 mod min_maxes;
+pub mod rows_left;
 mod tournament;
 
 pub use group_extrema::GroupExtrema;
 pub use live_extrema::LiveExtrema;
-pub use rows_left::RowsLeft;
 pub use min_maxes::{MinMax, is_strictly_within};
+pub use rows_left::RowsLeft;

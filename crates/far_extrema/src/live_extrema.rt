@@ -5,11 +5,11 @@ ghost use Rattle.far_extrema.specs.Holders.{holders_of};
 
 use super::group_extrema::GroupExtrema;
 use super::holders::{
-    Holders, clear_in, fill_all, leave_in, lines, observe_in, reserve_all, set_in, shrink_in,
-    min_max_in,
+    Holders, clear_in, fill_all, leave_in, lines, min_max_in, observe_in, reserve_all, set_in,
+    shrink_in,
 };
-use super::rows_left::RowsLeft;
 use super::min_maxes::{MinMax, is_within, merge_two};
+use super::rows_left::RowsLeft;
 use far_types::{Answer, ExtremaLines, Key, Refusal};
 use std::alloc::Global;
 use std::collections::BTreeMap;

@@ -68,7 +68,11 @@ pub fn observe(min_maxes: &mut MinMaxes, key: Option<Key>, more: MinMax) -> Resu
 }
 
 /// A min-max more under a key, of which a clone is made where it is new.
-pub fn observe_under(min_maxes: &mut MinMaxes, key: &Option<Key>, more: MinMax) -> Result<(), Refusal>
+pub fn observe_under(
+    min_maxes: &mut MinMaxes,
+    key: &Option<Key>,
+    more: MinMax,
+) -> Result<(), Refusal>
     ensures ok { OnOk result (extrema_of min_maxes.new.entries ≡ with_min_max (extrema_of min_maxes.old.entries) key.now more) }
     ensures err { OnErr result (min_maxes.new.entries ≡ min_maxes.old.entries) }
     ensures only_new { OnErr result (fin.get (extrema_of min_maxes.old.entries) key.now ≡ None) }

@@ -27,6 +27,7 @@ ghost use Rattle.far_frame.specs.declared.step.Reply.{Reply};
 ghost use Rattle.far_frame.specs.declared.step.Reply.TheVariants as reply;
 ghost use Rattle.far_frame.specs.declared.step.Step.{Step};
 ghost use Rattle.far_frame.specs.declared.step.Step.TheVariants as step;
+ghost use Rattle.far_frame.specs.Effects.{edit_reply};
 ghost use Rattle.far_frame.specs.Jobs.{JobRecord};
 ghost use Rattle.far_frame.specs.Lending.{flags_of, lent_part, pieces_in};
 ghost use Rattle.far_frame.specs.Pins.{ArePinnedHere, is_here, is_pinning};
@@ -53,11 +54,13 @@ pub fn an_answer_is_over_the_rows_now<S: FarTickets>()
     ensures same { (old : World S.Ticket) → (a : ℕ) → (answer : Answer) → (new : World S.Ticket) → IsStep S.content S.number_of old (step.Ask a) (reply.Answer answer) new → new ≡ old }
 {}
 
-/// An edit that is accepted does to the rows what it does to the plain list, and one that is refused is refused as the
-/// plain list refuses it, or because an object is away or does not fit, or for lack of memory where nothing else refuses it.
+/// An accepted edit does to the rows what it does to the plain list, and its reply is the plain list's. A refused edit is refused as there,
+/// or because an object is away or does not fit. If none of these holds, memory ran out.
 pub fn an_edit_is_that_of_the_plain_list<S: FarTickets>()
     ensures inserted { (old : World S.Ticket) → (e : Edit) → (place : ℕ) → (new : World S.Ticket) → IsStep S.content S.number_of old (step.Edit e) (reply.Place place) new → new.state.table ≡ edited e old.state.table }
     ensures done { (old : World S.Ticket) → (e : Edit) → (new : World S.Ticket) → IsStep S.content S.number_of old (step.Edit e) reply.Done new → new.state.table ≡ edited e old.state.table }
+    ensures placed { (old : World S.Ticket) → (e : Edit) → (place : ℕ) → (new : World S.Ticket) → IsStep S.content S.number_of old (step.Edit e) (reply.Place place) new → reply.Place place ≡ edit_reply old.state.table e }
+    ensures told { (old : World S.Ticket) → (e : Edit) → (new : World S.Ticket) → IsStep S.content S.number_of old (step.Edit e) reply.Done new → reply.Done ≡ edit_reply old.state.table e }
     ensures refused { (old : World S.Ticket) → (e : Edit) → (given : Refusal) → (new : World S.Ticket) → IsStep S.content S.number_of old (step.Edit e) (reply.Refused given) new → MayRefuse (edit_due (live old.state) e) true given }
 {}
 

@@ -8,8 +8,8 @@ ghost use Rattle.far_scopes.specs.Movement.{AreTracked, word_of, version_of, lea
 ghost use Rattle.far_scopes.specs.Opening.{no_objects};
 
 mod coldest;
-mod creating;
 mod compacting;
+mod creating;
 mod lending;
 mod moving;
 mod pins;

@@ -99,7 +99,12 @@ pub(crate) fn merge_totals(
 }
 
 /// A least and a greatest value more under a key. Refused with `NoMemory` (1) alone.
-fn observe(min_maxes: &mut GroupExtrema, key: Option<Key>, least: i64, greatest: i64) -> Result<(), Refusal>
+fn observe(
+    min_maxes: &mut GroupExtrema,
+    key: Option<Key>,
+    least: i64,
+    greatest: i64,
+) -> Result<(), Refusal>
     ensures ok { OnOk result (min_maxes.new ≡ fin.insert min_maxes.old key (option_map_or (λ there. join_min_maxes there (least, greatest)) (fin.get min_maxes.old key) (least, greatest))) }
     ensures memory { IfErr result (λ e. e ≡ Refusal.NoMemory) }
 {

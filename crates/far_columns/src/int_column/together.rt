@@ -13,7 +13,7 @@ mod filling;
 mod groups;
 
 use super::IntColumn;
-use checking::{all_begin, all_here, all_writable, groups_fit, all_are_shaped};
+use checking::{all_are_shaped, all_begin, all_here, all_writable, groups_fit};
 use far_scopes::Objects;
 use far_store::FarTickets;
 use far_types::Refusal;

@@ -137,7 +137,10 @@ impl Plain {
 
     // Whether a row group may be the next of a column: it is so far on as three in turn were from the one before.
     fn may_come(&self, accesses: Accesses, group: i64) -> bool {
-        accesses.times >= 3 && accesses.stride != 0 && group >= 0 && group < i64::from(self.groups())
+        accesses.times >= 3
+            && accesses.stride != 0
+            && group >= 0
+            && group < i64::from(self.groups())
     }
 
     /// What to fetch next of a column: those of the next two row groups that are there.
@@ -148,7 +151,10 @@ impl Plain {
         let accesses = self.accesses[column as usize % 4];
         let first = accesses.last.wrapping_add(accesses.stride);
         let second = first.wrapping_add(accesses.stride);
-        let (is_first, is_second) = (self.may_come(accesses, first), self.may_come(accesses, second));
+        let (is_first, is_second) = (
+            self.may_come(accesses, first),
+            self.may_come(accesses, second),
+        );
         let lowest = if is_first { first } else { second };
         self.next = [number(lowest), number(second)];
         let count = usize::from(is_first).saturating_add(usize::from(is_second));
@@ -247,7 +253,11 @@ fn has_some(group: u32, from: u32, to: u32) -> bool {
 // What was seen of a column once one more row group of it is lent.
 fn accesses_after(accesses: Accesses, group: i64) -> Accesses {
     let stride = group.wrapping_sub(accesses.last);
-    let times = if stride == accesses.stride { accesses.times } else { 0 };
+    let times = if stride == accesses.stride {
+        accesses.times
+    } else {
+        0
+    };
     Accesses {
         last: group,
         stride,

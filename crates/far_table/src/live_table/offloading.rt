@@ -148,7 +148,9 @@ impl<S: FarTickets> LiveTable<S> {
             return false;
         }
         let job = &build.job;
-        if !job.spec().is_same(spec) || !self.aggregates.is_pending_in(build.aggregate, build.group) {
+        if !job.spec().is_same(spec)
+            || !self.aggregates.is_pending_in(build.aggregate, build.group)
+        {
             return false;
         }
         an_aggregate_is_served_by_the_columns_of_its_schema();

@@ -13,7 +13,11 @@ use far_types::{Refusal, Text};
 use std::alloc::Global;
 
 // Whether there are two columns of one length and one size of row groups.
-fn are_same_length<S: FarTickets>(_objects: &Objects<u8, S>, columns: &[TextColumn], _size: u32) -> bool
+fn are_same_length<S: FarTickets>(
+    _objects: &Objects<u8, S>,
+    columns: &[TextColumn],
+    _size: u32,
+) -> bool
     requires are { AreTextColumns (lists_of S.content _objects.now) columns.now }
     requires sized { All (λ c. c.size ≡ _size) columns.now }
     ensures are { IsTrue result → AreColumns (lists_of S.content _objects.now) columns.now }

@@ -14,7 +14,10 @@ use far_types::{Refusal, Text};
 use std::alloc::Global;
 
 // For the proof: the columns have groups, and an object number that is not given yet has no list.
-pub(super) fn next_objects_are_unused<S: FarTickets>(objects: &Objects<u8, S>, columns: &[TextColumn])
+pub(super) fn next_objects_are_unused<S: FarTickets>(
+    objects: &Objects<u8, S>,
+    columns: &[TextColumn],
+)
     requires { All (IsTextColumn (lists_of S.content objects.now)) columns.now }
     ensures objects { All (λ c. length c.objects ≤ length objects.now.records) columns.now }
     ensures groups { All HasGroups columns.now }

@@ -8,7 +8,7 @@ ghost use Rattle.far_texts.specs.Together.{AreColumns, AreNextForms, all_begin, 
 ghost use Rattle.far_texts.specs.RefusingTogether.{first_tests, push_texts_refusal};
 
 use super::checking::all_begin;
-use super::forms::{next_objects_are_unused, next_form, next_forms};
+use super::forms::{next_form, next_forms, next_objects_are_unused};
 use super::growing::{begin_groups, extend_groups};
 use crate::text_column::TextColumn;
 use far_scopes::{Objects, Replacement};
