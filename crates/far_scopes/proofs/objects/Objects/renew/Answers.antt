@@ -12,8 +12,8 @@ use Rattle.far_scopes.proofs.objects.Objects.renew.Goals as goal
 -- the records are those of the objects, each with its ticket of the renewal
 made : (g : given.Over) (c : goal.After-forget_copies g) → c.loop-object_record.records.items ≡ records-renewed c.args.self.records c.args.renewal
 made g c =
-    let olds = into_iter_items (zip_first c.loop-object_record.entry-iterator) in
-    let tickets = into_iter_items (zip_second c.loop-object_record.entry-iterator) in
+    let olds = into_iter_items (zip_first c.loop-object_record.object_record-iterator) in
+    let tickets = into_iter_items (zip_second c.loop-object_record.object_record-iterator) in
     let inv = c.loop-object_record.invariant in
     let none : records-renewed olds tickets ≡ [] = none-left olds tickets inv.2 (elim c.in-None.ensures.steps [
       | inl (rest, spent) ↦ inl (sym inv.3 ∙ spent.0)

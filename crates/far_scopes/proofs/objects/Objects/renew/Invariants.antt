@@ -7,8 +7,8 @@ use Rattle.far_scopes.proofs.objects.Objects.renew.Given as goal
 
 abbrev pub invariant-loop-object_record : goal.invariant-loop-object_record
 invariant-loop-object_record g l =
-    let olds = zip_first l.entry-iterator in
-    let tickets = zip_second l.entry-iterator in
+    let olds = zip_first l.object_record-iterator in
+    let tickets = zip_second l.object_record-iterator in
     (l.records.items ++ records-renewed (into_iter_items olds) (into_iter_items tickets) ≡ records-renewed l.fn.self.records l.fn.renewal)
     × (length l.records.items + length (into_iter_items olds) ≤ vec_capacity l.records)
     × (length (into_iter_items olds) ≡ length (into_iter_items tickets))
