@@ -62,7 +62,7 @@ module _ {X K : Type 0} where
   written-number m (r ∷ rs) = written-number (written m r.object) rs
 
   replaced-number : (m : Movement X K) (lists : List (Replacement X)) → (after_replace_all m lists).number ≡ m.number
-  replaced-number m lists = written-number (record m { memory = replaced_all_in m.memory lists; entries = with_lens m.records lists }) lists
+  replaced-number m lists = written-number (record m { memory = replaced_all_in m.memory lists; records = with_lens m.records lists }) lists
 
 module _ {K : Type 0} where
   all-pushed-number : (m : Movement (Option ℤ) K) (columns : NumberColumns) (numbers : Numbers) → (all_pushed_in m columns numbers).number ≡ m.number
