@@ -3,7 +3,8 @@ use Rattle.std.specs.Prelude.{codes}
 use Rattle.far_script.proofs.FlowLaws.{prints, prints-nothing-then}
 use Rattle.far_script.specs.Flow.{IsOver, IsUnseen}
 use Rattle.far_script.proofs.StopLaws.{handed-on, unseen-later}
-use Rattle.far_shell.proofs.BreakLaws.{always, breaks-later, breaks-off-as, breaks-start, breaks-store, rejects-table}
+use Rattle.far_scripts.proofs.BreakLaws.{breaks-off-as}
+use Rattle.far_shell.proofs.BreakLaws.{always, breaks-later, breaks-start, breaks-store, rejects-table}
 use Rattle.far_shell.proofs.ScriptLaws.{script-whole}
 use Rattle.far_shell.proofs.SessionLaws.{sessions-stopped, sessions-whole, stopped-unwritten}
 use Rattle.far_shell.proofs.script.serve.Goals as goal
