@@ -1,6 +1,6 @@
 -- What was printed up to a fault.
 use Rattle.std.proofs.Common.{◌≡◌, ◌==◌, ◌≤◌, ℕ, false, ◌⊎◌, inl, inr, List, [], ◌∷◌, ◌++◌, Option, append_assoc, append-nil, ◌∙◌, refl, sym, ap, subst}
-use Rattle.std.specs.Prelude.{IsUtf8}
+use Rattle.std.specs.Prelude.{IsUtf8, codes}
 use Rattle.std.specs.List.{list_any}
 use Rattle.std.specs.Io.BufRead.{strip_last}
 use Rattle.std.specs.declared.io.traits.Read.{Ghosts}
@@ -10,13 +10,14 @@ use Rattle.far_script.specs.declared.fault.ShellFault.TheVariants as fault
 use Rattle.far_script.specs.declared.input.Input.{Input}
 use Rattle.far_types.specs.declared.cell.Kind.{Kind}
 use Rattle.far_commands.specs.Cuts.{Lists, Fails, PrintsCut}
-use Rattle.far_scripts.specs.Breaks.{ListsNext, BreaksIn, BreaksLater, BreaksOff, HasNotBegun, HasNoTurn, IsUnknown, Rejection, Rejects}
+use Rattle.far_scripts.specs.Breaks.{ListsNext, BreaksIn, BreaksLater, BreaksOff, BreaksServing, HasNotBegun, HasNoTurn, IsRefused, IsUnknown, Rejection, Rejects}
 use Rattle.far_script.specs.Faults.{IfInput}
 use Rattle.far_script.specs.Flow.{Counts, Gives, IsOver, IsShort, IsSpent, Prints, Reads, StartsWith, Stops}
 use Rattle.far_commands.specs.Progress.{At}
 use Rattle.far_script.specs.Lines.{Blank, IsOneLine, without_return}
 use Rattle.far_commands.proofs.CutLaws.{front-more}
-use Rattle.far_scripts.specs.Scripts.{Answers, Begins}
+use Rattle.far_script.specs.Openings.{Opened}
+use Rattle.far_scripts.specs.Scripts.{Answers, Begins, IsNew}
 use Rattle.far_script.proofs.FlowLaws.{no-first, no-rest, prints, prints-then, prints-nothing-then, prints-then-nothing, reads-none}
 use Rattle.far_scripts.proofs.ScriptLaws.{begins-then, either}
 use Rattle.far_script.proofs.StopLaws.{coming, counts-then, if-input, leaves-same, short-later, spent-rest, starts, starts-split, starts-then, stops-here, stops-more, stops-then}
@@ -173,6 +174,33 @@ module _ {R : Type 0} (read : Ghosts R) {S K : Type 0} (tickets : Tickets S K) (
       within-last first before mid new a b c d h k l m old at line bytes text u.0 fault.Memory tt (one, front-more (λ said. Lists at line said) (ListsNext at line) u.0 (λ said n. inl n) u.2) p q r s t u.1
   breaks-last first before mid new a b c d h k l m old at line bytes text fault.Turns p q r one s spent t u v = absurd u.2
 
+module _ {R : Type 0} (read : Ghosts R) {S K : Type 0} (tickets : Tickets S K) (unseen : Type 0) where
+  -- how a script breaks off behind a first command that asks for a table
+  abbrev pub Serving : Input R read → Input R read → Option (List ℕ) → Option (List ℕ) → List ℕ → List ℕ → Opened → ShellFault → Type 0
+  Serving first new a b h k opened why = (bytes : List ℕ) × (rest : List ℕ) × (text : List ℕ) × Gives read why first new bytes rest × Prints a h text b k × BreaksServing tickets unseen (IsOver read new rest) opened why bytes text
+
+  -- the table is not opened
+  pub rejects-table : (input : Input R read) (u : Option (List ℕ)) (held left text : List ℕ) (opened : Opened) (why : ShellFault) → left ≡ held ++ text → Rejection why (IsRefused opened) text → Serving input input u u held left opened why
+  rejects-table input u held left text opened why e h = (
+    [],
+    coming read input,
+    text,
+    (starts read input input [] (reads-none read input input refl), rejected-input why (IsRefused opened) text (Counts read input [] input) h),
+    prints u held text left e,
+    inl (refl, h),
+  )
+
+  -- no store is made for it
+  pub breaks-store : (input : Input R read) (u : Option (List ℕ)) (held : List ℕ) (opened : Opened) → Serving input input u u held held opened fault.Memory
+  breaks-store input u held opened = rejects-table input u held held [] opened fault.Memory (sym (append-nil held)) refl
+
+  -- its lines break off
+  pub breaks-lines : (old new : Input R read) (u w : Option (List ℕ)) (held k left bytes rest text : List ℕ) (opened : Opened) (at : At K) (why : ShellFault)
+      → k ≡ held ++ codes "ok\n" → IsNew opened at → Gives read why old new bytes rest → Prints u k text w left → BreaksOff tickets unseen (IsOver read new rest) at why bytes text
+      → Serving old new u w held left opened why
+  breaks-lines old new u w held k left bytes rest text opened at why e fresh g q b =
+      (bytes, rest, codes "ok\n" ++ text, g, prints-then u u w held (codes "ok\n") k text left (prints u held (codes "ok\n") k e) q, inr (at, text, fresh, b, refl))
+
 -- a first command is at fault
 pub not-begun : (unseen spent : Type 0) (why : ShellFault) (says : List ℕ → Type 0) (bytes rest text : List ℕ) → Rejection why says text → (says text → Rejects bytes (rest ≡ []) text) → HasNotBegun unseen spent why bytes rest text
 not-begun unseen spent fault.BadStart says bytes rest text h f = f h
@@ -260,7 +288,7 @@ breaks-in-as P Q A B fault.Memory at next front f s h = h
 breaks-in-as P Q A B fault.Turns at next front f s h = h
 
 module _ {S K : Type 0} (tickets : Tickets S K) (P Q A B : Type 0) where
-  pub breaks-off-as : (old : At K) (why : ShellFault) (bytes text : List ℕ) → IfInput why (P → Q) → (A → B) → BreaksOff tickets P A old why bytes text → BreaksOff tickets Q B old why bytes text
+  breaks-off-as : (old : At K) (why : ShellFault) (bytes text : List ℕ) → IfInput why (P → Q) → (A → B) → BreaksOff tickets P A old why bytes text → BreaksOff tickets Q B old why bytes text
   breaks-off-as old why bytes text f s b = record {
     before = b.before;
     printed = b.printed;
@@ -272,6 +300,11 @@ module _ {S K : Type 0} (tickets : Tickets S K) (P Q A B : Type 0) where
     whole = b.whole;
     said = b.said;
   }
+
+  -- the same of a table that may not be opened
+  pub breaks-serving-as : (opened : Opened) (why : ShellFault) (bytes text : List ℕ) → IfInput why (P → Q) → (A → B) → BreaksServing tickets P A opened why bytes text → BreaksServing tickets Q B opened why bytes text
+  breaks-serving-as opened why bytes text f s (inl h) = inl h
+  breaks-serving-as opened why bytes text f s (inr h) = inr (h.0, h.1, h.2, breaks-off-as h.0 why bytes h.1 f s h.3, h.4)
 
   later-as : (why : ShellFault) (bytes rest text : List ℕ) → IfInput why (P → Q) → (A → B) → BreaksLater tickets P A why bytes rest text → BreaksLater tickets Q B why bytes rest text
   later-as why bytes rest text f s b =

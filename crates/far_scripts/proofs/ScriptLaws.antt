@@ -7,12 +7,13 @@ use Rattle.far_store.specs.declared.store.FarTickets.{Ghosts as Tickets}
 use Rattle.far_script.specs.declared.input.Input.{Input}
 use Rattle.far_script.specs.Flow.{Prints, Reads, unread, IsSpent}
 use Rattle.far_commands.specs.Progress.{At}
-use Rattle.std.specs.Prelude.{IsUtf8}
+use Rattle.std.specs.Prelude.{IsUtf8, codes}
 use Rattle.std.specs.Io.BufRead.{strip_last}
 use Rattle.far_commands.specs.Replies.{AnswersLine}
 use Rattle.far_script.specs.Lines.{Blank, without_return}
-use Rattle.far_scripts.specs.Scripts.{Turn, bytes_of, text_of, IsTurn, AreTurns, Answers, Begins, Ends, Opens}
-use Rattle.far_script.proofs.FlowLaws.{no-first, no-rest, prints-nothing-then, prints-then, prints-then-nothing, reads-then}
+use Rattle.far_script.specs.Openings.{Opened}
+use Rattle.far_scripts.specs.Scripts.{Turn, bytes_of, text_of, IsTurn, AreTurns, Answers, Begins, Ends, IsNew, IsServed}
+use Rattle.far_script.proofs.FlowLaws.{no-first, no-rest, prints, prints-nothing-then, prints-then, prints-then-nothing, reads-then}
 
 all-more : (f : Turn → List ℕ) (turns : List Turn) (turn : Turn) (whole : List ℕ) → whole ≡ flat_map f turns → whole ++ f turn ≡ flat_map f (turns ++ turn ∷ [])
 all-more f turns turn whole e = ap (λ (t : List ℕ). t ++ f turn) e ∙ ap (λ (t : List ℕ). flat_map f turns ++ t) (sym (append-nil (f turn))) ∙ sym (flat_map-append f turns (turn ∷ []))
@@ -69,6 +70,13 @@ module _ {R : Type 0} (read : Ghosts R) {S K : Type 0} (tickets : Tickets S K) w
         (no-rest rows (unread read after) (sym u.taken ∙ ap (λ (z : List ℕ). unread read mid ++ z) (u.none ended) ∙ append-nil (unread read mid) ∙ none), u.ended ended),
       )
 
+  -- a table is opened, and its lines are answered
+  pub serves-table : (old new : Input R read) (u w : Option (List ℕ)) (held k left bytes text : List ℕ) (opened : Opened) (at : At K)
+      → k ≡ held ++ codes "ok\n" → IsNew opened at → Reads read old bytes new → Prints u k text w left → Ends tickets at bytes text → IsSpent read new
+      → (all : List ℕ) × (said : List ℕ) × Reads read old all new × Prints u held said w left × IsServed tickets opened all said × IsSpent read new
+  serves-table old new u w held k left bytes text opened at e fresh p q ends spent =
+      (bytes, codes "ok\n" ++ text, p, prints-then u u w held (codes "ok\n") k text left (prints u held (codes "ok\n") k e) q, (at, text, fresh, ends, refl), spent)
+
 pub blank-more : (bytes raw : List ℕ) (lines : List (List ℕ)) → Blank bytes lines → without_return raw ≡ [] → Blank (bytes ++ (raw ++ 10 ∷ [])) (lines ++ raw ∷ [])
 blank-more bytes raw [] h e = ([], e, ap (λ (t : List ℕ). t ++ (raw ++ 10 ∷ [])) h, refl)
 blank-more bytes raw (line ∷ lines) h e = (
@@ -93,9 +101,6 @@ begins-then bytes line P Q f b = record {
   text = b.text;
   is = either (λ x. x) (λ y. (y.0, y.1, f y.2)) b.is;
 }
-
-pub opens-then : {K : Type 0} (bytes : List ℕ) (P Q : Type 0) (at : At K) → (P → Q) → Opens bytes P at → Opens bytes Q at
-opens-then bytes P Q at f o = (o.0, o.1, begins-then bytes o.0 P Q f o.2, o.3, o.4)
 
 pub next-number : {S K : Type 0} (tickets : Tickets S K) (old new : At K) (line rows text : List ℕ) → AnswersLine tickets old line rows text new → new.number ≤ old.number + 1
 next-number tickets old new [] rows text h = let same = ap (λ at. at.number) h.2 in omega (arith, same)

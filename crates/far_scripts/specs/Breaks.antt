@@ -10,7 +10,7 @@ use Rattle.far_script.specs.Openings.{Opened, Schema, start_in}
 use Rattle.far_script.specs.Printing.{refusal_text}
 use Rattle.far_commands.specs.Progress.{At}
 use Rattle.far_script.specs.Lines.{Blank, IsOneLine, without_return}
-use Rattle.far_scripts.specs.Scripts.{Answers, Begins, Opens}
+use Rattle.far_scripts.specs.Scripts.{Answers, Begins, IsNew, Opens}
 
 -- bytes that begin with no line that can be answered. Either none has its end, and why no more came is the first argument. Or they are the
 -- last line, and at fault; that nothing comes behind it is the second argument. Or the first line is at fault
@@ -91,6 +91,11 @@ module _ {S K : Type 0} (tickets : Tickets S K) (unseen spent : Type 0) where
     pub cut : BreaksIn unseen spent why mid next front
     pub whole : bytes ≡ before ++ next
     pub said : text ≡ printed ++ front
+
+  -- behind a first command that asks for a table of these columns and limits a script breaks off: the table is not opened, and nothing
+  -- behind the command is read, or the table is opened, and its lines break off
+  abbrev pub BreaksServing : Opened → ShellFault → List ℕ → List ℕ → Type 0
+  BreaksServing opened why bytes text = ((bytes ≡ []) × Rejection why (IsRefused opened) text) ⊎ ((at : At K) × (tail : List ℕ) × IsNew opened at × BreaksOff at why bytes tail × (text ≡ codes "ok\n" ++ tail))
 
   -- a script breaks off behind its first command
   pub record BreaksLater (why : ShellFault) (bytes rest text : List ℕ) : Type 0 where

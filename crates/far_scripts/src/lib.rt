@@ -5,7 +5,7 @@
 mod first_line;
 mod lines;
 mod opening;
+mod serving;
 
 pub use first_line::first_command;
-pub use lines::serve_lines;
-pub use opening::open;
+pub use serving::serve_table;

@@ -1,24 +1,23 @@
 -- What was printed of a script up to a fault.
-use Rattle.std.proofs.Common.{◌≡◌, ◌+◌, ◌≤◌, ◌<◌, ℕ, ◌⊎◌, inl, inr, List, [], ◌++◌, length, length-append, Option, Some, None, refl, ap, subst, arith}
-use Rattle.std.specs.Prelude.{codes, IfSome, unwrap_or}
+use Rattle.std.proofs.Common.{◌≡◌, ◌+◌, ◌≤◌, ◌<◌, ℕ, ◌⊎◌, inl, inr, List, [], ◌++◌, length, length-append, append-nil, Option, Some, None, ◌∙◌, refl, ap, subst, arith}
+use Rattle.std.specs.Prelude.{IfSome, unwrap_or}
 use Rattle.std.proofs.KnownBytes.{Appends-nil}
 use Rattle.std.specs.declared.io.traits.Read.{Ghosts}
 use Rattle.far_store.specs.declared.store.FarTickets.{Ghosts as Tickets}
 use Rattle.far_script.specs.declared.fault.ShellFault.{ShellFault}
 use Rattle.far_script.specs.declared.fault.ShellFault.TheVariants as fault
 use Rattle.far_script.specs.declared.input.Input.{Input}
-use Rattle.far_scripts.specs.Breaks.{BreaksLater, BreaksOff, HasNotBegun, IsRefused, Rejection}
+use Rattle.far_scripts.specs.Breaks.{BreaksLater, BreaksServing, HasNotBegun, IsRefused}
 use Rattle.far_shell.specs.Breaks.{Breaks, EndsBy, IsBroken, IsUnfinished}
 use Rattle.far_script.specs.Faults.{IfInput, IsCut}
 use Rattle.far_script.specs.Flow.{Counts, Gives, IsOver, IsSpent, IsUnseen, Prints, Reads, unread}
-use Rattle.far_commands.specs.Progress.{At}
 use Rattle.far_script.specs.Openings.{Opened, Schema, start_in}
-use Rattle.far_scripts.specs.Scripts.{Begins, Opens}
+use Rattle.far_scripts.specs.Scripts.{Begins}
 use Rattle.far_shell.specs.Sessions.{IsAnswered}
-use Rattle.far_script.proofs.FlowLaws.{prints, prints-then, prints-nothing-then, prints-then-nothing}
-use Rattle.far_scripts.proofs.ScriptLaws.{begins-then, opens-then}
-use Rattle.far_scripts.proofs.BreakLaws.{Starting, first-or-later, not-begun, rejected-input}
-use Rattle.far_script.proofs.StopLaws.{coming, gives-then, spent-rest, starts}
+use Rattle.far_script.proofs.FlowLaws.{no-rest, prints-nothing-then, prints-then-nothing}
+use Rattle.far_scripts.proofs.ScriptLaws.{begins-then}
+use Rattle.far_scripts.proofs.BreakLaws.{Starting, first-or-later, not-begun}
+use Rattle.far_script.proofs.StopLaws.{gives-then}
 
 -- a script of which nothing is printed
 pub starts-none : (known : Option (List ℕ)) → IfSome known (λ script. script ≡ [] ++ unwrap_or known [])
@@ -57,38 +56,36 @@ module _ {R : Type 0} (read : Ghosts R) {S K : Type 0} (tickets : Tickets S K) (
   breaks-start old new u w held left why empty s =
       (s.0, s.1, s.2, s.3, subst (λ (z : List ℕ). Prints u z s.2 w left) empty s.4, broken-first tickets (λ _. unseen) (IsOver read new) why s.0 s.1 s.2 s.5)
 
-  -- the store of its table cannot be made
-  pub breaks-store : (old mid : Input R read) (u w : Option (List ℕ)) (held left first : List ℕ) → held ≡ [] → Reads read old first mid → Prints u held [] w left → Breaking old mid u w left fault.Memory
-  breaks-store old mid u w held left first empty p q =
-      (first, coming read mid, [], (starts read old mid first p, tt), subst (λ (z : List ℕ). Prints u z [] w left) empty q, inl refl)
-
-  -- the first command opens no table
-  pub rejects-table : (old mid : Input R read) (u w : Option (List ℕ)) (held l left first line text : List ℕ) (opened : Opened) (why : ShellFault) → held ≡ []
-      → Reads read old first mid → Begins first (IsSpent read mid) line → start_in line ≡ Some (Schema opened) → Prints u held [] w l → left ≡ l ++ text → Rejection why (IsRefused opened) text
-      → Breaking old mid u w left why
-  rejects-table old mid u w held l left first line text opened why empty p b asks q e h = (
-    first,
-    coming read mid,
-    text,
-    (starts read old mid first p, rejected-input why (IsRefused opened) text (Counts read old first mid) h),
-    subst (λ (z : List ℕ). Prints u z text w left) empty (prints-nothing-then u w w held l text left q (prints w l text left e)),
-    broken-first tickets (λ _. unseen) (IsOver read mid) why first (coming read mid) text (not-begun unseen (IsOver read mid (coming read mid)) why (IsRefused opened) first (coming read mid) text h
-        (λ refused. inl (line, begins-then first line (IsSpent read mid) (coming read mid ≡ []) (spent-rest read mid) b, inr (opened, asks, refused)))),
-  )
-
-  -- behind the first command
-  pub breaks-later : (old mid new : Input R read) (u v w : Option (List ℕ)) (held k left first bytes rest text : List ℕ) (at : At K) (why : ShellFault)
-      → held ≡ [] → Reads read old first mid → Prints u held (codes "ok\n") v k → Opens first (IsSpent read mid) at
-      → Gives read why mid new bytes rest → Prints v k text w left → BreaksOff tickets unseen (IsOver read new rest) at why bytes text
+  -- behind its first command, which asks for a table
+  pub breaks-table : (old mid new : Input R read) (u v w : Option (List ℕ)) (held k left first line bytes rest text : List ℕ) (opened : Opened) (why : ShellFault)
+      → held ≡ [] → Reads read old first mid → Prints u held [] v k → Begins first (IsSpent read mid) line → start_in line ≡ Some (Schema opened)
+      → Gives read why mid new bytes rest → Prints v k text w left → BreaksServing tickets unseen (IsOver read new rest) opened why bytes text
       → Breaking old new u w left why
-  breaks-later old mid new u v w held k left first bytes rest text at why empty p q o g t b = (
+  breaks-table old mid new u v w held k left first line bytes rest text opened why empty p q b asks g t (inl h) = (
+    first,
+    rest,
+    text,
+    subst (λ (z : List ℕ). Gives read why old new z rest) (ap (λ (z : List ℕ). first ++ z) h.0 ∙ append-nil first) (gives-then read old mid new first bytes rest why p g),
+    subst (λ (z : List ℕ). Prints u z text w left) empty (prints-nothing-then u v w held k text left q t),
+    broken-first tickets (λ _. unseen) (IsOver read new) why first rest text
+        (not-begun unseen (IsOver read new rest) why (IsRefused opened) first rest text h.1 (λ refused. inl (line, begins-then first line (IsSpent read mid) (rest ≡ []) (λ s. no-rest bytes rest (g.0.1 s)) b, inr (opened, asks, refused)))),
+  )
+  breaks-table old mid new u v w held k left first line bytes rest text opened why empty p q b asks g t (inr h) = (
     first ++ bytes,
     rest,
-    codes "ok\n" ++ text,
+    text,
     gives-then read old mid new first bytes rest why p g,
-    subst (λ (z : List ℕ). Prints u z (codes "ok\n" ++ text) w left) empty (prints-then u v w held (codes "ok\n") k text left q t),
-    broken-later tickets (λ _. unseen) (IsOver read new) why (first ++ bytes) rest (codes "ok\n" ++ text)
-        (record { first = first; at = at; more = bytes; tail = text; opens = opens-then first (IsSpent read mid) (bytes ++ rest ≡ []) at g.0.1 o; breaks = b; whole = refl; said = refl }),
+    subst (λ (z : List ℕ). Prints u z text w left) empty (prints-nothing-then u v w held k text left q t),
+    broken-later tickets (λ _. unseen) (IsOver read new) why (first ++ bytes) rest text (record {
+      first = first;
+      at = h.0;
+      more = bytes;
+      tail = h.1;
+      opens = (line, opened, begins-then first line (IsSpent read mid) (bytes ++ rest ≡ []) g.0.1 b, asks, h.2);
+      breaks = h.3;
+      whole = refl;
+      said = h.4;
+    }),
   )
 
 -- a script is broken off, and what was printed is written

@@ -8,18 +8,14 @@ ghost use Rattle.far_shell.specs.Sessions.{IsAnswered};
 use super::threads::print_sessions;
 use far_commands::{Agents, Resources};
 use far_script::{FirstLine, Input, Output, ShellFault, Source};
-use far_scripts::{first_command, open, serve_lines};
+use far_scripts::{first_command, serve_table};
 use far_store::{AgentStore, FarStore, FarTickets};
 use std::io::Write;
 use std::sync::Wait;
 use std::thread::Threads;
 
-/// The most contents that the store of a script takes.
-const STORE_CAPACITY: u64 = 1_048_576;
-
 /// Answers a script by what its first command says: a table is opened and the lines behind it are answered, or sessions share a
-/// table, and nothing behind the command is read. It knows the store of a table as a type parameter alone, since a proof that drops a
-/// table goes through the whole type of its store.
+/// table, and nothing behind the command is read. It knows no table, and the store of one as a type parameter alone.
 fn serve<
     S: FarStore,
     A: Resources<S>,
@@ -42,12 +38,7 @@ fn serve<
     let first = first_command(rt.alloc(), input, output, writer)?;
     match first {
         FirstLine::Schema(opening) => {
-            let store = match resources.store(STORE_CAPACITY) {
-                Ok(store) => store,
-                Err(refusal) => return Err(ShellFault::of_memory(refusal)),
-            };
-            let mut progress = open(rt.alloc(), store, opening, output)?;
-            serve_lines(resources, &mut progress, input, output, writer)?;
+            serve_table(resources, opening, input, output, writer)?;
             Ok(())
         }
         FirstLine::Threads { sessions, edits } => {
