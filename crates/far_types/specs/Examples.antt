@@ -26,7 +26,7 @@ a = codes "a"
 abbrev pub b : List ℕ
 b = codes "b"
 
--- over no rows: totals without key have the line of zeros, with key none, extrema none
+-- over no rows: totals have the line of zeros without a key and no line with one; extrema have no line
 abbrev pub OverNoRows : Type 0
 OverNoRows =
     (answer_over (of_column fold.Totals None []) [] ≡ answer.Totals ((None, 0, pos 0) ∷ []))

@@ -12,6 +12,19 @@ use std::marker::Model;
 use std::slice;
 
 /// How a number is compared with a constant.
+///
+/// Whether a number passes a test:
+///
+/// ```
+/// match op {
+///     Op::Eq => number == constant,
+///     Op::Ne => number != constant,
+///     Op::Lt => number < constant,
+///     Op::Le => number <= constant,
+///     Op::Gt => number > constant,
+///     Op::Ge => number >= constant,
+/// }
+/// ```
 #[derive(Clone, Copy, Debug, PartialEq, Eq)]
 pub enum Op {
     Eq,
@@ -25,7 +38,7 @@ pub enum Op {
 impl Op {
     ghost use Rattle.far_types.specs.Filters.{compares};
 
-    /// Whether a number stands so to the constant.
+    /// Whether the comparison holds of a number and the constant.
     pub fn holds(self, number: i64, constant: i64) -> bool
         ensures { result ≡ compares self number constant }
     {
@@ -40,8 +53,10 @@ impl Op {
     }
 }
 
-/// A test of one column. It is false where the row has no such column, where the cell is of the other kind, and
-/// where it has no value, `Ne` too.
+/// A test of one column. A row fails it, also one with `Ne`, if:
+/// - the row has no such column;
+/// - the cell is of the other kind;
+/// - the cell has no value.
 ///
 /// ```
 /// let is_rye = Test::text_is(alloc, 0, "rye")?;
@@ -53,7 +68,7 @@ impl Op {
 /// ```
 #[derive(Drop, Debug)]
 pub enum Test {
-    /// The number stands so to the constant.
+    /// The comparison holds of the number and the constant.
     Int { column: u32, op: Op, value: i64 },
     /// The text is the constant, byte by byte.
     TextIs { column: u32, text: Text },
@@ -65,7 +80,7 @@ impl Test {
     ghost use Rattle.far_types.specs.Filters.{passes};
     ghost use Rattle.far_types.specs.Bounds.{column_of, has_long_constant};
 
-    /// The test that a column's text is this one. Refused with `NoMemory` (1) alone.
+    /// Makes the test that a column's text is this one. Refused with `NoMemory` (1) alone.
     pub fn text_is(alloc: Global, column: u32, text: &str) -> Result<Test, Refusal>
         ensures test { IfOk result (λ test. test ≡ Test.TextIs column text.now) }
         ensures memory { IfErr result (λ e. e ≡ Refusal.NoMemory) }
@@ -74,7 +89,7 @@ impl Test {
         Ok(Test::TextIs { column, text })
     }
 
-    /// The test that a column's text begins with this one. Refused with `NoMemory` (1) alone.
+    /// Makes the test that a column's text begins with this one. Refused with `NoMemory` (1) alone.
     pub fn text_begins(alloc: Global, column: u32, text: &str) -> Result<Test, Refusal>
         ensures test { IfOk result (λ test. test ≡ Test.TextBegins column text.now) }
         ensures memory { IfErr result (λ e. e ≡ Refusal.NoMemory) }
@@ -105,7 +120,7 @@ impl Test {
         }
     }
 
-    /// Whether the test holds of a row. Texts are compared where they lie. Allocates nothing.
+    /// Whether a row passes the test. Compares texts in place. Allocates nothing.
     #[inline(always)]
     pub fn holds<R: LendCells>(&self, row: &R) -> bool
         ensures { result ≡ passes self.now (R.cells row.now) }
@@ -211,14 +226,14 @@ impl Filter {
     ghost use Rattle.far_types.specs.Filters.{keeps};
     ghost use Rattle.far_types.specs.Cells.{cells_of};
 
-    /// The filter of these tests; none keeps every row. Allocates nothing.
+    /// Makes the filter of these tests. A filter without tests keeps every row. Allocates nothing.
     pub fn new(tests: Vec<Test>) -> Filter
         ensures { result ≡ tests.items }
     {
         Filter { tests }
     }
 
-    /// The tests that the filter was made of. Allocates nothing.
+    /// Returns the tests that the filter was made of. Allocates nothing.
     pub fn into_tests(self) -> Vec<Test>
         ensures { result.items ≡ self }
     {
@@ -239,19 +254,19 @@ impl Filter {
         self.tests.iter()
     }
 
-    /// Whether every test holds of the row. Allocates nothing.
+    /// Whether the row passes every test. Allocates nothing.
     pub fn keeps(&self, row: &Row) -> bool
         ensures { result ≡ keeps self.now (cells_of row.now) }
     {
         self.keeps_cells(row)
     }
 
-    /// Whether every test holds of a row whose cells are lent by column. Allocates nothing.
+    /// Whether a row whose cells are lent by column passes every test. Allocates nothing.
     #[inline(always)]
     pub fn keeps_cells<R: LendCells>(&self, row: &R) -> bool
         ensures { result ≡ keeps self.now (R.cells row.now) }
     {
-        // The look at an empty list is worth its own line: it is what a fold over numbers alone does at each place.
+        // A fold over numbers alone comes here at each place, mostly without tests: so the empty list has a line of its own.
         if self.tests.is_empty() {
             return true;
         }

@@ -32,8 +32,7 @@ impl Model for Schema {
 }
 
 impl Schema {
-    /// The schema with these columns. Refused with `BadSchema` (2) exactly if there are not 1 to 16. Takes no
-    /// memory.
+    /// Makes a schema of these columns. Refused with `BadSchema` (2) exactly if there are not 1 to 16. Allocates nothing.
     pub fn new(kinds: Vec<Kind>) -> Result<Schema, Refusal>
         ensures ok { IfOk result (λ schema. (schema ≡ kinds.items) × IsSchema kinds.items) }
         ensures bad { IfErr result (λ e. (e ≡ Refusal.BadSchema) × ¬ (IsSchema kinds.items)) }
