@@ -35,7 +35,7 @@ impl IntList {
         IntList { numbers }
     }
 
-    /// The numbers, lent in place.
+    /// Borrows the numbers in place.
     pub fn as_slice(&self) -> &[Option<i64>]
         ensures { result.now ≡ self.now }
     {
@@ -81,7 +81,7 @@ impl TextList {
         TextList { texts }
     }
 
-    /// The texts, lent in place.
+    /// Borrows the texts in place.
     pub fn as_slice(&self) -> &[Option<Text>]
         ensures { result.now ≡ self.now }
     {

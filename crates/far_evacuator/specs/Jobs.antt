@@ -5,8 +5,7 @@ use Rattle.far_types.specs.declared.refusal.Refusal.{Refusal}
 use Rattle.far_evacuator.specs.declared.evacuation.EvacForm.{EvacForm}
 use Rattle.far_evacuator.specs.declared.evacuation.EvacForm.TheVariants.{Dirty, Clean}
 
--- an evacuation as it was begun: the number of the frame, the object, how often the object had been written and away, and its far form or
--- its ticket
+-- an evacuation as it was begun: the frame's number, the object, how often that had been written and away, and its far form or ticket
 pub record Evacuation (K : Type 0) : Type 0 where
   pub number : ℕ
   pub object : ℕ
@@ -19,7 +18,7 @@ pub record CarriedEvacuation (K : Type 0) : Type 0 where
   pub job : Evacuation K
   pub ticket : K
 
--- a fetch as it was begun: the number of the frame, the object, how often the object had been away, and its ticket
+-- a fetch as it was begun: the frame's number, the object, how often that had been away, and its ticket
 pub record Fetch (K : Type 0) : Type 0 where
   pub number : ℕ
   pub object : ℕ
@@ -42,7 +41,7 @@ module _ {K : Type 0} where
   IsDirtyForm (Dirty bytes) = Unit {0}
   IsDirtyForm (Clean ticket) = ⊥
 
-  -- the far store has the form under this ticket: its content is the bytes that were put, or it is the ticket that the object had
+  -- the far store has the form under this ticket: its content is the bytes that were put, or the object had it
   abbrev pub IsFormTicket : (K → List ℕ) → EvacForm K → K → Type 0
   IsFormTicket content (Dirty bytes) ticket = content ticket ≡ bytes
   IsFormTicket content (Clean own) ticket = ticket ≡ own

@@ -33,8 +33,8 @@ use std::marker::PhantomData;
 pub enum Want {
     /// The object with this number.
     Object(u32),
-    /// The eviction victim: the least recently used object that is neither pinned nor hot; if there is none, the least recently used of all
-    /// without pins.
+    /// The eviction victim: the least recently used object that is neither pinned nor hot. If there is none, it is the least recently used
+    /// of all without pins.
     Coldest,
 }
 

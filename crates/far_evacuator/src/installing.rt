@@ -19,10 +19,11 @@ use std::alloc::Global;
 /// accepted.
 ///
 /// If it is refused, nothing is changed. Refused with:
-/// - `StaleJob` (20) exactly if what the fetch rests on does not hold any more (`IsInstallable`): it was begun on other objects, or the
-///   object is local, or has been away again since;
+/// - `StaleJob` (20) exactly if what the fetch rests on does not hold any more (`IsInstallable`);
 /// - else `RegionFull` (17) exactly if no segment has the space;
 /// - else `NoMemory` (1) alone.
+///
+/// It is stale if it was begun on other objects, or if the object is local or has been away again since.
 pub fn install<T: Elem, S: FarTickets>(
     alloc: Global,
     objects: &mut Objects<T, S>,

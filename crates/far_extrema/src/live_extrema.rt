@@ -15,7 +15,7 @@ use std::alloc::Global;
 use std::collections::BTreeMap;
 use std::marker::Model;
 
-/// The least and the greatest value under each key, kept up to date row group by row group, and how many row groups are pending: not yet
+/// The least and the greatest value under each key, kept up to date row group by row group. Also how many row groups are pending: not yet
 /// scanned.
 ///
 /// Each key has a tournament of the row groups in which it occurs. So a changed min-max costs a look-up by key, and a few steps for each

@@ -11,7 +11,7 @@ use far_types::{Key, Refusal, clone_key};
 use std::alloc::Global;
 use std::collections::BTreeMap;
 
-/// The least and the greatest of the values that stand under a key.
+/// The least and the greatest of the values under a key.
 pub type MinMax = (i64, i64);
 
 /// The min-maxes by key.

@@ -11,8 +11,8 @@ use std::alloc::Global;
 use std::marker::Model;
 use std::mem;
 
-/// The min-maxes of the row groups in which a key occurs, and their joined min-max: a tournament whose winners stand at the branches, over
-/// blocks of sixteen row groups.
+/// The min-maxes of the row groups in which a key occurs, and their joined min-max. It is a tournament over blocks of sixteen row groups,
+/// and a branch keeps its winner.
 ///
 /// - A branch splits its row groups at the middle of the least aligned range that has them all.
 /// - So on the way to a block there are no more branches than its number has bits. There is one branch less than blocks.

@@ -1,4 +1,4 @@
--- Counts and sums by key: all under no key, in a list by small number, in a tree of numbers, or in a tree of keys.
+-- Counts and sums by key: under no key alone, in a list by small number, in a tree of numbers, or in one of keys.
 use Rattle.std.specs.Prelude.{ℕ, ℤ, [], ◌∷◌, Option, None, IsSome}
 use Rattle.far_types.specs.declared.key.Key.{Key}
 use Rattle.far_types.specs.Answers.{Totals}

@@ -48,7 +48,7 @@ abbrev pub without_all : Totals → List (Option Key × (ℕ × ℤ)) → Totals
 without_all totals [] = totals
 without_all totals (entry ∷ entries) = without_all (without_count_sum totals entry.0 entry.1) entries
 
--- a count of at most 2^26, and a sum that this many numbers can have: the count and the sum of two such, added up, fit
+-- a count of at most 2^26, and a sum that this many numbers can have. Two such fit when they are added
 abbrev pub IsAddend : ℕ × ℤ → Type 0
 IsAddend count_sum = (count_sum.0 ≤ 2 ^ 26) × IsSumOf count_sum.0 count_sum.1
 

@@ -13,7 +13,7 @@ abbrev pub with_pairs : Totals → List Pair → Totals
 with_pairs totals [] = totals
 with_pairs totals (pair ∷ pairs) = with_pairs (with_pair totals pair) pairs
 
--- pairs can be folded one after another: each value is a number of 64 bits, and its key has fewer than 2^26 values when its turn comes
+-- pairs can be folded one after another. Each value is a number of 64 bits, and its key has fewer than 2^26 values when its turn comes
 abbrev pub CanFoldAll : Totals → List Pair → Type 0
 CanFoldAll totals [] = Unit {0}
 CanFoldAll totals (pair ∷ pairs) = FitsSigned w64 pair.1 × (count_in (fin.get totals pair.0) < 2 ^ 26) × CanFoldAll (with_pair totals pair) pairs

@@ -16,8 +16,8 @@ use std::cmp::Ordering;
 use std::collections::btree_map::Iter;
 use std::marker::Model;
 
-/// If the other map has fewer than one key for this many keys here, a look-up for each of its keys costs less than walks along both maps
-/// (measured).
+/// The other map has few keys if it has fewer than one for this many keys here. Then a look-up for each of its keys costs less than walks
+/// along both maps (measured).
 const WALKED: usize = 4;
 
 /// A walk along the lines of a map, for keys that ascend. Contracts see the lines ahead of it.

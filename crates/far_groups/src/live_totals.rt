@@ -8,8 +8,8 @@ use far_types::{Answer, Key, Refusal, TotalLines};
 use std::alloc::Global;
 use std::marker::Model;
 
-/// The count and the sum of the rows under each key, kept up to date row by row, and how many row groups are still pending. Without a key
-/// column all rows stand under the key `None`. A sum is exact: at most 2^26 numbers of 64 bits stand under one key.
+/// The count and the sum of the rows under each key, kept up to date row by row. Also how many row groups are still pending. Without a key
+/// column all rows have the key `None`. A sum is exact: at most 2^26 numbers of 64 bits have one key.
 ///
 /// Rows under no key are added at once, by their count and their sum:
 ///
@@ -22,7 +22,7 @@ use std::marker::Model;
 /// Ok(live)
 /// ```
 ///
-/// Contracts see how many row groups are pending, and the totals of the pairs that are in: keys, each with a count of at least 1 and a sum.
+/// Contracts see how many row groups are pending, and the totals of the pairs that are in. Each key has a count of at least 1 and a sum.
 /// The lists of pairs with these totals follow each call by the laws of `far_types::laws`.
 #[derive(Drop)]
 pub struct LiveTotals {

@@ -3,7 +3,7 @@ use Rattle.std.specs.Prelude.{ℕ, ◌+◌, ◌*◌, ◌^◌, ℤ, List, slice_i
 use Rattle.std.specs.Int.{cast_signed, w128}
 use Rattle.far_history.specs.declared.reading.Reading.{Reading}
 
--- the sum, which stands in two words in two's complement
+-- the sum, which has two words in two's complement
 abbrev pub sum_in : List ℕ → ℤ
 sum_in words = cast_signed w128 (slice_index words 2 + slice_index words 3 * 2 ^ 64)
 

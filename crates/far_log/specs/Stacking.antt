@@ -8,7 +8,7 @@ pub record Stacked (X : Type 0) : Type 0 where
   pub size : ℕ
 
 module _ {X : Type 0} where
-  -- the list of the stack with this number; an empty one where there is none
+  -- the list of the stack with this number; an empty one if there is none
   abbrev pub stack_of : Stacked X → ℕ → List X
   stack_of s number = slice_index_or s.stacks number []
 
@@ -21,7 +21,7 @@ module _ {X : Type 0} where
   stacks_from size block from [] = []
   stacks_from size block from (n ∷ ns) = take n (drop from block) ∷ stacks_from size block (from + size) ns
 
-  -- new is old once xs is written at an index: a list in front of it or behind it stays, and one that ends there is longer by xs
+  -- new is old once xs is written at an index. A list in front of it or behind it stays, and one that ends there is longer by xs
   pub record IsPut (old new : List X) (at : ℕ) (xs : List X) : Type 0 where
     pub long : length old ≤ length new
     pub reach : at + length xs ≤ length new

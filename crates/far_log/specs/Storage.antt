@@ -41,8 +41,8 @@ emptied_at [] number = []
 emptied_at (s ∷ ss) zero = record s { live = false } ∷ ss
 emptied_at (s ∷ ss) (suc number) = s ∷ emptied_at ss number
 
--- the live extents of a table, from this number on, are linked: each has the count of extents up to the live one before it, and that one
--- has its number; `before` and `behind` are these two for the extents in front
+-- the live extents of a table, from this number on, are linked. Each has the count of extents up to the live one before it, and that one
+-- has its number. `before` and `behind` are the two for the extents in front
 abbrev pub AreLinked : ℕ → ℕ → ℕ → List Extent → List Link → Type 0
 AreLinked number before behind [] [] = Unit {0}
 AreLinked number before behind [] (l ∷ ls) = ⊥

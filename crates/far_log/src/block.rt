@@ -83,8 +83,8 @@ impl<T> Block<T> {
 
     /// Borrows a range of the block mutably. What the borrow leaves counts as no more than `most` elements, the space of the range.
     ///
-    /// A slice keeps its length, so this does what `slice_mut` does. But a contract on a borrow speaks of longer lists too, and by the
-    /// contract of `slice_mut` they would lie over what comes behind the space.
+    /// A slice keeps its length, so this does what `slice_mut` does. But a contract on a borrow speaks of longer lists too. By the contract
+    /// of `slice_mut` they would lie over what comes behind the space.
     pub fn lend(&mut self, begin: usize, end: usize, most: usize) -> &mut [T]
         requires ordered { begin ≤ end }
         requires within { end ≤ vec_len self.old.items }

@@ -8,8 +8,7 @@ use Rattle.far_pointer.specs.declared.pointer.Pointer.TheVariants.{Local, Remote
 abbrev pub bit_if : Bool → ℕ → ℕ
 bit_if fact k = if fact then 2 ^ k else 0
 
--- the number that is the word: bits 63 to 60 say present, dirty, hot and far; the segment stands from bit 32 on,
--- and the offset from bit 0 on
+-- the number that is the word. Bits 63 to 60 say present, dirty, hot and far. The segment begins at bit 32, and the offset at bit 0
 abbrev pub bits_of : Pointer → ℕ
 bits_of (Local at dirty hot far) =
     2 ^ 63 + bit_if dirty 62 + bit_if hot 61 + bit_if far 60 + at.segment * 2 ^ 32 + at.offset

@@ -34,7 +34,7 @@ module _ {X : Type 0} where
   offset_after parts [] offset = 0
   offset_after parts (o ∷ order) offset = if o == offset then 0 else length (list_or_none parts o) + offset_after parts order offset
 
-  -- the word of an object once the parts of segment `from` lie in segment `to` in this order: it has the new location, and is not hot
+  -- the word of an object once the parts of segment `from` lie in segment `to` in this order. It has the new location, and is not hot
   abbrev pub moved_word : List (Part X) → List ℕ → ℕ → ℕ → Pointer → Pointer
   moved_word parts order from to (Local at dirty hot far) =
       if at.segment == from then Local record { segment = to; offset = offset_after parts order at.offset } dirty false far

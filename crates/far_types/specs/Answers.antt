@@ -1,4 +1,4 @@
--- What an aggregate answers over the pairs of the folded rows.
+-- The answers of aggregates over the pairs of the folded rows.
 use Rattle.std.specs.Prelude.{ℕ, ℤ, pos, ◌+ℤ◌, Bool, List, [], ◌∷◌, length, map, filter, Option, None, Some}
 use Rattle.std.specs.Int.{int_min, int_max}
 use Rattle.std.specs.Ordering.{eq_by_cmp}
@@ -17,7 +17,7 @@ use Rattle.far_types.specs.Pairs.{Pair, pairs_of}
 abbrev pub is_under : Option Key → Pair → Bool
 is_under key pair = eq_by_cmp line_cmp key pair.0
 
--- the values that stand under a key, in order
+-- the values under a key, in order
 abbrev pub values_of : Option Key → List Pair → List ℤ
 values_of key pairs = map (λ pair. pair.1) (filter (λ pair. is_under key pair) pairs)
 

@@ -37,7 +37,7 @@ pub record AreLimits (limits : Limits) : Type 0 where
 abbrev pub usual_limits : ℕ → Limits
 usual_limits g = record { group = g; places = 16777216; edits = 1099511627776; int_segments = 64; int_size = max g 4096; text_segments = 64; text_size = 65536 }
 
--- the column that a test looks at
+-- the column that a test reads
 abbrev pub column_of : Test → ℕ
 column_of (test.Int column op value) = column
 column_of (test.TextIs column constant) = column

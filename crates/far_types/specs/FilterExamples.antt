@@ -23,7 +23,7 @@ Comparisons =
 abbrev pub holds_of_ab : Test → Bool
 holds_of_ab t = passes t (cells_of (row (pos 5) (codes "ab")))
 
--- ab is ab and not a; it begins with the empty text and with a, and not with abc; tests of the other kind and of no column fail
+-- ab is ab and not a. It begins with the empty text and with a, and not with abc. Tests of the other kind and of no column fail
 abbrev pub TestsOfTexts : Type 0
 TestsOfTexts =
     (map (λ text. holds_of_ab (test.TextIs 1 text)) (codes "ab" ∷ a ∷ []) ≡ true ∷ false ∷ [])

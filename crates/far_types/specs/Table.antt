@@ -14,8 +14,8 @@ pub record Place : Type 0 where
   pub cells : List Cell
   pub alive : Bool
 
--- an aggregate: its specification, how many registrations were made before it, and whether each row group is still pending in it, for the
--- row groups that held a place when it was registered
+-- an aggregate: its specification, how many registrations were made before it, and whether each row group is still pending in it. The flags
+-- are those of the row groups that held a place when it was registered
 pub record Registered : Type 0 where
   pub spec : Spec
   pub registration : ℕ
@@ -71,6 +71,6 @@ is_pending pending g = slice_index_or pending g false
 abbrev pub left : List Bool → ℕ
 left pending = count_by (λ flag. flag) pending
 
--- what an aggregate answers over the table's rows as they are now
+-- the answer of an aggregate over the table's rows as they are now
 abbrev pub answer_now : Spec → Table → Answer
 answer_now spec table = answer_over spec (rows_of table.places)

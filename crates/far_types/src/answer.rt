@@ -40,14 +40,14 @@ impl TotalLines {
         TotalLines { lines }
     }
 
-    /// The lines, lent in place.
+    /// Borrows the lines in place.
     pub fn as_slice(&self) -> &[(Option<Key>, u64, i128)]
         ensures { result.now ≡ self.now }
     {
         self.lines.as_slice()
     }
 
-    /// The lines in the order of their keys, lent in place. Allocates nothing.
+    /// Borrows the lines in the order of their keys, in place. Allocates nothing.
     pub fn iter(&self) -> slice::Iter<'_, (Option<Key>, u64, i128)>
         ensures { iter_rest result ≡ self.now }
     {
@@ -123,14 +123,14 @@ impl ExtremaLines {
         ExtremaLines { lines }
     }
 
-    /// The lines, lent in place.
+    /// Borrows the lines in place.
     pub fn as_slice(&self) -> &[(Option<Key>, i64, i64)]
         ensures { result.now ≡ self.now }
     {
         self.lines.as_slice()
     }
 
-    /// The lines in the order of their keys, lent in place. Allocates nothing.
+    /// Borrows the lines in the order of their keys, in place. Allocates nothing.
     pub fn iter(&self) -> slice::Iter<'_, (Option<Key>, i64, i64)>
         ensures { iter_rest result ≡ self.now }
     {

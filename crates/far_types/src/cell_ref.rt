@@ -1,4 +1,4 @@
-// Cells lent in place.
+// Cells borrowed in place.
 ghost use Rattle.std.specs.Prelude.{◌≡◌, ◌↔◌, IsTrue, Some, IfOk, IfErr, IfSome, IsSome, OnErr, FitsSigned};
 ghost use Rattle.std.specs.Int.{w64};
 ghost use Rattle.std.specs.Option.{option_copied};
@@ -48,7 +48,7 @@ impl Cell {
 }
 
 impl<'a> CellRef<'a> {
-    /// The cell of a number that may be missing. Allocates nothing.
+    /// Makes the cell of a number that may be missing. Allocates nothing.
     #[inline(always)]
     pub fn of_int(number: Option<i64>) -> CellRef<'a>
         ensures { lent_cell result ≡ int_cell number }
@@ -59,7 +59,7 @@ impl<'a> CellRef<'a> {
         }
     }
 
-    /// The cell of a text that may be missing, lent in place. Allocates nothing.
+    /// Makes the cell of a text that may be missing, borrowed in place. Allocates nothing.
     #[inline(always)]
     pub fn of_text(text: Option<&'a str>) -> CellRef<'a>
         ensures { lent_cell result ≡ text_cell (option_copied text.entry) }

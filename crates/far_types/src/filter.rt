@@ -98,7 +98,7 @@ impl Test {
         Ok(Test::TextBegins { column, text })
     }
 
-    /// The column that the test looks at.
+    /// The column that the test reads.
     pub fn column(&self) -> u32
         ensures { result ≡ column_of self.now }
     {
@@ -240,14 +240,14 @@ impl Filter {
         self.tests
     }
 
-    /// The tests, lent in place.
+    /// Borrows the tests in place.
     pub fn as_slice(&self) -> &[Test]
         ensures { result.now ≡ self.now }
     {
         self.tests.as_slice()
     }
 
-    /// The tests in order, lent in place. Allocates nothing.
+    /// Borrows the tests in order, in place. Allocates nothing.
     pub fn iter(&self) -> slice::Iter<'_, Test>
         ensures { iter_rest result ≡ self.now }
     {

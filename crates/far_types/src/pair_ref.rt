@@ -8,7 +8,7 @@ use super::key::Key;
 use super::refusal::Refusal;
 use std::alloc::Global;
 
-/// What a row gives to an aggregate: its pair, with a text key borrowed in place, or nothing if the row is not kept or not folded.
+/// What a row gives to an aggregate: its pair, or nothing if the row is not kept or not folded. A text key is borrowed in place.
 /// `lent_pair` in `specs/Lent.antt` is the pair that it stands for.
 ///
 /// The value 7 under the key that a cell gives:

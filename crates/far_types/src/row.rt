@@ -98,7 +98,7 @@ impl Row {
         self.cells.get(column)
     }
 
-    /// The cells, lent in place. Each number is one of 64 bits.
+    /// Borrows the cells in place. Each number has 64 bits.
     pub fn as_slice(&self) -> &[Cell]
         ensures cells { result.now ≡ self.now }
         ensures fit { RowFits self.now }
@@ -106,7 +106,7 @@ impl Row {
         self.cells.as_slice()
     }
 
-    /// The cells in the order of the columns, lent in place. Allocates nothing.
+    /// Borrows the cells in the order of the columns, in place. Allocates nothing.
     pub fn iter(&self) -> slice::Iter<'_, Cell>
         ensures { iter_rest result ≡ self.now }
     {

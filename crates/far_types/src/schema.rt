@@ -58,14 +58,14 @@ impl Schema {
         self.kinds.get(column).copied()
     }
 
-    /// The kinds, lent in place.
+    /// Borrows the kinds in place.
     pub fn as_slice(&self) -> &[Kind]
         ensures { result.now ≡ self.now }
     {
         self.kinds.as_slice()
     }
 
-    /// The kinds in the order of the columns, lent in place. Allocates nothing.
+    /// Borrows the kinds in the order of the columns, in place. Allocates nothing.
     pub fn iter(&self) -> slice::Iter<'_, Kind>
         ensures { iter_rest result ≡ self.now }
     {

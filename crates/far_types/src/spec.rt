@@ -80,14 +80,14 @@ fn is_one_too_long(tests: &[Test]) -> bool
     tests.iter().any(|test| test.is_too_long())
 }
 
-/// Whether some test looks at a column.
+/// Whether some test reads a column.
 fn one_looks_at(tests: &[Test], column: u32) -> bool
     ensures { result ≡ list_any (λ test. column_of test == column) tests.now }
 {
     tests.iter().any(|test| test.column() == column)
 }
 
-/// Whether all tests look at the first `columns` columns alone.
+/// Whether all tests read the first `columns` columns alone.
 fn are_within(tests: &[Test], columns: usize) -> bool
     ensures { result ≡ list_all (λ test. nat_lt (column_of test) columns) tests.now }
 {

@@ -54,14 +54,14 @@ impl Text {
         })
     }
 
-    /// The text, lent in place.
+    /// Borrows the text in place.
     pub fn as_str(&self) -> &str
         ensures { result.now ≡ self.now }
     {
         self.string.as_str()
     }
 
-    /// The bytes of the text, lent in place.
+    /// Borrows the bytes of the text in place.
     pub fn as_bytes(&self) -> &[u8]
         ensures { result.now ≡ self.now }
     {
