@@ -109,6 +109,8 @@ impl<'a> LentTexts<'a> {
 
 /// The values of a far form, read in place.
 ///
+/// A column of a row group has them by kind:
+///
 /// ```
 /// match values {
 ///     LentValues::Ints(numbers) => ColumnValues::Ints(numbers),

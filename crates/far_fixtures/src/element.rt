@@ -6,6 +6,8 @@ use far_types::Kind;
 
 /// An element for tests: a test can tell whether a list of it has a far form, and can add it to a digest.
 ///
+/// The list of an object goes into a digest:
+///
 /// ```
 /// if let Ok(list) = objects.lend(o) {
 ///     for element in list {

@@ -2,6 +2,8 @@
 
 /// Where in the local region an object's elements begin.
 ///
+/// The second element of the second segment:
+///
 /// ```
 /// const AT_1: At = At {
 ///     segment: 1,

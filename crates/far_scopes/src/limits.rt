@@ -2,6 +2,8 @@
 
 /// The limits of objects: how much memory they get for their elements, and how often each may be written and may go away.
 ///
+/// Two segments of four elements; two writes and one leaving of each object:
+///
 /// ```
 /// pub const TWO_OF_FOUR: ObjectLimits = ObjectLimits {
 ///     segments: 2,

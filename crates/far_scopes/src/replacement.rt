@@ -2,6 +2,8 @@
 
 /// Another list for an object. `Objects::replace_all` takes several.
 ///
+/// A copy of a list for an object:
+///
 /// ```
 /// Ok(Replacement {
 ///     object,

@@ -26,7 +26,7 @@ abbrev pub int_sum : List ℤ → ℤ
 int_sum [] = pos 0
 int_sum (value ∷ values) = value +ℤ int_sum values
 
--- the value that is left of some if a function picks one of each two. Of no values it is 0, which no answer shows: a key has a value
+-- the value that is left of a list if a function picks one of each two. Of no values it is 0, which no answer shows: a key has a value
 abbrev pub picked : (ℤ → ℤ → ℤ) → List ℤ → ℤ
 picked pick [] = pos 0
 picked pick (value ∷ []) = value

@@ -13,16 +13,13 @@ use std::slice;
 
 /// How a number is compared with a constant.
 ///
-/// Whether a number passes a test:
+/// The test that the number of column 0 is above 0:
 ///
 /// ```
-/// match op {
-///     Op::Eq => number == constant,
-///     Op::Ne => number != constant,
-///     Op::Lt => number < constant,
-///     Op::Le => number <= constant,
-///     Op::Gt => number > constant,
-///     Op::Ge => number >= constant,
+/// Test::Int {
+///     column: 0,
+///     op: Op::Gt,
+///     value: 0,
 /// }
 /// ```
 #[derive(Clone, Copy, Debug, PartialEq, Eq)]
