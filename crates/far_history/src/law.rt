@@ -43,7 +43,7 @@ impl Asking for Brand {
 }
 
 /// The rule of a cell:
-/// - There is one legal history, and the words are what it leaves.
+/// - There is one legal history, and the words are the reading after it.
 /// - One pass keeps it.
 /// - Each session has seen a prefix of it, and knows which entries are its own.
 pub struct Law<N> {

@@ -71,7 +71,7 @@ impl<T: Copy + Drop> Block<T> {
 impl<T> Block<T> {
     ghost use Rattle.far_log.specs.Lending.{lends_block, lends_bounded};
 
-    // Borrows a range of the block mutably.
+    // Mutably borrows a range of the block.
     fn slice_mut(&mut self, begin: usize, end: usize) -> &mut [T]
         requires ordered { begin ≤ end }
         requires within { end ≤ vec_len self.old.items }
@@ -81,7 +81,7 @@ impl<T> Block<T> {
         self.items.slice_mut(begin..end)
     }
 
-    /// Borrows a range of the block mutably. What the borrow leaves counts as no more than `most` elements, the space of the range.
+    /// Mutably borrows a range of the block. What the borrow leaves counts as no more than `most` elements, the space of the range.
     ///
     /// A slice keeps its length, so this does what `slice_mut` does. But a contract on a borrow speaks of longer lists too. By the contract
     /// of `slice_mut` they would lie over what comes behind the space.

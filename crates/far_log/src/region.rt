@@ -20,7 +20,7 @@ use std::marker::Model;
 /// - A segment's fill is where its last part ends, 0 if it has none. It falls when the last part is dropped.
 /// - A location is a segment and where in it the part begins, counted in elements.
 ///
-/// An object gets another list: the new part is placed before the old one is dropped:
+/// An object gets another list. The new part is placed before the old one is dropped:
 ///
 /// ```
 /// let word = self.words[o];
@@ -291,7 +291,7 @@ impl<T: Copy + Drop> Region<T> {
 impl<T: Copy + Drop> Region<T> {
     ghost use Rattle.far_log.specs.Lending.{lends_part};
 
-    /// Borrows the part at a location mutably, in place. Allocates nothing.
+    /// Mutably borrows the part at a location, in place. Allocates nothing.
     ///
     /// What the borrow leaves is the part's list, and no other part changes (`alone`).
     pub fn part_mut(&mut self, at: At) -> &mut [T]
@@ -304,7 +304,7 @@ impl<T: Copy + Drop> Region<T> {
         self.part_long_mut(at, len)
     }
 
-    /// Borrows the part at a location, which has `len` elements, mutably in place. Allocates nothing, and reads no segment's table.
+    /// Mutably borrows the part at a location, which has `len` elements, in place. Allocates nothing, and reads no segment's table.
     ///
     /// What the borrow leaves is the part's list, and no other part changes (`alone`).
     pub fn part_long_mut(&mut self, at: At, len: usize) -> &mut [T]
@@ -316,7 +316,7 @@ impl<T: Copy + Drop> Region<T> {
         self.segments.range_mut(at, 0, len)
     }
 
-    /// Borrows the elements `from` to `to` of the part at a location mutably, in place. Allocates nothing.
+    /// Mutably borrows the elements `from` to `to` of the part at a location, in place. Allocates nothing.
     pub fn range_mut(&mut self, at: At, from: usize, to: usize) -> &mut [T]
         requires ordered { from ≤ to }
         requires within { IsSomeAnd (part_of self.old at) (λ list. to ≤ length list) }

@@ -199,7 +199,7 @@ impl<T: Copy + Drop> Segments<T> {
 impl<T> Segments<T> {
     ghost use Rattle.far_log.specs.Lending.{lends_range};
 
-    /// Borrows a range of the part at a location mutably.
+    /// Mutably borrows a range of the part at a location.
     pub fn range_mut(&mut self, at: At, from: usize, to: usize) -> &mut [T]
         requires ordered { from ≤ to }
         requires within { IsSomeAnd (part_of self.old at) (λ list. to ≤ length list) }

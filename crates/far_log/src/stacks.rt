@@ -131,7 +131,7 @@ impl<T: Copy + Drop> Stacks<T> {
 impl<T> Stacks<T> {
     ghost use Rattle.far_log.specs.Lending.{lends_stack};
 
-    /// Borrows a range of a stack's elements mutably.
+    /// Mutably borrows a range of a stack's elements.
     pub fn slice_mut(&mut self, number: usize, from: usize, len: usize) -> &mut [T]
         requires there { number < length self.old.stacks }
         requires some { 0 < length (stack_of self.old number) }

@@ -71,7 +71,7 @@ impl Recency {
         }
     }
 
-    // Whether an object was used last, as most objects that are used again. Then a use leaves the order as it is.
+    // Whether an object was used last. Most objects that are used again were: then the use leaves the order as it is.
     fn is_first(&self, o: u32) -> bool
         ensures { IsTrue result → used self.now o ≡ self.now }
     {

@@ -50,8 +50,8 @@ impl<R> Model for AgentStore<R> {
 }
 
 impl<R: Drop> AgentStore<R> {
-    /// Makes an empty store that gives out the numbers below `capacity`. It keeps `rt`, which a put waits by. Refused with `NoMemory` (1)
-    /// alone.
+    /// Makes an empty store that gives out the numbers below `capacity`. It keeps `rt`, by which a put may wait. Refused with `NoMemory`
+    /// (1) alone.
     pub fn new(rt: R, alloc: Global, capacity: u64) -> Result<AgentStore<R>, Refusal>
         ensures capacity { IfOk result (λ s. s.capacity ≡ capacity) }
         ensures memory { IfErr result (λ e. e ≡ Refusal.NoMemory) }

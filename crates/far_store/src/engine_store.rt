@@ -65,7 +65,7 @@ impl<E: Engine, R> Model for EngineStore<E, R> {
 }
 
 impl<E: Engine, R: Drop> EngineStore<E, R> {
-    /// Makes a store over this engine that gives out the numbers below `capacity`. It keeps `rt`, which a put waits by. Refused with
+    /// Makes a store over this engine that gives out the numbers below `capacity`. It keeps `rt`, by which a put may wait. Refused with
     /// `NoMemory` (1) alone.
     pub fn new(rt: R, alloc: Global, engine: E, capacity: u64) -> Result<EngineStore<E, R>, Refusal>
         ensures capacity { IfOk result (λ s. s.capacity ≡ capacity) }

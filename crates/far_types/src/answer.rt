@@ -33,7 +33,7 @@ impl Model for TotalLines {
 impl TotalLines {
     ghost use Rattle.far_types.specs.Answers.{or_zero};
 
-    /// Takes these lines. Allocates nothing.
+    /// Makes an answer's lines of this list. Allocates nothing.
     pub fn new(lines: Vec<(Option<Key>, u64, i128)>) -> TotalLines
         ensures { result ≡ lines.items }
     {
@@ -54,7 +54,7 @@ impl TotalLines {
         self.lines.iter()
     }
 
-    /// Returns the lines that it was made of. Allocates nothing.
+    /// Returns the list of the lines. Allocates nothing.
     pub fn into_lines(self) -> Vec<(Option<Key>, u64, i128)>
         ensures { result.items ≡ self }
     {
@@ -116,7 +116,7 @@ impl Model for ExtremaLines {
 }
 
 impl ExtremaLines {
-    /// Takes these lines. Allocates nothing.
+    /// Makes an answer's lines of this list. Allocates nothing.
     pub fn new(lines: Vec<(Option<Key>, i64, i64)>) -> ExtremaLines
         ensures { result ≡ lines.items }
     {
@@ -137,7 +137,7 @@ impl ExtremaLines {
         self.lines.iter()
     }
 
-    /// Returns the lines that it was made of. Allocates nothing.
+    /// Returns the list of the lines. Allocates nothing.
     pub fn into_lines(self) -> Vec<(Option<Key>, i64, i64)>
         ensures { result.items ≡ self }
     {

@@ -50,7 +50,7 @@ impl Op {
     }
 }
 
-/// A test of one column. A row fails it, also one with `Ne`, if:
+/// A test of one column. A row fails each test, `Ne` too, if:
 /// - the row has no such column;
 /// - the cell is of the other kind;
 /// - the cell has no value.
@@ -65,7 +65,7 @@ impl Op {
 /// ```
 #[derive(Drop, Debug)]
 pub enum Test {
-    /// The comparison holds of the number and the constant.
+    /// The number compares with the constant as `op` says.
     Int { column: u32, op: Op, value: i64 },
     /// The text is the constant, byte by byte.
     TextIs { column: u32, text: Text },
@@ -263,7 +263,7 @@ impl Filter {
     pub fn keeps_cells<R: LendCells>(&self, row: &R) -> bool
         ensures { result ≡ keeps self.now (R.cells row.now) }
     {
-        // A fold over numbers alone comes here at each place, mostly without tests: so the empty list has a line of its own.
+        // The check for an empty list is worth a line of its own: a fold over numbers alone makes it at each place.
         if self.tests.is_empty() {
             return true;
         }

@@ -97,7 +97,7 @@ fn are_within(tests: &[Test], columns: usize) -> bool
 impl Spec {
     ghost use Rattle.far_types.specs.Bounds.{needs, is_within, spec_refusal};
 
-    /// Counts and sums the values of a column of numbers, over all rows. Allocates nothing.
+    /// Makes the aggregate of the count and the sum of the values of a column of numbers, over all rows. Allocates nothing.
     ///
     /// `Spec::totals(alloc, 1).by(0)` is the same under each key of column 0.
     pub fn totals(alloc: Global, value: u32) -> Spec
@@ -106,7 +106,7 @@ impl Spec {
         Spec::of_all(alloc, Fold::Totals, value)
     }
 
-    /// Finds the least and the greatest value of a column of numbers, over all rows. Allocates nothing.
+    /// Makes the aggregate of the least and the greatest value of a column of numbers, over all rows. Allocates nothing.
     pub fn extrema(alloc: Global, value: u32) -> Spec
         ensures { result ≡ record { fold = Fold.Extrema; value = value; key = None; filter = [] } }
     {

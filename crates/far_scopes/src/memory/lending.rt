@@ -9,7 +9,7 @@ use super::{LocalMemory, at_of};
 use far_codec::Elem;
 
 impl<T: Elem> LocalMemory<T> {
-    /// Borrows the list of object `o`, which is local and has `len` elements, mutably.
+    /// Mutably borrows the list of object `o`, which is local and has `len` elements.
     pub fn lend_mut(&mut self, o: usize, len: usize) -> &mut [T]
         requires local { IsSome (place_of self.old.words o) }
         requires long { IfSome (list_in self.old o) (λ list. length list ≡ len) }
@@ -22,7 +22,7 @@ impl<T: Elem> LocalMemory<T> {
         region.part_long_mut(at, len)
     }
 
-    /// Borrows the elements `from` to `to` of an object that is local mutably.
+    /// Mutably borrows the elements `from` to `to` of an object that is local.
     pub fn lend_range_mut(&mut self, o: usize, from: usize, to: usize) -> &mut [T]
         requires ordered { from ≤ to }
         requires within { IsSomeAnd (list_in self.old o) (λ list. to ≤ length list) }

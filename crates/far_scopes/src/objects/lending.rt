@@ -56,7 +56,7 @@ impl<T: Elem, S: FarTickets> Objects<T, S> {
         Ok(())
     }
 
-    /// Borrows the list of an object that may be written, mutably in place. Allocates nothing.
+    /// Mutably borrows the list of an object that may be written, in place. Allocates nothing.
     ///
     /// The object counts as written before it is borrowed: it is dirty, hot and used last, and its version is one more. What the borrow
     /// leaves is the object's list, and no other list changes (`alone`).
@@ -76,7 +76,7 @@ impl<T: Elem, S: FarTickets> Objects<T, S> {
         memory.lend_mut(o as usize, len)
     }
 
-    /// Borrows the elements `from` to `to` of an object that may be written, mutably in place. Allocates nothing.
+    /// Mutably borrows the elements `from` to `to` of an object that may be written, in place. Allocates nothing.
     ///
     /// The object counts as written, as with `lend_mut`.
     pub fn lend_range_mut(&mut self, o: u32, from: usize, to: usize) -> &mut [T]
@@ -107,7 +107,7 @@ impl<T: Elem, S: FarTickets> Objects<T, S> {
         ensures lists { (p : ℕ) → list_of T.meaning S.content self.new p ≡ list_of T.meaning S.content self.old p }
         ensures clean { AreClean T.meaning S.content self.old → AreClean T.meaning S.content self.new }
     {
-        // The word comes last: so it is in the cache for the next borrow of the object.
+        // The word comes last, so that the next borrow of the object finds it at hand.
         self.order.touch(o);
         self.records[o as usize].version += 1;
         self.memory.mark(o as usize);
