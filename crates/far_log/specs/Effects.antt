@@ -3,7 +3,7 @@ use Rattle.std.specs.Prelude.{◌≡◌, ◌≢◌, ℕ, ◌+◌, ◌-◌, ◌<�
 use Rattle.far_pointer.specs.declared.pointer.At.{At}
 use Rattle.far_log.specs.RegionState.{Part, SegmentState, RegionState, fill_of, list_at, segment_of, part_of, target_of}
 
--- new is old, but that `now` lies at this location
+-- new is old, except that `now` lies at this location
 pub record ChangesOnly {X : Type 0} (old new : RegionState X) (at : At) (now : Option (List X)) : Type 0 where
   pub here : part_of new at ≡ now
   pub others : (q : At) → q ≢ at → part_of new q ≡ part_of old q

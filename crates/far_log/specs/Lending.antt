@@ -21,7 +21,7 @@ module _ (T : RattleType) (s : MutBor (Block T.Denot)) where
   abbrev pub lends_block : ℕ → MutBor (List T.Denot) → Fml
   lends_block from r = Lends (block.the_row T) (Array T 0) s r (with_list_from s.now from)
 
-  -- internal: the first `most` elements of it are
+  -- internal: the first `most` elements of what r leaves are
   abbrev pub lends_bounded : ℕ → ℕ → MutBor (List T.Denot) → Fml
   lends_bounded from most r = Lends (block.the_row T) (Array T 0) s r (λ ws. with_list_from s.now from (take most ws))
 

@@ -1,5 +1,5 @@
 #![tactic(auto)]
-//! The local region: parts of elements in segments, each part behind the one before it as in a log.
+//! The local region: parts of elements in segments. Each part lies behind the one before it, as in a log.
 //!
 //! A `Region` allocates all its memory for elements when it is made:
 //! - `place` puts a list behind the last part of the lowest segment that has the space.

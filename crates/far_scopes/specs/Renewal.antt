@@ -18,7 +18,7 @@ abbrev pub renewed_memory : {X : Type 0} → Memory X → Memory X
 renewed_memory memory = record memory { words = map renewed_word memory.words }
 
 module _ {K L : Type 0} where
-  -- the record of an object with another ticket, or none
+  -- the record of an object with another ticket, or without one
   abbrev pub renewed_record : ObjectRecord K → Option L → ObjectRecord L
   renewed_record object_record ticket = record { name = object_record.name; len = object_record.len; version = object_record.version; leavings = object_record.leavings; pins = object_record.pins; ticket = ticket }
 

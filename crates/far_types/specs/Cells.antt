@@ -9,7 +9,7 @@ use Rattle.far_types.specs.declared.cell.Kind.TheVariants as kind
 use Rattle.far_types.specs.declared.key.Key.{Key}
 use Rattle.far_types.specs.declared.key.Key.TheVariants as key
 
--- a cell without a value is of either kind
+-- whether a cell is of a kind: a cell without a value is of either
 abbrev pub is_of_kind : Kind → Cell → Bool
 is_of_kind kind.Int (cell.Int number) = true
 is_of_kind kind.Int (cell.Text text) = false
@@ -17,7 +17,7 @@ is_of_kind kind.Text (cell.Int number) = false
 is_of_kind kind.Text (cell.Text text) = true
 is_of_kind k cell.Missing = true
 
--- a text cell has at most 4,096 bytes
+-- whether a cell is a text of more than 4,096 bytes, which no cell may have
 abbrev pub is_too_long : Cell → Bool
 is_too_long (cell.Int number) = false
 is_too_long (cell.Text text) = nat_lt 4096 (length text)

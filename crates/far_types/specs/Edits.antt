@@ -14,7 +14,7 @@ use Rattle.far_types.specs.Bounds.{is_text}
 use Rattle.far_types.specs.FormLengths.{texts_length}
 use Rattle.far_types.specs.Table.{Place, Table, column, in_group}
 
--- the kinds are compared at the columns that both the schema and the row have
+-- whether the cells of a row have their columns' kinds: they are compared at the columns that both the schema and the row have
 abbrev pub kinds_fit : List Kind → List Cell → Bool
 kinds_fit schema row = list_all (λ (at : Kind × Cell). is_of_kind at.0 at.1) (zip schema row)
 

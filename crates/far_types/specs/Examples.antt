@@ -1,4 +1,4 @@
--- Worked examples: what aggregates answer over a few rows. Each is computed, so a wrong definition fails.
+-- Worked examples: the answers of aggregates over a few rows. Each is computed, so a wrong definition fails.
 use Rattle.std.specs.Prelude.{◌≡◌, ℕ, ℤ, pos, negsuc, List, [], ◌∷◌, Option, None, Some, codes}
 use Rattle.far_types.specs.declared.cell.Cell.{Cell}
 use Rattle.far_types.specs.declared.cell.Cell.TheVariants as cell

@@ -46,7 +46,7 @@ place_pair spec place = cond place.alive (pair_of spec (cells_of place.cells)) N
 abbrev pub column : ℕ → List Place → List Cell
 column c places = map (λ place. cell_at c place.cells) places
 
--- the places from one up to another of a column
+-- the cells of a column from one place up to another
 abbrev pub part : ℕ → ℕ → ℕ → List Place → List Cell
 part c from to places = slice_range (column c places) from to
 

@@ -53,7 +53,7 @@ impl Limits {
         }
     }
 
-    /// Whether a table may have these limits. Refused with `BadSchema` (2) exactly if one is out of its bounds.
+    /// Checks that a table may have these limits. Refused with `BadSchema` (2) exactly if one is out of its bounds.
     /// Allocates nothing.
     pub fn check(&self) -> Result<(), Refusal>
         ensures ok { OnOk result (AreLimits self.now) }
