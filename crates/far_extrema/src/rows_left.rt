@@ -1,10 +1,20 @@
-// What tells the min-max of the rows that are left under a key.
+// The min-max of the rows that are left under a key.
 ghost use Rattle.std.specs.Prelude.{◌≡◌, Option, ℤ};
 
 use super::min_maxes::MinMax;
 
-/// The rows of a row group that are left under one key once a row went. Extrema know no rows, so whoever has them at hand
-/// reads them.
+/// The rows of a row group that are left under one key once a row is removed. Extrema keep no rows, so a caller that has them reads them.
+///
+/// A pair is retracted from the extrema of a row group:
+///
+/// ```
+/// let left = Left {
+///     spec,
+///     group,
+///     key: &pair.0,
+/// };
+/// live.shrink(number, &pair.0, pair.1, &left);
+/// ```
 pub trait RowsLeft {
     /// Whether the rows can be read.
     ghost at_hand: { Self → Type 0 };
