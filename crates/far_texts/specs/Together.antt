@@ -9,7 +9,7 @@ use Rattle.far_texts.specs.Texts.{Texts, Lists, IsTextColumn, AreDisjoint, texts
 use Rattle.far_texts.specs.Columns.{AreTextColumns}
 use Rattle.far_texts.specs.Effects.{begins_group, last_object, group_with_next, pushed}
 
--- columns of one table: columns of texts that lie in these lists, of one length and one size of row groups
+-- columns of one table: they lie in these lists, and have one length and one size of row groups
 pub record AreColumns (lists : Lists) (columns : List Texts) : Type 0 where
   pub all_disjoint : AreTextColumns lists columns
   pub same_length : AllPairs (λ c d. (c.size ≡ d.size) × (c.len ≡ d.len)) columns
@@ -35,7 +35,7 @@ pub record IsNextForm (lists : Lists) (c : Texts) (text : Option (List ℕ)) : T
   pub short : length (texts_form (group_with_next lists c text)) ≤ c.limit
   pub some : 0 < length (texts_form (group_with_next lists c text))
 
--- so does that of each column
+-- each column's form is such a next form
 abbrev pub AreNextForms : Lists → List Texts → List (Option (List ℕ)) → Type 0
 AreNextForms lists columns texts = (k : ℕ) (c : Texts) (text : Option (List ℕ)) → slice_get columns k ≡ Some c → slice_get texts k ≡ Some text → IsNextForm lists c text
 
