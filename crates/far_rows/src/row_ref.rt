@@ -15,7 +15,11 @@ use std::marker::Model;
 /// see the list of the cells.
 ///
 /// ```
-/// let cells = view.row_ref(place)?;
+/// let rows = self.table.rows();
+/// if place as usize >= rows.len() {
+///     return Err(Refusal::NoRow);
+/// }
+/// rows.row_ref(place as usize)
 /// ```
 #[derive(Drop)]
 pub struct RowRef<'a, S: FarTickets> {
