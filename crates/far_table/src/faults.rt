@@ -50,7 +50,7 @@ fn has_too_long(row: &Row) -> bool
     row.as_slice().iter().any(|cell| is_too_long(cell))
 }
 
-/// Checks a new row behind `count` places. Refused with the first of these that applies: `WrongKind` (5), `RowWidth` (6),
+/// Checks a new row behind `len` places. Refused with the first of these that applies: `WrongKind` (5), `RowWidth` (6),
 /// `TextTooLong` (7), `TableFull` (10).
 pub(crate) fn row_faults(
     schema: &Schema,

@@ -19,11 +19,11 @@ use std::marker::Model;
 /// objects is AIFM's offloading (OSDI 2020, section 4.4). There the fold runs beside the far data.
 ///
 /// ```
-/// {
-///     let build = self.table.begin_offload(store, a, group)?;
-///     Ok(Job {
-///         name: None,
-///         work: Work::Offload(build),
+/// let build = self.table.begin_offload(store, a, group)?;
+/// Ok(Job {
+///     name: None,
+///     work: Work::Offload(build),
+/// })
 /// ```
 #[derive(Drop)]
 pub struct OffloadBuild<S: FarTickets> {
@@ -50,6 +50,10 @@ impl<S: FarTickets> Model for OffloadBuild<S> {
 ///     Work::Offloaded(carried) => self.table.merge(store, carried),
 ///     Work::Offload(_) => Err(Refusal::StaleJob),
 ///     Work::Evac(_) => Err(Refusal::StaleJob),
+///     Work::Carried(_) => Err(Refusal::StaleJob),
+///     Work::Fetch(_) => Err(Refusal::StaleJob),
+///     Work::Fetched(_) => Err(Refusal::StaleJob),
+/// }
 /// ```
 #[derive(Drop)]
 pub struct OffloadCarried<S: FarTickets> {
