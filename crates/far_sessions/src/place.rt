@@ -10,7 +10,17 @@ use far_history::{Naming, Pass, Reading};
 use std::marker::{Model, PhantomData};
 use std::sync::Wait;
 
-/// A session at stripe I. Contracts see its number, the history that it has seen and its own entries in it.
+/// A session at stripe I. Contracts see its number, the history that it has seen, and its own entries in it.
+///
+/// ```
+/// match stripe {
+///     0 => Ok(self.zero().gauge(rt, &mut me.zero)),
+///     1 => Ok(self.one().gauge(rt, &mut me.one)),
+///     2 => Ok(self.two().gauge(rt, &mut me.two)),
+///     3 => Ok(self.three().gauge(rt, &mut me.three)),
+///     _ => Err(Refusal::OutOfRange),
+/// }
+/// ```
 #[derive(Drop)]
 pub struct Place<B: Rooms, const I: usize> {
     pub(crate) pass: Pass,
@@ -63,7 +73,7 @@ impl<B: Rooms> Model for Session<B> {
 }
 
 impl<B: Rooms> Session<B> {
-    /// The session's number, counted from 0.
+    /// Returns the session's number, counted from 0.
     pub fn number(&self) -> u64
         ensures { (k : ℕ) → (at self.now k).by ≡ result }
     {
@@ -72,7 +82,7 @@ impl<B: Rooms> Session<B> {
 }
 
 impl<N: Naming, B: Rooms, const I: usize> Counter<N, B, I> {
-    /// What the history so far leaves. Takes no stripe's lock.
+    /// Returns what the gauge reads after the history so far. Takes no stripe's lock.
     pub fn gauge<R: Wait>(&self, rt: &R, me: &mut Place<B, I>) -> Reading
         ensures reading { result ≡ gauge_of N.plan me.new.seen }
         ensures seen { SeesMore N.plan me.old me.new }
