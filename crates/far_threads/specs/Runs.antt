@@ -47,8 +47,8 @@ all_of n = record { edits = n; count = n; sum = pos n }
 abbrev pub total_of : ℕ → Answer
 total_of n = answer.Totals ((None, n, pos n) ∷ [])
 
--- the history of stripe k when all sessions of a plan have ended: it is legal, each session has its inserts in it if the stripe
--- is its home, and otherwise no entry, and no one else has an entry
+-- the history of stripe k when all sessions of a plan have ended: it is legal, each session has `edits` inserts in it if the
+-- stripe is its home, and otherwise no entry, and no one else has an entry
 pub record IsHistory (p : Planned) (edits k : ℕ) (log : List Entry) : Type 0 where
   pub legal : IsLegal p log
   pub home : (s : ℕ) → s < p.sessions → s % 4 ≡ k → by_session s log ≡ inserts s edits
@@ -64,8 +64,8 @@ pub record IsOverAll (p : Planned) (edits : ℕ) (answer : Answer) : Type 0 wher
   pub histories : IsHistory p edits 0 zeroth × IsHistory p edits 1 first × IsHistory p edits 2 second × IsHistory p edits 3 third
   pub is : answer ≡ answer_over p.gauge (all_rows (replay p zeroth) (replay p first) (replay p second) (replay p third))
 
--- all sessions of a plan have ended, each with its inserts on its home stripe. Its gauge there reads just these. The answer is
--- over the rows of all sessions and no other row: it counts and sums those of each session
+-- all sessions of a plan have ended, each with `edits` inserts on its home stripe. Its gauge there reads just these. The answer
+-- is over the rows of all sessions and no other row: it counts and sums `edits` of each session
 pub record IsRun (p : Planned) (edits : ℕ) (o : Outcome) : Type 0 where
   pub gauges : o.gauges.items ≡ replicate p.sessions (all_of edits)
   pub answer : IsOverAll p edits o.answer

@@ -8,7 +8,7 @@ use far_store::{FarStore, Meter};
 use far_types::Refusal;
 use std::sync::Wait;
 
-/// Tries `count` evacuations, one stripe after the other. It skips one that is refused.
+/// Makes `tries` evacuations, one stripe after the other. It skips one that is refused.
 ///
 /// Ends with `Memory` if one runs out of memory.
 pub(crate) fn evacuate_all<N: Naming, B: Site, S: FarStore, R: Wait>(

@@ -48,7 +48,7 @@ fn insert_one<N: Naming, B: Site, S: FarStore, R: Wait>(
     Err(Stop::Turns)
 }
 
-/// Inserts rows on a stripe, and none elsewhere.
+/// Inserts `edits` rows on a stripe, and none elsewhere.
 pub(crate) fn insert_all<N: Naming, B: Site, S: FarStore, R: Wait>(
     rt: &R,
     alloc: Global,
