@@ -188,8 +188,7 @@ fn answer_alike<S: FarTickets>(
 /// Refused with the first of these that applies:
 ///
 /// - `NoAggregate` (12): one of them lacks the aggregate, or the four schemas or the four aggregates differ.
-/// - `Building` (15): row groups are pending. It says how many in all four. Their number is below 2^32, as it always is in four
-///   stripes.
+/// - `Building` (15): row groups are pending, fewer than 2^32 in all four, as always in four stripes. It says how many.
 /// - `NoMemory` (1): an allocation fails.
 pub fn answer_four<S: FarTickets>(
     alloc: Global,
