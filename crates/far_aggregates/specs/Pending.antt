@@ -47,7 +47,8 @@ pub record MayRetractAll (here : List Place) (registry : List RegistryEntry) (pe
 abbrev pub all_retracted : List Place → List RegistryEntry → Pending → List RegistryEntry
 all_retracted here registry pending = zip_all (retracted pending.group here) registry pending.to_retract.items
 
--- if these are the places after the edit of a row group, the pairs can be retracted, and then what is kept is that of these places
+-- if these are the places after the edit of a row group, the pairs can be retracted. Then the aggregates are those of these
+-- places
 pub record RetractsAll (size g : ℕ) (places : List Place) (registry : List RegistryEntry) (pending : Pending) : Type 0 where
   pub at : pending.group ≡ g
   pub may : MayRetractAll (in_group size g places) registry pending

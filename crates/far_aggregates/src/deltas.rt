@@ -150,8 +150,7 @@ fn apply_under_text(
     }
 }
 
-/// Applies the delta of a row that is alive at a place to an aggregate, and appends it to the list, which has capacity for
-/// it.
+/// Applies the delta of a row that is alive at a place to an aggregate. Appends it to the list, which has capacity for it.
 #[inline(always)]
 fn apply_next<R: LendCells>(
     keys: &mut SpareKeys,

@@ -63,8 +63,8 @@ fn next_pair<R: LendCells>(
     Ok(())
 }
 
-/// Returns the pairs that a row that is alive at a place gives to the aggregates, in a list that may have been made for an
-/// earlier edit. Texts are written into the strings of spare keys.
+/// Returns the pairs that a row that is alive at a place gives to the aggregates. The list may have been made for an earlier
+/// edit. Texts are written into the strings of spare keys.
 pub fn row_pairs<R: LendCells>(
     keys: &mut SpareKeys,
     list: Vec<Option<Pair>>,

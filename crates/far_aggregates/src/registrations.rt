@@ -108,7 +108,7 @@ pub fn put(
     Ok(())
 }
 
-/// Registers an aggregate over so many places under a number, which is free.
+/// Registers an aggregate over `places` places under a number, which is free.
 pub fn register(
     alloc: Global,
     registry: &mut Vec<Option<Aggregate>>,

@@ -1,4 +1,4 @@
-// Parts of a column of numbers, lent in place with their alive flags.
+// Parts of a column of numbers, borrowed, with their alive flags.
 ghost use Rattle.std.specs.Prelude.{◌≡◌, [], ◌∷◌, length, IfSome, IfNone};
 ghost use Rattle.std.specs.List.{flat_map};
 ghost use Rattle.far_columns.specs.Numbers.{with_flags};
@@ -31,10 +31,12 @@ pub struct Lent<'a> {
 /// empty.
 ///
 /// ```
-/// match rows.ints(column, from, to) {
-///     Ok(pieces) => Ok(pieces.len()),
-///     Err(refusal) => Err(refusal),
+/// let mut lents = view.ints(column, from, to)?;
+/// let mut copies = Vec::with_capacity(alloc, lents.len())?;
+/// while let Some(lent) = lents.next() {
+///     copies.push(copy_ints(alloc, &lent)?)?;
 /// }
+/// Ok(copies)
 /// ```
 #[derive(Drop)]
 pub struct Lents<'a, S: FarTickets> {

@@ -67,8 +67,8 @@ impl<S: FarTickets> Model for Frame<S> {
 }
 
 impl<S: FarTickets> Frame<S> {
-    /// Returns an empty table. The number tells the jobs of its objects from those of other tables. Allocates all memory for
-    /// elements.
+    /// Returns an empty table. The number distinguishes the jobs of its objects from those of other tables. Allocates all
+    /// memory for elements.
     ///
     /// Refused with the first of these that applies:
     ///

@@ -149,7 +149,7 @@ impl<S: FarStore> Job<S> {
     ///
     /// - `StaleJob` (20), before all others, exactly if the job was carried already.
     /// - `FarFault` (21): the store fails in this call, exactly if the meter rises, by one.
-    /// - `FarFull` (22), for an evacuation alone: the store gives out no more numbers.
+    /// - `FarFull` (22), for an evacuation alone: the number drawn from the store is not below its capacity.
     /// - `NoMemory` (1): an allocation fails.
     pub fn carry(
         self,

@@ -55,7 +55,7 @@ impl<S: FarStore> Model for World<S> {
 
 impl<S: FarStore> World<S> {
     /// Returns a world with this table and this store, in which no job was begun and no fault occurred. It allocates nothing,
-    /// so it is never refused. The type of the error returns the frame and the store to those who match on both outcomes.
+    /// so it is never refused. An error would return the frame and the store, for those who match on both outcomes.
     pub fn new(alloc: Global, frame: Frame<S>, store: S) -> Result<World<S>, (Refusal, Frame<S>, S)>
         requires here { AreAt S.is_of (S.store_id store) frame.rows }
         ensures made { IsOk result }

@@ -9,7 +9,7 @@ use Rattle.far_rows.specs.declared.object.Object.{Object}
 use Rattle.far_rows.specs.declared.object.Object.TheVariants as object
 use Rattle.far_rows.specs.Rows.{Rows}
 
--- the name that the coldest of some objects bears
+-- the name that the coldest of some objects has
 abbrev pub coldest_name : {X K : Type 0} → Movement X K → Option Name
 coldest_name m = option_and_then (λ o. option_map (λ object_record. object_record.name) (record_of m o)) (coldest_in m)
 

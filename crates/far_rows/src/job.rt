@@ -137,7 +137,7 @@ impl<S: FarStore> RowsEvac<S> {
     /// Refused with one of these; the job then comes back whole:
     ///
     /// - `FarFault` (21): the store fails in this call, exactly if the meter rises, by one.
-    /// - `FarFull` (22): the store gives out no more numbers.
+    /// - `FarFull` (22): the number drawn from the store is not below its capacity.
     /// - `NoMemory` (1): an allocation fails.
     pub fn carry(
         self,

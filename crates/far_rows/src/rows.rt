@@ -72,8 +72,8 @@ impl<S: FarTickets> Model for Rows<S> {
 }
 
 impl<S: FarTickets> Rows<S> {
-    /// Returns the rows of a table with this schema, without a row. The number tells the jobs of its objects from those of
-    /// other tables. Allocates all memory for elements.
+    /// Returns the rows of a table with this schema, without a row. The number distinguishes the jobs of its objects from those
+    /// of other tables. Allocates all memory for elements.
     ///
     /// Refused with `NoMemory` (1) alone.
     pub fn new(

@@ -15,8 +15,8 @@ abbrev pub only : Option Read → Option (List (List ℕ))
 only None = None
 only (Some first) = if_last first.0 (next_record default_config first.1 [] [] first.2)
 
--- the fields of a text that is exactly one record, as the format's machine reads it from its first byte, or from the
--- one after a byte order mark
+-- the fields of a text that is exactly one record. The format's machine reads it from its first byte, or from the one after a
+-- byte order mark
 abbrev pub one_record : List ℕ → Option (List (List ℕ))
 one_record text = only (next_record default_config st.StartRecord [] [] (strip_bom text))
 

@@ -13,13 +13,17 @@ use std::sync::Wait;
 /// A session at stripe I. Contracts see its number, the history that it has seen, and its own entries in it.
 ///
 /// ```
-/// match stripe {
-///     0 => Ok(self.zero().gauge(rt, &mut me.zero)),
-///     1 => Ok(self.one().gauge(rt, &mut me.one)),
-///     2 => Ok(self.two().gauge(rt, &mut me.two)),
-///     3 => Ok(self.three().gauge(rt, &mut me.three)),
-///     _ => Err(Refusal::OutOfRange),
-/// }
+/// let Session {
+///     number: _,
+///     zero,
+///     one,
+///     two,
+///     three,
+/// } = session;
+/// keepers.zero.take_in(rt, cells.zero(), zero);
+/// keepers.one.take_in(rt, cells.one(), one);
+/// keepers.two.take_in(rt, cells.two(), two);
+/// keepers.three.take_in(rt, cells.three(), three);
 /// ```
 #[derive(Drop)]
 pub struct Place<B: Rooms, const I: usize> {

@@ -34,7 +34,7 @@ AskRefusal a zero one two three given = ((given ≡ refusal.NoAggregate) × ¬ (
     ⊎ (AreAlike a zero one two three × LeftRefusal (pending_in_all a zero one two three) given)
 
 -- the answer of four tables that legal histories leave, under a number: all of them have the same aggregate there with nothing
--- pending, and the answer is over the rows of the four, one table after the other; or it is refused as for these four
+-- pending. The answer is over the rows of the four, one table after the other. Or it is refused as for these four
 pub record IsAsked (p : Planned) (a : ℕ) (result : Result Answer Refusal) : Type 0 where
   pub zero : Table
   pub one : Table

@@ -72,7 +72,7 @@ impl<N: Naming, B: Site, S: FarStore> Shared<N, B, S> {
     ///
     /// - `NoMemory` (1): an allocation fails.
     /// - `FarFault` (21): the store failed, exactly if the meter rises, by one.
-    /// - `FarFull` (22): the store gives out no more numbers.
+    /// - `FarFull` (22): the number drawn from the store is not below its capacity.
     /// - `StaleJob` (20): the object was written or away meanwhile.
     /// - `Pinned` (19): the object has a pin.
     pub fn evacuate_once<R: Wait>(

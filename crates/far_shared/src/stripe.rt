@@ -53,8 +53,8 @@ pub struct Applied {
 
 /// A table and what keeps its history. It lies under the lock of stripe I.
 ///
-/// Contracts see the history and the table's state. The table is the replay of the history, the gauge is its aggregate 0, its
-/// objects have the number I, and all its tickets are of the store.
+/// Contracts see the history and the table's state. The table is the replay of the history, and the gauge is its aggregate 0.
+/// Its objects have the number I, and all its tickets are of the store.
 ///
 /// ```
 /// lock.write(rt).apply(rt, counter, me, edit)

@@ -58,7 +58,7 @@ impl<S: FarTickets> Model for LiveTable<S> {
 }
 
 impl<S: FarTickets> LiveTable<S> {
-    /// Returns an empty table. The number tells the jobs of its objects from those of other tables.
+    /// Returns an empty table. The number distinguishes the jobs of its objects from those of other tables.
     ///
     /// Refused with the first of these that applies:
     ///

@@ -50,7 +50,7 @@ all_texts_with lists [] texts = []
 all_texts_with lists (c ∷ columns) [] = []
 all_texts_with lists (c ∷ columns) (text ∷ texts) = (texts_in lists c ++ text ∷ []) ∷ all_texts_with lists columns texts
 
--- each of these objects gets the list beside it, and no other list changes
+-- each of these objects gets the list paired with it, and no other list changes
 pub record ChangesTo (old new : Lists) (forms : List (ℕ × List ℕ)) : Type 0 where
   pub here : All (λ form. new form.0 ≡ Some form.1) forms
   pub others : (p : ℕ) → All (λ form. p ≢ form.0) forms → new p ≡ old p
@@ -65,7 +65,7 @@ abbrev pub given_forms : List (Replacement ℕ) → List (ℕ × List ℕ)
 given_forms lists = map (λ r. (r.object, r.list.items)) lists
 
 module _ {K : Type 0} where
-  -- the objects once one is made for each column, of the form beside it
+  -- the objects once one is made for each column, of the form paired with it
   abbrev pub after_create_all : Movement ℕ K → List Texts → List (ℕ × List ℕ) → Movement ℕ K
   after_create_all m [] forms = m
   after_create_all m (c ∷ columns) [] = m

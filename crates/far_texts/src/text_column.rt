@@ -16,8 +16,8 @@ use std::alloc::Global;
 use std::marker::Model;
 pub use together::{fill_texts, may_push_texts, push_texts};
 
-/// A column of texts, each of which may be missing. The texts of a row group lie together as one far form, which is the list of
-/// one object of the `Objects<u8, S>` that each call names.
+/// A column of texts, each of which may be missing. The texts of a row group lie together as one far form. That form is the
+/// list of one object of the `Objects<u8, S>` that each call names.
 ///
 /// Contracts see the column as the record of its fields, and its texts by the lists of its objects.
 ///

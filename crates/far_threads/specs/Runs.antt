@@ -47,8 +47,8 @@ all_of n = record { edits = n; count = n; sum = pos n }
 abbrev pub total_of : ℕ → Answer
 total_of n = answer.Totals ((None, n, pos n) ∷ [])
 
--- the history of stripe k when all sessions of a plan have ended: it is legal, each session has `edits` inserts in it if the
--- stripe is its home, and otherwise no entry, and no one else has an entry
+-- the history of stripe k when all sessions of a plan have ended: it is legal. Each session has `edits` inserts in it if the
+-- stripe is its home, and otherwise no entry. No one else has an entry
 pub record IsHistory (p : Planned) (edits k : ℕ) (log : List Entry) : Type 0 where
   pub legal : IsLegal p log
   pub home : (s : ℕ) → s < p.sessions → s % 4 ≡ k → by_session s log ≡ inserts s edits

@@ -11,7 +11,7 @@ use Rattle.far_threads.specs.declared.outcome.Outcome.{Outcome}
 use Rattle.far_threads.specs.declared.outcome.Stop.{Stop}
 use Rattle.far_threads.specs.Runs.{inserts, sum_of_rows}
 
--- a plan for few enough sessions that each has a home stripe of its own, with the count and the sum of its rows as gauge
+-- a plan for few enough sessions that each has a home stripe of its own. The gauge is the count and the sum of its rows
 pub record HasHomes (p : Planned) : Type 0 where
   pub few : p.sessions ≤ 4
   pub gauge : p.gauge ≡ sum_of_rows

@@ -60,7 +60,7 @@ module _ {X : Type 0} where
       pub whole : All (λ o. IsSomeAnd (lists o) (λ list. length list ≡ v.size)) v.objects
       pub unused : drop v.len (places v.objects) ≡ replicate (length v.objects * v.size - v.len) v.default_value
 
-  -- a range is written over the places of a vector from the i-th on, and every object's list is as long as it was
+  -- a range is written over the places of a vector from the i-th on, and every object's list keeps its length
   pub record WritesPlaces (old new : ℕ → Option (List X)) (v : Vector X) (i : ℕ) (range : List X) : Type 0 where
     pub whole : All (λ o. IsSomeAnd (new o) (λ list. length list ≡ v.size)) v.objects
     pub places : places new v.objects ≡ take i (places old v.objects) ++ (range ++ drop (i + length range) (places old v.objects))

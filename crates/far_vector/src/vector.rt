@@ -30,12 +30,10 @@ struct Position {
 /// and the row groups name the objects.
 ///
 /// ```
-/// Call::MayWritePart(from, to) => vector.may_write_part(objects, *from, *to),
-/// Call::Get(i, x) => finds(vector.get(objects, *i), *x),
-/// Call::Part(from, to, part) => finds(vector.part(objects, *from, *to), part),
-/// Call::Pieces(from, to, lens) => find_pieces(vector, objects, *from, *to, lens),
-/// Call::Len(len) => found(vector.len() == *len),
-/// Call::Object(group, object) => found(vector.object(*group) == *object),
+/// match vector.push(objects, x) {
+///     Err(Refusal::NoMemory) => vector.push(objects, x),
+///     reply => reply,
+/// }
 /// ```
 #[derive(Drop)]
 pub struct FarVector<T: Elem> {
@@ -152,7 +150,7 @@ impl<T: Elem> FarVector<T> {
         self.position_in(objects, self.objects.len() - 1, self.len)
     }
 
-    // Returns the position of a place of a row group. For the proof: the contract of `number` tells that its object is in use.
+    // Returns the position of a place of a row group. For the proof: by the contract of `number`, its object is in use.
     #[inline(always)]
     fn position_in<S: FarTickets>(
         &self,

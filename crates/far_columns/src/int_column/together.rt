@@ -25,7 +25,7 @@ use groups::{begin_groups, unbegin_groups};
 ///
 /// If row groups begin, refused with:
 ///
-/// - `RegionFull` (17) exactly if the new objects do not fit, placed one after the other beside all that is there.
+/// - `RegionFull` (17) exactly if the new objects, placed one after the other, do not fit into the free space.
 ///
 /// Otherwise refused with the first of these that applies:
 ///
@@ -52,7 +52,7 @@ pub fn may_push_numbers<S: FarTickets>(
 ///
 /// If row groups begin, refused with one of these:
 ///
-/// - `RegionFull` (17): the new objects do not fit, placed one after the other beside all that is there.
+/// - `RegionFull` (17): the new objects, placed one after the other, do not fit into the free space.
 /// - `NoMemory` (1): an allocation fails, which may come before it is known that 17 applies.
 ///
 /// Otherwise it allocates nothing, and is refused with the first of these that applies:

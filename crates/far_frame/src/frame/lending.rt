@@ -102,8 +102,8 @@ impl<S: FarTickets> Frame<S> {
         Ok(())
     }
 
-    /// Returns the row groups of a column to fetch next. If the last three differences of the row groups in its history are
-    /// equal and not 0, those are the next two of that stride that exist. Otherwise there are none.
+    /// Returns the row groups of a column to fetch next. If the last three differences in its history are equal and not 0,
+    /// those are the next two of that stride that exist. Otherwise there are none.
     ///
     /// Refused with the first of these that applies:
     ///

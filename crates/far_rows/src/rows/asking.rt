@@ -44,7 +44,7 @@ impl<S: FarTickets> Rows<S> {
     /// - `Absent` (16): the row group of the next place is begun, and some object of it is away. It names the first in the
     ///   order of the columns.
     /// - `ChunkFull` (11): the form of some column's texts would be longer than one may be.
-    /// - `RegionFull` (17): new forms, or new objects of numbers, do not fit beside all that is there.
+    /// - `RegionFull` (17): new forms, or new objects of numbers, do not fit into the free space.
     /// - `EditsUsedUp` (24): the row group is begun, and some object of it was written as often as objects may be.
     pub fn may_push(&self, row: &NewRow) -> Result<(), Refusal>
         requires numbers { length row.now.numbers ≡ length self.now.numbers }

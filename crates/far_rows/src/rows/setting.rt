@@ -32,7 +32,7 @@ impl<S: FarTickets> Rows<S> {
     ///
     /// - `Absent` (16): some object of the place's row group is away. It names the first in the order of the columns.
     /// - `ChunkFull` (11): it is a text whose form would be longer than one may be.
-    /// - `RegionFull` (17): it is a text whose form does not fit beside the old one.
+    /// - `RegionFull` (17): it is a text whose form does not fit while the old one is kept.
     /// - `EditsUsedUp` (24): the object was written as often as objects may be.
     pub fn may_set(&self, column: usize, place: usize, value: &NewCell) -> Result<(), Refusal>
         requires place { place < length self.now.alive }

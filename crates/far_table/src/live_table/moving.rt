@@ -148,8 +148,8 @@ impl<S: FarTickets> LiveTable<S> {
     }
 
     /// Returns the name of the object that goes away first. It is the coldest of the kind whose local memory has less space in
-    /// proportion to its capacity, and of numbers if both have as much. If that kind has none, it is the coldest of the other.
-    /// `None` exactly if neither kind has one. Allocates nothing.
+    /// proportion to its capacity. If both have as much, that kind is numbers. If that kind has no such object, it is the
+    /// coldest of the other. `None` exactly if neither kind has one. Allocates nothing.
     ///
     /// The object is local and has no pin.
     pub fn coldest(&self) -> Option<Name>

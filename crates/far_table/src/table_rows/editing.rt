@@ -65,7 +65,7 @@ impl<S: FarTickets> TableRows<S> {
     }
 }
 
-// For the proof: returns the value, and tells that its number is one of 64 bits.
+// For the proof: returns the value, whose number is then known to be one of 64 bits.
 fn fitting(value: &NewCell) -> &NewCell
     ensures value { result.now ≡ value.now }
     ensures fits { CellFits (cell_of value.now) }

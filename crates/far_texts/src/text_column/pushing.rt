@@ -46,8 +46,8 @@ impl TextColumn {
         Ok(())
     }
 
-    // Returns the form of the next place's row group once the place has this text, in the memory of a form that is no longer
-    // needed.
+    // Returns the form of the next place's row group once the place has this text. It is made in the memory of a form that is
+    // no longer needed.
     pub(crate) fn form_pushed<S: FarTickets>(
         &self,
         spare: Vec<u8>,

@@ -34,7 +34,7 @@ use std::alloc::Global;
 /// - `TextTooLong` (7): some text has more than 4,096 bytes.
 /// - `Absent` (16): the row groups are begun, and some column's last object is away. It names the first such.
 /// - `ChunkFull` (11): some new form would be longer than its column's may be.
-/// - `RegionFull` (17): the new forms do not fit, placed one after the other beside all that is there.
+/// - `RegionFull` (17): the new forms, placed one after the other, do not fit into the free space.
 /// - `EditsUsedUp` (24): the row groups are begun, and some last object was written as often as objects may be.
 ///
 /// `NoMemory` (1) says that an allocation failed. That may come before it is known that 17 or 24 applies. A refused call

@@ -69,8 +69,8 @@ fn all_writable<S: FarTickets>(
     Ok(())
 }
 
-// Checks that no new form is longer than it may be, that the new forms fit, and that objects with a new form may be written. It
-// finds the length of each form once.
+// Checks that no new form is longer than it may be, and that all of them fit. Checks also that objects with a new form may be
+// written. It finds the length of each form once.
 fn may_place_forms<S: FarTickets>(
     objects: &Objects<u8, S>,
     columns: &[TextColumn],
@@ -101,7 +101,7 @@ fn may_place_forms<S: FarTickets>(
 /// - `TextTooLong` (7): some text has more than 4,096 bytes.
 /// - `Absent` (16): the row groups are begun, and some column's last object is away. It names the first such.
 /// - `ChunkFull` (11): some new form would be longer than its column's may be.
-/// - `RegionFull` (17): the new forms do not fit, placed one after the other beside all that is there.
+/// - `RegionFull` (17): the new forms, placed one after the other, do not fit into the free space.
 /// - `EditsUsedUp` (24): the row groups are begun, and some last object was written as often as objects may be.
 pub fn may_push_texts<S: FarTickets>(
     objects: &Objects<u8, S>,
