@@ -33,7 +33,7 @@ registered_in (Some aggregate) = Some (record { spec = aggregate.spec; registrat
 abbrev pub registered_of : List RegistryEntry → List (Option Registered)
 registered_of registry = map registered_in registry ++ replicate (32 - length registry) None
 
--- the numbers of all places are those of 64 bits
+-- the numbers of all places fit 64 bits
 abbrev pub PlacesFit : List Place → Type 0
 PlacesFit places = AllByRecursion (λ (place : Place). RowFits place.cells) places
 

@@ -6,7 +6,7 @@ use Rattle.far_vector.specs.Vector.{Vector}
 use Rattle.far_columns.specs.NumbersTogether.{NumberColumns}
 
 module _ {K : Type 0} where
-  -- every object with a number below n has the word and the record that it had
+  -- every object with a number below n keeps its word and its record
   pub record KeepsBelow (n : ℕ) (old new : Movement (Option ℤ) K) : Type 0 where
     pub words : (p : ℕ) → p < n → slice_get new.memory.words p ≡ slice_get old.memory.words p
     pub records : (p : ℕ) → p < n → slice_get new.records p ≡ slice_get old.records p

@@ -144,8 +144,8 @@ pub fn a_stale_job_changes_nothing<S: FarTickets>()
 /// any run on it.
 ///
 /// A job that is accepted or stale at its end spends its number. No job has that number again, whatever the steps are, and
-/// every step that names it is stale. A migration spends all numbers that were given out. For spent numbers, `run` says so by
-/// itself.
+/// every step that names it is stale. A migration spends all numbers that were given out. That a spent number stays spent is a
+/// clause of `run` too.
 pub fn a_number_names_one_job<S: FarTickets, N: FarTickets>()
     ensures opened { (old : World S.Ticket) → old.jobs ≡ [] → AreNumbered old }
     ensures run { (old : World S.Ticket) → (steps : List Step) → (replies : List Reply) → (new : World S.Ticket) → AreNumbered old → IsRun S.content S.number_of old steps replies new → AreNumbered new }

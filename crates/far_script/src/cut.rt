@@ -1,4 +1,4 @@
-// A text parted at a byte.
+// A text cut at a byte.
 ghost use Rattle.std.specs.Prelude.{◌≡◌, ◌==◌, ◌<◌, length, MatchOption};
 ghost use Rattle.std.specs.List.{position_or_len, before_first, after_first};
 

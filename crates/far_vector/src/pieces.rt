@@ -1,4 +1,4 @@
-// Parts of a vector, lent by several objects.
+// Parts of a vector, borrowed from several objects.
 ghost use Rattle.std.specs.Prelude.{◌≡◌, [], ◌∷◌, length, None, IfSome, IfNone};
 ghost use Rattle.far_scopes.specs.Movement.{list_of};
 ghost use Rattle.far_vector.specs.Vector.{IsVector, elements};
@@ -52,7 +52,7 @@ impl<'a, T: Elem, S: FarTickets> Model for Pieces<'a, T, S> {
 }
 
 impl<'a, T: Elem, S: FarTickets> Pieces<'a, T, S> {
-    // The pieces of a part that may be lent.
+    // Returns the pieces of a part that may be lent.
     pub(crate) fn new(
         vector: &'a FarVector<T>,
         objects: &'a Objects<T, S>,
