@@ -5,7 +5,7 @@ use Rattle.std.specs.FinMap as fin
 use Rattle.far_types.specs.Answers.{Extrema}
 use Rattle.far_extrema.specs.Live.{group_at}
 
--- what is noted of a row group is its min-max
+-- what is noted of a row group is its min-max under no key
 abbrev pub AreKnown : List (Option (ℤ × ℤ)) → List Extrema → Type 0
 AreKnown plain groups = (g : ℕ) (min_max : ℤ × ℤ) → slice_get plain g ≡ Some (Some min_max) → fin.get (group_at groups g) None ≡ Some min_max
 

@@ -12,7 +12,7 @@ use Rattle.far_offload.specs.Columns.{cell_of}
 abbrev pub IsOfPlaces : List Place → ℕ × List Cell → Type 0
 IsOfPlaces here column = (i : ℕ) (place : Place) → slice_get here i ≡ Some place → Some (cell_of i column) ≡ cells_of place.cells column.0
 
--- the column of a number; if none is asked for, one that has another's number
+-- the column of a number; if no number is asked for, a column with the number `other`
 abbrev pub IsLent : List Place → ℕ → Option ℕ → ℕ × List Cell → Type 0
 IsLent here other None column = column.0 ≡ other
 IsLent here other (Some number) column = (column.0 ≡ number) × IsOfPlaces here column

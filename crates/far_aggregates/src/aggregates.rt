@@ -32,7 +32,7 @@ use std::mem;
 /// The aggregates of a table, under their numbers: at most 32. An edit of the rows has three parts:
 ///
 /// 1. The deltas of the new row are applied, which may be refused.
-/// 2. The rows are changed, which may be refused too. Then the deltas are undone.
+/// 2. The rows are changed, which may be refused too. If they refuse, the deltas are undone.
 /// 3. The pairs of the old row are retracted, which cannot fail.
 ///
 /// Contracts see the registry entry of each number that was ever used.

@@ -10,8 +10,8 @@ use far_types::{Answer, Key, Refusal};
 use std::alloc::Global;
 use std::marker::Model;
 
-/// Live extrema. An aggregate without key column notes, for the first row groups, the min-max under no key. So that needs no
-/// look-up. Contracts see what they see of the live extrema.
+/// Live extrema. For an aggregate without key column they note, for the first row groups, the min-max under no key. So it needs
+/// no look-up. Contracts see what they see of the live extrema.
 #[derive(Drop)]
 pub struct KnownExtrema {
     live: LiveExtrema,

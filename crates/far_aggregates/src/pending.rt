@@ -6,8 +6,8 @@ use super::pairs::Pair;
 use super::spare_keys::SpareKeys;
 use std::alloc::Global;
 
-/// The deltas that an edit applied, and the pairs to retract once the rows are changed. If the rows refuse the edit,
-/// `Aggregates::undo` takes it. If they changed, `Aggregates::retract` does.
+/// The deltas that an edit applied, and the pairs to retract once the rows are changed. If the rows refuse the edit, give this
+/// to `Aggregates::undo`. If they changed, give it to `Aggregates::retract`.
 ///
 /// ```
 /// if !aggregates.needs_rows(&pending) {
@@ -31,7 +31,7 @@ impl Pending {
         self.group
     }
 
-    /// Returns what no edit has begun. Allocates nothing.
+    /// Returns a `Pending` without a delta and without a pair. Allocates nothing.
     pub(crate) fn nothing(alloc: Global) -> Pending
         ensures applied { result.applied.items ≡ [] }
     {

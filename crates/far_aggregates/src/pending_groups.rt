@@ -24,7 +24,7 @@ impl Model for PendingGroups {
 impl PendingGroups {
     ghost use Rattle.far_types.specs.Table.{is_pending};
 
-    /// Returns the flags of which the first `groups` row groups are pending.
+    /// Returns the flags of row groups: the first `groups` are pending.
     pub fn all(alloc: Global, groups: usize) -> Result<PendingGroups, AllocError>
         requires { groups < 2 ^ 32 }
         ensures { IfOk result (λ pending. pending ≡ replicate groups true) }

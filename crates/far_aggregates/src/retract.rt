@@ -20,7 +20,7 @@ use far_offload::min_max_under;
 use far_types::{Key, Spec};
 
 /// Returns the least and the greatest value of the rows of a row group that belong to a key, if there is one. Many aggregates
-/// have no tests: no columns are lent for those.
+/// have no tests: for them no columns of tests are lent.
 #[inline(always)]
 fn min_max_left<G: LendGroup>(spec: &Spec, group: &G, key: &Option<Key>) -> Option<MinMax>
     requires { IsServed (G.has group.now) spec.now }

@@ -76,7 +76,8 @@ fn emptied(spare: Vec<u8>, size: usize) -> Result<Vec<u8>, Refusal>
     Ok(list)
 }
 
-/// Makes the far form of the texts once text `i` is this one, which has `size` bytes. Reuses the memory of a list that is needed no more.
+/// Makes the far form of the texts once text `i` is this one. The form has `size` bytes. Reuses the memory of a list that is needed no
+/// more.
 fn form_around(
     spare: Vec<u8>,
     parts: TextParts<'_>,

@@ -14,7 +14,7 @@ use std::marker::Model;
 
 /// The numbers of a far form, read in place. Contracts see their list.
 ///
-/// The cell of a place:
+/// The cell of a place in a column of numbers, as an arm of the match over the column's values:
 ///
 /// ```
 /// ColumnValues::Ints(numbers) => match numbers.get(place) {
@@ -64,7 +64,7 @@ impl<'a> LentInts<'a> {
 
 /// The texts of a far form, read in place. Contracts see the list of the lists of their bytes.
 ///
-/// The cell of a place:
+/// The cell of a place in a column of texts, as an arm of the match over the column's values:
 ///
 /// ```
 /// ColumnValues::Texts(texts) => match texts.get(place) {

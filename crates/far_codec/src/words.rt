@@ -65,7 +65,7 @@ fn write_words<T: Word>(words: &mut [[u8; 8]], block: &[T])
     }
 }
 
-/// Appends the words of a list. Writes them in blocks, which a compiler makes wide moves of.
+/// Appends the words of a list. Writes them in blocks, so that a compiler makes wide moves of them.
 pub(crate) fn push_words<T: Word>(form: &mut Vec<u8>, list: &[T]) -> Result<(), AllocError>
     ensures written { OnOk result (form.new.items ≡ form.old.items ++ flat_map T.written list.now) }
     ensures range { OnOk result (AllByRecursion T.in_range list.now) }

@@ -8,13 +8,13 @@ use std::marker::Model;
 /// The alive flags of a table's places, by place. Contracts see their list.
 ///
 /// ```
-/// match alive.get_mut(k) {
-///     Some(alive) if place < alive.len() => {
-///         alive.clear(place);
-///         Ok(())
-///     }
-///     _ => Err(Refusal::NoRow),
+/// let mut alive = Alive::new(alloc);
+/// for _ in 0..count {
+///     let Ok(()) = alive.push() else {
+///         return None;
+///     };
 /// }
+/// Some(alive)
 /// ```
 #[derive(Drop)]
 pub struct Alive {

@@ -196,8 +196,8 @@ impl IntColumn {
         self.vector.set(objects, place, number)
     }
 
-    /// Writes the number of a place that may be written, as `set` does, if the caller knows its row group. It repeats no check,
-    /// and divides no place. Allocates nothing.
+    /// Writes the number of a place that may be written, as `set` does. The caller passes its row group, so it repeats no check
+    /// and no division. Allocates nothing.
     pub fn set_in_group<S: FarTickets>(
         &self,
         objects: &mut Objects<Option<i64>, S>,
@@ -255,7 +255,7 @@ impl IntColumn {
         ensures same_length { IfOk result (λ lents. All (λ lent. length lent.1 ≡ length lent.0) lents) }
         ensures refused { refusal_in result ≡ pieces_refusal objects.now self.now from to }
     {
-        // For the proof: that there are as many numbers as it returns.
+        // For the proof: how many numbers there are.
         let _len = self.vector.len();
         let pieces = self.vector.pieces(objects, from, to)?;
         Ok(Lents::new(pieces, alive.flags(from, to)))
@@ -275,7 +275,7 @@ impl IntColumn {
         self.vector.begins_group()
     }
 
-    // Checks that the object of the next place is local, if its row group is begun.
+    // Checks that the object of the next place is local. Its row group must be begun.
     fn next_is_here<S: FarTickets>(&self, objects: &Objects<Option<i64>, S>) -> Result<(), Refusal>
         requires is { IsVector (number_lists S.content objects.now) self.now }
         requires begun { is_full self.now ≡ false }

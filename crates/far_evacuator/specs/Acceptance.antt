@@ -41,8 +41,8 @@ module _ {X K : Type 0} (number_of : K → ℕ) where
       pub ticket : IsUnder m fetched.job.object fetched.job.ticket
       pub form : IsFarForm spelled m fetched.job.object fetched.bytes
 
--- what the end of a job on object o leaves as it was: every list, and the word and the record of every other object. Clean objects stay
--- clean, and tickets stay those of the store with this id
+-- what the end of a job on object o leaves as it was: every list, and the word and the record of every other object. If the list of each
+-- clean object was what its ticket means, it still is. Each ticket is of the store with this id
 pub record LeavesRest {X K : Type 0} (meaning : List ℕ → List X) (content : K → List ℕ) (is_of : K → List ℕ → Type 0) (id : List ℕ) (old new : Movement X K) (o : ℕ) : Type 0 where
   pub lists : (p : ℕ) → list_of meaning content new p ≡ list_of meaning content old p
   pub others : ChangesObject old new o

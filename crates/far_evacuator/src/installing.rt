@@ -55,8 +55,8 @@ pub fn install<T: Elem, S: FarTickets>(
 // Decodes the list of `len` elements whose far form these bytes are. Refused with `StaleJob` (20) if they are the form of none, else with
 // `NoMemory` (1) alone.
 //
-// The content of an object's ticket is its form, so `install` meets no other bytes. A store whose contents change would break that. Its
-// bytes are refused here, whatever they are.
+// The content of an object's ticket is its form, so `install` meets no other bytes. A store whose contents change would break that. So this
+// requires nothing of the bytes, and refuses those that are no such form.
 fn read_form<T: Elem>(alloc: Global, bytes: &[u8], len: usize) -> Result<Vec<T>, Refusal>
     ensures list { IfOk result (λ list. (length list.items ≡ len) × IsSpelled T.in_range T.has_spelling T.spelling list.items bytes.now) }
     ensures only { (list : List T) → length list ≡ len → IsSpelled T.in_range T.has_spelling T.spelling list bytes.now → IfOk result (λ found. found.items ≡ list) }

@@ -27,7 +27,7 @@ impl Model for Holder {
 }
 
 impl Holder {
-    /// Makes a key of one row group, without memory for another. Allocates nothing.
+    /// Makes a holder of one row group, without memory for another. Allocates nothing.
     pub fn new(group: u32, min_max: MinMax) -> Holder
         ensures min_maxes { result.min_maxes ≡ (group, min_max) ∷ [] }
         ensures reserved { result.reserved ≡ false }
@@ -38,7 +38,7 @@ impl Holder {
         }
     }
 
-    /// Makes a key without a row group, with memory for one. Allocates nothing.
+    /// Makes a holder without a row group, with memory for one. Allocates nothing.
     pub fn with_spare(spare: Spare) -> Holder
         ensures min_maxes { result.min_maxes ≡ [] }
         ensures reserved { result.reserved ≡ true }

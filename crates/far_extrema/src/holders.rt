@@ -164,7 +164,7 @@ fn fill_in(holders: &mut Holders, group: u32, key: &Option<Key>, min_max: MinMax
     }
 }
 
-/// Sets the min-maxes of a row group in which no key occurs yet. Each of their keys is reserved. Allocates nothing.
+/// Sets the min-maxes of a row group in which no key occurs yet. Each of their keys must be reserved. Allocates nothing.
 pub fn fill_all(holders: &mut Holders, group: u32, min_maxes: &MinMaxes)
     requires reserved { IsReservedFor (extrema_of min_maxes.now.entries) (holders_of holders.old.entries) }
     requires new { (q : Option Key) → min_max_at (holders_of holders.old.entries) group q ≡ None }

@@ -15,8 +15,8 @@ use std::alloc::Global;
 use std::collections::BTreeMap;
 use std::marker::Model;
 
-/// The least and the greatest value under each key, kept up to date row group by row group. Also how many row groups are pending: not yet
-/// scanned.
+/// The least and the greatest value under each key, kept up to date row group by row group. It also counts the row groups that are pending:
+/// not yet scanned.
 ///
 /// Each key has a tournament of the row groups in which it occurs. So a changed min-max costs a look-up by key, and a few steps for each
 /// doubling of the row groups. The cost of an answer does not depend on the row groups.

@@ -54,7 +54,7 @@ fn widen(min_maxes: &mut MinMaxes, key: &Option<Key>, more: MinMax) -> bool
     }
 }
 
-/// Joins a min-max to that under a key. Drops the key if it is there already.
+/// Joins a min-max to that under a key. If the key is there already, drops the given one.
 pub fn observe(min_maxes: &mut MinMaxes, key: Option<Key>, more: MinMax) -> Result<(), Refusal>
     ensures ok { OnOk result (extrema_of min_maxes.new.entries ≡ with_min_max (extrema_of min_maxes.old.entries) key more) }
     ensures err { OnErr result (min_maxes.new.entries ≡ min_maxes.old.entries) }

@@ -5,15 +5,18 @@ use super::min_maxes::MinMax;
 
 /// The rows of a row group that are left under one key once a row is removed. Extrema keep no rows, so a caller that has them reads them.
 ///
-/// A pair is retracted from the extrema of a row group:
+/// The rows left under a key, if their min-max is known already:
 ///
 /// ```
-/// let left = Left {
-///     spec,
-///     group,
-///     key: &pair.0,
-/// };
-/// live.shrink(number, &pair.0, pair.1, &left);
+/// impl RowsLeft for Left {
+///     ghost at_hand = { λ left. Unit {0} };
+///
+///     ghost extremes = { λ left. left.0 };
+///
+///     fn min_max(&self) -> Option<MinMax> {
+///         self.0
+///     }
+/// }
 /// ```
 pub trait RowsLeft {
     /// Whether the rows can be read.

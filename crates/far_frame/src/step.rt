@@ -87,12 +87,16 @@ pub enum Step {
 /// The reply to a step: there is one for each.
 ///
 /// ```
-/// for (at, (_, due)) in calls.iter().enumerate() {
-///     match replies.get(at) {
-///         Some(Reply::Refused(Refusal::NoMemory)) => return Err(Refusal::NoMemory),
-///         Some(reply) if is_reply(reply, *due, size) => {}
-///         _ => return Ok(Some(at)),
-///     }
+/// match reply {
+///     Reply::Place(place) => numbered(page, "place", u64::from(*place)),
+///     Reply::Done => page.text(done),
+///     Reply::Aggregate(aggregate) => numbered(page, "aggregate", u64::from(*aggregate)),
+///     Reply::Answer(found) => answer(page, found),
+///     Reply::Ints(copies) => ints(page, copies.as_slice()),
+///     Reply::Texts(copies) => texts(page, copies.as_slice()),
+///     Reply::Job(job) => numbered(page, "job", *job),
+///     Reply::Next(groups) => next(page, groups.as_slice()),
+///     Reply::Refused(refusal) => refused(page, refusal),
 /// }
 /// ```
 #[derive(Drop, Debug)]

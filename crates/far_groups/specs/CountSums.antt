@@ -30,7 +30,7 @@ abbrev pub LeavesCountSum : ℕ × ℤ → Option (ℕ × ℤ) → Type 0
 LeavesCountSum less None = ⊥
 LeavesCountSum less (Some count_sum) = (less.0 ≤ count_sum.0) × IsSumOf (count_sum.0 - less.0) (count_sum.1 -ℤ less.1)
 
--- totals with a count and a sum less under a key that has this count and this sum. A key whose count is then 0 goes
+-- totals with a count and a sum subtracted from those that the key has. A key whose count is then 0 goes
 abbrev pub without_less : Totals → Option Key → ℕ × ℤ → Option (ℕ × ℤ) → Totals
 without_less totals key less None = totals
 without_less totals key less (Some count_sum) = cond (count_sum.0 == less.0) (fin.remove totals key) (fin.insert totals key (count_sum.0 - less.0, count_sum.1 -ℤ less.1))
@@ -52,6 +52,6 @@ without_all totals (entry ∷ entries) = without_all (without_count_sum totals e
 abbrev pub IsAddend : ℕ × ℤ → Type 0
 IsAddend count_sum = (count_sum.0 ≤ 2 ^ 26) × IsSumOf count_sum.0 count_sum.1
 
--- two maps may be added under a key, if they have something there
+-- what two maps have under a key, if they have something there, can be added
 abbrev pub AreAddends : Option (ℕ × ℤ) → Option (ℕ × ℤ) → Type 0
 AreAddends one other = IfSome one IsAddend × IfSome other IsAddend

@@ -43,7 +43,7 @@ pub struct ByKey {
     form: Form,
 }
 
-/// Makes counts and sums without a key. Allocates nothing.
+/// Makes empty counts and sums: no key has any. Allocates nothing.
 pub fn nothing(alloc: Global) -> ByKey
     ensures empty { totals_in result ≡ fin.empty }
 {
@@ -189,7 +189,7 @@ fn place_for(dense: &Dense, key: &Option<Key>) -> Option<usize>
     }
 }
 
-/// Adds a count and a sum under a key. Drops the key if it is there already.
+/// Adds a count and a sum under a key. If the key is there already, drops the given one.
 pub fn add(by_key: &mut ByKey, key: Option<Key>, more: CountSum) -> Result<(), Refusal>
     requires valid_sums { AreCountSums (totals_in by_key.old) }
     requires more_valid_sums { IsCountSum more }

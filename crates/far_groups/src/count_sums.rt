@@ -68,7 +68,7 @@ pub fn add_existing(count_sums: &mut CountSums, key: &Option<Key>, more: CountSu
     }
 }
 
-/// Adds a count and a sum under a key. Drops the key if it is there already.
+/// Adds a count and a sum under a key. If the key is there already, drops the given one.
 pub fn add(count_sums: &mut CountSums, key: Option<Key>, more: CountSum) -> Result<(), Refusal>
     requires valid_sums { AreCountSums (totals_of count_sums.old.entries) }
     requires more_valid_sums { IsCountSum more }

@@ -8,8 +8,8 @@ use far_types::{Answer, Key, Refusal, TotalLines};
 use std::alloc::Global;
 use std::marker::Model;
 
-/// The count and the sum of the rows under each key, kept up to date row by row. Also how many row groups are still pending. Without a key
-/// column all rows have the key `None`. A sum is exact: at most 2^26 numbers of 64 bits have one key.
+/// The count and the sum of the rows under each key, kept up to date row by row. It also counts the row groups that are still pending.
+/// Without a key column all rows have the key `None`. A sum is exact: at most 2^26 numbers of 64 bits have one key.
 ///
 /// Rows under no key are added at once, by their count and their sum:
 ///
@@ -108,7 +108,7 @@ impl LiveTotals {
         add(&mut self.count_sums, key, (count, sum))
     }
 
-    /// Removes a folded row, one of those that are in. Removes a key without rows too. Allocates nothing.
+    /// Removes a folded row, one of those that are in. If no row is left under its key, removes the key too. Allocates nothing.
     #[inline(always)]
     pub fn take(&mut self, key: &Option<Key>, value: i64)
         requires { CanTake value (fin.get self.old.totals key.now) }

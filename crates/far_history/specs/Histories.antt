@@ -18,7 +18,7 @@ pub record Planned : Type 0 where
   pub gauge : Spec
   pub sessions : ℕ
 
--- the table after a history that begins with another table
+-- the table once the edits of a history are made in this one
 abbrev pub replay_on : Table → List Entry → Table
 replay_on table [] = table
 replay_on table (entry ∷ log) = replay_on (edited entry.edit table) log

@@ -3,7 +3,7 @@ use Rattle.std.specs.Prelude.{ℕ, ◌+◌, true, false, List, []}
 use Rattle.far_history.specs.declared.view.Entry.{Entry}
 use Rattle.far_history.specs.declared.view.View.{View}
 
--- a pass that keeps the history, and how many sessions it has given out
+-- a pass that keeps this history, and has given out this many sessions
 abbrev pub keeper : List Entry → ℕ → View
 keeper all given = record { keeps = true; all = all; given = given; sits = false; by = 0; seen = []; mine = [] }
 

@@ -1,8 +1,8 @@
 #![tactic(auto)]
-//! A pass of a ruled cell, wrapped so that many threads may read it at once under a lock.
+//! A pass of a ruled cell, wrapped so that it may lie under a lock which many threads read at once.
 //!
-//! A pass is a value without bytes. A thread carries in it what it knows of a cell. It may go from thread to thread, but is not known to be
-//! safe behind a shared reference. A [`Kept`] is safe there: through a reference nothing can be done with it.
+//! A pass is a value without bytes. A thread carries in it what it knows of a cell. A pass may go from thread to thread, but is not known
+//! to be safe behind a shared reference. A [`Kept`] is safe there: through a reference nothing can be done with it.
 
 ghost use Rattle.std.specs.Prelude.{◌≡◌};
 

@@ -50,8 +50,8 @@ impl<T> Model for Region<T> {
 impl<T: Copy + Drop> Region<T> {
     /// Makes a region of `segments` segments, each for `size` elements, without parts.
     ///
-    /// It allocates all memory for elements, as one block, and writes none of it. A later `place` writes its own list and all gaps in front
-    /// of it. Refused with `NoMemory` (1) alone.
+    /// It allocates all memory for elements, as one block, and writes none of it. A later `place` writes its own list, and the gap in front
+    /// of it as far as nothing was written there yet. Refused with `NoMemory` (1) alone.
     pub fn new(alloc: Global, segments: u32, size: u32) -> Result<Region<T>, Refusal>
         requires { segments ≤ 65536 }
         ensures empty { IfOk result (λ region. region ≡ replicate segments record { parts = []; size = size }) }
@@ -97,7 +97,7 @@ impl<T: Copy + Drop> Region<T> {
         self.search(len).is_some()
     }
 
-    /// Whether lists of these lengths, at most 16 and none of them empty, can be placed one after the other. Allocates nothing and places
+    /// Whether at most 16 lists of these lengths, none of them empty, can be placed one after the other. Allocates nothing and places
     /// nothing.
     ///
     /// Each list goes to the lowest segment that has the space. So a segment alone decides which lists go to it. One pass over the segments

@@ -9,7 +9,7 @@ ghost use Rattle.far_offload.specs.Partials.{value_at, IsWithin};
 use crate::column::{Column, find};
 use far_types::{CellRef, LendCells, Spec};
 
-/// A place of columns at hand. It borrows its cells by the number of the column.
+/// A place of columns at hand. It lends its cells by the number of the column.
 #[derive(Clone, Copy)]
 struct PlaceCells<'a, 'b> {
     columns: &'a [Column<'b>],

@@ -14,7 +14,7 @@ use far_groups::LiveTotals;
 use far_types::{Refusal, Spec};
 use std::alloc::Global;
 
-/// Adds the live places of a row group to totals in which a row group is left. There is a place for each flag, at most 2^26.
+/// Adds the live places of a row group to totals in which a row group is pending. There is a place for each flag, at most 2^26.
 /// Each place gives what it gives in `fold`.
 ///
 /// A key that is a number costs no memory. So a partial aggregate of the row group is made only if the keys are texts or there

@@ -24,7 +24,6 @@ use std::marker::Model;
 /// tickets.push((0, ints))?;
 /// let alive = Vec::from_array(alloc, ALIVE)?;
 /// let job = OffloadJob::new(Spec::totals(alloc, 0), tickets, alive);
-/// is_kept(alloc, store, &job)
 /// ```
 #[derive(Drop)]
 pub struct OffloadJob<S: FarTickets> {

@@ -17,7 +17,7 @@ use std::alloc::Global;
 /// ```
 #[derive(Drop)]
 pub enum PartialDone {
-    /// Counts and sums by key. No row group is left to these totals.
+    /// Counts and sums by key. No row group is pending in these totals.
     Totals(LiveTotals),
     /// The least and the greatest value by key.
     Extrema(GroupExtrema),

@@ -38,7 +38,7 @@ const REMOTE: u64 = 1 << FAR;
 ///
 /// A local word is dirty, or has a far copy, or both. A remote word has bit 60 alone.
 ///
-/// A local word that only has a far copy is moved, and its object is then used and written:
+/// The word of a clean object that is not hot is moved. Then its object is used, and written:
 ///
 /// ```
 /// let Some(word) = Word::from_bits(0x9000_0000_0000_0000) else {
@@ -155,7 +155,7 @@ impl Word {
         is_set(self.bits, HOT)
     }
 
-    /// Sets the dirty bit, and changes nothing else. A remote word stays as it is.
+    /// Returns the word with the dirty bit set, and nothing else changed. A remote word stays as it is.
     pub fn with_dirty(self) -> Word
         ensures { result ≡ with_dirty self }
     {
@@ -167,7 +167,7 @@ impl Word {
         }
     }
 
-    /// Sets or clears the hot bit, and changes nothing else. A remote word stays as it is.
+    /// Returns the word with the hot bit as given, and nothing else changed. A remote word stays as it is.
     pub fn with_hot(self, hot: bool) -> Word
         ensures { result ≡ with_hot self hot }
     {
@@ -179,7 +179,7 @@ impl Word {
         }
     }
 
-    /// Moves the object to another location, and changes nothing else. A remote word stays as it is.
+    /// Returns the word of the same object at another location, and nothing else changed. A remote word stays as it is.
     pub fn with_at(self, at: At) -> Word
         ensures { result ≡ with_at self at }
     {

@@ -24,7 +24,7 @@ abbrev pub existing : ℕ → ℤ → Option ℕ
 existing groups (pos group) = if nat_lt group groups then Some group else None
 existing groups (negsuc below) = None
 
--- the next two groups of the stride, as far as they exist: each is as far from the one before as the last is
+-- those of the next two groups of the stride that exist: each is as far from the one before as the last is
 abbrev pub next_two : ℕ → ℕ → ℕ → List ℕ
 next_two groups before last =
     let stride = difference before last

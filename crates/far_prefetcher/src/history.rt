@@ -92,7 +92,7 @@ fn is_stride(first: i64, second: i64, third: i64) -> bool
     first == second && second == third && third != 0
 }
 
-// The next two groups of the stride, as far as they exist: each is as far from the one before as `last` is from `before`.
+// Those of the next two groups of the stride that exist: each is as far from the one before as `last` is from `before`.
 #[tactic(auto, using(crate::proofs::LastFour::two_options))]
 fn next_two(alloc: Global, groups: u32, before: u32, last: u32) -> Result<Vec<u32>, Refusal>
     ensures found { IfOk result (λ found. found.items ≡ next_two groups before last) }

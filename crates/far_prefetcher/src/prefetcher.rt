@@ -70,8 +70,8 @@ impl Prefetcher {
 
     /// Returns the row groups of a column to fetch next, all of them below `groups`. Refused with `NoMemory` (1) alone.
     ///
-    /// If the last three differences of its history are equal and not 0, these are a stride. Then it returns the next two groups of the
-    /// stride, as far as they exist. Else it returns none.
+    /// If the last three differences of its history are equal and not 0, these are a stride. Then it returns those of the next two groups
+    /// of the stride that exist. Else it returns none.
     pub fn proposals(&self, alloc: Global, column: u32, groups: u32) -> Result<Vec<u32>, Refusal>
         ensures found { IfOk result (λ proposals. proposals.items ≡ proposed groups (history_of self.now column)) }
         ensures memory { IfErr result (λ e. e ≡ Refusal.NoMemory) }

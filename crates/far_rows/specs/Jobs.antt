@@ -101,12 +101,12 @@ module _ {K : Type 0} where
     after_commit (Texts carried) = record r { text_objects = after_leave r.text_objects carried.job.object carried.ticket }
 
   module _ (number_of : K → ℕ) (r : Rows K) where
-    -- a carried evacuation is accepted if its object has no pin
+    -- a carried evacuation is accepted if this holds and its object has no pin
     abbrev pub IsEvacAccepted : ByKind (CarriedEvacuation K) (CarriedEvacuation K) → Type 0
     IsEvacAccepted (Numbers carried) = IsCommittable number_of ints_form r.number_objects carried
     IsEvacAccepted (Texts carried) = IsCommittable number_of (λ bytes. bytes) r.text_objects carried
 
-    -- a carried fetch is accepted if there is space
+    -- a carried fetch is accepted if this holds and there is space
     abbrev pub IsFetchAccepted : ByKind (CarriedFetch K) (CarriedFetch K) → Type 0
     IsFetchAccepted (Numbers fetched) = IsInstallable number_of SpellsNumbers r.number_objects fetched
     IsFetchAccepted (Texts fetched) = IsInstallable number_of SpellsTexts r.text_objects fetched

@@ -18,7 +18,7 @@ abbrev pub AreOwned : {C : Type 0} → (C → ℕ) → (C → List ℕ) → List
 AreOwned {C} column_of objects_of names columns =
     (o : ℕ) (name : Name) → slice_get names o ≡ Some name → (i : ℕ) × (c : C) × (slice_get columns i ≡ Some c) × (column_of c ≡ name.column) × (slice_get (objects_of c) name.group ≡ Some o)
 
--- the number of an index's column, if those of numbers and those of texts have these
+-- the number of an index's column, if the columns of numbers and of texts have these numbers
 abbrev pub number_in : List ℕ → List ℕ → ColumnIndex → Option ℕ
 number_in numbers texts (column_index.Number i) = slice_get numbers i
 number_in numbers texts (column_index.Text i) = slice_get texts i

@@ -83,7 +83,7 @@ module _ {K : Type 0} (r : Rows K) where
   abbrev pub no_space_for_texts : List ℕ → Bool × Refusal
   no_space_for_texts lengths = (not (fit_in_order (spaces_of r.text_objects.memory.state) lengths), refusal.RegionFull)
 
-  -- if a row group begins: its objects of numbers, placed in order, do not fit
+  -- a row group begins, and its objects of numbers, placed in order, do not fit
   abbrev pub no_space_for_numbers : Bool × Refusal
   no_space_for_numbers = (begins && not (fit_in_order (spaces_of r.number_objects.memory.state) (replicate (length r.numbers) r.size)), refusal.RegionFull)
 

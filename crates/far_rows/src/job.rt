@@ -55,14 +55,7 @@ impl<S: FarTickets> Model for RowsEvac<S> {
 /// An evacuation of an object of a table whose far form is in the far store.
 ///
 /// ```
-/// match carried(alloc, &self.rows, self.store, column, group) {
-///     Ok(carried) => {
-///         let reply = commit(&mut self.rows, self.store, &carried);
-///         drop(carried);
-///         reply
-///     }
-///     Err(refusal) => Err(refusal),
-/// }
+/// rows.commit(store, carried)
 /// ```
 #[derive(Drop)]
 pub struct RowsCarried<S: FarTickets> {
@@ -107,13 +100,9 @@ impl<S: FarTickets> Model for RowsFetch<S> {
 /// A fetch of an object of a table whose bytes were read.
 ///
 /// ```
-/// match fetched(alloc, &self.rows, self.store, column, group) {
-///     Ok(fetched) => {
-///         let reply = install(alloc, &mut self.rows, self.store, &fetched);
-///         drop(fetched);
-///         reply
-///     }
-///     Err(refusal) => Err(refusal),
+/// match rows.install(alloc, store, fetched) {
+///     Err(Refusal::NoMemory) => rows.install(alloc, store, fetched),
+///     reply => reply,
 /// }
 /// ```
 #[derive(Drop)]
@@ -131,8 +120,8 @@ impl<S: FarTickets> Model for RowsFetched<S> {
 }
 
 impl<S: FarStore> RowsEvac<S> {
-    /// Puts the far form that the job holds into the store. A job on a clean object asks the store for nothing, and is not
-    /// refused.
+    /// Puts the far form that the job holds into the store. A job begun on a clean object asks the store for nothing, and is
+    /// not refused.
     ///
     /// Refused with one of these; the job then comes back whole:
     ///

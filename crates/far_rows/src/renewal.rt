@@ -4,7 +4,7 @@ use far_store::FarTickets;
 use std::marker::Model;
 
 /// The far copies that `Rows::renewal` put into another store. Contracts see a list by object number for numbers, and one for
-/// texts. It has a ticket for each object that was away, and `None` for each that was local.
+/// texts. Each has the ticket of each object that was away, and `None` for each that was local.
 ///
 /// ```
 /// match rows.renewal(alloc, self.store, self.other, &mut Meter::new()) {

@@ -71,7 +71,7 @@ impl Recency {
         }
     }
 
-    // Whether an object was used last. Most objects that are used again were: then the use leaves the order as it is.
+    // Whether an object was used last. Then another use leaves the order as it is. Most objects that are used again were used last.
     fn is_first(&self, o: u32) -> bool
         ensures { IsTrue result → used self.now o ≡ self.now }
     {

@@ -6,7 +6,8 @@ use std::marker::Model;
 ///
 /// A scope must be spent by `Objects::close`: dropping one does not compile.
 ///
-/// Objects are pinned together, one of them is unpinned, and the scope is closed. `close` returns how many pins it took back:
+/// From a test, whose helper `enter` calls `Objects::enter`: objects are pinned together, one is unpinned, and the scope is
+/// closed. `close` returns how many pins it took back:
 ///
 /// ```
 /// let scope = enter(alloc, objects, listed)?;

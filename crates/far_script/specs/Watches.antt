@@ -52,8 +52,9 @@ abbrev pub or_else : Option Test → Option Test → Option Test
 or_else None other = other
 or_else (Some first) other = Some first
 
--- the test of a constant with an operator that numbers have. In a column of numbers it is of numbers, and in a column of texts
--- of texts, if texts have the operator. If there is no such column, it is of the kind that the constant has
+-- the test of a constant with an operator that numbers have. In a column of numbers it is of the kind that the constant has. In
+-- a column of texts it is of texts, if they have the operator; else of numbers, if the constant is one. If there is no such
+-- column, it is of texts if the constant is no number and texts have the operator; else of numbers
 abbrev pub compared : Option Kind → ℕ → Op → List ℕ → Option Test
 compared (Some kind.Int) column op constant = or_else (number_test column op (signed_number_of constant)) (Some (test.TextIs column constant))
 compared (Some kind.Text) column op constant = or_else (text_test column op constant) (number_test column op (signed_number_of constant))

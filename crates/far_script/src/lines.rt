@@ -15,8 +15,8 @@ fn has_break(bytes: &[u8]) -> bool
     bytes.contains(&b'"') || bytes.contains(&b'\r')
 }
 
-/// Returns whether the records of a text are its lines that are not empty, cut at their commas. Then it has no quote and no
-/// carriage return, and does not begin with a byte order mark.
+/// Returns whether a text has no quote and no carriage return, and cannot begin with a byte order mark. Then its records are
+/// its lines that are not empty, cut at their commas.
 pub fn are_plain_lines(text: &str) -> bool
     ensures { result ≡ are_plain_lines text.now }
 {

@@ -51,8 +51,8 @@ fn has_mark(bytes: &[u8]) -> bool
         .any(|byte| *byte == b'"' || *byte == b'\r' || *byte == b'\n')
 }
 
-/// Returns whether the record of a text is what stands between its commas. Then it has no quote and no end of a line, and does
-/// not begin with a byte order mark.
+/// Returns whether a text has no quote and no end of a line, and cannot begin with a byte order mark. Then its record is what
+/// stands between its commas.
 pub fn is_plain(text: &str) -> bool
     ensures { result ≡ is_plain text.now }
 {

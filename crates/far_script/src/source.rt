@@ -9,7 +9,7 @@ use std::io::Read;
 /// A reader of which contracts know whether a read may fail. So a script that ends by a failed read shows that readers of its
 /// type may fail.
 ///
-/// Bytes at hand never fail:
+/// An implementation reads as `read` does:
 ///
 /// ```
 /// fn read_some(&mut self, buffer: &mut [u8]) -> io::Result<usize> {
@@ -17,7 +17,7 @@ use std::io::Read;
 /// }
 /// ```
 ///
-/// Any other reader goes into [`Fallible`].
+/// Bytes at hand never fail. Any other reader goes into [`Fallible`].
 pub trait Source: Read {
     /// Whether reads of readers of this type may fail.
     ghost may_fail: { Type 0 };

@@ -53,15 +53,10 @@ impl<N: Naming, B: Rooms, const I: usize> Model for Keeper<N, B, I> {
 /// The keepers of the four histories.
 ///
 /// ```
-/// let shared = Shared {
-///     alloc,
-///     zero: under_lock(frames.zero, keepers.zero),
-///     one: under_lock(frames.one, keepers.one),
-///     two: under_lock(frames.two, keepers.two),
-///     three: under_lock(frames.three, keepers.three),
-///     cells,
-///     count,
-/// };
+/// keepers.zero.take_in(rt, cells.zero(), zero);
+/// keepers.one.take_in(rt, cells.one(), one);
+/// keepers.two.take_in(rt, cells.two(), two);
+/// keepers.three.take_in(rt, cells.three(), three);
 /// ```
 #[derive(Drop)]
 pub struct Keepers<N: Naming, B: Rooms> {
@@ -131,7 +126,7 @@ impl<N: Naming, B: Rooms, const I: usize> Keeper<N, B, I> {
         self.pass = Some(Kept::new(pass));
     }
 
-    /// Ends a session at this stripe. The history has no entry of it but its own.
+    /// Ends a session at this stripe. The history's entries of it are exactly its own.
     pub fn take_in<R: Wait>(&mut self, rt: &R, counter: &Counter<N, B, I>, place: Place<B, I>)
         ensures history { self.new ≡ self.old }
         ensures seen { IsPrefix place.seen self.old }

@@ -20,7 +20,7 @@ spec_at table a = option_map (λ aggregate. aggregate.spec) (aggregate_at table 
 abbrev pub AreLike : ℕ → Table → Table → Type 0
 AreLike a one other = (spec : Spec) × (spec_at one a ≡ Some spec) × (spec_at other a ≡ Some spec) × (one.schema ≡ other.schema)
 
--- four tables have
+-- four tables have one schema, and the same aggregate under a number
 pub record AreAlike (a : ℕ) (one two three four : Table) : Type 0 where
   pub second : AreLike a one two
   pub third : AreLike a one three
@@ -49,7 +49,7 @@ IsOf fold.Extrema (answer.Extrema lines) = Unit {0}
 abbrev pub LeftRefusal : ℕ → Refusal → Type 0
 LeftRefusal some given = ((some ≢ 0) × (given ≡ refusal.Building some)) ⊎ ((some ≡ 0) × (given ≡ refusal.NoMemory))
 
--- the same of any tables: if the number of pending row groups is not one of 32 bits, memory ran out. Four stripes never leave
+-- the same of any tables: also `NoMemory` if the number of pending row groups is not one of 32 bits. Four stripes never leave
 -- that many
 abbrev pub AnyRefusal : ℕ → Refusal → Type 0
 AnyRefusal some given = LeftRefusal some given ⊎ ((2 ^ 32 ≤ some) × (given ≡ refusal.NoMemory))

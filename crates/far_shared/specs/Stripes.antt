@@ -33,7 +33,7 @@ pub record KeepsColumns {K : Type 0} (old new : Rows K) : Type 0 where
   pub texts : new.text_objects.number ≡ old.text_objects.number
 
 -- the table is the replay of the history, and its aggregate 0 is the gauge of the plan, with nothing pending. Others may be
--- registered too. No more of their row groups are pending than a table may have places
+-- registered too. In none of them are more row groups pending than a table may have places
 pub record IsStripe (p : Planned) (log : List Entry) (table : Table) : Type 0 where
   pub plan : IsPlan p
   pub schema : table.schema ≡ p.schema

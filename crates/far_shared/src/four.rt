@@ -43,7 +43,7 @@ fn are_like<S: FarTickets>(one: &Frame<S>, other: &Frame<S>, a: u32) -> bool
     spec.is_same(same) && have_same_kinds(one.schema(), other.schema())
 }
 
-/// Returns whether four tables have.
+/// Returns whether four tables have one schema, and the same aggregate under a number.
 fn are_alike<S: FarTickets>(
     one: &Frame<S>,
     two: &Frame<S>,

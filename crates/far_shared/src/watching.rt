@@ -144,7 +144,7 @@ fn watch_four<N: Naming, B: Site, S: FarTickets>(
     ensures none { OnErr result ((uncounted zero.new ≡ uncounted zero.old) × (uncounted one.new ≡ uncounted one.old) × (uncounted two.new ≡ uncounted two.old) × (uncounted three.new ≡ uncounted three.old)) }
     ensures refused { IfErr result (WatchRefusal N.plan.schema spec.now) }
 {
-    // Both come before any allocation, so that out of memory hides neither.
+    // Both come before any allocation, so that a failed one hides neither.
     zero.check(spec)?;
     let Some(a) = common_number(zero, one, two, three) else {
         return Err(Refusal::TooManyAggregates);

@@ -11,7 +11,7 @@ pub record StoreState : Type 0 where
 abbrev pub store_coded : Coded StoreState
 store_coded = coded_via (coded× (coded_list coded_ℕ) coded_ℕ) (λ (s : StoreState). (s.id, s.capacity)) (λ x y e i. record { id = (e i).0; capacity = (e i).1 })
 
--- the id of a vector that only grows: the names of its buckets, which are there from the beginning and no other vector has
+-- the id of a vector that only grows: the ids of its buckets. They are there from the beginning, and no other vector has them
 abbrev pub bucket_ids : Shelves → List ℕ
 bucket_ids shelves = map (λ bucket. bucket.id) shelves.buckets
 

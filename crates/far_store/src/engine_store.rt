@@ -19,8 +19,8 @@ use std::sync::Wait;
 /// A far store that keeps its contents in an engine: a server, a file, memory of another machine. Contracts see its id and its
 /// capacity.
 ///
-/// The store keeps the engine's keys, one for each number. If the engine fails, it returns `FarFault` (21) and counts the fault. Reading
-/// waits only if the engine does; a put may wait for other threads, as an agent's.
+/// The store keeps the engine's keys, one for each number. If the engine fails for a reason of its own, the store returns `FarFault` (21)
+/// and counts the fault. Reading waits only if the engine does; a put may wait for other threads, as an agent's.
 ///
 /// Over a log of five bytes, with space for eight contents:
 ///

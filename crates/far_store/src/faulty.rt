@@ -140,7 +140,7 @@ impl PlannedFault {
         self.number > 0 && earlier == self.number - 1 && !self.met.swap(true, Ordering::SeqCst)
     }
 
-    // Takes the count of a call back that ran out of memory.
+    // Takes back the count of a call that ran out of memory.
     fn take_back(&self) {
         self.counted.fetch_sub(1, Ordering::SeqCst);
     }

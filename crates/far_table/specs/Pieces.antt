@@ -19,8 +19,8 @@ begin_of count long i = min (i * long) count
 abbrev pub run_of : ℕ → ℕ → ℕ → List Place → List Place
 run_of size from to places = take ((to - from) * size) (drop (from * size) places)
 
--- a piece that was folded: the partial aggregate of each row group from one up to another, in order, or a refusal; its meter
--- tells which
+-- a piece that was folded: in order the partial aggregate of each row group from one up to another, or a refusal. Its meter is
+-- 1 if the store failed, otherwise 0
 pub record IsPiece (spec : Spec) (size : ℕ) (places : List Place) (from to : ℕ) (piece : Piece) : Type 0 where
   pub partials : IfOk piece.partials (λ partials. partials.items ≡ partials_from spec size places from (to - from))
   pub faults : piece.meter ≡ faults_in piece.partials

@@ -12,11 +12,7 @@ use std::marker::Model;
 /// and the number of the row group. A table has at most 16 columns.
 ///
 /// ```
-/// self.rows.may_scan(spec, group)?;
-/// let size = self.rows.limits().group;
-/// an_aggregate_is_served_by_the_columns_of_its_schema();
-/// self.aggregates
-///     .build_at(self.alloc, a, &self.rows.group(group), size, group)
+/// aggregates.retract(&rows.group(pending.row_group()), pending);
 /// ```
 #[derive(Drop)]
 pub struct RowGroup<'a, S: FarTickets> {

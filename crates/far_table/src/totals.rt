@@ -27,7 +27,7 @@ use far_types::{Answer, Refusal, Spec};
 use std::alloc::{AllocError, Global};
 use std::thread::{self, Threads};
 
-/// How a table is cut into pieces of one number of row groups, of which the last may have fewer: as if it had wider row groups.
+/// How a table is cut into pieces of equally many row groups, of which the last may have fewer: as if it had wider row groups.
 #[derive(Clone, Copy)]
 struct Wide {
     long: u32,

@@ -24,8 +24,8 @@ pub record AreLent {K : Type 0} (content : K → List ℕ) (m : Movement ℕ K) 
   pub within : place + count ≤ c.len
   pub here : (p : ℕ) → place ≤ p → p < place + count → text_refusal content m c p ≡ None
 
--- internal: a place that is visited, and the row group that holds it or ends before it: with its index from that one's
--- beginning, and that one's form
+-- internal: a visited place, and the row group that holds it or ends before it, with its form. The index counts from that row
+-- group's beginning
 pub record IsCursor (lists : Lists) (c : Texts) (place group index : ℕ) (form : List ℕ) : Type 0 where
   pub begun : group < length c.objects
   pub at : place ≡ group * c.size + index

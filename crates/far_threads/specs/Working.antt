@@ -31,7 +31,7 @@ pub record Ended : Type 0 where
 abbrev pub IsWorked : ℕ → Known → Ended → Type 0
 IsWorked n me ended = OnOk ended.outcome (Makes (number_of me % 4) n me ended.session)
 
--- all did, in order
+-- all sessions did, in order
 pub record AreWorked (n : ℕ) (sessions : List Known) (worked : List Ended) : Type 0 where
   pub count : length worked ≡ length sessions
   pub each : (i : ℕ) (me : Known) (ended : Ended) → slice_get sessions i ≡ Some me → slice_get worked i ≡ Some ended → IsWorked n me ended

@@ -43,7 +43,7 @@ key_in (Some (cell.Text text)) = Some (key.Text text)
 key_in (Some cell.Missing) = None
 key_in None = None
 
--- the cells of a row by column number: nothing if there is no such column. A value that has only some columns of a row has such cells too
+-- the cells of a row by column number: nothing if there is no such column. What has only some columns of a row has such cells too
 abbrev pub Cells : Type 0
 Cells = ℕ → Option Cell
 

@@ -34,7 +34,7 @@ WhatEditsDo =
 abbrev pub one_text : Table
 one_text = edited (letters (pos 1) 54) (in_groups_of 4)
 
--- b in place of the 54 letters, and then a row more: its 44 letters fit, and 45 would not
+-- b in place of the 54 letters, and then a row of c. In a third row 44 letters fit, and 45 do not
 abbrev pub two_texts : Table
 two_texts = edited (edit.Insert (row (pos 2) (codes "c"))) (edited (edit.Set 0 1 (cell.Text b)) one_text)
 

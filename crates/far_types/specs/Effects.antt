@@ -12,7 +12,7 @@ abbrev pub added : ℤ → Option (ℕ × ℤ) → ℕ × ℤ
 added value None = (1, value)
 added value (Some count_sum) = (count_sum.0 + 1, count_sum.1 +ℤ value)
 
--- the count, which is at least 1, and the sum with one value less
+-- the count and the sum with one value less; the count is at least 1
 abbrev pub subtracted : ℤ → ℕ × ℤ → ℕ × ℤ
 subtracted value count_sum = (count_sum.0 - 1, count_sum.1 -ℤ value)
 
@@ -44,7 +44,7 @@ merge_two join None other = other
 merge_two join (Some value) None = Some value
 merge_two join (Some value) (Some other) = Some (join value other)
 
--- the keys of both, each with its values merged
+-- the keys of either, each with its values merged
 abbrev pub joined : {V : Type 0} → (V → V → V) → ByKey V → ByKey V → ByKey V
 joined join one other =
     fin.from_entries (filter_map (λ key. option_map (λ value. (key, value)) (merge_two join (fin.get one key) (fin.get other key))) (fin.keys one ++ fin.keys other))

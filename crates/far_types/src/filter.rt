@@ -50,7 +50,7 @@ impl Op {
     }
 }
 
-/// A test of one column. A row fails each test, `Ne` too, if:
+/// A test of one column. A row fails a test, one with `Ne` too, if:
 /// - the row has no such column;
 /// - the cell is of the other kind;
 /// - the cell has no value.

@@ -11,14 +11,12 @@ use std::alloc::Global;
 
 /// The aggregate function: what an aggregate computes of the values under each key.
 ///
-/// An aggregate of a fold over the numbers of column 0, under a key column or none:
+/// What an aggregate begins with, by its fold:
 ///
 /// ```
-/// Spec {
-///     fold,
-///     value: 0,
-///     key,
-///     filter: Filter::new(Vec::new(alloc)),
+/// match fold {
+///     Fold::Totals => Accumulator::Totals(LiveTotals::new(alloc, left)),
+///     Fold::Extrema => Accumulator::Extrema(KnownExtrema::new(alloc, left)),
 /// }
 /// ```
 #[derive(Clone, Copy, Debug, PartialEq, Eq)]

@@ -23,7 +23,6 @@ use std::marker::Model;
 ///         None => false,
 ///     };
 /// }
-/// found(right)
 /// ```
 #[derive(Drop)]
 pub struct Pieces<'a, T: Elem, S: FarTickets> {

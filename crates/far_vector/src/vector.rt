@@ -135,7 +135,7 @@ impl<T: Elem> FarVector<T> {
         self.position_in(objects, group, i)
     }
 
-    // Returns the position of the next element, if its row group is begun: it is in the last one.
+    // Returns the position of the next element. Its row group must be begun, so it is the last one.
     #[inline(always)]
     fn next_position<S: FarTickets>(&self, objects: &Objects<T, S>) -> Position
         requires is { IsVector (list_of T.meaning S.content objects.now) self.now }

@@ -1,4 +1,4 @@
-// Jobs on the objects of the rows begin.
+// Begins jobs on the objects of the rows.
 ghost use Rattle.std.specs.Prelude.{◌≡◌, ◌<◌, length, true, None, OnOk, IfOk, IfErr};
 ghost use Rattle.far_types.specs.MayRefuse.{MayRefuse};
 ghost use Rattle.far_codec.specs.FarForm.{ints_form};

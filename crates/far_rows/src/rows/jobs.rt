@@ -1,4 +1,4 @@
-// Jobs on the objects of the rows end.
+// Ends jobs on the objects of the rows.
 ghost use Rattle.std.specs.Prelude.{◌≡◌, ◌≢◌, ◌↔◌, ◌⊎◌, length, false, OnOk, OnErr, IfErr, IsErrOf, IsSomeAnd};
 ghost use Rattle.far_codec.specs.FarForm.{ints_form};
 ghost use Rattle.far_log.specs.RegionState.{fits_in};

@@ -53,7 +53,7 @@ impl<S: FarTickets> Rows<S> {
         ensures refused { refusal_in result ≡ first_of (no_range self.now from to ∷ map (λ g. told_at self.now g (ColumnIndex.Number number)) (overlapped_groups self.now.size from to)) }
     {
         let column = &self.numbers[number];
-        // For the proof: that there are as many numbers as it returns.
+        // For the proof: how many numbers there are.
         let _len = column.len();
         column.lent(&self.number_objects, &self.alive, from, to)
     }

@@ -46,7 +46,8 @@ impl<S: FarTickets> Rows<S> {
         self.may_set_value(column, place, value)
     }
 
-    // Checks that a value may be put in a column of a place, by that column alone.
+    // Checks that a value may be put in a column of a place: all objects of its row group are local, and then the column
+    // accepts it.
     fn may_set_value(&self, column: usize, place: usize, value: &NewCell) -> Result<(), Refusal>
         requires place { place < length self.now.alive }
         requires of_kind { option_map kind_of (slice_get self.now.column_indexes column) ≡ Some (kind_in value.now) }

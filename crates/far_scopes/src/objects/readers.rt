@@ -48,8 +48,8 @@ impl<T: Elem, S: FarTickets> Objects<T, S> {
         self.memory.fits(len)
     }
 
-    /// Whether lists of these lengths, at most 16 and none of them empty, can be placed one after the other. Each goes to the lowest
-    /// segment that has the space. Allocates nothing.
+    /// Whether at most 16 lists of these lengths, none of them empty, can be placed one after the other. Each goes to the lowest segment
+    /// that has the space. Allocates nothing.
     pub fn fits_in_order(&self, lens: &[usize]) -> bool
         requires few { length lens.now ≤ 16 }
         requires some { All (λ len. 0 < len) lens.now }

@@ -125,7 +125,7 @@ fn stay_ascii(is_ascii: bool, held: &Page, came: &[u8]) -> bool
     came.is_ascii()
 }
 
-/// Returns the place of the first line feed, if there is none before `from`.
+/// Returns the place of the first line feed. There is none before `from`.
 fn line_feed(bytes: &[u8], from: usize) -> Option<usize>
     requires within { from ≤ length bytes.now }
     requires none { list_any (λ c. c == 10) (take from bytes.now) ≡ false }

@@ -42,7 +42,6 @@ pub struct TextCell<'a> {
 ///         return Err(WRONG);
 ///     }
 /// }
-/// found(cells.next().is_none())
 /// ```
 #[derive(Drop)]
 pub struct TextCells<'a, S: FarTickets> {

@@ -24,7 +24,7 @@ pub(super) struct Cursor<'a> {
 }
 
 impl<'a> Cursor<'a> {
-    // Returns a cursor if no place is left.
+    // Returns the cursor for when no place is left.
     pub(super) fn none(place: usize) -> Cursor<'a>
         ensures { result.place ≡ place }
     {

@@ -69,7 +69,7 @@ pub fn push_texts<S: FarTickets>(
 }
 
 /// Appends a text to each of several columns, to all or to none, as `push_texts` does, after `may_push_texts` accepted them. It
-/// measures no text and asks for no object before it makes the forms.
+/// measures no text and checks no object before it makes the forms.
 ///
 /// Refused with `NoMemory` (1) alone, if an allocation fails. A refused call changes nothing.
 pub fn fill_texts<S: FarTickets>(

@@ -23,7 +23,7 @@ impl<T: Elem> FarVector<T> {
         self.len == self.objects.len() * self.size
     }
 
-    /// Checks that the object of the next place is local, if its row group is begun. Allocates nothing.
+    /// Checks that the object of the next place is local. Its row group must be begun. Allocates nothing.
     ///
     /// Refused with `Absent` (16) exactly if it is away.
     pub fn next_is_here<S: FarTickets>(&self, objects: &Objects<T, S>) -> Result<(), Refusal>
@@ -34,7 +34,7 @@ impl<T: Elem> FarVector<T> {
         objects.here(self.next_position(objects).object)
     }
 
-    /// Checks that the object of the next place may be written, if its row group is begun. Allocates nothing.
+    /// Checks that the object of the next place may be written. Its row group must be begun. Allocates nothing.
     ///
     /// Refused with the first of these that applies:
     ///
@@ -88,7 +88,7 @@ impl<T: Elem> FarVector<T> {
         }
     }
 
-    // Adds an element if all places are used: in an object of its own.
+    // Adds an element in an object of its own. All places must be used.
     fn begin_group<S: FarTickets>(
         &mut self,
         objects: &mut Objects<T, S>,
@@ -130,7 +130,7 @@ impl<T: Elem> FarVector<T> {
         Ok(())
     }
 
-    // Adds an element if the last row group has a place that is not used.
+    // Adds an element in the last row group, which must have a place that is not used.
     fn fill_place<S: FarTickets>(
         &mut self,
         objects: &mut Objects<T, S>,

@@ -52,8 +52,8 @@ impl<T: Elem> FarVector<T> {
         Ok(())
     }
 
-    /// Writes the element at a place that may be written, as `set` does, if the caller knows its row group. It repeats no
-    /// check, and divides no place. Allocates nothing.
+    /// Writes the element of a place that may be written, as `set` does. The caller passes its row group, so it repeats no
+    /// check and no division. Allocates nothing.
     pub fn set_in_group<S: FarTickets>(
         &self,
         objects: &mut Objects<T, S>,
