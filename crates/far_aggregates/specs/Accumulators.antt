@@ -16,11 +16,11 @@ use Rattle.far_aggregates.specs.declared.aggregate.Aggregate.{Aggregate}
 use Rattle.far_aggregates.specs.declared.aggregate.Accumulator.{Accumulator}
 use Rattle.far_aggregates.specs.declared.aggregate.Accumulator.TheVariants as accumulator
 
--- what stands under a number
+-- the registry entry of a number
 abbrev pub RegistryEntry : Type 0
 RegistryEntry = Option Aggregate
 
--- the pair that totals get from a place or give back, if there is one
+-- the pair that totals get from a place, or that is retracted, if there is one
 abbrev pub Change : Type 0
 Change = Option Pair
 
@@ -33,7 +33,7 @@ registered_in (Some aggregate) = Some (record { spec = aggregate.spec; registrat
 abbrev pub registered_of : List RegistryEntry → List (Option Registered)
 registered_of registry = map registered_in registry ++ replicate (32 - length registry) None
 
--- the numbers of all places are those of 64 bits
+-- the numbers of all places fit 64 bits
 abbrev pub PlacesFit : List Place → Type 0
 PlacesFit places = AllByRecursion (λ (place : Place). RowFits place.cells) places
 
@@ -72,12 +72,12 @@ abbrev pub accumulator_answer : Option ℕ → Accumulator → Answer
 accumulator_answer key (accumulator.Totals live) = answer.Totals (or_zero key (total_lines live.totals))
 accumulator_answer key (accumulator.Extrema live) = answer.Extrema (extrema_lines (all_groups live.groups))
 
--- nothing is in, and as many row groups are pending
+-- nothing is scanned, and this many row groups are pending
 abbrev pub KeepsNothing : ℕ → Accumulator → Type 0
 KeepsNothing count (accumulator.Totals live) = (live.left ≡ count) × (live.totals ≡ fin.empty)
 KeepsNothing count (accumulator.Extrema live) = (live.left ≡ count) × (live.groups ≡ [])
 
--- an accumulator is what computing afresh over the row groups that are scanned would give
+-- an accumulator is what computing from scratch over the scanned row groups would give
 abbrev pub IsKept : ℕ → List Place → Aggregate → Accumulator → Type 0
 IsKept size places a (accumulator.Totals live) = (live.totals ≡ totals (scanned_pairs a.spec size a.pending 0 places)) × (live.left ≡ left a.pending)
 IsKept size places a (accumulator.Extrema live) = ((g : ℕ) → group_at live.groups g ≡ scanned_group a.spec size a.pending places g) × (live.left ≡ left a.pending)

@@ -1,14 +1,14 @@
--- What is known without a look-up of what stands under no key.
+-- What is known of the min-max under no key, without a look-up.
 -- Internal: no public contract cites it.
 use Rattle.std.specs.Prelude.{◌≡◌, ◌≢◌, ◌⊎◌, ℕ, ℤ, List, Option, None, Some, slice_get}
 use Rattle.std.specs.FinMap as fin
 use Rattle.far_types.specs.Answers.{Extrema}
 use Rattle.far_extrema.specs.Live.{group_at}
 
--- what is noted of a row group stands there
+-- what is noted of a row group is its min-max under no key
 abbrev pub AreKnown : List (Option (ℤ × ℤ)) → List Extrema → Type 0
 AreKnown plain groups = (g : ℕ) (min_max : ℤ × ℤ) → slice_get plain g ≡ Some (Some min_max) → fin.get (group_at groups g) None ≡ Some min_max
 
--- what is noted of this row group is this, and of the others what was
+-- what is noted of this row group is this, and of the others what was noted before
 abbrev pub IsNoted : List (Option (ℤ × ℤ)) → ℕ → Option (ℤ × ℤ) → List (Option (ℤ × ℤ)) → Type 0
 IsNoted plain group noted new = (g : ℕ) (min_max : ℤ × ℤ) → slice_get new g ≡ Some (Some min_max) → ((g ≡ group) × (noted ≡ Some min_max)) ⊎ ((g ≢ group) × (slice_get plain g ≡ Some (Some min_max)))

@@ -5,16 +5,16 @@ use Rattle.far_types.specs.Effects.{widened}
 use Rattle.far_aggregates.specs.declared.deltas.Delta.{Delta}
 use Rattle.far_aggregates.specs.Accumulators.{Change}
 
--- the value to retract is strictly within what stands under its key in the row group, with the delta's value
+-- the value to retract is strictly within the min-max under its key in the row group, with the delta's value
 abbrev pub NeedNotRetract : Option Delta → Change → Type 0
 NeedNotRetract None change = ⊥
 NeedNotRetract (Some delta) None = ⊥
 NeedNotRetract (Some delta) (Some pair) = (min_max : ℤ × ℤ) × (delta.previous ≡ Some min_max) × (delta.pair.0 ≡ pair.0) × ((widened delta.pair.1 (Some min_max)).0 <ℤ pair.1) × (pair.1 <ℤ (widened delta.pair.1 (Some min_max)).1)
 
--- a pair is as it was, or is left out since it need not be retracted
+-- a pair is the same, or is left out because it need not be retracted
 abbrev pub IsLeftOut : Option Delta → Change → Change → Type 0
 IsLeftOut delta old new = (new ≡ old) ⊎ ((new ≡ None) × NeedNotRetract delta old)
 
--- likewise each
+-- each pair likewise
 abbrev pub EachLeftOut : List (Option Delta) → List Change → List Change → Type 0
 EachLeftOut deltas old new = (k : ℕ) (delta : Option Delta) (c d : Change) → slice_get deltas k ≡ Some delta → slice_get old k ≡ Some c → slice_get new k ≡ Some d → IsLeftOut delta c d

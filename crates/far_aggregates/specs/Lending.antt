@@ -8,11 +8,11 @@ use Rattle.far_types.specs.Cells.{cells_of}
 use Rattle.far_types.specs.Table.{Place, Registered}
 use Rattle.far_offload.specs.Columns.{cell_of}
 
--- a column whose first cells are those of these places. Behind them may stand others
+-- a column whose first cells are those of these places. Others may stand behind them
 abbrev pub IsOfPlaces : List Place → ℕ × List Cell → Type 0
 IsOfPlaces here column = (i : ℕ) (place : Place) → slice_get here i ≡ Some place → Some (cell_of i column) ≡ cells_of place.cells column.0
 
--- the column of a number; where none is asked for, one that has another's number
+-- the column of a number; if no number is asked for, a column with the number `other`
 abbrev pub IsLent : List Place → ℕ → Option ℕ → ℕ × List Cell → Type 0
 IsLent here other None column = column.0 ≡ other
 IsLent here other (Some number) column = (column.0 ≡ number) × IsOfPlaces here column
@@ -22,11 +22,11 @@ pub record IsServed (has : ℕ → Bool) (spec : Spec) : Type 0 where
   pub tests : length spec.filter ≤ 4
   pub at_hand : (c : ℕ) → needs spec c ≡ true → has c ≡ true
 
--- likewise what stands under a number, if anything does
+-- likewise a registry entry, if it has an aggregate
 abbrev pub EntryIsServed : (ℕ → Bool) → Option Registered → Type 0
 EntryIsServed has None = Unit {0}
 EntryIsServed has (Some aggregate) = IsServed has aggregate.spec
 
--- and what stands under each
+-- and each registry entry
 abbrev pub AreServed : (ℕ → Bool) → List (Option Registered) → Type 0
 AreServed has aggregates = AllByRecursion (EntryIsServed has) aggregates

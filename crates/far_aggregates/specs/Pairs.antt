@@ -32,7 +32,7 @@ abbrev pub change_of : ℕ → ℕ → Gives → RegistryEntry → Change
 change_of size i gives None = None
 change_of size i gives (Some a) = cond (is_pending a.pending (i / size)) None (gives a.spec)
 
--- one pair more or less, where there is one
+-- one pair more or less, if there is one
 abbrev pub with_change : Totals → Change → Totals
 with_change totals None = totals
 with_change totals (Some pair) = with_pair totals pair

@@ -10,13 +10,13 @@ use Rattle.far_aggregates.specs.Deltas.{undo, EachMayUndo}
 use Rattle.far_aggregates.specs.Retract.{retracted, EachMayRetract}
 use Rattle.far_aggregates.specs.Until.{zip_all}
 
--- what is kept is that of these places, which are few, and whose numbers are those of 64 bits
+-- the aggregates are those of these places, which are few, and whose numbers fit 64 bits
 pub record AreKept (size : ℕ) (places : List Place) (registry : List RegistryEntry) : Type 0 where
   pub kept : Keeps size places registry
   pub few : length places ≤ 2 ^ 24
   pub fit : PlacesFit places
 
--- what is kept stays that of the places, whatever they are
+-- the aggregates stay those of the places, whatever they are
 abbrev pub KeepsAsBefore : List RegistryEntry → List RegistryEntry → Type 0
 KeepsAsBefore old new = (size : ℕ) (places : List Place) → Keeps size places old → Keeps size places new
 
@@ -33,7 +33,7 @@ pub record MayUndoAll (registry : List RegistryEntry) (pending : Pending) : Type
 abbrev pub all_undone : List RegistryEntry → Pending → List RegistryEntry
 all_undone registry pending = zip_all (undo pending.group) registry pending.applied.items
 
--- if the rows stay as they are, the deltas can be undone, and then what is kept is as before
+-- if the rows stay the same, the deltas can be undone, and then the aggregates are as before
 pub record UndoesAll (old new : List RegistryEntry) (pending : Pending) : Type 0 where
   pub may : MayUndoAll new pending
   pub kept : KeepsAsBefore old (all_undone new pending)
@@ -47,7 +47,8 @@ pub record MayRetractAll (here : List Place) (registry : List RegistryEntry) (pe
 abbrev pub all_retracted : List Place → List RegistryEntry → Pending → List RegistryEntry
 all_retracted here registry pending = zip_all (retracted pending.group here) registry pending.to_retract.items
 
--- if these are the places after the edit of a row group, the pairs can be retracted, and then what is kept is that of these places
+-- if these are the places after the edit of a row group, the pairs can be retracted. Then the aggregates are those of these
+-- places
 pub record RetractsAll (size g : ℕ) (places : List Place) (registry : List RegistryEntry) (pending : Pending) : Type 0 where
   pub at : pending.group ≡ g
   pub may : MayRetractAll (in_group size g places) registry pending

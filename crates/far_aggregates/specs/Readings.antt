@@ -1,4 +1,4 @@
--- What the readers of an aggregate tell.
+-- What the readers of an aggregate return.
 use Rattle.std.specs.Prelude.{ℕ, ℤ, Bool, true, false, cond, ◌&&◌, ◌==◌, List, map, Option, None, Some, is_none}
 use Rattle.far_types.specs.declared.spec.Spec.{Spec}
 use Rattle.far_types.specs.declared.spec.Fold.{Fold}

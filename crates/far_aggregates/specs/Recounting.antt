@@ -29,7 +29,7 @@ AccumulatorMayMerge g (partial.Totals done) (accumulator.Extrema live) = ⊥
 AccumulatorMayMerge g (partial.Extrema observed) (accumulator.Totals live) = ⊥
 AccumulatorMayMerge g (partial.Extrema observed) (accumulator.Extrema live) = (live.left ≡ 0 → ⊥) × (group_at live.groups g ≡ fin.empty)
 
--- the rows that a partial stands for are in what is kept. Which keys are reserved is left open
+-- the rows of a partial aggregate are merged. Which keys are reserved is left open
 abbrev pub IsMerged : ℕ → PartialDone → Accumulator → Accumulator → Type 0
 IsMerged g (partial.Totals done) (accumulator.Totals live) new = new ≡ accumulator.Totals (record { left = live.left - 1; totals = joined_totals live.totals done.totals })
 IsMerged g (partial.Totals done) (accumulator.Extrema live) new = ⊥

@@ -13,7 +13,7 @@ use Rattle.far_aggregates.specs.declared.aggregate.Accumulator.{Accumulator}
 use Rattle.far_aggregates.specs.declared.aggregate.Accumulator.TheVariants as accumulator
 use Rattle.far_aggregates.specs.Accumulators.{RegistryEntry, Change, pairs_here}
 
--- one pair less: totals give it back, extrema get the min-max of the rows that are left under its key
+-- one pair less: totals subtract it, extrema get the min-max of the rows that are left under its key
 abbrev pub accumulator_less : Spec → ℕ → List Place → Accumulator → Pair → Accumulator
 accumulator_less spec g here (accumulator.Totals live) pair = accumulator.Totals (record live { totals = without_pair live.totals pair })
 accumulator_less spec g here (accumulator.Extrema live) pair = accumulator.Extrema (record live { groups = slice_set live.groups g (put_min_max (group_at live.groups g) pair.0 (fin.get (extrema (pairs_here spec here)) pair.0)) })
@@ -23,7 +23,8 @@ retracted g here None change = None
 retracted g here (Some a) None = Some a
 retracted g here (Some a) (Some pair) = Some (record a { accumulator = accumulator_less a.spec g here a.accumulator pair })
 
--- a pair may be retracted: what stands under its key is that of the rows that are left, with its value more
+-- a pair may be retracted: totals have it (`CanTake`); in extrema the min-max under its key is that of the rows that are left,
+-- widened by its value
 abbrev pub AccumulatorMayRetract : Spec → ℕ → List Place → Accumulator → Pair → Type 0
 AccumulatorMayRetract spec g here (accumulator.Totals live) pair = CanTake pair.1 (fin.get live.totals pair.0)
 AccumulatorMayRetract spec g here (accumulator.Extrema live) pair = fin.get (group_at live.groups g) pair.0 ≡ Some (widened pair.1 (fin.get (extrema (pairs_here spec here)) pair.0))
@@ -36,7 +37,7 @@ MayRetract g here (Some a) (Some pair) = AccumulatorMayRetract a.spec g here a.a
 abbrev pub EachMayRetract : ℕ → List Place → List RegistryEntry → List Change → Type 0
 EachMayRetract g here registry pairs = (k : ℕ) (s : RegistryEntry) (c : Change) → slice_get registry k ≡ Some s → slice_get pairs k ≡ Some c → MayRetract g here s c
 
--- a pair is retracted without a look at rows: from totals
+-- a pair is retracted without reading rows: from totals
 abbrev pub AccumulatorIsPlain : Accumulator → Type 0
 AccumulatorIsPlain (accumulator.Totals live) = Unit {0}
 AccumulatorIsPlain (accumulator.Extrema live) = ⊥

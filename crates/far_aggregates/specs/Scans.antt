@@ -12,7 +12,7 @@ use Rattle.far_aggregates.specs.declared.aggregate.Accumulator.TheVariants as ac
 use Rattle.far_aggregates.specs.Accumulators.{RegistryEntry, pairs_here, KeepsEntry}
 use Rattle.far_aggregates.specs.Aggregates.{scanned_in}
 
--- whether a row group is pending in what stands in a registry entry
+-- whether a row group is pending in a registry entry
 abbrev pub has_pending : ℕ → RegistryEntry → Bool
 has_pending g None = false
 has_pending g (Some a) = is_pending a.pending g
@@ -21,13 +21,13 @@ abbrev pub scanned_entry : ℕ → Option Registered → Option Registered
 scanned_entry g None = None
 scanned_entry g (Some aggregate) = Some (scanned_in g aggregate)
 
--- the rows of one row group more, at these places, are in what is kept. Which keys are reserved is left open
+-- the rows of one row group more, at these places, are scanned. Which keys are reserved is left open
 abbrev pub IsScanned : Spec → ℕ → List Place → Accumulator → Accumulator → Type 0
 IsScanned spec g here (accumulator.Totals live) new = new ≡ accumulator.Totals (record { left = live.left - 1; totals = joined_totals live.totals (totals (pairs_here spec here)) })
 IsScanned spec g here (accumulator.Extrema live) (accumulator.Totals new) = ⊥
 IsScanned spec g here (accumulator.Extrema live) (accumulator.Extrema new) = (new.left ≡ live.left - 1) × (new.groups ≡ slice_set (with_reserved g live.groups) g (extrema (pairs_here spec here)))
 
--- the same rows are in. Which keys are reserved is left open
+-- the same rows are scanned. Which keys are reserved is left open
 abbrev pub IsSame : Accumulator → Accumulator → Type 0
 IsSame (accumulator.Totals live) new = new ≡ accumulator.Totals live
 IsSame (accumulator.Extrema live) (accumulator.Totals new) = ⊥

@@ -29,13 +29,30 @@ use std::alloc::Global;
 use std::marker::Model;
 use std::mem;
 
-/// The aggregates of a table, under their numbers: at most 32. An edit of the rows has three parts. The deltas of the new row
-/// are applied, which may be refused. The rows are changed, which may be refused too. Then the pairs of the old row are
-/// retracted, which cannot fail. Contracts see what stands under each number that was ever used.
+/// The aggregates of a table, under their numbers: at most 32. An edit of the rows has three parts:
+///
+/// 1. The deltas of the new row are applied, which may be refused.
+/// 2. The rows are changed, which may be refused too. If they refuse, the deltas are undone.
+/// 3. The pairs of the old row are retracted, which cannot fail.
+///
+/// Contracts see the registry entry of each number that was ever used.
+///
+/// ```
+/// let pending = self
+///     .aggregates
+///     .apply_deltas(self.alloc, &self.rows.new_row_ref(), group, place)?;
+/// if let Err(refusal) = self.rows.push(self.alloc) {
+///     // The rows are as before, and now the aggregates are too.
+///     self.aggregates.undo(pending);
+///     return Err(refusal);
+/// }
+/// self.aggregates.end(pending);
+/// Ok(place as u32)
+/// ```
 #[derive(Drop)]
 pub struct Aggregates {
     registry: Vec<Option<Aggregate>>,
-    /// The lists of an edit that has ended, for the next one, so that it makes none.
+    /// The lists of an edit that has ended. The next edit uses them, so it makes none.
     lists: Pending,
     spare_keys: SpareKeys,
     /// A hint for divisions by how many places a row group has.
@@ -67,7 +84,7 @@ impl Aggregates {
     ghost use Rattle.far_aggregates.specs.Scans.{scanned_entry};
     ghost use Rattle.far_aggregates.specs.Pending.{AreKept, KeepsAsBefore, IsAliveAt, MayUndoAll, all_undone, UndoesAll, MayRetractAll, all_retracted, RetractsAll};
 
-    /// No aggregate. Allocates nothing.
+    /// Returns a registry without an aggregate. Allocates nothing.
     pub fn new(alloc: Global) -> Aggregates
         ensures registered { registered_of result ≡ replicate 32 None }
         ensures kept { (size : ℕ) → (places : List Place) → Keeps size places result }
@@ -80,7 +97,7 @@ impl Aggregates {
         }
     }
 
-    // The row group of a place.
+    // Returns the row group of a place.
     #[inline(always)]
     fn group_of(&self, place: usize, size: u32) -> u32
         requires size { 0 < size }
@@ -90,14 +107,14 @@ impl Aggregates {
         self.reciprocal.quotient(place, size as usize) as u32
     }
 
-    /// Whether none was ever registered, so that an edit has nothing to keep. Allocates nothing.
+    /// Returns whether no aggregate was ever registered, so that an edit has nothing to keep. Allocates nothing.
     pub fn is_empty(&self) -> bool
         ensures { IsTrue result → (size : ℕ) → (places : List Place) → Keeps size places self.now }
     {
         self.registry.is_empty()
     }
 
-    /// The lowest number under which no aggregate is registered, or `None` if 32 are. Allocates nothing.
+    /// Returns the lowest number under which no aggregate is registered, or `None` if 32 are. Allocates nothing.
     pub fn free_number(&self) -> Option<u32>
         ensures number { result ≡ free_from 0 (registered_of self.now) }
         ensures within { IfSome result (λ a. a < 32) }
@@ -105,8 +122,8 @@ impl Aggregates {
         free_number(self.registry.as_slice())
     }
 
-    /// Registers an aggregate under the lowest free number, over so many places: all row groups that hold one are
-    /// pending. Refused with `NoMemory` (1) alone, and then nothing is changed.
+    /// Registers an aggregate under the lowest free number, over `places` places. All row groups that hold one of them are
+    /// pending. Refused with `NoMemory` (1) alone. A refused call changes nothing.
     pub fn register(
         &mut self,
         alloc: Global,
@@ -136,7 +153,7 @@ impl Aggregates {
         )
     }
 
-    /// No aggregate is under the number any more; there was one. Allocates nothing.
+    /// Forgets the aggregate of a number; there was one. Allocates nothing.
     pub fn forget(&mut self, a: u32)
         requires { IsSome (aggregate_in self.old a) }
         ensures registered { registered_of self.new ≡ slice_set (registered_of self.old) a None }
@@ -145,7 +162,7 @@ impl Aggregates {
         forget(&mut self.registry, a);
     }
 
-    /// What the aggregate of a number computes, or `None` if there is none. Allocates nothing.
+    /// Returns what the aggregate of a number computes, or `None` if there is none. Allocates nothing.
     pub fn spec(&self, a: u32) -> Option<&Spec>
         ensures { option_copied result ≡ option_map (λ aggregate. aggregate.spec) (aggregate_in self.now a) }
     {
@@ -153,7 +170,7 @@ impl Aggregates {
         Some(&aggregate.spec)
     }
 
-    /// How many registrations were made before that of a number, or `None` if there is none. Allocates nothing.
+    /// Returns how many registrations were made before that of a number, or `None` if there is none. Allocates nothing.
     pub fn registration(&self, a: u32) -> Option<u64>
         ensures { result ≡ option_map (λ aggregate. aggregate.registration) (aggregate_in self.now a) }
     {
@@ -161,7 +178,7 @@ impl Aggregates {
         Some(aggregate.registration)
     }
 
-    /// Whether a row group is pending in the aggregate of a number: false if there is none. Allocates nothing.
+    /// Returns whether a row group is pending in the aggregate of a number: false if there is none. Allocates nothing.
     pub fn is_pending_in(&self, a: u32, group: u32) -> bool
         ensures { result ≡ is_pending_in (aggregate_in self.now a) group }
     {
@@ -171,7 +188,7 @@ impl Aggregates {
         }
     }
 
-    /// An aggregate and a row group that is pending in it, or `None` if there is none. Allocates nothing.
+    /// Returns an aggregate and a row group that is pending in it, or `None` if there is none. Allocates nothing.
     pub fn first_pending(&self) -> Option<(u32, u32)>
         ensures some { IfSome result (λ at. is_pending_in (aggregate_in self.now at.0) at.1 ≡ true) }
         ensures none { IfNone result ((a : ℕ) → (g : ℕ) → is_pending_in (aggregate_in self.now a) g ≡ false) }
@@ -179,9 +196,13 @@ impl Aggregates {
         first_pending(self.registry.as_slice())
     }
 
-    /// What the aggregate of a number answers over the rows for which all are kept. Refused with `NoAggregate` (12) exactly
-    /// if there is none, with `Building` (15) and how many row groups are pending exactly if that is not 0, else with
-    /// `NoMemory` (1) alone.
+    /// Returns the answer of the aggregate of a number, over the rows for which all aggregates are kept.
+    ///
+    /// Refused with the first of these that applies:
+    ///
+    /// - `NoAggregate` (12): there is no such aggregate.
+    /// - `Building` (15): row groups are pending. It says how many.
+    /// - `NoMemory` (1): an allocation fails.
     pub fn answer(&self, alloc: Global, a: u32) -> Result<Answer, Refusal>
         ensures ok { IfOk result (λ answer. (size : ℕ) → (places : List Place) → 0 < size → Keeps size places self.now → Answers places (aggregate_in self.now a) answer) }
         ensures err { IfErr result (λ e. (size : ℕ) → (places : List Place) → Keeps size places self.now → MayRefuse (ask_refusal (aggregate_in self.now a)) true e) }
@@ -192,8 +213,8 @@ impl Aggregates {
         answer(alloc, aggregate)
     }
 
-    /// How many rows the aggregate of a number folds, and the sum of their values, if it is of totals without key column:
-    /// `None` for another, and while row groups are pending. Allocates nothing.
+    /// Returns how many rows the aggregate of a number folds, and the sum of their values, if it is of totals without key
+    /// column. `None` for another, and while row groups are pending. Allocates nothing.
     pub fn plain(&self, a: u32) -> Option<(u64, i128)>
         ensures { (size : ℕ) → (places : List Place) → Keeps size places self.now → result ≡ plain_in places (aggregate_in self.now a) }
     {
@@ -201,8 +222,8 @@ impl Aggregates {
         plain(aggregate)
     }
 
-    /// Scans the rows of a row group into the aggregate of a number in which it is pending. Refused with `NoMemory` (1)
-    /// alone, and then all answer as before.
+    /// Scans the rows of a row group into the aggregate of a number in which it is pending. Refused with `NoMemory` (1) alone.
+    /// A refusal changes no answer.
     pub fn build_at<G: LendGroup>(
         &mut self,
         alloc: Global,
@@ -223,9 +244,10 @@ impl Aggregates {
         build_at(alloc, &mut self.registry, a, group, size, number)
     }
 
-    /// Applies the deltas of a row that is to be appended at a place, the first that is not there yet. Once the rows have
-    /// it, `end` ends the edit; if they refuse it, `undo` undoes the deltas. Refused with `NoMemory` (1) alone, and then
-    /// all answer as before.
+    /// Applies the deltas of a row that is to be appended at a place, the first that is not there yet. Once the rows have it,
+    /// `end` ends the edit. If they refuse it, `undo` undoes the deltas.
+    ///
+    /// Refused with `NoMemory` (1) alone. A refusal changes no answer.
     pub fn apply_deltas<R: LendCells>(
         &mut self,
         alloc: Global,
@@ -242,7 +264,7 @@ impl Aggregates {
         ensures registered { registered_of self.new ≡ registered_of self.old }
         ensures memory { IfErr result (λ e. e ≡ Refusal.NoMemory) }
     {
-        // Rows of a table without aggregates are not asked for what they give.
+        // A table without aggregates does not look at what its rows give.
         if self.registry.is_empty() {
             return Ok(Pending::nothing(alloc));
         }
@@ -271,9 +293,10 @@ impl Aggregates {
         })
     }
 
-    /// Applies the deltas of a place's row with another cell in a column, which the row has, and looks up the pairs of the row
-    /// as it is. Once the rows have the cell, `retract` retracts those; if they refuse it, `undo` undoes the deltas. Refused
-    /// with `NoMemory` (1) alone, and then all answer as before.
+    /// Applies the deltas of a place's row with another cell in a column, which the row has. Also looks up the pairs of the row
+    /// as it is. Once the rows have the cell, `retract` retracts those pairs. If they refuse it, `undo` undoes the deltas.
+    ///
+    /// Refused with `NoMemory` (1) alone. A refusal changes no answer.
     pub fn change_in<R: LendCells>(
         &mut self,
         alloc: Global,
@@ -328,8 +351,8 @@ impl Aggregates {
         })
     }
 
-    /// Looks up the pairs of a place's row that is to be removed. Once the place is dead, `retract` retracts them; if it
-    /// stays alive there is nothing to undo. Refused with `NoMemory` (1) alone. All answer as before.
+    /// Looks up the pairs of a place's row that is to be removed. Once the place is dead, `retract` retracts them. If it stays
+    /// alive, there is nothing to undo. Refused with `NoMemory` (1) alone. All answers are as before.
     pub fn leave<R: LendCells>(
         &mut self,
         alloc: Global,
@@ -383,7 +406,7 @@ impl Aggregates {
         self.end(pending);
     }
 
-    /// Ends an edit that the rows have, if there is nothing to retract: its lists, and the strings of its text keys, are kept
+    /// Ends an edit that the rows have, if there is nothing to retract. Its lists, and the strings of its text keys, are kept
     /// for the next. Allocates nothing.
     pub fn end(&mut self, pending: Pending)
         ensures same { self.new ≡ self.old }
@@ -391,7 +414,7 @@ impl Aggregates {
         self.lists = pending.emptied(&mut self.spare_keys);
     }
 
-    /// Retracts the pairs that the row gave before an edit, which the rows have: the row group lends its columns as they are
+    /// Retracts the pairs that the row gave before an edit, which the rows have. The row group lends its columns as they are
     /// now. Its rows are read only if the least or the greatest value of a key is retracted. Allocates nothing.
     pub fn retract<G: LendGroup>(&mut self, group: &G, pending: Pending)
         requires may { MayRetractAll (G.places group.now) self.old pending }
@@ -408,14 +431,15 @@ impl Aggregates {
         self.end(pending);
     }
 
-    /// Whether `retract` may have to read the rows of the row group: a pair is retracted from extrema. Allocates nothing.
+    /// Returns whether `retract` may have to read the rows of the row group: a pair is retracted from extrema. Allocates
+    /// nothing.
     pub fn needs_rows(&self, pending: &Pending) -> bool
         ensures { result ≡ false → EachIsPlain self.now pending.now.to_retract.items }
     {
         needs_rows(self.registry.as_slice(), pending.to_retract.as_slice())
     }
 
-    /// Does what `retract` does, if `needs_rows` says that no rows are needed: none are lent. Allocates nothing.
+    /// Does what `retract` does, if `needs_rows` returned that no rows are needed: none are lent. Allocates nothing.
     pub fn retract_totals(&mut self, pending: Pending)
         requires may { (here : List Place) × MayRetractAll here self.old pending }
         requires plain { EachIsPlain self.old pending.to_retract.items }

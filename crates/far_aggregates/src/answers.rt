@@ -1,4 +1,4 @@
-// What an aggregate answers.
+// The answer of an aggregate.
 ghost use Rattle.std.specs.Prelude.{◌≡◌, ◌≢◌, ◌<◌, ℕ, List, Some, true, Err, OnOk, IfOk, IfErr};
 ghost use Rattle.far_types.specs.Answers.{total_lines, answer_over};
 ghost use Rattle.far_types.specs.MayRefuse.{MayRefuse};
@@ -11,7 +11,7 @@ use far_groups::LiveTotals;
 use far_types::{Answer, Refusal, TotalLines};
 use std::alloc::Global;
 
-/// The lines of live totals.
+/// Returns the lines of live totals.
 fn lines_of(alloc: Global, live: &LiveTotals) -> Result<TotalLines, Refusal>
     ensures ok { IfOk result (λ lines. lines ≡ total_lines live.now.totals) }
     ensures built { OnOk result (live.now.left ≡ 0) }
@@ -25,8 +25,12 @@ fn lines_of(alloc: Global, live: &LiveTotals) -> Result<TotalLines, Refusal>
     }
 }
 
-/// What an aggregate answers over the rows that it is kept for. Refused with `Building` (15) and how many row groups
-/// are pending exactly if that is not 0, else with `NoMemory` (1) alone.
+/// Returns the answer of an aggregate over the rows that it is kept for.
+///
+/// Refused with the first of these that applies:
+///
+/// - `Building` (15): row groups are pending. It says how many.
+/// - `NoMemory` (1): an allocation fails.
 pub fn answer(alloc: Global, aggregate: &Aggregate) -> Result<Answer, Refusal>
     ensures ok { IfOk result (λ answer. (size : ℕ) → (places : List Place) → 0 < size → KeepsEntry size places (Some aggregate.now) → (left aggregate.now.pending ≡ 0) × (answer ≡ answer_over aggregate.now.spec (rows_of places))) }
     ensures err { IfErr result (λ e. (size : ℕ) → (places : List Place) → KeepsEntry size places (Some aggregate.now) → MayRefuse (ask_refusal (registered_in (Some aggregate.now))) true e) }

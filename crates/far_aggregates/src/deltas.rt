@@ -52,8 +52,8 @@ fn undo_first(registry: &mut [Option<Aggregate>], group: u32, deltas: &[Option<D
     }
 }
 
-/// Adds a pair. For extrema it returns the key's previous least and greatest value in the row group: the one look-up that
-/// adds the pair finds them.
+/// Adds a pair. For extrema it returns the key's previous least and greatest value in the row group. The one look-up that adds
+/// the pair finds them.
 #[inline(always)]
 fn add_to(
     accumulator: &mut Accumulator,
@@ -76,8 +76,8 @@ fn add_to(
     }
 }
 
-/// Adds a value under a number or under no key to an aggregate, and appends the delta to the list, which has capacity for it.
-/// The delta is made where it stays, since a pair that calls hand on by memory costs more than what is done with it.
+/// Adds a value under a number or under no key to an aggregate. Appends the delta to the list, which has capacity for it. The
+/// delta is made in place: passing a pair through memory costs more than adding it.
 #[inline(always)]
 fn apply_under(
     deltas: &mut Vec<Option<Delta>>,
@@ -115,7 +115,7 @@ fn apply_under(
     }
 }
 
-/// As `apply_under`, if the key is a text, which is written into the string of a spare key.
+/// As `apply_under`, if the key is a text. The text is written into the string of a spare key.
 #[inline(never)]
 fn apply_under_text(
     keys: &mut SpareKeys,
@@ -150,8 +150,7 @@ fn apply_under_text(
     }
 }
 
-/// Applies the delta of a row that is alive at a place to an aggregate, and appends it to the list, which has capacity for
-/// it.
+/// Applies the delta of a row that is alive at a place to an aggregate. Appends it to the list, which has capacity for it.
 #[inline(always)]
 fn apply_next<R: LendCells>(
     keys: &mut SpareKeys,
@@ -188,7 +187,7 @@ fn apply_next<R: LendCells>(
 }
 
 /// Applies the deltas of a row that is alive at a place to all aggregates, or to none if an allocation fails. Returns them in a
-/// list that may have been made for an earlier edit: `undo_all` undoes them.
+/// list that may have been made for an earlier edit. `undo_all` undoes them.
 pub fn apply_deltas<R: LendCells>(
     keys: &mut SpareKeys,
     list: Vec<Option<Delta>>,

@@ -1,4 +1,4 @@
-// Live extrema, with what stands under no key beside them.
+// Live extrema that note the min-max of no key.
 ghost use Rattle.std.specs.Prelude.{◌≡◌, ◌≢◌, ◌-◌, ◌<◌, [], None, Some, Err, OnOk, OnErr, IfOk, IfErr, IfSome, IsTrue, ℤ, ◌≤ℤ◌, length, slice_get, slice_set};
 ghost use Rattle.std.specs.FinMap as fin;
 ghost use Rattle.far_types.specs.Effects.{widened, with_observed};
@@ -10,8 +10,8 @@ use far_types::{Answer, Key, Refusal};
 use std::alloc::Global;
 use std::marker::Model;
 
-/// Live extrema. Of an aggregate without key column they know, for the first row groups, what stands under no key without
-/// a look-up. Contracts see what they see of the live extrema.
+/// Live extrema. For an aggregate without key column they note, for the first row groups, the min-max under no key. So it needs
+/// no look-up. Contracts see what they see of the live extrema.
 #[derive(Drop)]
 pub struct KnownExtrema {
     live: LiveExtrema,
@@ -31,8 +31,8 @@ impl Model for KnownExtrema {
     ghost invariant = { λ known. AreKnown known.plain.items known.live.groups };
 }
 
-/// A place in the list for what stands under no key in a row group, where that is the row group after the last. Where memory is
-/// refused there is none, and nothing will be noted.
+/// Makes a place in the list for the min-max under no key of a row group, if that is the row group after the last. If the
+/// allocation fails, there is none, and nothing is noted.
 fn make_place(plain: &mut Vec<Option<MinMax>>, group: usize)
     ensures { plain.new.items ≡ plain.old.items }
 {
@@ -41,8 +41,8 @@ fn make_place(plain: &mut Vec<Option<MinMax>>, group: usize)
     }
 }
 
-/// Notes what stands under no key in a row group, or that it is not known. Where the list has no place for it, and behind
-/// the row group after the last, nothing is noted. Allocates nothing.
+/// Notes the min-max under no key in a row group, or that it is not known. If the list has no place for it, nothing is noted,
+/// nor behind the row group after the last. Allocates nothing.
 fn note(plain: &mut Vec<Option<MinMax>>, group: usize, min_max: Option<MinMax>)
     ensures { IsNoted plain.old.items group min_max plain.new.items }
 {
@@ -53,8 +53,8 @@ fn note(plain: &mut Vec<Option<MinMax>>, group: usize, min_max: Option<MinMax>)
     }
 }
 
-/// What is noted to stand under no key in a row group. The min-max is taken apart and made anew, so that its numbers are passed
-/// on in registers.
+/// Returns what is noted under no key in a row group. The min-max is taken apart and made anew, so that its numbers are passed
+/// in registers.
 #[inline(always)]
 fn noted_in(plain: &[Option<MinMax>], group: usize) -> Option<MinMax>
     ensures { IfSome result (λ min_max. slice_get plain.now group ≡ Some (Some min_max)) }
@@ -65,7 +65,7 @@ fn noted_in(plain: &[Option<MinMax>], group: usize) -> Option<MinMax>
     }
 }
 
-/// Whether a value is within a min-max, if there is one.
+/// Returns whether a value is within a min-max, if there is one.
 #[inline(always)]
 fn is_within_noted(value: i64, min_max: Option<MinMax>) -> bool
     ensures { IsTrue result → (s : ℤ × ℤ) × (min_max ≡ Some s) × (s.0 ≤ℤ value) × (value ≤ℤ s.1) }
@@ -76,7 +76,7 @@ fn is_within_noted(value: i64, min_max: Option<MinMax>) -> bool
     }
 }
 
-/// One folded row more under no key, whose least and greatest value are noted or looked up. Returns the previous ones.
+/// Adds a folded row under no key, whose least and greatest value are noted or looked up. Returns the previous ones.
 fn observe_noted(
     live: &mut LiveExtrema,
     group: u32,
@@ -100,7 +100,7 @@ fn observe_noted(
     }
 }
 
-/// The least and the greatest with a value more.
+/// Returns the least and the greatest with one more value.
 #[inline(always)]
 fn wider(value: i64, previous: Option<MinMax>) -> MinMax
     ensures { result ≡ widened value previous }
@@ -146,8 +146,8 @@ impl KnownExtrema {
         self.live.reserve_for(group, extrema)
     }
 
-    /// As `observe_under`, for a row under no key: where what stands there is noted, a value within that costs no look-up, and
-    /// nothing is written.
+    /// As `observe_under`, for a row under no key. If its min-max is noted, a value within it costs no look-up, and nothing is
+    /// written.
     fn observe_plain(&mut self, group: u32, value: i64) -> Result<Option<MinMax>, Refusal>
         requires { group < length self.old.groups }
         ensures previous { IfOk result (λ previous. previous ≡ fin.get (group_at self.old.groups group) None) }
@@ -203,7 +203,7 @@ impl KnownExtrema {
         }
     }
 
-    /// As `shrink`, for a row under no key: where what stands there is noted, a value strictly within that costs no look-up.
+    /// As `shrink`, for a row under no key. If its min-max is noted, a value strictly within it costs no look-up.
     fn shrink_plain<R: RowsLeft>(&mut self, group: u32, value: i64, rows: &R)
         requires reserved { group < length self.old.groups }
         requires at_hand { R.at_hand rows.now }

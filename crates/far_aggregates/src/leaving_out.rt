@@ -9,7 +9,7 @@ use super::spare_keys::SpareKeys;
 use far_extrema::{MinMax, is_strictly_within};
 use far_types::Key;
 
-/// Whether two keys are one.
+/// Returns whether two keys are one.
 #[inline(always)]
 fn are_same(key: &Option<Key>, other: &Option<Key>) -> bool
     ensures { IsTrue result → key.now ≡ other.now }
@@ -22,14 +22,15 @@ fn are_same(key: &Option<Key>, other: &Option<Key>) -> bool
     }
 }
 
-/// What stands under a key with a value more.
+/// Returns the min-max under a key with one more value.
 fn wide(min_max: MinMax, pair: &Pair) -> MinMax
     ensures { result ≡ widened pair.now.1 (Some min_max) }
 {
     (pair.1.min(min_max.0), pair.1.max(min_max.1))
 }
 
-/// Whether a pair need not be retracted: its value is strictly within what stands under its key since the delta was applied.
+/// Returns whether a pair need not be retracted: its value is strictly within the min-max under its key since the delta was
+/// applied.
 fn need_not_retract(delta: &Option<Delta>, to_retract: &Option<Pair>) -> bool
     ensures { IsTrue result → NeedNotRetract delta.now to_retract.now }
 {
@@ -66,7 +67,7 @@ fn leave_out_each(keys: &mut SpareKeys, to_retract: &mut [Option<Pair>], deltas:
     }
 }
 
-/// The pairs to retract without those that need not be, so that nobody looks up again what stands under their keys.
+/// Returns the pairs to retract without those that need not be. So the min-max under their keys is not looked up again.
 pub fn leave_out(
     keys: &mut SpareKeys,
     pairs: Vec<Option<Pair>>,

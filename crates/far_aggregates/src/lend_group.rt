@@ -5,8 +5,21 @@ ghost use Rattle.far_aggregates.specs.Lending.{IsOfPlaces};
 
 use far_offload::Column;
 
-/// What has columns of one row group at hand: aggregates scan what it lends, and extrema shrink by it, wherever the columns
-/// lie.
+/// What has columns of one row group at hand, wherever they lie. Aggregates scan what it lends, and extrema shrink by it.
+///
+/// ```
+/// fn column(&self, number: u32) -> Option<Column<'_>> {
+///     match self.columns.get(number as usize)? {
+///         Some(LentColumn::Numbers(numbers)) => Some(Column::of_numbers(number, numbers)),
+///         Some(LentColumn::Form(form)) => Some(Column::of_form(number, form)),
+///         None => None,
+///     }
+/// }
+///
+/// fn alive(&self) -> &[bool] {
+///     self.alive
+/// }
+/// ```
 pub trait LendGroup {
     /// The places of the row group, in order.
     ghost places: { Self → List Place };
@@ -14,14 +27,14 @@ pub trait LendGroup {
     /// Whether the column of a number is at hand.
     ghost has: { Self → ℕ → Bool };
 
-    /// The column of a number, read where it lies, or `None` if it is not at hand. Its first cells are those of the
-    /// places; others may stand behind them. Allocates nothing.
+    /// Returns the column of a number, read in place, or `None` if it is not at hand. Its first cells are those of the places;
+    /// others may stand behind them. Allocates nothing.
     fn column(&self, number: u32) -> Option<Column<'_>>
         ensures there { has self.now number ≡ true → IsSome result }
         ensures number { IfSome result (λ column. column.0 ≡ number) }
         ensures cells { IfSome result (IsOfPlaces (places self.now)) };
 
-    /// For each place whether it is alive. Allocates nothing.
+    /// Returns the alive flag of each place. Allocates nothing.
     fn alive(&self) -> &[bool]
         ensures { result.now ≡ map (λ place. place.alive) (places self.now) };
 }

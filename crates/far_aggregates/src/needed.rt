@@ -8,7 +8,7 @@ use super::lend_group::LendGroup;
 use far_offload::Column;
 use far_types::Spec;
 
-/// The column of the test of an aggregate, if it has so many tests.
+/// Returns the column of the `test`-th test of an aggregate, if it has that many tests.
 fn test_column(spec: &Spec, test: usize) -> Option<u32>
     ensures { result ≡ option_map column_of (slice_get spec.now.filter test) }
 {
@@ -18,8 +18,8 @@ fn test_column(spec: &Spec, test: usize) -> Option<u32>
     }
 }
 
-/// The column of a number, which the row group has at hand. Where no number is asked for, a column without a value, which
-/// has another's number.
+/// Returns the column of a number, which the row group has at hand. If no number is asked for, it returns a column without a
+/// value, which has the number `other`.
 fn lent<'a, G: LendGroup>(group: &'a G, number: Option<u32>, other: u32) -> Column<'a>
     requires { IfSome number (λ n. G.has group.now n ≡ true) }
     ensures { IsLent (G.places group.now) other number result }
@@ -33,9 +33,9 @@ fn lent<'a, G: LendGroup>(group: &'a G, number: Option<u32>, other: u32) -> Colu
     }
 }
 
-/// The columns that an aggregate needs: that of its value, that of its key and those of its tests, of which there are at
-/// most 4. They lie in an array, so that extrema shrink without memory. What is left of it has the number of the
-/// value's column, which stands first, so that it is never found. Allocates nothing.
+/// Returns the columns that an aggregate needs: of its value, of its key and of its tests, of which there are at most 4. They
+/// lie in an array, so that extrema shrink without an allocation. The rest of the array has the number of the value's column,
+/// which stands first, so it is never found. Allocates nothing.
 pub fn needed_columns<'a, G: LendGroup>(spec: &Spec, group: &'a G) -> [Column<'a>; 6]
     requires { IsServed (G.has group.now) spec.now }
     ensures { AreAtHand spec.now result (G.places group.now) }
@@ -51,7 +51,7 @@ pub fn needed_columns<'a, G: LendGroup>(spec: &Spec, group: &'a G) -> [Column<'a
     ]
 }
 
-/// Whether an aggregate has no test.
+/// Returns whether an aggregate has no test.
 #[inline(always)]
 pub fn has_no_test(spec: &Spec) -> bool
     ensures { IsTrue result → spec.now.filter ≡ [] }
@@ -59,8 +59,8 @@ pub fn has_no_test(spec: &Spec) -> bool
     spec.filter.as_slice().is_empty()
 }
 
-/// The columns that an aggregate without tests needs: that of its value and that of its key. What is left without a key has
-/// the number of the value's column, so that it is never found. Allocates nothing.
+/// Returns the columns that an aggregate without tests needs: of its value and of its key. Without a key, the rest has the
+/// number of the value's column, so it is never found. Allocates nothing.
 #[inline(always)]
 pub fn untested_columns<'a, G: LendGroup>(spec: &Spec, group: &'a G) -> [Column<'a>; 2]
     requires served { IsServed (G.has group.now) spec.now }

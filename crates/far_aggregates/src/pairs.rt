@@ -10,7 +10,7 @@ use far_types::{Key, LendCells, PairRef, Refusal, number_key};
 /// A folded row: its key, none in an aggregate without key column, and its value.
 pub type Pair = (Option<Key>, i64);
 
-/// The pair that a row that is alive at a place gives to an aggregate, unless its row group is pending.
+/// Returns the pair that a row that is alive at a place gives to an aggregate, unless its row group is pending.
 #[inline(always)]
 pub fn give<'a, R: LendCells>(
     entry: &Option<Aggregate>,
@@ -30,7 +30,7 @@ pub fn give<'a, R: LendCells>(
     }
 }
 
-/// Appends the pair that a row that is alive at a place gives to an aggregate, or none, to the list, which has capacity for
+/// Appends the pair that a row that is alive at a place gives to an aggregate, or none, to the list. The list has capacity for
 /// it.
 #[inline(always)]
 fn next_pair<R: LendCells>(
@@ -63,7 +63,7 @@ fn next_pair<R: LendCells>(
     Ok(())
 }
 
-/// The pairs that a row that is alive at a place gives to the aggregates, in a list that may have been made for an earlier
+/// Returns the pairs that a row that is alive at a place gives to the aggregates. The list may have been made for an earlier
 /// edit. Texts are written into the strings of spare keys.
 pub fn row_pairs<R: LendCells>(
     keys: &mut SpareKeys,

@@ -6,8 +6,15 @@ use super::pairs::Pair;
 use super::spare_keys::SpareKeys;
 use std::alloc::Global;
 
-/// The deltas that an edit applied, and the pairs to retract once the rows are changed. An edit that the rows refuse after all
-/// hands it to `Aggregates::undo`, one that changed them to `Aggregates::retract`.
+/// The deltas that an edit applied, and the pairs to retract once the rows are changed. If the rows refuse the edit, give this
+/// to `Aggregates::undo`. If they changed, give it to `Aggregates::retract`.
+///
+/// ```
+/// if !aggregates.needs_rows(&pending) {
+///     aggregates.retract_totals(pending);
+///     return;
+/// }
+/// ```
 #[derive(Drop)]
 pub struct Pending {
     pub(crate) group: u32,
@@ -16,15 +23,15 @@ pub struct Pending {
 }
 
 impl Pending {
-    /// The row group of the edit. Allocates nothing. It is 0 if `apply_deltas` had no aggregate to change, whichever row
-    /// group the row is of.
+    /// Returns the row group of the edit. It is 0 if `apply_deltas` had no aggregate to change, whatever row group the row is
+    /// in. Allocates nothing.
     pub fn row_group(&self) -> u32
         ensures { result ≡ self.now.group }
     {
         self.group
     }
 
-    /// Of no edit. Allocates nothing.
+    /// Returns a `Pending` without a delta and without a pair. Allocates nothing.
     pub(crate) fn nothing(alloc: Global) -> Pending
         ensures applied { result.applied.items ≡ [] }
     {
@@ -35,7 +42,7 @@ impl Pending {
         }
     }
 
-    /// The lists without their pairs, for the next edit. Their text keys become spare ones. Allocates nothing.
+    /// Returns the lists without their pairs, for the next edit. Their text keys become spare ones. Allocates nothing.
     pub(crate) fn emptied(self, keys: &mut SpareKeys) -> Pending
         ensures applied { result.applied.items ≡ [] }
         ensures to_retract { result.to_retract.items ≡ [] }

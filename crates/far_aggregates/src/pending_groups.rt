@@ -24,7 +24,7 @@ impl Model for PendingGroups {
 impl PendingGroups {
     ghost use Rattle.far_types.specs.Table.{is_pending};
 
-    /// The first `groups` row groups are pending.
+    /// Returns the flags of row groups: the first `groups` are pending.
     pub fn all(alloc: Global, groups: usize) -> Result<PendingGroups, AllocError>
         requires { groups < 2 ^ 32 }
         ensures { IfOk result (λ pending. pending ≡ replicate groups true) }
@@ -34,7 +34,7 @@ impl PendingGroups {
         })
     }
 
-    /// Whether a row group is pending.
+    /// Returns whether a row group is pending.
     pub fn has(&self, group: usize) -> bool
         ensures { result ≡ is_pending self.now group }
     {
@@ -44,7 +44,7 @@ impl PendingGroups {
         }
     }
 
-    /// The first row group that is pending, if there is one.
+    /// Returns the first row group that is pending, if there is one.
     pub fn first(&self) -> Option<u32>
         ensures some { IfSome result (λ g. is_pending self.now g ≡ true) }
         ensures none { IfNone result ((g : ℕ) → is_pending self.now g ≡ false) }
@@ -52,7 +52,7 @@ impl PendingGroups {
         first_set(self.flags.as_slice())
     }
 
-    /// From now on the row group is pending no more. Allocates nothing.
+    /// Marks the row group as scanned. Allocates nothing.
     pub fn clear(&mut self, group: usize)
         ensures { self.new ≡ slice_set self.old group false }
     {
@@ -62,7 +62,7 @@ impl PendingGroups {
     }
 }
 
-/// The index of the first flag that is set.
+/// Returns the index of the first flag that is set.
 fn first_set(flags: &[bool]) -> Option<u32>
     requires { length flags.now < 2 ^ 32 }
     ensures some { IfSome result (λ i. slice_index_or flags.now i false ≡ true) }

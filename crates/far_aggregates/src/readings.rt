@@ -1,4 +1,4 @@
-// What is read of the aggregates without asking them.
+// What can be read of the aggregates without an answer.
 ghost use Rattle.std.specs.Prelude.{◌≡◌, ◌<◌, ◌≤◌, ℕ, List, Some, None, true, false, cond, ◌&&◌, ◌==◌, is_none, length, slice_get, IfSome, IfNone};
 ghost use Rattle.far_types.specs.Table.{Place};
 ghost use Rattle.far_aggregates.specs.Accumulators.{KeepsEntry, registered_in};
@@ -8,7 +8,7 @@ ghost use Rattle.far_aggregates.specs.Aggregates.{joined};
 
 use super::aggregate::{Accumulator, Aggregate};
 
-/// The first row group that is pending, with the lowest number of an aggregate that lacks it.
+/// Returns the first row group that is pending, with the lowest number of an aggregate that lacks it.
 pub fn first_pending(registry: &[Option<Aggregate>]) -> Option<(u32, u32)>
     requires { length registry.now ≤ 32 }
     ensures some { IfSome result (λ at. has_pending at.1 (joined (slice_get registry.now at.0)) ≡ true) }
@@ -24,7 +24,7 @@ pub fn first_pending(registry: &[Option<Aggregate>]) -> Option<(u32, u32)>
     None
 }
 
-/// The count and the sum of an aggregate of totals without key column, if no row group is pending.
+/// Returns the count and the sum of an aggregate of totals without key column, if no row group is pending.
 pub fn plain(aggregate: &Aggregate) -> Option<(u64, i128)>
     ensures { (size : ℕ) → (places : List Place) → KeepsEntry size places (Some aggregate.now) → result ≡ plain_in places (registered_in (Some aggregate.now)) }
 {

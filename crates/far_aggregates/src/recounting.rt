@@ -1,4 +1,4 @@
-// An aggregate that is computed from scratch, out of what its row groups come to.
+// An aggregate that is computed from scratch, from the partial aggregates of its row groups.
 ghost use Rattle.std.specs.Prelude.{◌≡◌, ◌<◌, ◌≤◌, ◌^◌, ℕ, List, Some, true, false, length, slice_set, OnOk, IfOk, IfErr};
 ghost use Rattle.far_types.specs.Answers.{answer_over};
 ghost use Rattle.far_types.specs.Table.{Place, groups, is_pending, rows_of};
@@ -13,7 +13,7 @@ use far_offload::PartialDone;
 use far_types::{Answer, Refusal, Spec};
 use std::alloc::Global;
 
-/// Merges what a row group comes to into an aggregate in which it is pending. Refused with `NoMemory` (1) alone.
+/// Merges the partial aggregate of a row group into an aggregate in which it is pending. Refused with `NoMemory` (1) alone.
 fn merge_next(
     aggregate: &mut Aggregate,
     size: u32,
@@ -33,7 +33,7 @@ fn merge_next(
     Ok(())
 }
 
-/// What an aggregate answers over so many places, from what each of their row groups comes to, in order.
+/// Returns the answer of an aggregate over `places` places, from the partial aggregates of their row groups, in order.
 ///
 /// Refused with `NoMemory` (1) alone.
 pub fn answer_of(
@@ -50,7 +50,7 @@ pub fn answer_of(
     ensures memory { IfErr result (λ e. e ≡ Refusal.NoMemory) }
 {
     let mut aggregate = new_aggregate(alloc, spec.clone()?, 0, size, places)?;
-    // For the proof: it says how few row groups there are.
+    // For the proof: how few row groups there are.
     let _groups = group_count(size, places);
     let mut number = 0;
     for partial in partials {

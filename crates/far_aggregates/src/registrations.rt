@@ -12,7 +12,7 @@ use far_groups::LiveTotals;
 use far_types::{Fold, Refusal, Spec};
 use std::alloc::Global;
 
-/// The lowest number under which no aggregate is registered.
+/// Returns the lowest number under which no aggregate is registered.
 pub fn free_number(registry: &[Option<Aggregate>]) -> Option<u32>
     requires { length registry.now ≤ 32 }
     ensures value { result ≡ free_from 0 (registered_of registry.now) }
@@ -30,7 +30,7 @@ pub fn free_number(registry: &[Option<Aggregate>]) -> Option<u32>
     None
 }
 
-/// The aggregate of a number, if there is one.
+/// Returns the aggregate of a number, if there is one.
 pub fn aggregate_at(registry: &[Option<Aggregate>], a: u32) -> Option<&Aggregate>
     ensures { option_copied result ≡ joined (slice_get registry.now a) }
 {
@@ -40,7 +40,7 @@ pub fn aggregate_at(registry: &[Option<Aggregate>], a: u32) -> Option<&Aggregate
     }
 }
 
-/// How many row groups hold a place.
+/// Returns how many row groups hold a place.
 pub fn group_count(size: u32, places: usize) -> usize
     requires size { 0 < size }
     requires few { places ≤ 2 ^ 24 }
@@ -50,7 +50,7 @@ pub fn group_count(size: u32, places: usize) -> usize
     (places + size as usize - 1) / size as usize
 }
 
-/// The accumulator of no row, while so many row groups are pending.
+/// Returns the accumulator of no row, while `left` row groups are pending.
 fn nothing_kept(alloc: Global, fold: Fold, left: u32) -> Accumulator
     ensures fold { fold_of result ≡ fold }
     ensures nothing { KeepsNothing left result }
@@ -61,7 +61,7 @@ fn nothing_kept(alloc: Global, fold: Fold, left: u32) -> Accumulator
     }
 }
 
-/// An aggregate with nothing scanned: all row groups that hold one of so many places are pending.
+/// Returns an aggregate with nothing scanned: all row groups that hold one of `places` places are pending.
 pub fn new_aggregate(
     alloc: Global,
     spec: Spec,
@@ -108,7 +108,7 @@ pub fn put(
     Ok(())
 }
 
-/// Registers an aggregate over so many places under a number, which is free.
+/// Registers an aggregate over `places` places under a number, which is free.
 pub fn register(
     alloc: Global,
     registry: &mut Vec<Option<Aggregate>>,
@@ -133,7 +133,7 @@ pub fn register(
     put(registry, a, aggregate)
 }
 
-/// No aggregate is under the number any more.
+/// Forgets the aggregate of a number.
 pub fn forget(registry: &mut Vec<Option<Aggregate>>, a: u32)
     requires { a < length registry.old.items }
     ensures registered { registered_of registry.new.items ≡ slice_set (registered_of registry.old.items) a None }

@@ -19,8 +19,8 @@ use far_extrema::{MinMax, RowsLeft};
 use far_offload::min_max_under;
 use far_types::{Key, Spec};
 
-/// The least and the greatest value of the rows of a row group that stand under a key, where there is one. An aggregate without
-/// tests, of which there are many, is lent no columns for them.
+/// Returns the least and the greatest value of the rows of a row group that belong to a key, if there is one. Many aggregates
+/// have no tests: for them no columns of tests are lent.
 #[inline(always)]
 fn min_max_left<G: LendGroup>(spec: &Spec, group: &G, key: &Option<Key>) -> Option<MinMax>
     requires { IsServed (G.has group.now) spec.now }
@@ -45,14 +45,14 @@ impl<'a, G: LendGroup> RowsLeft for Left<'a, G> {
 
     ghost extremes = { λ left. fin.get (extrema (pairs_here left.spec.now (G.places left.group.now))) left.key.now };
 
-    /// It is not inlined, so that its callers keep no stack space for columns that mostly are not looked at.
+    /// It is not inlined, so that its callers keep no stack space for columns that are rarely read.
     #[inline(never)]
     fn min_max(&self) -> Option<MinMax> {
         min_max_left(self.spec, self.group, self.key)
     }
 }
 
-/// Retracts a pair from the extrema of a row group: the rows that are left are read only if its value was the least or the
+/// Retracts a pair from the extrema of a row group. The rows that are left are read only if its value was the least or the
 /// greatest under its key.
 fn shrink<G: LendGroup>(live: &mut KnownExtrema, spec: &Spec, group: &G, number: u32, pair: &Pair)
     requires served { IsServed (G.has group.now) spec.now }
@@ -105,7 +105,7 @@ pub fn retract_all<G: LendGroup>(
     }
 }
 
-/// Whether a pair is retracted from extrema, so that rows may have to be read.
+/// Returns whether a pair is retracted from extrema, so that rows may have to be read.
 fn needs_rows_at(entry: &Option<Aggregate>, to_retract: &Option<Pair>) -> bool
     ensures { result ≡ false → IsPlain entry.now to_retract.now }
 {
@@ -119,7 +119,7 @@ fn needs_rows_at(entry: &Option<Aggregate>, to_retract: &Option<Pair>) -> bool
     false
 }
 
-/// Whether a pair is retracted from some extrema.
+/// Returns whether a pair is retracted from some extrema.
 pub fn needs_rows(registry: &[Option<Aggregate>], to_retract: &[Option<Pair>]) -> bool
     ensures { result ≡ false → EachIsPlain registry.now to_retract.now }
 {

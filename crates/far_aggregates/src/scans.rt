@@ -20,7 +20,7 @@ use far_offload::{PartialDone, fold, fold_into};
 use far_types::{Refusal, Spec};
 use std::alloc::Global;
 
-/// What the live places of a row group come to. Refused with `NoMemory` (1) alone.
+/// Folds the live places of a row group. Refused with `NoMemory` (1) alone.
 pub fn fold_group<G: LendGroup>(
     alloc: Global,
     spec: &Spec,
@@ -35,7 +35,7 @@ pub fn fold_group<G: LendGroup>(
     fold(alloc, spec, &columns, group.alive())
 }
 
-/// The rows that a partial stands for are in too. Refused with `NoMemory` (1) alone, and then what is in stays the same.
+/// Merges a partial aggregate. Refused with `NoMemory` (1) alone. A refused call changes nothing.
 pub fn merge_in(
     accumulator: &mut Accumulator,
     number: u32,
@@ -62,8 +62,8 @@ pub fn merge_in(
     }
 }
 
-/// Adds the rows of a row group to totals in which a row group is pending. Refused with `NoMemory` (1) alone, and then
-/// these stay the same.
+/// Adds the rows of a row group to totals in which a row group is pending. Refused with `NoMemory` (1) alone. A refused call
+/// changes nothing.
 pub fn scan_totals<G: LendGroup>(
     alloc: Global,
     live: &mut LiveTotals,
@@ -83,7 +83,7 @@ pub fn scan_totals<G: LendGroup>(
     fold_into(alloc, live, spec, &columns, group.alive())
 }
 
-/// The rows of a row group are in too. Refused with `NoMemory` (1) alone, and then what is in stays the same.
+/// Scans the rows of a row group. Refused with `NoMemory` (1) alone. A refused call changes nothing.
 fn scan<G: LendGroup>(
     alloc: Global,
     accumulator: &mut Accumulator,
@@ -106,8 +106,8 @@ fn scan<G: LendGroup>(
     merge_in(accumulator, number, partial)
 }
 
-/// Scans the rows of a row group into an aggregate in which it is pending. Refused with `NoMemory` (1) alone, and then it
-/// answers as before.
+/// Scans the rows of a row group into an aggregate in which it is pending. Refused with `NoMemory` (1) alone. A refusal does
+/// not change its answer.
 fn build_in<G: LendGroup>(
     alloc: Global,
     entry: &mut Option<Aggregate>,
@@ -137,8 +137,8 @@ fn build_in<G: LendGroup>(
     Ok(())
 }
 
-/// Scans the rows of a row group into the aggregate of a number. Refused with `NoMemory` (1) alone, and then it answers
-/// as before.
+/// Scans the rows of a row group into the aggregate of a number. Refused with `NoMemory` (1) alone. A refusal does not change
+/// its answer.
 pub fn build_at<G: LendGroup>(
     alloc: Global,
     registry: &mut Vec<Option<Aggregate>>,

@@ -8,11 +8,11 @@ use super::pairs::Pair;
 use far_types::{CellRef, Key, Refusal};
 use std::alloc::Global;
 
-/// How many keys an edit has at most: that of a delta and that of a retracted pair for each of 32 aggregates.
+/// How many keys an edit has at most: for each of 32 aggregates that of a delta and that of a retracted pair.
 const MOST: usize = 64;
 
-/// Text keys of edits that have ended. The next edit writes its texts into their strings, so a key mostly allocates only
-/// where it is new to an aggregate. No answer depends on which keys are here.
+/// Text keys of edits that have ended. The next edit writes its texts into their strings. So a key mostly allocates only if it
+/// is new to an aggregate. No answer depends on which keys are here.
 #[derive(Drop)]
 pub struct SpareKeys {
     alloc: Global,
@@ -20,7 +20,7 @@ pub struct SpareKeys {
 }
 
 impl SpareKeys {
-    /// No key. Allocates nothing.
+    /// Returns a list without a key. Allocates nothing.
     pub fn new(alloc: Global) -> SpareKeys
         ensures { result.keys.items ≡ [] }
     {
@@ -30,7 +30,7 @@ impl SpareKeys {
         }
     }
 
-    /// The key of a text, in the string of a spare key if there is one. Refused with `NoMemory` (1) alone.
+    /// Returns the key of a text, in the string of a spare key if there is one. Refused with `NoMemory` (1) alone.
     pub fn key_of(&mut self, text: &str) -> Result<Option<Key>, Refusal>
         ensures key { IfOk result (λ key. key ≡ Some (keys.Text text.now)) }
         ensures memory { IfErr result (λ e. e ≡ Refusal.NoMemory) }
@@ -42,14 +42,14 @@ impl SpareKeys {
         CellRef::Text(text).key(self.alloc, earlier)
     }
 
-    // Whether a key can be kept. Before the first text key none can, and then no pair is looked at.
+    // Returns whether a key can be kept. Before the first text key none can, and then no pair is looked at.
     fn has_capacity(&self) -> bool
         ensures { IsTrue result ↔ (vec_len self.now.keys < vec_capacity self.now.keys) }
     {
         self.keys.len() < self.keys.capacity()
     }
 
-    /// Keeps the key of a pair that is needed no more, if it is a text and the list has capacity for it. Allocates nothing.
+    /// Keeps the key of a pair that is no longer needed, if it is a text and the list has capacity for it. Allocates nothing.
     pub fn keep(&mut self, pair: Pair)
         ensures kept { vec_len self.old.keys < vec_capacity self.old.keys → self.new.keys.items ≡ self.old.keys.items ++ text_key pair.0 }
         ensures full { vec_capacity self.old.keys ≤ vec_len self.old.keys → self.new.keys.items ≡ self.old.keys.items }

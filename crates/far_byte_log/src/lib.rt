@@ -1,5 +1,5 @@
 #![tactic(auto)]
-//! An engine for a far store, as an example of one: a log of bytes in memory.
+//! An example of an engine for a far store: a log of bytes in memory.
 //!
 //! [`ByteLog`] is to [`far_store::EngineStore`] what a file or a server would be. docs/FAR_STORE.md goes through it.
 

@@ -1,4 +1,4 @@
--- Far forms: how the values of one column and row group lie in the far store.
+-- Far forms: the encoding of the values of one column and row group in the far store.
 use Rattle.std.specs.Prelude.{ℕ, ◌+◌, ◌*◌, ◌/◌, Bool, ◌<◌, ◌^◌, cond, ℤ, FitsSigned, List, [], ◌∷◌, ◌++◌, length, map, take, drop, All, Option, is_none}
 use Rattle.std.specs.List.{list_any, flat_map, range_with_len}
 use Rattle.std.specs.Option.{option_map_or, IfSome}
@@ -9,7 +9,7 @@ abbrev pub mask_byte : List Bool → ℕ
 mask_byte [] = 0
 mask_byte (missing ∷ flags) = cond missing 1 0 + 2 * mask_byte flags
 
--- a value is missing
+-- whether a value is missing
 abbrev pub some_missing : List Bool → Bool
 some_missing flags = list_any (λ missing. missing) flags
 
@@ -17,11 +17,11 @@ some_missing flags = list_any (λ missing. missing) flags
 unfoldable pub mask_bytes : List Bool → List ℕ
 mask_bytes flags = map (λ k. mask_byte (take 8 (drop (8 * k) flags))) (range_with_len 0 ((length flags + 7) / 8))
 
--- the mask: no byte where nothing is missing
+-- the mask: no byte if nothing is missing
 unfoldable pub mask_of : List Bool → List ℕ
 mask_of flags = cond (some_missing flags) (mask_bytes flags) []
 
--- the first byte: 2 where a value is missing, else 1
+-- the first byte: 2 if a value is missing, else 1
 abbrev pub version : List Bool → ℕ
 version flags = cond (some_missing flags) 2 1
 
@@ -37,7 +37,7 @@ number_bytes number = to_le_bytes w64 (option_map_or (cast_unsigned w64) number 
 unfoldable pub ints_form : List (Option ℤ) → List ℕ
 ints_form numbers = head 0 (map is_none numbers) ++ flat_map number_bytes numbers
 
--- a form counts its values in four bytes
+-- the list is no longer than a form can count, in four bytes
 abbrev pub FitsCount : {A : Type 0} → List A → Type 0
 FitsCount values = length values < 2 ^ 32
 

@@ -1,4 +1,4 @@
--- The values that bytes mean which are known to be a far form, of either kind.
+-- The values of bytes that are known to be a far form, of either kind.
 use Rattle.std.specs.Prelude.{ℕ, ◌==◌, cond, ◌⊎◌, List, slice_index}
 use Rattle.far_codec.specs.Reading.{ints_meaning, IsIntsForm}
 use Rattle.far_codec.specs.TextForm.{texts_meaning, IsTextsForm}

@@ -1,4 +1,4 @@
--- That a mask tells which values are missing.
+-- That a mask marks the values that are missing.
 use Rattle.std.proofs.Common.{◌≡◌, ℕ, zero, suc, ◌+◌, ◌*◌, ◌/◌, ◌%◌, ◌^◌, ◌<◌, ◌≤◌, Bool, true, false, cond, eqb, List, [], ◌∷◌, length, get_or, take, drop, refl, sym, ap, ◌∙◌, arith, inl, inr}
 use Rattle.std.specs.Int.{bit_at}
 use Rattle.std.proofs.lemmas.Bool.{cases_Bool}
@@ -75,11 +75,11 @@ no_flag (true ∷ flags) i none = absurd cc
 no_flag (false ∷ flags) zero none = refl
 no_flag (false ∷ flags) (suc i) none = no_flag flags i none
 
--- where no bit is set nothing is missing
+-- without a mask no value is missing
 pub missing_in_none : (i : ℕ) → is_missing [] i ≡ false
 missing_in_none i = ap (λ b. eqb b 1) (bit_at-zero (i % 8))
 
--- the mask tells which values are missing
+-- the mask marks the values that are missing
 pub missing_by_mask : (flags : List Bool) (i : ℕ) → i < length flags → is_missing (mask_of flags) i ≡ get_or flags i false
 missing_by_mask flags i h =
     elim (cases_Bool (some_missing flags)) [

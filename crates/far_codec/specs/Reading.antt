@@ -1,4 +1,4 @@
--- What bytes mean, where they are a far form.
+-- What bytes mean, if they are a far form.
 use Rattle.std.specs.Prelude.{◌≡◌, ℕ, ◌+◌, ◌/◌, ◌%◌, Bool, ◌==◌, cond, ℤ, List, [], length, map, take, drop, Option, None, Some, slice_index, slice_index_or}
 use Rattle.std.specs.List.{range_with_len}
 use Rattle.std.specs.Int.{w32, w64, bit_at, from_le_bytes, cast_signed}
@@ -9,23 +9,23 @@ use Rattle.far_codec.specs.FarForm.{ints_form, AreInts}
 abbrev pub count_in : List ℕ → ℕ
 count_in bytes = from_le_bytes w32 (drop 2 bytes)
 
--- a mask stands behind the head where the first byte is 2
+-- the mask, which is behind the head if the first byte is 2
 abbrev pub mask_in : List ℕ → List ℕ
 mask_in bytes = cond (slice_index bytes 0 == 2) (take ((count_in bytes + 7) / 8) (drop 6 bytes)) []
 
--- what stands behind the mask
+-- what follows the mask
 abbrev pub fields_in : List ℕ → List ℕ
 fields_in bytes = drop (6 + length (mask_in bytes)) bytes
 
--- value i is missing where bit i mod 8 of mask byte i / 8 is set
+-- value i is missing if bit i mod 8 of mask byte i / 8 is set
 abbrev pub is_missing : List ℕ → ℕ → Bool
 is_missing mask i = bit_at (slice_index mask (i / 8)) (i % 8) == 1
 
--- which of so many values a mask tells to be missing
+-- for each of some values, whether a mask marks it as missing
 abbrev pub flags_of : List ℕ → ℕ → List Bool
 flags_of mask count = map (is_missing mask) (range_with_len 0 count)
 
--- the number that eight bytes are
+-- the number of eight bytes
 unfoldable pub number_of : List ℕ → ℤ
 number_of bytes = cast_signed w64 (from_le_bytes w64 bytes)
 

@@ -28,7 +28,7 @@ pub length-number_bytes : (number : Option ℤ) → length (number_bytes number)
 unfolding number_bytes
 length-number_bytes number = refl
 
--- what stands in bytes that begin with a head
+-- what is read of bytes that begin with a head
 pub record HeadRead (flags : List Bool) (bytes rest : List ℕ) : Type 0 where
   pub count : count_in bytes ≡ length flags
   pub mask_is : mask_in bytes ≡ mask_of flags
@@ -111,7 +111,7 @@ pub length-ints_form : (numbers : List (Option ℤ)) → length (ints_form numbe
 unfolding ints_form
 length-ints_form numbers = omega (arith, length-append (head 0 (map is_none numbers)) (flat_map number_bytes numbers), length-head 0 (map is_none numbers), length-words numbers)
 
--- the first byte tells whether a value is missing
+-- the first byte says whether a value is missing
 first_byte : (kind : ℕ) (flags : List Bool) (rest : List ℕ) → get_or (head kind flags ++ rest) 0 0 ≡ version flags
 unfolding head
 first_byte kind flags rest = refl

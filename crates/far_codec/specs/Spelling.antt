@@ -1,4 +1,4 @@
--- When bytes are the spelling of a list.
+-- When bytes are the spelling of a list: its encoding.
 use Rattle.std.specs.Prelude.{◌≡◌, ℕ, List, All}
 
 -- the bytes are the spelling of the list, whose elements are values of their type

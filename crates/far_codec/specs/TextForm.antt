@@ -1,4 +1,4 @@
--- The far form of texts, and what bytes mean that are one.
+-- The far form of texts, and what the bytes of one mean.
 use Rattle.std.specs.Prelude.{◌≡◌, ℕ, ◌+◌, ◌*◌, ◌<◌, ◌≤◌, ◌^◌, true, false, cond, List, [], ◌∷◌, ◌++◌, length, map, take, drop, All, Option, None, Some, IfSome, unwrap_or, is_none, slice_index, slice_range}
 use Rattle.std.specs.List.{flat_map, range_with_len}
 use Rattle.std.specs.Int.{w32, to_le_bytes, from_le_bytes}
@@ -34,7 +34,7 @@ pub record AreTexts (texts : List (Option (List ℕ))) : Type 0 where
 abbrev pub texts_of : List ℕ → List ℕ → List ℕ → List (Option (List ℕ))
 texts_of mask ends body = map (λ i. cond (is_missing mask i) None (Some (slice_range body (slice_index (0 ∷ ends) i) (slice_index ends i)))) (range_with_len 0 (length ends))
 
--- the ends that words of four bytes are
+-- the ends of words of four bytes
 abbrev pub ends_in : List (List ℕ) → List ℕ
 ends_in words = map (from_le_bytes w32) words
 
@@ -47,7 +47,7 @@ pub record IsTextsForm (bytes : List ℕ) : Type 0 where
   pub texts : AreTexts (texts_meaning bytes)
   pub is : bytes ≡ texts_form (texts_meaning bytes)
 
--- text i of these parts is one: it begins where the one before it ends; a missing one has no bytes, another is UTF-8
+-- text i of these parts is a text: it begins where the one before it ends; a missing one has no bytes, another is UTF-8
 pub record IsTextAt (mask ends body : List ℕ) (i : ℕ) : Type 0 where
   pub ordered : slice_index (0 ∷ ends) i ≤ slice_index ends i
   pub inside : slice_index ends i ≤ length body

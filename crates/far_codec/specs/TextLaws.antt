@@ -100,7 +100,7 @@ text_again : (missing : Bool) (text : Option (List ℕ)) (bytes : List ℕ) → 
 text_again missing None bytes e same = ap (λ b. cond b None (Some bytes)) e
 text_again missing (Some text) bytes e same = ap (λ b. cond b None (Some bytes)) e ∙ ap Some same
 
--- a text, by its place
+-- a text, by its index
 abbrev pub text_at : List ℕ → List ℕ → List ℕ → ℕ → Option (List ℕ)
 text_at mask ends body i = cond (is_missing mask i) None (Some (slice_range body (get_or (0 ∷ ends) i 0) (get_or ends i 0)))
 

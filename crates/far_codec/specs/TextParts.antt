@@ -1,4 +1,4 @@
--- What makes ends and text bytes those of texts, one fact after the other.
+-- The facts that make ends and text bytes those of texts.
 -- Internal: no public contract cites it.
 use Rattle.std.specs.Prelude.{◌≡◌, ℕ, ◌<◌, ◌≤◌, true, List, ◌∷◌, length, slice_index, slice_range}
 use Rattle.std.specs.Str.{IsUtf8}
@@ -13,6 +13,6 @@ pub record Ascend (ends : List ℕ) (last : ℕ) : Type 0 where
 abbrev pub MissingAreEmpty : List ℕ → List ℕ → Type 0
 MissingAreEmpty mask ends = (i : ℕ) → i < length ends → is_missing mask i ≡ true → slice_index ends i ≡ slice_index (0 ∷ ends) i
 
--- the bytes of each text are UTF-8, also where it is missing and has none
+-- the bytes of each text are UTF-8, also of a missing one, which has none
 abbrev pub AreUtf8 : List ℕ → List ℕ → Type 0
 AreUtf8 ends body = (i : ℕ) → i < length ends → IsUtf8 (slice_range body (slice_index (0 ∷ ends) i) (slice_index ends i))

@@ -1,4 +1,4 @@
-// Far forms of texts made from the form before one of them changed, in one pass.
+// Far forms of texts once one text changed: made in one pass from the form before.
 ghost use Rattle.std.specs.Prelude.{◌≡◌, ◌++◌, ◌∷◌, ◌+◌, ◌-◌, ◌<◌, ◌≤◌, ◌^◌, [], List, length, map, slice_set, is_none, false, All, OnOk, IfOk, IfErr, IfSome};
 ghost use Rattle.std.specs.List.{flat_map, list_any};
 ghost use Rattle.std.specs.Int.{w32, to_le_bytes};
@@ -15,7 +15,7 @@ use crate::texts::{TextParts, end_in, start_in};
 use far_types::{Refusal, Text};
 use std::alloc::{AllocError, Global};
 
-/// Appends ends that were counted from one byte, counted from another.
+/// Appends ends that were counted from one byte, and counts them from another.
 fn push_moved(
     form: &mut Vec<u8>,
     ends: &[[u8; 4]],
@@ -32,8 +32,7 @@ fn push_moved(
     Ok(())
 }
 
-/// Appends the ends and the bytes of the texts of which text `i` is this one. What stands before it and behind it is
-/// copied as it lies, but for the ends behind it.
+/// Appends the ends and the bytes of the texts once text `i` is this one. Copies the rest unchanged, but for the ends behind it.
 fn push_fields(
     form: &mut Vec<u8>,
     parts: TextParts<'_>,
@@ -65,7 +64,7 @@ fn push_fields(
     Ok(())
 }
 
-/// A list that is needed no more, without its bytes and with space for so many. It allocates only if it has not the space.
+/// Clears a list that is needed no more, and makes space for `size` bytes. Allocates only if the list has not the space.
 #[inline(always)]
 fn emptied(spare: Vec<u8>, size: usize) -> Result<Vec<u8>, Refusal>
     ensures items { IfOk result (λ list. list.items ≡ []) }
@@ -77,7 +76,8 @@ fn emptied(spare: Vec<u8>, size: usize) -> Result<Vec<u8>, Refusal>
     Ok(list)
 }
 
-/// The far form of the texts of which text `i` is this one, in the memory of a list that is needed no more. It has so many bytes.
+/// Makes the far form of the texts once text `i` is this one. The form has `size` bytes. Reuses the memory of a list that is needed no
+/// more.
 fn form_around(
     spare: Vec<u8>,
     parts: TextParts<'_>,
@@ -107,8 +107,8 @@ fn form_around(
     Ok(form)
 }
 
-/// The far form of texts once a text stands behind them, where none is missing, in the memory of a list that is needed no more.
-/// It has so many bytes. Each part is copied as it lies, and the head alone is another.
+/// Makes the far form of texts once a text is appended, if none is missing. It has `size` bytes. Reuses the memory of a list that is
+/// needed no more. Copies each part unchanged; only the head is new.
 fn form_behind(
     spare: Vec<u8>,
     parts: TextParts<'_>,
@@ -137,8 +137,7 @@ fn form_behind(
     Ok(form)
 }
 
-/// The far form of texts once text `i` is this one: one pass over the old form, one allocation. Refused with
-/// `NoMemory` (1) alone.
+/// Makes the far form of texts once text `i` is this one: one pass over the old form, one allocation. Refused with `NoMemory` (1) alone.
 pub fn form_with(
     alloc: Global,
     form: &[u8],
@@ -162,8 +161,10 @@ pub fn form_with(
     )
 }
 
-/// The far form of texts once this text stands behind the others: one pass over the old form. It is made in the memory of a list
-/// that is needed no more, and allocates only if that has not the space. Refused with `NoMemory` (1) alone.
+/// Makes the far form of texts once this text is appended: one pass over the old form.
+///
+/// Reuses the memory of `spare`, a list that is needed no more, and allocates only if that has not the space. Refused with `NoMemory` (1)
+/// alone.
 pub fn form_with_next(spare: Vec<u8>, form: &[u8], text: &Option<Text>) -> Result<Vec<u8>, Refusal>
     requires form { IsTextsForm form.now }
     requires space { texts_length (texts_meaning form.now ++ text.now ∷ []) < 2 ^ 32 }
@@ -180,7 +181,7 @@ pub fn form_with_next(spare: Vec<u8>, form: &[u8], text: &Option<Text>) -> Resul
     form_around(spare, parts, parts.ends.len(), text, size)
 }
 
-/// The far form of one text, in the memory of a list that is needed no more. Refused with `NoMemory` (1) alone.
+/// Makes the far form of one text, in the memory of a list that is needed no more. Refused with `NoMemory` (1) alone.
 pub fn form_of(spare: Vec<u8>, text: &Option<Text>) -> Result<Vec<u8>, Refusal>
     requires { texts_length (text.now ∷ []) < 2 ^ 32 }
     ensures form { IfOk result (λ new. IsTextsForm new.items) }

@@ -7,10 +7,20 @@ use std::alloc::Global;
 
 /// What an object holds: numbers, numbers that may be missing, or the bytes of a far form of texts.
 ///
-/// A list of elements that has a spelling has exactly one, and it reads back.
+/// A list of elements has at most one spelling, which is its encoding as bytes. A spelling reads back.
+///
+/// Elements are read from bytes, and compared with them:
+///
+/// ```
+/// let Some(read) = T::unspell(alloc, bytes)? else {
+///     return Ok(false);
+/// };
+/// let is_same = read.as_slice() == list && T::spells(bytes, list);
+/// ```
 pub trait Elem: Copy + Drop + Send + Sync {
-    /// The element is a value of its type. It is so of each element of a running program, and no proof above knows it
-    /// otherwise.
+    /// The element is a value of its type, as each element of a running program is.
+    ///
+    /// For the proof: nothing else tells the crates above that it is so.
     ghost in_range: { Self → Type 0 };
 
     /// The list has a spelling.
@@ -19,16 +29,16 @@ pub trait Elem: Copy + Drop + Send + Sync {
     /// The spelling of a list that has one.
     ghost spelling: { List Self → List ℕ };
 
-    /// The list that bytes spell, where they spell one.
+    /// The list that bytes spell, if they spell one.
     ghost meaning: { List ℕ → List Self };
 
-    /// The one spelling of the list. Refused with `NoMemory` (1) alone.
+    /// Encodes the list: returns its one spelling. Refused with `NoMemory` (1) alone.
     fn spell(alloc: Global, view: &[Self]) -> Result<Vec<u8>, Refusal>
         requires { has_spelling view.now }
         ensures spelled { IfOk result (λ bytes. IsSpelled in_range has_spelling spelling view.now bytes.items) }
         ensures memory { IfErr result (λ e. e ≡ Refusal.NoMemory) };
 
-    /// The list that the bytes spell, and `None` if they spell none. Refused with `NoMemory` (1) alone.
+    /// Decodes the bytes: returns the list that they spell, or `None` if they spell none. Refused with `NoMemory` (1) alone.
     fn unspell(alloc: Global, bytes: &[u8]) -> Result<Option<Vec<Self>>, Refusal>
         // What is read is spelled so.
         ensures found { IfOk result (λ read. IfSome read (λ list. IsSpelled in_range has_spelling spelling list.items bytes.now)) }

@@ -6,7 +6,7 @@ ghost use Rattle.far_codec.specs.Reading.{flags_of};
 
 use crate::head::is_set;
 
-/// Tells which of some values are missing.
+/// A list of flags that says which values are missing.
 pub(crate) trait Flags {
     ghost use Rattle.std.specs.Prelude.{Bool, List};
 
@@ -27,8 +27,7 @@ pub(crate) trait Flags {
         ensures { result ≡ some_missing (flags self.now) };
 }
 
-/// Whether a value other than value `i` is missing. Where there is no mask, none is: then no flag is looked at. Else the
-/// first one ends the search.
+/// Whether a value other than value `i` is missing. Without a mask none is, and no flag is read. Else the search ends at the first.
 pub(crate) fn other_missing(mask: &[u8], count: usize, i: usize) -> bool
     ensures { result ≡ some_missing (slice_set (flags_of mask.now count) i false) }
 {
@@ -69,7 +68,7 @@ impl<T> Flags for &[Option<T>] {
     }
 }
 
-/// The flags of a mask of so many values, in which that of value `i` is another.
+/// The flags of a mask of `count` values, with another flag for value `i`.
 #[derive(Clone, Copy)]
 pub(crate) struct ChangedFlags<'a> {
     pub mask: &'a [u8],

@@ -1,10 +1,10 @@
-// The head of a far form, and its mask, which tells the missing values.
+// The head of a far form, and its mask, which marks the missing values.
 ghost use Rattle.std.specs.Prelude.{◌≡◌, ◌==◌, ◌↔◌, ◌++◌, ◌+◌, ◌/◌, ◌<◌, ◌^◌, true, not, Bool, List, ℕ, length, IfSome, IsSomeAnd, IsTrue};
 ghost use Rattle.std.specs.List.{list_any};
 ghost use Rattle.far_codec.specs.FarForm.{head, mask_of, some_missing, FitsCount};
 ghost use Rattle.far_codec.specs.Reading.{is_missing, flags_of};
 
-/// A far form of a kind, parted: how many values it counts, its mask, and what follows.
+/// The parts of a far form of a kind: how many values it counts, its mask, and what follows.
 #[derive(Clone, Copy)]
 pub(crate) struct Masked<'a> {
     pub count: usize,
@@ -41,7 +41,7 @@ fn is_mask(mask: &[u8], count: usize) -> bool
     has_bit(mask)
 }
 
-/// The mask of so many values, and what follows it.
+/// Splits off the mask of `count` values.
 fn split_mask(count: usize, rest: &[u8]) -> Option<Masked<'_>>
     requires { count < 2 ^ 32 }
     ensures found { IfSome result (λ m. (m.count ≡ count) × (rest.now ≡ mask_of (flags_of m.mask.now count) ++ m.fields.now) × (some_missing (flags_of m.mask.now count) ≡ true)) }
@@ -62,7 +62,7 @@ fn split_mask(count: usize, rest: &[u8]) -> Option<Masked<'_>>
     })
 }
 
-/// The parts of a form of the kind, as far as its head and its mask go.
+/// Splits off the head and the mask of a form of the kind.
 pub(crate) fn split_head(bytes: &[u8], kind: u8) -> Option<Masked<'_>>
     ensures found { IfSome result (λ m. (m.count < 2 ^ 32) × (bytes.now ≡ head kind (flags_of m.mask.now m.count) ++ m.fields.now)) }
     ensures only { (flags : List Bool) (rest : List ℕ) → FitsCount flags → bytes.now ≡ head kind flags ++ rest → IsSomeAnd result (λ m. (m.count ≡ length flags) × (m.mask.now ≡ mask_of flags) × (m.fields.now ≡ rest)) }

@@ -9,7 +9,7 @@ use crate::text_forms::{bytes_in, form_parts};
 use crate::texts::text_in;
 use far_types::Text;
 
-/// How many bytes a text has that is lent; none if it is missing.
+/// How many bytes a borrowed text has; a missing one has none.
 fn lent_length(text: Option<&str>) -> usize
     ensures { result ≡ length (bytes_of (option_copied text.entry)) }
 {
@@ -19,7 +19,7 @@ fn lent_length(text: Option<&str>) -> usize
     }
 }
 
-/// The bytes of the mask of so many values.
+/// How many bytes the mask of `count` values has.
 fn mask_size(missing: bool, count: usize) -> usize
     requires { count ≤ 2 ^ 32 }
     ensures { result ≡ cond missing ((count + 7) / 8) 0 }
@@ -27,7 +27,7 @@ fn mask_size(missing: bool, count: usize) -> usize
     if missing { (count + 7) / 8 } else { 0 }
 }
 
-/// The length of the form of so many texts with so many bytes.
+/// The length of the form of `count` texts that have `bytes` bytes together.
 pub(crate) fn length_of(missing: bool, count: usize, bytes: usize) -> usize
     requires few { count ≤ 2 ^ 32 }
     requires space { bytes < 2 ^ 63 + 2 ^ 33 }
@@ -53,7 +53,7 @@ pub fn length_with(form: &[u8], i: usize, text: &Option<Text>) -> usize
     )
 }
 
-// How many bytes the far form has once this text stands behind the others, told by the form's parts.
+// How many bytes the far form has once this text is appended, computed from the form's parts.
 fn parted_length_with_next(form: &[u8], text: &Option<Text>) -> usize
     requires { IsTextsForm form.now }
     ensures { result ≡ texts_length (texts_meaning form.now ++ text.now ∷ []) }
@@ -64,12 +64,12 @@ fn parted_length_with_next(form: &[u8], text: &Option<Text>) -> usize
     length_of(missing, count + 1, parts.body.len() + bytes_in(text).len())
 }
 
-/// How many bytes the far form has once this text stands behind the others.
+/// How many bytes the far form has once this text is appended.
 pub fn length_with_next(form: &[u8], text: &Option<Text>) -> usize
     requires { IsTextsForm form.now }
     ensures { result ≡ texts_length (texts_meaning form.now ++ text.now ∷ []) }
 {
-    // A form without a mask gets none by a text that is there: it grows by an end and by the text's bytes.
+    // A form without a mask stays without one if the text is there: it grows by an end and by the text's bytes.
     if form[0] == 1 && text.is_some() {
         return form.len() + 4 + bytes_in(text).len();
     }

@@ -1,4 +1,4 @@
-// The values of a known far form, read where they lie.
+// The values of a known far form, read in place.
 ghost use Rattle.std.specs.Prelude.{◌≡◌, slice_get, IfSome, FitsSigned};
 ghost use Rattle.std.specs.Int.{w64};
 ghost use Rattle.std.specs.Option.{option_and_then, option_copied};
@@ -12,7 +12,16 @@ use crate::text_forms::{form_parts, mask_size};
 use crate::texts::{TextParts, text_in};
 use std::marker::Model;
 
-/// The numbers of a far form, read where they lie. Contracts see their list.
+/// The numbers of a far form, read in place. Contracts see their list.
+///
+/// The cell of a place in a column of numbers, as an arm of the match over the column's values:
+///
+/// ```
+/// ColumnValues::Ints(numbers) => match numbers.get(place) {
+///     Some(number) => CellRef::Int(number),
+///     None => CellRef::Missing,
+/// },
+/// ```
 #[derive(Drop)]
 pub struct LentInts<'a> {
     mask: &'a [u8],
@@ -29,7 +38,7 @@ impl<'a> Model for LentInts<'a> {
 }
 
 impl<'a> LentInts<'a> {
-    /// The numbers of a far form of numbers. Allocates nothing, and looks at the head alone.
+    /// Borrows the numbers of a far form of numbers. Allocates nothing, and reads the head alone.
     fn new(form: &'a [u8]) -> LentInts<'a>
         requires { IsIntsForm form.now }
         ensures { result ≡ ints_meaning form.now }
@@ -41,7 +50,7 @@ impl<'a> LentInts<'a> {
         LentInts { mask, words }
     }
 
-    /// Number `i`; `None` if it is missing, and past the end. Allocates nothing.
+    /// Returns number `i`, or `None` if it is missing or past the end. Allocates nothing.
     pub fn get(&self, i: usize) -> Option<i64>
         ensures number { result ≡ option_and_then (λ number. number) (slice_get self.now i) }
         ensures fits { IfSome result (FitsSigned w64) }
@@ -53,7 +62,16 @@ impl<'a> LentInts<'a> {
     }
 }
 
-/// The texts of a far form, read where they lie. Contracts see the list of the lists of their bytes.
+/// The texts of a far form, read in place. Contracts see the list of the lists of their bytes.
+///
+/// The cell of a place in a column of texts, as an arm of the match over the column's values:
+///
+/// ```
+/// ColumnValues::Texts(texts) => match texts.get(place) {
+///     Some(text) => CellRef::Text(text),
+///     None => CellRef::Missing,
+/// },
+/// ```
 #[derive(Drop)]
 pub struct LentTexts<'a> {
     parts: TextParts<'a>,
@@ -71,7 +89,7 @@ impl<'a> Model for LentTexts<'a> {
 }
 
 impl<'a> LentTexts<'a> {
-    /// The texts of a far form of texts. Allocates nothing, and looks at the head alone.
+    /// Borrows the texts of a far form of texts. Allocates nothing, and reads the head alone.
     fn new(form: &'a [u8]) -> LentTexts<'a>
         requires { IsTextsForm form.now }
         ensures { result ≡ texts_meaning form.now }
@@ -81,7 +99,7 @@ impl<'a> LentTexts<'a> {
         }
     }
 
-    /// Text `i`, lent in place; `None` if it is missing, and past the end. Allocates nothing.
+    /// Borrows text `i` in place. Returns `None` if it is missing or past the end. Allocates nothing.
     pub fn get(&self, i: usize) -> Option<&'a str>
         ensures { option_copied result ≡ option_and_then (λ text. text) (slice_get self.now i) }
     {
@@ -89,14 +107,23 @@ impl<'a> LentTexts<'a> {
     }
 }
 
-/// The values of a far form, read where they lie.
+/// The values of a far form, read in place.
+///
+/// A column of a row group has them by kind:
+///
+/// ```
+/// match values {
+///     LentValues::Ints(numbers) => ColumnValues::Ints(numbers),
+///     LentValues::Texts(texts) => ColumnValues::Texts(texts),
+/// }
+/// ```
 #[derive(Drop)]
 pub enum LentValues<'a> {
     Ints(LentInts<'a>),
     Texts(LentTexts<'a>),
 }
 
-/// The values of bytes that are known to be a far form. Allocates nothing, and looks at the head alone.
+/// Borrows the values of bytes that are known to be a far form. Allocates nothing, and reads the head alone.
 pub fn lend_values(form: &[u8]) -> LentValues<'_>
     requires { IsForm form.now }
     ensures { result ≡ lent_in form.now }

@@ -1,5 +1,5 @@
 #![tactic(auto)]
-//! Far forms: how the values of one column and row group lie in the far store, and the elements of objects.
+//! Far forms: the serialized encoding of the values of one column and row group, for the far store; and the elements of objects.
 
 mod bytes;
 mod changes;

@@ -1,10 +1,19 @@
-// Lists of values, which contracts see as lists.
+// Lists of values.
 ghost use Rattle.std.specs.Prelude.{◌≡◌, length};
 
 use far_types::Text;
 use std::marker::Model;
 
-/// Numbers in their order, each of which may be missing. Contracts see the list.
+/// A list of numbers, each of which may be missing. Contracts see the list.
+///
+/// Whether bytes are the far form of these numbers:
+///
+/// ```
+/// let Some(Values::Ints(list)) = decode(alloc, bytes)? else {
+///     return Ok(false);
+/// };
+/// Ok(list.as_slice() == numbers && ints_length(list.as_slice()) == bytes.len())
+/// ```
 #[derive(Drop, Debug)]
 pub struct IntList {
     numbers: Vec<Option<i64>>,
@@ -19,21 +28,21 @@ impl Model for IntList {
 }
 
 impl IntList {
-    /// The list of these numbers. Allocates nothing.
+    /// Makes the list of these numbers. Allocates nothing.
     pub fn new(numbers: Vec<Option<i64>>) -> IntList
         ensures { result ≡ numbers.items }
     {
         IntList { numbers }
     }
 
-    /// The numbers, lent in place.
+    /// Borrows the numbers in place.
     pub fn as_slice(&self) -> &[Option<i64>]
         ensures { result.now ≡ self.now }
     {
         self.numbers.as_slice()
     }
 
-    /// The numbers. Allocates nothing.
+    /// Returns the numbers that the list was made of. Allocates nothing.
     pub fn into_vec(self) -> Vec<Option<i64>>
         ensures { result.items ≡ self }
     {
@@ -41,7 +50,16 @@ impl IntList {
     }
 }
 
-/// Texts in their order, each of which may be missing. Contracts see the list of the lists of their bytes.
+/// A list of texts, each of which may be missing. Contracts see the list of the lists of their bytes.
+///
+/// Whether bytes are a far form of texts, and as long as it has to be:
+///
+/// ```
+/// let Some(Values::Texts(list)) = decode(alloc, bytes)? else {
+///     return Ok(false);
+/// };
+/// Ok(texts_length(list.as_slice()) == bytes.len())
+/// ```
 #[derive(Drop, Debug)]
 pub struct TextList {
     texts: Vec<Option<Text>>,
@@ -56,21 +74,21 @@ impl Model for TextList {
 }
 
 impl TextList {
-    /// The list of these texts. Allocates nothing.
+    /// Makes the list of these texts. Allocates nothing.
     pub fn new(texts: Vec<Option<Text>>) -> TextList
         ensures { result ≡ texts.items }
     {
         TextList { texts }
     }
 
-    /// The texts, lent in place.
+    /// Borrows the texts in place.
     pub fn as_slice(&self) -> &[Option<Text>]
         ensures { result.now ≡ self.now }
     {
         self.texts.as_slice()
     }
 
-    /// The texts. Allocates nothing.
+    /// Returns the texts that the list was made of. Allocates nothing.
     pub fn into_vec(self) -> Vec<Option<Text>>
         ensures { result.items ≡ self }
     {

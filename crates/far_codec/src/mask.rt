@@ -70,7 +70,7 @@ pub(crate) fn push_head<F: Flags>(form: &mut Vec<u8>, kind: u8, flags: &F) -> Re
     Ok(())
 }
 
-/// What follows the mask of values of which one is missing, where the bytes begin with it. Stops at the first difference.
+/// Returns what follows the mask of values of which one is missing, if the bytes begin with that mask. Stops at the first difference.
 fn strip_mask<'a, T>(bytes: &'a [u8], values: &[Option<T>]) -> Option<&'a [u8]>
     ensures found { IfSome result (λ rest. (bytes.now ≡ mask_bytes (map is_none values.now) ++ rest.now) × (list_any is_none values.now ≡ true)) }
     ensures only { (rest : List ℕ) → bytes.now ≡ mask_bytes (map is_none values.now) ++ rest → list_any is_none values.now ≡ true → IsSomeAnd result (λ r. r.now ≡ rest) }
@@ -91,8 +91,8 @@ fn strip_mask<'a, T>(bytes: &'a [u8], values: &[Option<T>]) -> Option<&'a [u8]>
     Some(rest)
 }
 
-/// What follows the head and the mask of values of which one is missing, where the bytes begin with them. Stops at the
-/// first difference.
+/// Returns what follows the head and the mask of values of which one is missing, if the bytes begin with them. Stops at the first
+/// difference.
 pub(crate) fn strip_head<'a, T>(bytes: &'a [u8], kind: u8, values: &[Option<T>]) -> Option<&'a [u8]>
     ensures found { IfSome result (λ rest. (bytes.now ≡ head kind (map is_none values.now) ++ rest.now) × (list_any is_none values.now ≡ true)) }
     ensures only { (rest : List ℕ) → bytes.now ≡ head kind (map is_none values.now) ++ rest → list_any is_none values.now ≡ true → IsSomeAnd result (λ r. r.now ≡ rest) }

@@ -12,7 +12,7 @@ use crate::words::{are_words, number_in, push_words};
 use far_types::Refusal;
 use std::alloc::{AllocError, Global};
 
-/// The numbers that the words are.
+/// Reads the numbers of the words.
 fn read_numbers(alloc: Global, words: &[[u8; 8]]) -> Result<Vec<i64>, AllocError>
     ensures { IfOk result (λ numbers. numbers.items ≡ map number_of words.now) }
 {
@@ -21,7 +21,7 @@ fn read_numbers(alloc: Global, words: &[[u8; 8]]) -> Result<Vec<i64>, AllocError
     Ok(numbers)
 }
 
-/// The words of a form of numbers without a mask, where the bytes are such a form with any count.
+/// Returns the words of a form of numbers without a mask, if the bytes are such a form with any count.
 pub(crate) fn plain_words(bytes: &[u8]) -> Option<&[[u8; 8]]>
     ensures found { IfSome result (λ words. IsPlain bytes.now words.now) }
     ensures only { (numbers : List ℤ) → bytes.now ≡ plain_form numbers → IsSomeAnd result (λ words. words.now ≡ map (λ x. number_bytes (Some x)) numbers) }
@@ -41,7 +41,7 @@ pub(crate) fn plain_words(bytes: &[u8]) -> Option<&[[u8; 8]]>
     Some(words)
 }
 
-/// Appends the head of so many numbers of which none is missing.
+/// Appends the head of `count` numbers of which none is missing.
 pub(crate) fn push_plain_head(form: &mut Vec<u8>, count: usize) -> Result<(), AllocError>
     requires { count < 2 ^ 32 }
     ensures { OnOk result (form.new.items ≡ form.old.items ++ 1 ∷ 0 ∷ to_le_bytes w32 count) }

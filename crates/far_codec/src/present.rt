@@ -1,4 +1,4 @@
-// Numbers of which none is missing, in a list where they may be: written and compared up to the first that is.
+// Numbers of a list that may have missing ones: written and compared up to the first that is missing.
 ghost use Rattle.std.specs.Prelude.{◌≡◌, ◌++◌, length, map, is_none, false, IfOk, IsTrue};
 ghost use Rattle.std.specs.List.{list_any, flat_map, AllByRecursion};
 ghost use Rattle.far_codec.specs.FarForm.{number_bytes, ints_form};
@@ -8,7 +8,7 @@ use crate::numbers::plain_words;
 use crate::words::Word;
 use std::alloc::AllocError;
 
-/// Writes the words of a block into their places, and tells whether none is missing. Stops at the first that is.
+/// Writes the words of a block into their places. Returns whether no number is missing. Stops at the first that is.
 #[tactic(auto, unfolding(crate::specs::FarForm::number_bytes))]
 fn write_present(words: &mut [[u8; 8]], block: &[Option<i64>]) -> bool
     requires { length words.old ≡ length block.now }
@@ -24,7 +24,7 @@ fn write_present(words: &mut [[u8; 8]], block: &[Option<i64>]) -> bool
     true
 }
 
-/// Appends the words of a few numbers, and tells whether none is missing. Stops at the first that is.
+/// Appends the words of a few numbers. Returns whether none is missing. Stops at the first that is.
 fn push_few(form: &mut Vec<u8>, numbers: &[Option<i64>]) -> Result<bool, AllocError>
     ensures written { IfOk result (λ all. IsTrue all → form.new.items ≡ form.old.items ++ flat_map number_bytes numbers.now) }
     ensures there { IfOk result (λ all. IsTrue all → AllByRecursion IsThere numbers.now) }
@@ -38,8 +38,9 @@ fn push_few(form: &mut Vec<u8>, numbers: &[Option<i64>]) -> Result<bool, AllocEr
     Ok(true)
 }
 
-/// Appends the words of numbers, and tells whether none is missing. Stops at the first that is. They are written in
-/// blocks, without a test that the form has space for each.
+/// Appends the words of numbers. Returns whether none is missing. Stops at the first that is.
+///
+/// Writes them in blocks, without a test for each that the form has the space.
 pub(crate) fn push_present(form: &mut Vec<u8>, numbers: &[Option<i64>]) -> Result<bool, AllocError>
     ensures written { IfOk result (λ all. IsTrue all → form.new.items ≡ form.old.items ++ flat_map number_bytes numbers.now) }
     ensures there { IfOk result (λ all. IsTrue all → AllByRecursion IsThere numbers.now) }
@@ -57,7 +58,7 @@ pub(crate) fn push_present(form: &mut Vec<u8>, numbers: &[Option<i64>]) -> Resul
     push_few(form, rest)
 }
 
-/// Whether the words are those of numbers of which none is missing, up to the first difference.
+/// Whether the words are those of numbers of which none is missing. Stops at the first difference.
 fn are_present(words: &[[u8; 8]], numbers: &[Option<i64>]) -> bool
     ensures found { IsTrue result → (words.now ≡ map number_bytes numbers.now) × AllByRecursion IsThere numbers.now }
     ensures only { words.now ≡ map number_bytes numbers.now → list_any is_none numbers.now ≡ false → IsTrue result }
@@ -73,7 +74,7 @@ fn are_present(words: &[[u8; 8]], numbers: &[Option<i64>]) -> bool
     true
 }
 
-/// Whether the bytes are the far form of numbers of which none is missing, up to the first difference.
+/// Whether the bytes are the far form of numbers of which none is missing. Stops at the first difference.
 pub(crate) fn spells_present(bytes: &[u8], numbers: &[Option<i64>]) -> bool
     ensures found { IsTrue result → (bytes.now ≡ ints_form numbers.now) × AllByRecursion IsThere numbers.now }
     ensures only { bytes.now ≡ ints_form numbers.now → list_any is_none numbers.now ≡ false → IsTrue result }

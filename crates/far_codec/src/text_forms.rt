@@ -1,4 +1,4 @@
-// Far forms of texts: how they are written, and how a text of one is lent.
+// Far forms of texts: how they are written, and how a text of one is borrowed.
 ghost use Rattle.std.specs.Prelude.{◌≡◌, ◌++◌, ◌∷◌, ◌+◌, ◌/◌, ◌==◌, ◌<◌, ◌^◌, [], cond, ℕ, List, Option, Some, length, map, slice_get, option_and_then, OnOk, IfOk, IfErr, IfSome, All};
 ghost use Rattle.std.specs.Option.{option_copied};
 ghost use Rattle.std.specs.List.{flat_map};
@@ -12,7 +12,7 @@ use crate::texts::{TextParts, split_texts, text_in};
 use far_types::{Refusal, Text};
 use std::alloc::{AllocError, Global};
 
-/// The bytes of a text, lent in place; none if it is missing.
+/// Borrows the bytes of a text in place; a missing one has none.
 pub(crate) fn bytes_in(text: &Option<Text>) -> &[u8]
     ensures bytes { result.now ≡ bytes_of text.now }
     ensures utf8 { IfSome text.now IsUtf8 }
@@ -68,7 +68,7 @@ fn push_texts(form: &mut Vec<u8>, texts: &[Option<Text>]) -> Result<(), AllocErr
     Ok(())
 }
 
-/// The one far form of texts. Refused with `NoMemory` (1) alone.
+/// Encodes texts: returns their one far form. Refused with `NoMemory` (1) alone.
 pub fn encode_texts(alloc: Global, texts: &[Option<Text>]) -> Result<Vec<u8>, Refusal>
     requires count { length texts.now < 2 ^ 32 }
     requires bytes { text_bytes texts.now < 2 ^ 32 }
@@ -83,8 +83,10 @@ pub fn encode_texts(alloc: Global, texts: &[Option<Text>]) -> Result<Vec<u8>, Re
     Ok(form)
 }
 
-/// Text `i` of the texts that the bytes are the far form of, lent in place; `None` if the bytes are none, past
-/// the end, and where text `i` is missing. Allocates nothing.
+/// Borrows text `i` of a far form in place. Allocates nothing. Returns `None` if:
+/// - the bytes are no far form of texts;
+/// - text `i` is past the end;
+/// - text `i` is missing.
 pub fn text_at(bytes: &[u8], i: usize) -> Option<&str>
     ensures found { IfSome result (λ text. IsTextsForm bytes.now × (slice_get (texts_meaning bytes.now) i ≡ Some (Some text.now))) }
     ensures only { IsTextsForm bytes.now → option_copied result ≡ option_and_then (λ text. text) (slice_get (texts_meaning bytes.now) i) }
@@ -93,7 +95,7 @@ pub fn text_at(bytes: &[u8], i: usize) -> Option<&str>
     text_in(parts, i)
 }
 
-/// How many bytes the mask of so many values has, by the first byte of a form.
+/// How many bytes the mask of `count` values has, by the first byte of a form.
 pub(crate) fn mask_size(version: u8, count: usize) -> usize
     requires { count < 2 ^ 32 }
     ensures { result ≡ cond (version == 2) ((count + 7) / 8) 0 }
@@ -101,7 +103,7 @@ pub(crate) fn mask_size(version: u8, count: usize) -> usize
     if version == 2 { (count + 7) / 8 } else { 0 }
 }
 
-/// The parts of bytes that are known to be a far form of texts.
+/// Splits bytes that are known to be a far form of texts into its parts.
 pub(crate) fn form_parts(form: &[u8]) -> TextParts<'_>
     requires { IsTextsForm form.now }
     ensures parts { AreTextParts result.mask.now (ends_in result.ends.now) result.body.now }
@@ -116,7 +118,7 @@ pub(crate) fn form_parts(form: &[u8]) -> TextParts<'_>
     TextParts { mask, ends, body }
 }
 
-/// How many texts a far form of texts has. Allocates nothing, and looks at the head alone.
+/// How many texts a far form of texts has. Allocates nothing, and reads the head alone.
 pub fn count_texts(form: &[u8]) -> usize
     requires { IsTextsForm form.now }
     ensures { result ≡ length (texts_meaning form.now) }
@@ -124,8 +126,9 @@ pub fn count_texts(form: &[u8]) -> usize
     form_parts(form).ends.len()
 }
 
-/// Text `i` of a far form of texts, lent in place; `None` past the end, and where it is missing. Allocates nothing,
-/// and looks at the head, one bit of the mask and two ends alone.
+/// Borrows text `i` of a known far form of texts in place. Returns `None` if it is past the end or missing.
+///
+/// Allocates nothing. Reads only the head, one bit of the mask and two ends.
 pub fn text_of(form: &[u8], i: usize) -> Option<&str>
     requires { IsTextsForm form.now }
     ensures { option_copied result ≡ option_and_then (λ text. text) (slice_get (texts_meaning form.now) i) }

@@ -1,4 +1,4 @@
-// Texts that may be missing: the parts of their far form, and how they are read from them.
+// Texts that may be missing: the parts of their far form, and how they are read.
 ghost use Rattle.std.specs.Prelude.{◌≡◌, ◌↔◌, ◌≤◌, ℕ, List, ◌∷◌, Option, length, slice_get, slice_index, option_and_then, IfOk, IfErr, IfSome, IsSome, IsTrue};
 ghost use Rattle.std.specs.Option.{option_copied};
 ghost use Rattle.std.specs.Int.{w32, from_le_bytes};
@@ -10,7 +10,7 @@ use crate::head::{Masked, is_set, split_head};
 use far_types::{Refusal, Text};
 use std::alloc::Global;
 
-/// A form of texts, parted: its mask, the end of each text in four bytes, and the text bytes.
+/// The parts of a form of texts: its mask, the end of each text in four bytes, and the text bytes.
 #[derive(Clone, Copy)]
 pub(crate) struct TextParts<'a> {
     pub mask: &'a [u8],
@@ -85,7 +85,7 @@ fn are_utf8(ends: &[[u8; 4]], body: &[u8]) -> bool
     true
 }
 
-/// Whether the parts are those of texts. Where all text bytes are ASCII, no text is looked at by itself.
+/// Whether the parts are those of texts. If all text bytes are ASCII, no text is checked by itself.
 fn are_texts(mask: &[u8], ends: &[[u8; 4]], body: &[u8]) -> bool
     ensures { IsTrue result ↔ AreTextParts mask.now (ends_in ends.now) body.now }
 {
@@ -101,7 +101,7 @@ fn are_texts(mask: &[u8], ends: &[[u8; 4]], body: &[u8]) -> bool
     are_utf8(ends, body)
 }
 
-/// The parts of a form of texts, where the bytes are one.
+/// Splits a form of texts into its parts. Returns `None` if the bytes are no such form.
 pub(crate) fn split_texts(bytes: &[u8]) -> Option<TextParts<'_>>
     ensures parts { IfSome result (λ p. AreTextParts p.mask.now (ends_in p.ends.now) p.body.now) }
     ensures found { IfSome result (λ p. AreTexts (texts_of p.mask.now (ends_in p.ends.now) p.body.now) × (bytes.now ≡ texts_form (texts_of p.mask.now (ends_in p.ends.now) p.body.now))) }
@@ -123,7 +123,7 @@ pub(crate) fn split_texts(bytes: &[u8]) -> Option<TextParts<'_>>
     Some(TextParts { mask, ends, body })
 }
 
-/// Text `i` of a form that was parted, lent in place; `None` if it is missing, and past the end.
+/// Borrows text `i` of the parts in place. Returns `None` if it is missing or past the end.
 pub(crate) fn text_in<'a>(parts: TextParts<'a>, i: usize) -> Option<&'a str>
     requires { AreTextParts parts.mask.now (ends_in parts.ends.now) parts.body.now }
     ensures { option_copied result ≡ option_and_then (λ text. text) (slice_get (texts_of parts.entry.mask.now (ends_in parts.entry.ends.now) parts.entry.body.now) i) }
@@ -139,7 +139,7 @@ pub(crate) fn text_in<'a>(parts: TextParts<'a>, i: usize) -> Option<&'a str>
     Some(unsafe { str::from_utf8_unchecked(&parts.body[start..end]) })
 }
 
-/// An equal text of its own, where there is one.
+/// Copies a text, if there is one.
 fn owned(alloc: Global, text: Option<&str>) -> Result<Option<Text>, Refusal>
     ensures equal { IfOk result (λ owned. owned ≡ option_copied text.entry) }
     ensures memory { IfErr result (λ e. e ≡ Refusal.NoMemory) }
@@ -150,7 +150,7 @@ fn owned(alloc: Global, text: Option<&str>) -> Result<Option<Text>, Refusal>
     }
 }
 
-/// The texts of a form that was parted.
+/// Reads the texts of a form from its parts.
 pub(crate) fn read_texts(alloc: Global, parts: TextParts<'_>) -> Result<Vec<Option<Text>>, Refusal>
     requires { AreTextParts parts.mask.now (ends_in parts.ends.now) parts.body.now }
     ensures read { IfOk result (λ texts. texts.items ≡ texts_of parts.entry.mask.now (ends_in parts.entry.ends.now) parts.entry.body.now) }

@@ -11,13 +11,23 @@ use far_types::{Kind, Refusal};
 use std::alloc::Global;
 
 /// The values of a far form, in their order. Each may be missing.
+///
+/// Bytes are decoded, and encoded again:
+///
+/// ```
+/// let (read, form) = match decode(alloc, bytes)? {
+///     Some(Values::Ints(list)) => (Kind::Int, encode_ints(alloc, list.as_slice())),
+///     Some(Values::Texts(list)) => (Kind::Text, encode_texts(alloc, list.as_slice())),
+///     None => return Ok(false),
+/// };
+/// ```
 #[derive(Drop, Debug)]
 pub enum Values {
     Ints(IntList),
     Texts(TextList),
 }
 
-/// The values that the bytes are the far form of; `None` if they are none. Refused with `NoMemory` (1) alone.
+/// Decodes a far form: returns its values, or `None` if the bytes are no far form. Refused with `NoMemory` (1) alone.
 pub fn decode(alloc: Global, bytes: &[u8]) -> Result<Option<Values>, Refusal>
     // What is read has these bytes as its form.
     ensures found { IfOk result (λ read. IfSome read (λ values. HaveForm values × (bytes.now ≡ form_of values))) }
@@ -34,7 +44,7 @@ pub fn decode(alloc: Global, bytes: &[u8]) -> Result<Option<Values>, Refusal>
     Ok(None)
 }
 
-/// The kind of the values that the bytes are the far form of; `None` if they are none. Allocates nothing.
+/// Returns the kind of a far form's values, or `None` if the bytes are no far form. Allocates nothing.
 pub fn kind_of(bytes: &[u8]) -> Option<Kind>
     ensures ints { (result ≡ Some Kind.Int) ↔ IsIntsForm bytes.now }
     ensures texts { (result ≡ Some Kind.Text) ↔ IsTextsForm bytes.now }

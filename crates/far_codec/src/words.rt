@@ -7,7 +7,7 @@ ghost use Rattle.far_codec.specs.Reading.{number_of};
 
 use std::alloc::AllocError;
 
-/// What is written as eight bytes.
+/// A value that is written as eight bytes.
 pub(crate) trait Word: Copy + Drop {
     /// The eight bytes.
     ghost written: { Self → List ℕ };
@@ -46,7 +46,7 @@ impl Word for Option<i64> {
     }
 }
 
-/// The number that eight bytes are.
+/// Reads the number of eight bytes.
 #[tactic(auto, unfolding(crate::specs::Reading::number_of))]
 pub(crate) fn number_in(word: &[u8; 8]) -> i64
     ensures { result ≡ number_of word.now }
@@ -65,7 +65,7 @@ fn write_words<T: Word>(words: &mut [[u8; 8]], block: &[T])
     }
 }
 
-/// Appends the words of a list. They are written in blocks, so that a compiler makes wide moves of them.
+/// Appends the words of a list. Writes them in blocks, so that a compiler makes wide moves of them.
 pub(crate) fn push_words<T: Word>(form: &mut Vec<u8>, list: &[T]) -> Result<(), AllocError>
     ensures written { OnOk result (form.new.items ≡ form.old.items ++ flat_map T.written list.now) }
     ensures range { OnOk result (AllByRecursion T.in_range list.now) }
@@ -84,7 +84,7 @@ pub(crate) fn push_words<T: Word>(form: &mut Vec<u8>, list: &[T]) -> Result<(), 
     Ok(())
 }
 
-/// Whether the words are those of the list, up to the first difference.
+/// Whether the words are those of the list. Stops at the first difference.
 pub(crate) fn are_words<T: Word>(words: &[[u8; 8]], list: &[T]) -> bool
     ensures exact { IsTrue result ↔ (words.now ≡ map T.written list.now) }
     ensures range { IsTrue result → AllByRecursion T.in_range list.now }

@@ -12,7 +12,7 @@ use Rattle.far_vector.specs.Vectors.{AreVectors}
 use Rattle.far_vector.specs.Effects.{is_full, after_push, pushed_in}
 use Rattle.far_columns.specs.Numbers.{Numbers}
 
--- a list for each object by its number, where it has one
+-- a list for each object that has one, by its number
 abbrev pub NumberLists : Type 0
 NumberLists = ℕ → Option Numbers
 
@@ -20,7 +20,7 @@ NumberLists = ℕ → Option Numbers
 abbrev pub NumberColumns : Type 0
 NumberColumns = List (Vector (Option ℤ))
 
--- columns of one table: columns of numbers that lie in these lists, of one length and one size of row groups
+-- columns of one table: they lie in these lists, and have one length and one size of row groups
 pub record AreNumberColumns (lists : NumberLists) (columns : NumberColumns) : Type 0 where
   pub all_disjoint : AreVectors lists columns
   pub same_length : AllPairs (λ c d. (c.size ≡ d.size) × (c.len ≡ d.len)) columns
@@ -40,8 +40,7 @@ all_numbers_with lists [] numbers = []
 all_numbers_with lists (c ∷ columns) [] = []
 all_numbers_with lists (c ∷ columns) (number ∷ numbers) = (elements lists c ++ number ∷ []) ∷ all_numbers_with lists columns numbers
 
--- every column that has no object in common with one of these stays a column, keeps its numbers, and has none in common
--- with one of those that they become
+-- every column that is disjoint from these stays a column, keeps its numbers, and is disjoint from those that they become
 pub record KeepsNumbers (old new : NumberLists) (columns becoming : NumberColumns) : Type 0 where
   pub is : (w : Vector (Option ℤ)) → IsVector old w → All (λ c. AreDisjoint c w) columns → IsVector new w
   pub numbers : (w : Vector (Option ℤ)) → IsVector old w → All (λ c. AreDisjoint c w) columns → elements new w ≡ elements old w

@@ -6,6 +6,16 @@ use std::alloc::Global;
 use std::marker::Model;
 
 /// The alive flags of a table's places, by place. Contracts see their list.
+///
+/// ```
+/// let mut alive = Alive::new(alloc);
+/// for _ in 0..count {
+///     let Ok(()) = alive.push() else {
+///         return None;
+///     };
+/// }
+/// Some(alive)
+/// ```
 #[derive(Drop)]
 pub struct Alive {
     flags: Vec<bool>,
@@ -20,7 +30,7 @@ impl Model for Alive {
 }
 
 impl Alive {
-    /// No place. Allocates nothing.
+    /// Returns the flags of no place. Allocates nothing.
     pub fn new(alloc: Global) -> Alive
         ensures { result ≡ [] }
     {
@@ -29,21 +39,21 @@ impl Alive {
         }
     }
 
-    /// How many places there are. Allocates nothing.
+    /// Returns how many places there are. Allocates nothing.
     pub fn len(&self) -> usize
         ensures { result ≡ length self.now }
     {
         self.flags.len()
     }
 
-    /// Whether a place is alive; `None` if there is no such place. Allocates nothing.
+    /// Returns whether a place is alive; `None` if there is no such place. Allocates nothing.
     pub fn get(&self, place: usize) -> Option<bool>
         ensures { result ≡ slice_get self.now place }
     {
         self.flags.get(place).copied()
     }
 
-    /// One place more, which is alive. Refused with `NoMemory` (1) alone; then nothing is changed.
+    /// Adds a place, which is alive. Refused with `NoMemory` (1) alone. A refused call changes nothing.
     pub fn push(&mut self) -> Result<(), Refusal>
         ensures ok { OnOk result (self.new ≡ self.old ++ true ∷ []) }
         ensures memory { IfErr result (λ e. e ≡ Refusal.NoMemory) }
@@ -53,7 +63,7 @@ impl Alive {
         Ok(())
     }
 
-    /// Takes back the last push: the last place goes. Allocates nothing.
+    /// Undoes the last push: removes the last place. Allocates nothing.
     pub fn unpush(&mut self)
         requires { 0 < length self.old }
         ensures { self.new ≡ take (length self.old - 1) self.old }
@@ -61,7 +71,7 @@ impl Alive {
         self.flags.pop();
     }
 
-    /// The place is not alive from now on. Allocates nothing.
+    /// Clears the flag of a place. Allocates nothing.
     pub fn clear(&mut self, place: usize)
         requires { place < length self.old }
         ensures { self.new ≡ slice_set self.old place false }
@@ -69,14 +79,14 @@ impl Alive {
         self.flags[place] = false;
     }
 
-    /// The flags of all places, lent in place.
+    /// Returns the flags of all places, borrowed.
     pub fn all(&self) -> &[bool]
         ensures { result.now ≡ self.now }
     {
         &self.flags
     }
 
-    /// The flags of the places `from` to `to`, lent in place.
+    /// Returns the flags of the places `from` up to `to`, borrowed.
     pub fn flags(&self, from: usize, to: usize) -> &[bool]
         requires ordered { from ≤ to }
         requires within { to ≤ length self.now }

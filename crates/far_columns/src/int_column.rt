@@ -25,9 +25,19 @@ use std::marker::Model;
 pub use together::{fill_numbers, may_push_numbers, push_numbers, unpush_numbers};
 
 /// A column of numbers, each of which may be missing. The numbers of a row group are the list of one object of the
-/// `Objects<Option<i64>, S>` that each call names; in places that are not yet used stands 0.
+/// `Objects<Option<i64>, S>` that each call names. Places that are not yet used hold 0.
 ///
 /// Contracts see the column as a vector, whose default value is 0, and its numbers by the lists of its objects.
+///
+/// ```
+/// for number in numbers {
+///     if objects.count() >= 1 << 28 {
+///         return Err(Refusal::TableFull);
+///     }
+///     column.push(objects, *number)?;
+/// }
+/// Ok(())
+/// ```
 #[derive(Drop)]
 pub struct IntColumn {
     vector: FarVector<Option<i64>>,
@@ -48,8 +58,8 @@ impl Model for IntColumn {
 impl IntColumn {
     ghost use Rattle.std.specs.Prelude.{ℤ};
 
-    /// A column without a number: its number, by which its objects are named, and how many places a row group has. All
-    /// memory beside the objects is taken here. Refused with `NoMemory` (1) alone.
+    /// Returns a column without a number. Its number names its objects, and `size` is how many places a row group has.
+    /// Allocates all memory outside the objects. Refused with `NoMemory` (1) alone.
     pub fn new(alloc: Global, column: u32, size: u32) -> Result<IntColumn, Refusal>
         requires { 0 < size }
         ensures empty { IfOk result (λ c. c ≡ record { column = column; size = size; objects = []; len = 0; default_value = Some (pos 0) }) }
@@ -61,7 +71,7 @@ impl IntColumn {
         })
     }
 
-    /// How many numbers there are. Allocates nothing.
+    /// Returns how many numbers there are. Allocates nothing.
     pub fn len(&self) -> usize
         ensures len { result ≡ self.now.len }
         ensures shaped { IsShaped self.now }
@@ -70,17 +80,19 @@ impl IntColumn {
         self.vector.len()
     }
 
-    /// The object of a row group; `None` exactly if no place of it is used. Allocates nothing.
+    /// Returns the object of a row group; `None` exactly if no place of it is used. Allocates nothing.
     pub fn object(&self, group: u32) -> Option<u32>
         ensures { result ≡ slice_get self.now.objects group }
     {
         self.vector.object(group)
     }
 
-    /// The number of a place; `None` if it is missing. Allocates nothing.
+    /// Returns the number of a place; `None` if it is missing. Allocates nothing.
     ///
-    /// Refused with `OutOfRange` (14) exactly past the end, else with `Absent` (16) exactly if the object of the place's
-    /// row group is away.
+    /// Refused with the first of these that applies:
+    ///
+    /// - `OutOfRange` (14): the place is past the end.
+    /// - `Absent` (16): the object of the place's row group is away.
     pub fn get<S: FarTickets>(
         &self,
         objects: &Objects<Option<i64>, S>,
@@ -93,13 +105,20 @@ impl IntColumn {
         self.vector.get(objects, place)
     }
 
-    /// Adds a number at the end: in the last row group, or, where that is full, in a new one, whose object is made here.
-    /// `unpush` undoes a push that made an object (`undone`).
+    /// Adds a number at the end. If the last row group is full, it makes the object of a new one. `unpush` undoes a push that
+    /// made an object (`undone`).
     ///
-    /// Refused, where it begins a row group, with `RegionFull` (17) exactly if no segment has the space, else with
-    /// `NoMemory` (1) alone. Elsewhere refused with `Absent` (16) exactly if the last row group's object is away, else
-    /// with `EditsUsedUp` (24) exactly if that was written as often as objects may be, and allocates nothing. Then nothing
-    /// is changed.
+    /// If the number begins a row group, refused with the first of these that applies:
+    ///
+    /// - `RegionFull` (17): no segment has the space.
+    /// - `NoMemory` (1): an allocation fails.
+    ///
+    /// Otherwise it allocates nothing, and is refused with the first of these that applies:
+    ///
+    /// - `Absent` (16): the last row group's object is away.
+    /// - `EditsUsedUp` (24): that object was written as often as objects may be.
+    ///
+    /// A refused call changes nothing.
     pub fn push<S: FarTickets>(
         &mut self,
         objects: &mut Objects<Option<i64>, S>,
@@ -126,7 +145,7 @@ impl IntColumn {
         self.vector.push(objects, number)
     }
 
-    /// Takes back a push that made an object: its number, the only one of its row group, and the object. Allocates nothing.
+    /// Undoes a push that made an object: removes its number, the only one of its row group, and the object. Allocates nothing.
     pub fn unpush<S: FarTickets>(&mut self, objects: &mut Objects<Option<i64>, S>)
         requires is { IsVector (number_lists S.content objects.old) self.old }
         requires alone { self.old.len ≡ (length self.old.objects - 1) * self.old.size + 1 }
@@ -148,9 +167,13 @@ impl IntColumn {
 
     /// Writes the number of a place; its row group's object counts as written. Allocates nothing.
     ///
-    /// Refused with `OutOfRange` (14) exactly past the end, else with `Absent` (16) exactly if the object of the place's
-    /// row group is away, else with `EditsUsedUp` (24) exactly if that was written as often as objects may be; then
-    /// nothing is changed.
+    /// Refused with the first of these that applies:
+    ///
+    /// - `OutOfRange` (14): the place is past the end.
+    /// - `Absent` (16): the object of the place's row group is away.
+    /// - `EditsUsedUp` (24): that object was written as often as objects may be.
+    ///
+    /// A refused call changes nothing.
     pub fn set<S: FarTickets>(
         &mut self,
         objects: &mut Objects<Option<i64>, S>,
@@ -173,8 +196,8 @@ impl IntColumn {
         self.vector.set(objects, place, number)
     }
 
-    /// Writes the number of a place that may be written, as `set` does, where the caller knows its row group. So nothing is asked
-    /// again, and no place is divided. Allocates nothing.
+    /// Writes the number of a place that may be written, as `set` does. The caller passes its row group, so it repeats no check
+    /// and no division. Allocates nothing.
     pub fn set_in_group<S: FarTickets>(
         &self,
         objects: &mut Objects<Option<i64>, S>,
@@ -197,7 +220,7 @@ impl IntColumn {
         self.vector.set_in_group(objects, group, place, number);
     }
 
-    /// Whether the number of a place may be written. Allocates nothing, and is refused exactly as `set` is.
+    /// Checks that the number of a place may be written. Allocates nothing, and is refused exactly as `set` is.
     pub fn may_set<S: FarTickets>(
         &self,
         objects: &Objects<Option<i64>, S>,
@@ -209,11 +232,13 @@ impl IntColumn {
         self.vector.may_set(objects, place)
     }
 
-    /// The numbers of the places `from` up to `to`, lent in place with the flags of their places, piece by piece: one for each
-    /// row group that has some of them. Allocates nothing.
+    /// Returns the numbers of the places `from` up to `to` with their alive flags, borrowed. There is a piece for each row
+    /// group that has some of them. Allocates nothing.
     ///
-    /// Refused with `OutOfRange` (14) exactly if `from` is above `to` or `to` is past the end; else with `Absent` (16)
-    /// exactly if the object of a row group with some of them is away, naming the first such.
+    /// Refused with the first of these that applies:
+    ///
+    /// - `OutOfRange` (14): `from` is above `to`, or `to` is past the end.
+    /// - `Absent` (16): the object of a row group with some of them is away. It names the first such.
     pub fn lent<'a, S: FarTickets>(
         &'a self,
         objects: &'a Objects<Option<i64>, S>,
@@ -230,27 +255,27 @@ impl IntColumn {
         ensures same_length { IfOk result (λ lents. All (λ lent. length lent.1 ≡ length lent.0) lents) }
         ensures refused { refusal_in result ≡ pieces_refusal objects.now self.now from to }
     {
-        // For the proof: that there are as many numbers as it says.
+        // For the proof: how many numbers there are.
         let _len = self.vector.len();
         let pieces = self.vector.pieces(objects, from, to)?;
         Ok(Lents::new(pieces, alive.flags(from, to)))
     }
 
-    // How many places a row group has.
+    // Returns how many places a row group has.
     fn size(&self) -> usize
         ensures { result ≡ self.now.size }
     {
         self.vector.size()
     }
 
-    // Whether the next number begins a row group.
+    // Returns whether the next number begins a row group.
     fn begins_group(&self) -> bool
         ensures { result ≡ is_full self.now }
     {
         self.vector.begins_group()
     }
 
-    // Whether the object of the next place is local, whose row group is begun.
+    // Checks that the object of the next place is local. Its row group must be begun.
     fn next_is_here<S: FarTickets>(&self, objects: &Objects<Option<i64>, S>) -> Result<(), Refusal>
         requires is { IsVector (number_lists S.content objects.now) self.now }
         requires begun { is_full self.now ≡ false }
@@ -259,7 +284,7 @@ impl IntColumn {
         self.vector.next_is_here(objects)
     }
 
-    // Whether it may be written.
+    // Checks that it may be written.
     fn next_is_writable<S: FarTickets>(
         &self,
         objects: &Objects<Option<i64>, S>,

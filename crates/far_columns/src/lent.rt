@@ -1,4 +1,4 @@
-// Parts of a column of numbers, lent in place with their alive flags.
+// Parts of a column of numbers, borrowed, with their alive flags.
 ghost use Rattle.std.specs.Prelude.{◌≡◌, [], ◌∷◌, length, IfSome, IfNone};
 ghost use Rattle.std.specs.List.{flat_map};
 ghost use Rattle.far_columns.specs.Numbers.{with_flags};
@@ -7,16 +7,37 @@ use far_store::FarTickets;
 use far_vector::Pieces;
 use std::marker::Model;
 
-/// The numbers of some places that follow each other in one row group, each of which may be missing, and whether each place
-/// is alive; both are lent in place.
+/// The numbers of adjacent places of one row group, each of which may be missing, and the alive flag of each place. Both are
+/// borrowed.
+///
+/// ```
+/// let Some(lent) = lents.next() else {
+///     return None;
+/// };
+/// let piece = if by_flags {
+///     live_sum(lent.values, lent.alive)
+/// } else {
+///     whole_sum(lent.values)
+/// };
+/// sum = sum.wrapping_add(piece);
+/// ```
 #[derive(Drop)]
 pub struct Lent<'a> {
     pub values: &'a [Option<i64>],
     pub alive: &'a [bool],
 }
 
-/// A part of a column, piece by piece: one for each row group that has some of it, with the flags of its places. None is
+/// A part of a column, piece by piece: one for each row group that has some of it, with the flags of its places. No piece is
 /// empty.
+///
+/// ```
+/// let mut lents = view.ints(column, from, to)?;
+/// let mut copies = Vec::with_capacity(alloc, lents.len())?;
+/// while let Some(lent) = lents.next() {
+///     copies.push(copy_ints(alloc, &lent)?)?;
+/// }
+/// Ok(copies)
+/// ```
 #[derive(Drop)]
 pub struct Lents<'a, S: FarTickets> {
     pieces: Pieces<'a, Option<i64>, S>,
@@ -37,7 +58,7 @@ impl<'a, S: FarTickets> Model for Lents<'a, S> {
 }
 
 impl<'a, S: FarTickets> Lents<'a, S> {
-    /// Pieces with the flags of their places, one behind the other.
+    /// Returns pieces with the flags of their places, one piece behind the other.
     pub(crate) fn new(pieces: Pieces<'a, Option<i64>, S>, alive: &'a [bool]) -> Lents<'a, S>
         requires { length alive.now ≡ length (flat_map (λ piece. piece) pieces) }
         ensures { result ≡ with_flags pieces.entry alive.now }
@@ -45,7 +66,7 @@ impl<'a, S: FarTickets> Lents<'a, S> {
         Lents { pieces, alive }
     }
 
-    /// The next piece with its flags, and `None` if there is none left. Allocates nothing.
+    /// Returns the next piece with its flags, and `None` if there is none left. Allocates nothing.
     pub fn next(&mut self) -> Option<Lent<'a>>
         ensures first { IfSome result (λ lent. self.old ≡ (lent.values.now, lent.alive.now) ∷ self.new) }
         ensures none { IfNone result ((self.old ≡ []) × (self.new ≡ [])) }
@@ -56,7 +77,7 @@ impl<'a, S: FarTickets> Lents<'a, S> {
         Some(Lent { values, alive })
     }
 
-    /// How many pieces are left. Allocates nothing.
+    /// Returns how many pieces are left. Allocates nothing.
     pub fn len(&self) -> usize
         ensures { result ≡ length self.now }
     {

@@ -13,6 +13,13 @@ use far_types::{Edit, Kind, Name, Refusal};
 use std::alloc::Global;
 
 /// A command of a script, behind the line that opens the table.
+///
+/// ```
+/// match row(alloc, kinds, text)? {
+///     Some(row) => Ok(Some(Command::Step(Step::Edit(Edit::Insert(row))))),
+///     None => Ok(None),
+/// }
+/// ```
 #[derive(Drop, Debug)]
 pub enum Command {
     /// `insert CSV`, `set PLACE COLUMN CSV`, `remove PLACE`,

@@ -5,8 +5,13 @@ use far_frame::World;
 use far_store::FarStore;
 use std::marker::Model;
 
-/// Where a script stands. Contracts see the table with all that is beside it, and the number of the last command. A command meets one
-/// fault of the store at most.
+/// Where a script stands. Contracts see the world of its table, and the number of the last command. A command meets one fault of the store
+/// at most.
+///
+/// ```
+/// let mut progress = open(resources.alloc(), store, opening, output)?;
+/// serve_lines(resources, &mut progress, input, output, writer)?;
+/// ```
 #[derive(Drop)]
 pub struct Progress<S: FarStore> {
     pub(crate) world: World<S>,

@@ -7,6 +7,13 @@ use std::alloc::Global;
 use std::thread::Threads;
 
 /// What a script is run with: its memory, what threads are made by, and what makes the stores of its table.
+///
+/// ```
+/// let store = match resources.store(STORE_CAPACITY) {
+///     Ok(store) => store,
+///     Err(refusal) => return Err(ShellFault::of_memory(refusal)),
+/// };
+/// ```
 pub trait Resources<S: FarTickets> {
     /// What threads are made by.
     type Runtime: Threads + Sync;
@@ -25,6 +32,12 @@ pub trait Resources<S: FarTickets> {
 }
 
 /// Stores in this process, whose puts wait by `rt`, and threads of `rt`.
+///
+/// ```
+/// let agents = Agents::new(rt, rt.alloc());
+/// let mut output = Output::new(rt.alloc());
+/// let outcome = serve(rt, &agents, input, &mut output, writer);
+/// ```
 #[derive(Drop)]
 pub struct Agents<R> {
     rt: R,

@@ -14,7 +14,7 @@ use Rattle.far_evacuator.specs.declared.evacuation.EvacForm.TheVariants.{Dirty, 
 use Rattle.far_evacuator.specs.Jobs.{Evacuation, Fetch}
 
 module _ {X K : Type 0} (spelling : List X → List ℕ) (m : Movement X K) (o : ℕ) where
-  -- the form of object o: the spelling of its list where it is dirty, and its ticket where it is clean
+  -- the form of object o: the spelling of its list if it is dirty, and its ticket if it is clean
   abbrev pub IsForm : EvacForm K → Type 0
   IsForm (Dirty bytes) = (dirty m o ≡ true) × (option_map spelling (list_in m.memory o) ≡ Some bytes)
   IsForm (Clean ticket) = (dirty m o ≡ false) × (ticket_of m o ≡ Some ticket)
@@ -28,7 +28,7 @@ module _ {X K : Type 0} (spelling : List X → List ℕ) (m : Movement X K) (o :
     pub form : IsForm job.form
 
 module _ {X K : Type 0} (m : Movement X K) where
-  -- the number of an object that is named is in use
+  -- if an object is named, its number is in use
   abbrev pub IsWanted : Want → Type 0
   IsWanted (Object o) = o < length m.records
   IsWanted Coldest = Unit {0}
@@ -38,7 +38,7 @@ module _ {X K : Type 0} (m : Movement X K) where
   taken (Object o) = Some o
   taken Coldest = coldest m
 
-  -- why none is begun: the object that is named is away, or none is the coldest
+  -- why no evacuation is begun: the object that is named is away, or there is no coldest object
   abbrev pub begin_refusal : Want → Option Refusal
   begin_refusal (Object o) = lend_refusal m o
   begin_refusal Coldest = first_of ((is_none (coldest m), refusal.StaleJob) ∷ [])

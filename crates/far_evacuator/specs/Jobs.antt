@@ -5,8 +5,7 @@ use Rattle.far_types.specs.declared.refusal.Refusal.{Refusal}
 use Rattle.far_evacuator.specs.declared.evacuation.EvacForm.{EvacForm}
 use Rattle.far_evacuator.specs.declared.evacuation.EvacForm.TheVariants.{Dirty, Clean}
 
--- an evacuation as it was begun: the number of the frame, the object, how often that had been written and away, and what
--- its far form is taken from
+-- an evacuation as it was begun: the frame's number, the object, how often that had been written and away, and its far form or ticket
 pub record Evacuation (K : Type 0) : Type 0 where
   pub number : ℕ
   pub object : ℕ
@@ -19,7 +18,7 @@ pub record CarriedEvacuation (K : Type 0) : Type 0 where
   pub job : Evacuation K
   pub ticket : K
 
--- a fetch as it was begun: the number of the frame, the object, how often that had been away, and its ticket
+-- a fetch as it was begun: the frame's number, the object, how often that had been away, and its ticket
 pub record Fetch (K : Type 0) : Type 0 where
   pub number : ℕ
   pub object : ℕ
@@ -31,7 +30,7 @@ pub record CarriedFetch (K : Type 0) : Type 0 where
   pub job : Fetch K
   pub bytes : List ℕ
 
--- the bytes of a form that is to be put spell some list
+-- if the form is to be put, its bytes spell some list
 abbrev pub IsSpelledForm : {X K : Type 0} → (List X → List ℕ → Type 0) → EvacForm K → Type 0
 IsSpelledForm {X} spelled (Dirty bytes) = (list : List X) × spelled list bytes
 IsSpelledForm spelled (Clean ticket) = Unit {0}
@@ -42,8 +41,7 @@ module _ {K : Type 0} where
   IsDirtyForm (Dirty bytes) = Unit {0}
   IsDirtyForm (Clean ticket) = ⊥
 
-  -- the far store has the form under this ticket: the bytes that were put are its content, or it is the ticket that the
-  -- object had
+  -- the far store has the form under this ticket: its content is the bytes that were put, or the object had it
   abbrev pub IsFormTicket : (K → List ℕ) → EvacForm K → K → Type 0
   IsFormTicket content (Dirty bytes) ticket = content ticket ≡ bytes
   IsFormTicket content (Clean own) ticket = ticket ≡ own
@@ -53,7 +51,7 @@ module _ {K : Type 0} where
   IsFormOf is_of id (Dirty bytes) = Unit {0}
   IsFormOf is_of id (Clean own) = is_of own id
 
--- how a call came out that hands its job back where it is refused
+-- the result of a call that returns its job if it is refused, without that job
 abbrev pub outcome : {A J : Type 0} → Result A (Refusal × J) → Result A Refusal
 outcome (Ok done) = Ok done
 outcome (Err refused) = Err refused.0

@@ -19,20 +19,31 @@ use far_types::Refusal;
 use std::alloc::Global;
 use std::marker::PhantomData;
 
-/// Which object is to go away.
+/// Which object an evacuation takes.
+///
+/// The object that is wanted, if there is one:
+///
+/// ```
+/// let wanted = match want {
+///     Want::Object(o) => Some(o),
+///     Want::Coldest => objects.coldest(),
+/// };
+/// ```
 #[derive(Clone, Copy, Debug, PartialEq, Eq)]
 pub enum Want {
-    /// The one of this number.
+    /// The object with this number.
     Object(u32),
-    /// The one that goes away first: the last in the order of use without pins, of those not hot where there is one.
+    /// The eviction victim: the least recently used object that is neither pinned nor hot. If there is none, it is the least recently used
+    /// of all without pins.
     Coldest,
 }
 
-/// Begins to send an object away: takes its far form where it is dirty, and another of its ticket where it is clean. The
-/// object stays as it is.
+/// Begins to evict an object: encodes it if it is dirty, and copies its ticket if it is clean. The object stays as it is.
 ///
-/// Refused with `StaleJob` (20) exactly if the coldest object is wanted and there is none; with `Absent` (16), which
-/// names the object, exactly if one is named that is away; else with `NoMemory` (1) alone.
+/// Refused with:
+/// - `StaleJob` (20) exactly if the coldest object is wanted and there is none;
+/// - `Absent` (16), which names the object, exactly if an object is named and is away;
+/// - else `NoMemory` (1) alone.
 pub fn begin_evac<T: Elem, S: FarTickets>(
     alloc: Global,
     objects: &Objects<T, S>,
@@ -85,7 +96,7 @@ fn chosen<T: Elem, S: FarTickets>(objects: &Objects<T, S>, want: Want) -> Result
     }
 }
 
-/// Begins to bring an object back. Allocates nothing.
+/// Begins to fetch an object. Allocates nothing.
 ///
 /// Refused with `StaleJob` (20) exactly if the object is local.
 pub fn begin_fetch<T: Elem, S: FarTickets>(

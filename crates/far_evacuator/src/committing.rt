@@ -13,12 +13,18 @@ use far_scopes::Objects;
 use far_store::FarTickets;
 use far_types::Refusal;
 
-/// Sends an object away whose far form was carried. The carried evacuation is kept; no second commit of it is accepted.
-/// Allocates nothing.
+/// Ends an evacuation: sends an object away whose far form was carried. The caller keeps the carried evacuation, but no second commit of it
+/// is accepted. Allocates nothing.
 ///
-/// Refused with `StaleJob` (20) exactly if what it rests on does not hold any more (`IsCommittable`): it was begun on
-/// other objects, the object is away, was written or away since, has used up its leavings, or is no longer what was
-/// carried; and else with `Pinned` (19) exactly if the object has a pin. Then nothing is changed.
+/// If it is refused, nothing is changed. Refused with:
+/// - `StaleJob` (20) exactly if what it rests on does not hold any more (`IsCommittable`);
+/// - else `Pinned` (19) exactly if the object has a pin.
+///
+/// It is stale if it was begun on other objects, or if the object:
+/// - is away;
+/// - was written or away since;
+/// - has used up its leavings;
+/// - is no longer what was carried.
 pub fn commit<T: Elem, S: FarTickets>(
     objects: &mut Objects<T, S>,
     store: &S,
@@ -74,7 +80,7 @@ fn is_committable<T: Elem, S: FarTickets>(
         && is_still(objects, store, carried, list)
 }
 
-// Whether an object, which has this list, is still what was carried. Allocates nothing.
+// Whether an object with this list is still what was carried. Allocates nothing.
 fn is_still<T: Elem, S: FarTickets>(
     objects: &Objects<T, S>,
     store: &S,

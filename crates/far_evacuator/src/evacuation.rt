@@ -1,4 +1,4 @@
-// Jobs that send objects away.
+// Evacuations: jobs that send objects away.
 ghost use Rattle.std.specs.Prelude.{◌≡◌, ◌+◌, ◌<◌, ◌^◌, [], ◌∷◌, IfOk, IfErr, IsErr};
 ghost use Rattle.far_store.specs.Faults.{faults_in, RefusedBy};
 ghost use Rattle.far_codec.specs.Spelling.{IsSpelled};
@@ -11,7 +11,19 @@ use far_types::Refusal;
 use std::alloc::Global;
 use std::marker::{Model, PhantomData};
 
-/// What an evacuation was begun with.
+/// The far form that an evacuation was begun with.
+///
+/// An evacuation takes it of an object:
+///
+/// ```
+/// let form = if objects.word(object).dirty() {
+///     EvacForm::Dirty(FarForm {
+///         bytes: T::spell(alloc, list)?,
+///     })
+/// } else {
+///     EvacForm::Clean(again_of(objects, store, object))
+/// };
+/// ```
 #[derive(Drop)]
 pub enum EvacForm<K> {
     /// The far form of an object that was dirty, to be put into the far store.
@@ -20,11 +32,25 @@ pub enum EvacForm<K> {
     Clean(K),
 }
 
-/// An evacuation that was begun: of which object of which frame, how often that had been written and away, and its far
-/// form. It borrows nothing, so any thread can carry it.
+/// An evacuation that was begun: the frame and the object, how often the object had been written and away, and its far form. It borrows
+/// nothing, so any thread can carry it.
 ///
-/// That an object with a good far copy isn't written again is AIFM's (OSDI 2020, section 5); the phases are this project's
-/// own.
+/// A job is carried. If that is refused, it is kept, to be carried again:
+///
+/// ```
+/// match job.carry(alloc, self.store, &mut Meter::new()) {
+///     Ok(carried) => {
+///         self.carried = Some(carried);
+///         Ok(())
+///     }
+///     Err((refusal, job)) => {
+///         self.evac = Some(job);
+///         Err(refusal)
+///     }
+/// }
+/// ```
+///
+/// That an object with a good far copy is not written again is AIFM's (OSDI 2020, section 5). The phases are this project's own.
 #[derive(Drop)]
 pub struct EvacJob<T: Elem, S: FarTickets> {
     pub(crate) number: u32,
@@ -46,7 +72,16 @@ impl<T: Elem, S: FarTickets> Model for EvacJob<T, S> {
     ghost invariant = { λ job. IsSpelledForm (IsSpelled T.in_range T.has_spelling T.spelling) job.form };
 }
 
-/// An evacuation whose object the far store has: the job, and the ticket of its far form.
+/// An evacuation that was carried: the job, and the ticket of its far form in the far store.
+///
+/// The evacuation that was carried last is committed:
+///
+/// ```
+/// match &self.carried {
+///     Some(carried) => commit_unwritten(&mut self.objects, self.store, carried),
+///     None => Err(Refusal::StaleJob),
+/// }
+/// ```
 #[derive(Drop)]
 pub struct Carried<T: Elem, S: FarTickets> {
     pub(crate) job: EvacJob<T, S>,
@@ -67,8 +102,10 @@ impl<T: Elem, S: FarStore> EvacJob<T, S> {
     /// Puts the far form that the job holds into the store. A job that was begun on a clean object asks the store for
     /// nothing, and is not refused.
     ///
-    /// Refused with `FarFault` (21) if the store fails in this call, exactly if the meter rises, by one; with
-    /// `FarFull` (22); and with `NoMemory` (1). The job then comes back whole.
+    /// If it is refused, it returns the whole job too. Refused with:
+    /// - `FarFault` (21) if the store fails in this call. Exactly then the meter rises, by one;
+    /// - `FarFull` (22);
+    /// - `NoMemory` (1).
     pub fn carry(
         self,
         alloc: Global,

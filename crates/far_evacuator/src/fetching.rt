@@ -1,4 +1,4 @@
-// Jobs that bring objects back.
+// Fetches: jobs that bring objects back.
 ghost use Rattle.std.specs.Prelude.{◌≡◌, ◌+◌, ◌<◌, ◌^◌, [], ◌∷◌, IfOk, IfErr};
 ghost use Rattle.far_store.specs.Faults.{faults_in, RefusedBy};
 ghost use Rattle.far_evacuator.specs.Jobs.{outcome};
@@ -8,8 +8,23 @@ use far_types::Refusal;
 use std::alloc::Global;
 use std::marker::Model;
 
-/// A fetch that was begun: of which object of which frame, how often that had been away, and its ticket. It borrows
-/// nothing, so any thread can carry it.
+/// A fetch that was begun: the frame and the object, how often the object had been away, and its ticket. It borrows nothing, so any thread
+/// can carry it.
+///
+/// A job is carried. If that is refused, it is kept, to be carried again:
+///
+/// ```
+/// match job.carry(alloc, self.store, &mut Meter::new()) {
+///     Ok(fetched) => {
+///         self.fetched = Some(fetched);
+///         Ok(())
+///     }
+///     Err((refusal, job)) => {
+///         self.fetch = Some(job);
+///         Err(refusal)
+///     }
+/// }
+/// ```
 #[derive(Drop)]
 pub struct FetchJob<S: FarTickets> {
     pub(crate) number: u32,
@@ -26,7 +41,16 @@ impl<S: FarTickets> Model for FetchJob<S> {
     ghost view = { λ job. record { number = job.number; object = job.object; leavings = job.leavings; ticket = job.ticket } };
 }
 
-/// A fetch whose bytes were read: the job, and its ticket's content.
+/// A fetch that was carried: the job, and the content of its ticket.
+///
+/// The fetch that was carried last is installed:
+///
+/// ```
+/// match &self.fetched {
+///     Some(fetched) => install(alloc, &mut self.objects, self.store, fetched),
+///     None => Err(Refusal::StaleJob),
+/// }
+/// ```
 #[derive(Drop)]
 pub struct Fetched<S: FarTickets> {
     pub(crate) job: FetchJob<S>,
@@ -47,8 +71,9 @@ impl<S: FarTickets> Model for Fetched<S> {
 impl<S: FarRead> FetchJob<S> {
     /// Reads the content of the job's ticket.
     ///
-    /// Refused with `FarFault` (21) if the store fails in this call, exactly if the meter rises, by one, and with
-    /// `NoMemory` (1). The job then comes back whole.
+    /// If it is refused, it returns the whole job too. Refused with:
+    /// - `FarFault` (21) if the store fails in this call. Exactly then the meter rises, by one;
+    /// - `NoMemory` (1).
     pub fn carry(
         self,
         alloc: Global,

@@ -15,11 +15,15 @@ use far_store::FarTickets;
 use far_types::Refusal;
 use std::alloc::Global;
 
-/// Brings an object back whose far form was read. The fetched bytes are kept; no second install of them is accepted.
+/// Ends a fetch: brings an object back whose far form was read. The caller keeps the fetched bytes, but no second install of them is
+/// accepted.
 ///
-/// Refused with `StaleJob` (20) exactly if what the fetch rests on does not hold any more (`IsInstallable`): it was
-/// begun on other objects, or the object is local, or has been away again since; else with `RegionFull` (17) exactly where
-/// no segment has the space; else with `NoMemory` (1) alone. Then nothing is changed.
+/// If it is refused, nothing is changed. Refused with:
+/// - `StaleJob` (20) exactly if what the fetch rests on does not hold any more (`IsInstallable`);
+/// - else `RegionFull` (17) exactly if no segment has the space;
+/// - else `NoMemory` (1) alone.
+///
+/// It is stale if it was begun on other objects, or if the object is local or has been away again since.
 pub fn install<T: Elem, S: FarTickets>(
     alloc: Global,
     objects: &mut Objects<T, S>,
@@ -48,11 +52,11 @@ pub fn install<T: Elem, S: FarTickets>(
     objects.arrive(o, &list)
 }
 
-// The list of so many elements whose far form these bytes are. Refused with `StaleJob` (20) if they are the form of none, else
-// with `NoMemory` (1) alone.
+// Decodes the list of `len` elements whose far form these bytes are. Refused with `StaleJob` (20) if they are the form of none, else with
+// `NoMemory` (1) alone.
 //
-// An object's ticket has its form as content, so `install` meets no other bytes. A store whose contents change would break that, and
-// its bytes are refused here: nothing is asked of them.
+// The content of an object's ticket is its form, so `install` meets no other bytes. A store whose contents change would break that. So this
+// requires nothing of the bytes, and refuses those that are no such form.
 fn read_form<T: Elem>(alloc: Global, bytes: &[u8], len: usize) -> Result<Vec<T>, Refusal>
     ensures list { IfOk result (λ list. (length list.items ≡ len) × IsSpelled T.in_range T.has_spelling T.spelling list.items bytes.now) }
     ensures only { (list : List T) → length list ≡ len → IsSpelled T.in_range T.has_spelling T.spelling list bytes.now → IfOk result (λ found. found.items ≡ list) }

@@ -1,6 +1,6 @@
 #![tactic(auto)]
-//! Movement in phases: an object goes to the far store, or comes back from it, by a job that is begun, carried, and then
-//! accepted or found stale. Only the carrying takes long, and it looks at no object, so others use them meanwhile.
+//! Movement in phases: an object is evicted to the far store, or fetched from it, by a job. A job is begun, carried, and then accepted or
+//! found stale. Only the carrying takes long. It reads no object, so others use the objects meanwhile.
 
 mod beginning;
 mod committing;

@@ -8,7 +8,7 @@ use far_codec::Elem;
 use far_scopes::Objects;
 use far_store::FarTickets;
 
-/// Whether an object's newest far copy is under the number of this ticket. Allocates nothing.
+/// Whether the ticket of an object's newest far copy has the number of this one. Allocates nothing.
 pub(crate) fn is_under<T: Elem, S: FarTickets>(
     objects: &Objects<T, S>,
     store: &S,
@@ -27,7 +27,7 @@ pub(crate) fn is_under<T: Elem, S: FarTickets>(
     }
 }
 
-/// The ticket of an object that has one. Allocates nothing.
+/// Copies the ticket of an object that has one. Allocates nothing.
 pub(crate) fn again_of<T: Elem, S: FarTickets>(
     objects: &Objects<T, S>,
     store: &S,

@@ -1,4 +1,4 @@
--- What a block has of the min-maxes of row groups that follow one another.
+-- The min-maxes that a block has, of adjacent row groups.
 -- Internal: no public contract cites it.
 use Rattle.std.specs.Prelude.{ℕ, ◌+◌, ℤ, List, [], ◌∷◌, Option, None, Some}
 use Rattle.far_extrema.specs.Spreads.{MinMaxes}
@@ -7,7 +7,7 @@ pub record BlockState : Type 0 where
   pub min_maxes : MinMaxes
   pub first : ℕ
 
--- the min-maxes of the elements that have one, of row groups from this one on
+-- the min-maxes of the elements that have one; the first element is that of this row group
 abbrev pub present : ℕ → List (Option (ℤ × ℤ)) → MinMaxes
 present first [] = []
 present first (None ∷ elements) = present (first + 1) elements

@@ -1,4 +1,4 @@
--- By key, the min-maxes of the row groups in which it occurs, and the extrema of row groups that they make.
+-- For each key the min-maxes of the row groups in which it occurs, and the extrema of row groups that they make.
 use Rattle.std.specs.Prelude.{◌≡◌, ◌≢◌, ◌==◌, ◌≤◌, ◌&&◌, ℕ, zero, suc, ℤ, Bool, true, false, cond, List, [], ◌∷◌, ◌++◌, Option, None, Some, option_map}
 use Rattle.std.specs.List.{filter_map}
 use Rattle.std.specs.Ordering.{eq_by_cmp}
@@ -8,7 +8,7 @@ use Rattle.far_types.specs.Keys.{line_cmp}
 use Rattle.far_types.specs.Answers.{ByKey, Extrema}
 use Rattle.far_extrema.specs.Spreads.{MinMaxes, Spread, at, IsTopOf, IsSet}
 
--- the min-maxes of the row groups in which a key occurs, their min-max together, and whether it is reserved for one more
+-- the min-maxes of the row groups in which a key occurs, their joined min-max, and whether the key is reserved for one more
 pub record Holding : Type 0 where
   pub min_maxes : MinMaxes
   pub top : Option (ℤ × ℤ)
@@ -18,11 +18,11 @@ abbrev pub held : Option Spread → Bool → Holding
 held None reserved = record { min_maxes = []; top = None; reserved = reserved }
 held (Some spread) reserved = record { min_maxes = spread.min_maxes; top = spread.top; reserved = reserved }
 
--- by key, the row groups in which it occurs
+-- for each key the row groups in which it occurs
 abbrev pub Holders : Type 0
 Holders = ByKey Holding
 
--- what entries have by key
+-- the row groups by key, of entries
 abbrev pub holders_of : List (Option Key × Holding) → Holders
 holders_of entries = fin.from_entries entries
 
@@ -38,11 +38,11 @@ abbrev pub reserved_in : Option Holding → Option (Bool)
 reserved_in None = None
 reserved_in (Some holding) = cond holding.reserved (Some true) None
 
--- whether a key is reserved for a row group more
+-- whether a key is reserved for one more row group
 abbrev pub reserved_at : Holders → Option Key → Option (Bool)
 reserved_at holders key = reserved_in (fin.get holders key)
 
--- what these keys have, where they have something
+-- the value of each of these keys that has one
 abbrev pub picked : {V : Type 0} → (Option Key → Option V) → List (Option Key) → ByKey V
 picked f keys = fin.from_entries (filter_map (λ key. option_map (λ value. (key, value)) (f key)) keys)
 
@@ -55,7 +55,7 @@ abbrev pub groups_in : Holders → ℕ → List Extrema
 groups_in holders zero = []
 groups_in holders (suc n) = groups_in holders n ++ group_in holders n ∷ []
 
--- the keys that are reserved for a row group more
+-- the keys that are reserved for one more row group
 abbrev pub reserved_keys : Holders → ByKey (Bool)
 reserved_keys holders = picked (reserved_at holders) (fin.keys holders)
 
@@ -63,7 +63,7 @@ reserved_keys holders = picked (reserved_at holders) (fin.keys holders)
 abbrev pub AreReserved : ℕ → Holders → Type 0
 AreReserved count holders = (g : ℕ) → (key : Option Key) → count ≤ g → min_max_at holders g key ≡ None
 
--- the min-max that is kept is that of all row groups together
+-- the kept min-max is the joined one of all row groups
 abbrev pub IsTopped : Option Key × Holding → Type 0
 IsTopped entry = IsTopOf entry.1.min_maxes entry.1.top
 
@@ -71,7 +71,7 @@ IsTopped entry = IsTopOf entry.1.min_maxes entry.1.top
 abbrev pub line_of : Option Key × Holding → Option (Option Key × ℤ × ℤ)
 line_of entry = option_map (λ (top : ℤ × ℤ). (entry.0, top.0, top.1)) entry.1.top
 
--- a key has this min-max in a row group, or none, and all else is as it was
+-- a key has this min-max in a row group, or none there, and all else is as it was
 abbrev pub IsPut : Holders → ℕ → Option Key → Option (ℤ × ℤ) → Holders → Type 0
 IsPut old group key min_max new = (g : ℕ) → (q : Option Key) → min_max_at new g q ≡ cond (g == group && eq_by_cmp line_cmp q key) min_max (min_max_at old g q)
 
@@ -93,6 +93,6 @@ KeepsReserved old new = (q : Option Key) → reserved_at old q ≢ None → rese
 abbrev pub IsReservedFor : Extrema → Holders → Type 0
 IsReservedFor extrema holders = (q : Option Key) → fin.get extrema q ≢ None → reserved_at holders q ≢ None
 
--- a row group is cleared of an entry, which is kept while a row group is left to it, or it is reserved
+-- a row group is removed from an entry; the entry is kept if it has a row group left, or is reserved
 abbrev pub IsCleared : ℕ → Holding → Bool → Holding → Type 0
 IsCleared group old kept new = IsSet old.min_maxes group None new.min_maxes × (new.reserved ≡ old.reserved) × (kept ≡ false → (new.min_maxes ≡ []) × (new.reserved ≡ false))

@@ -2,12 +2,12 @@
 use Rattle.std.specs.Prelude.{◌≡◌, ◌<◌, ◌≤◌, ◌==◌, ℕ, zero, suc, ℤ, cond, List, [], ◌∷◌, Option, None, Some}
 use Rattle.far_types.specs.Effects.{join_min_maxes, merge_two}
 
--- by row group, the min-max of the key there
+-- for each row group the min-max of the key there
 abbrev pub MinMaxes : Type 0
 MinMaxes = List (ℕ × (ℤ × ℤ))
 
--- the min-maxes of the row groups in which a key occurs, their min-max together if there are some, how many branches there are at
--- most on the way to one, and the range in which they are
+-- the min-maxes of the row groups in which a key occurs, and their joined min-max if there are some. The depth is the most branches on the
+-- way to one, and the range from the first to the last has them all
 pub record Spread : Type 0 where
   pub min_maxes : MinMaxes
   pub top : Option (ℤ × ℤ)
@@ -20,15 +20,15 @@ abbrev pub at : MinMaxes → ℕ → Option (ℤ × ℤ)
 at [] q = None
 at (one ∷ min_maxes) q = cond (q == one.0) (Some one.1) (at min_maxes q)
 
--- none before this number
+-- no row group before this one has a min-max
 abbrev pub IsFrom : ℕ → MinMaxes → Type 0
 IsFrom low min_maxes = (q : ℕ) → q < low → at min_maxes q ≡ None
 
--- none from this number on
+-- no row group from this one on has a min-max
 abbrev pub IsBelow : ℕ → MinMaxes → Type 0
 IsBelow high min_maxes = (q : ℕ) → high ≤ q → at min_maxes q ≡ None
 
--- what stands at the numbers below this one, joined
+-- the min-maxes of the row groups below this one, joined
 abbrev pub joined_to : ℕ → (ℕ → Option (ℤ × ℤ)) → Option (ℤ × ℤ)
 joined_to zero f = None
 joined_to (suc n) f = merge_two join_min_maxes (joined_to n f) (f n)
@@ -37,10 +37,10 @@ joined_to (suc n) f = merge_two join_min_maxes (joined_to n f) (f n)
 abbrev pub IsTopOf : MinMaxes → Option (ℤ × ℤ) → Type 0
 IsTopOf min_maxes top = (n : ℕ) → IsBelow n min_maxes → joined_to n (at min_maxes) ≡ top
 
--- a row group has this min-max, or none, and the others have what they had
+-- a row group has this min-max, or none, and the others are as they were
 abbrev pub IsSet : MinMaxes → ℕ → Option (ℤ × ℤ) → MinMaxes → Type 0
 IsSet old group min_max new = (q : ℕ) → at new q ≡ cond (q == group) min_max (at old q)
 
--- each row group has what it had
+-- each row group has the min-max that it had
 abbrev pub AreSame : MinMaxes → MinMaxes → Type 0
 AreSame old new = (q : ℕ) → at new q ≡ at old q

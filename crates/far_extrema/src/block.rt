@@ -1,4 +1,4 @@
-// The min-maxes of a key in some row groups that follow one another.
+// The min-maxes of a key in some adjacent row groups.
 ghost use Rattle.std.specs.Prelude.{◌≡◌, ◌+◌, ◌-◌, ◌%◌, ◌<◌, ◌≤◌, [], false, IsTrue};
 ghost use Rattle.std.specs.Option.{option_copied};
 ghost use Rattle.far_types.specs.Effects.{join_min_maxes, merge_two};
@@ -10,7 +10,7 @@ use std::marker::Model;
 /// How many row groups a block holds.
 const BLOCK_SIZE: u32 = 16;
 
-/// The min-maxes of the row groups of an aligned range, or none if the key does not occur.
+/// The min-maxes of a key in the row groups of an aligned range. A row group in which the key does not occur has none.
 #[derive(Drop)]
 pub struct Block {
     first: u32,
@@ -29,7 +29,7 @@ impl Model for Block {
 }
 
 impl Block {
-    /// The block in whose range a row group is, with this min-max there and none elsewhere. Allocates nothing.
+    /// Makes the block whose range has a row group, with this min-max there and none elsewhere. Allocates nothing.
     pub fn new(group: u32, min_max: Option<MinMax>) -> Block
         ensures min_maxes { IsSet [] group min_max result.min_maxes }
         ensures first { result.first ≡ group - group % 16 }
@@ -62,7 +62,7 @@ impl Block {
         self.first <= group && group - self.first < BLOCK_SIZE
     }
 
-    /// The min-max of a row group where it stands, or `None` if the key does not occur in it.
+    /// Borrows the min-max of a row group. Returns `None` if the key does not occur in it.
     pub fn look_up(&self, group: u32) -> Option<&MinMax>
         ensures { option_copied result ≡ at self.now.min_maxes group }
     {
@@ -76,7 +76,7 @@ impl Block {
         }
     }
 
-    /// A min-max, or none, in place of that of a row group of the range. Allocates nothing.
+    /// Sets the min-max of a row group of the range, or removes it. Allocates nothing.
     pub fn put(&mut self, group: u32, min_max: Option<MinMax>)
         requires first { self.old.first ≤ group }
         requires last { group < self.old.first + 16 }
@@ -86,7 +86,7 @@ impl Block {
         self.elements[(group - self.first) as usize] = min_max;
     }
 
-    /// The min-max of all row groups together, or `None` if there is none.
+    /// Joins the min-maxes of all row groups. Returns `None` if there is none.
     pub fn joined(&self) -> Option<MinMax>
         ensures { IsTopOf self.now.min_maxes result }
     {
@@ -109,7 +109,7 @@ pub fn range_of(group: u32) -> (u32, u32)
     (first, first + (BLOCK_SIZE - 1))
 }
 
-/// The least and the greatest of two min-maxes together, where they are there.
+/// Joins two min-maxes, as far as they are there.
 pub fn either(min_max: Option<MinMax>, more: Option<MinMax>) -> Option<MinMax>
     ensures { result ≡ merge_two join_min_maxes min_max more }
 {

@@ -1,4 +1,4 @@
-// What stands under one key.
+// The row groups of one key.
 ghost use Rattle.std.specs.Prelude.{◌≡◌, ◌≢◌, ◌∷◌, [], None, Some, true, false, IsTrue, OnOk, OnErr, IfOk, IfErr};
 ghost use Rattle.far_types.specs.Effects.{widened};
 ghost use Rattle.far_extrema.specs.Spreads.{at, IsSet, IsTopOf};
@@ -10,8 +10,7 @@ use far_types::Refusal;
 use std::alloc::Global;
 use std::marker::Model;
 
-/// The row groups in which a key occurs, and whether there is memory for one more of them. A key that is only
-/// reserved occurs in none.
+/// The row groups in which a key occurs, and whether memory for one more of them is reserved. A key that is only reserved occurs in none.
 #[derive(Drop)]
 pub struct Holder {
     groups: Option<Tournament>,
@@ -28,7 +27,7 @@ impl Model for Holder {
 }
 
 impl Holder {
-    /// One row group, and no memory for another. Allocates nothing.
+    /// Makes a holder of one row group, without memory for another. Allocates nothing.
     pub fn new(group: u32, min_max: MinMax) -> Holder
         ensures min_maxes { result.min_maxes ≡ (group, min_max) ∷ [] }
         ensures reserved { result.reserved ≡ false }
@@ -39,7 +38,7 @@ impl Holder {
         }
     }
 
-    /// No row group, and memory for one. Allocates nothing.
+    /// Makes a holder without a row group, with memory for one. Allocates nothing.
     pub fn with_spare(spare: Spare) -> Holder
         ensures min_maxes { result.min_maxes ≡ [] }
         ensures reserved { result.reserved ≡ true }
@@ -50,7 +49,7 @@ impl Holder {
         }
     }
 
-    /// The min-max of a row group, or `None` if the key does not occur in it.
+    /// Returns the min-max of a row group, or `None` if the key does not occur in it.
     pub fn min_max(&self, group: u32) -> Option<MinMax>
         ensures { result ≡ at self.now.min_maxes group }
     {
@@ -60,7 +59,7 @@ impl Holder {
         }
     }
 
-    /// The min-max of all row groups together, or `None` if there is none.
+    /// Returns the joined min-max of all row groups, or `None` if there is none.
     pub fn top(&self) -> Option<MinMax>
         ensures is { result ≡ self.now.top }
         ensures top { IsTopOf self.now.min_maxes result }
@@ -71,7 +70,7 @@ impl Holder {
         }
     }
 
-    /// Whether no row group is left, nor memory for one.
+    /// Whether it has neither a row group nor memory for one.
     pub fn is_vacant(&self) -> bool
         ensures min_maxes { IsTrue result → self.now.min_maxes ≡ [] }
         ensures reserved { IsTrue result → self.now.reserved ≡ false }
@@ -79,7 +78,7 @@ impl Holder {
         self.groups.is_none() && self.spare.is_none()
     }
 
-    /// Reserves memory for a row group more. Refused with `NoMemory` (1) alone, and then nothing is changed.
+    /// Reserves memory for one more row group. Refused with `NoMemory` (1) alone. Then nothing is changed.
     pub fn reserve(&mut self, alloc: Global) -> Result<(), Refusal>
         ensures min_maxes { self.new.min_maxes ≡ self.old.min_maxes }
         ensures reserved { OnOk result (self.new.reserved ≡ true) }
@@ -92,7 +91,7 @@ impl Holder {
         Ok(())
     }
 
-    /// A row group more, which leaves what is reserved as it is. Refused with `NoMemory` (1) alone, and then nothing is changed.
+    /// Adds a row group, and leaves the reserved memory as it is. Refused with `NoMemory` (1) alone. Then nothing is changed.
     fn add(&mut self, alloc: Global, group: u32, min_max: MinMax) -> Result<(), Refusal>
         requires { at self.old.min_maxes group ≡ None }
         ensures ok { OnOk result (IsSet self.old.min_maxes group (Some min_max) self.new.min_maxes) }
@@ -111,7 +110,7 @@ impl Holder {
         Ok(())
     }
 
-    /// A value more in a row group whose min-max is known: a value within that changes nothing. Allocates nothing.
+    /// Observes a value in a row group whose min-max is known. A value within it changes nothing. Allocates nothing.
     fn widen(&mut self, group: u32, previous: MinMax, value: i64)
         requires { at self.old.min_maxes group ≡ Some previous }
         ensures min_maxes { IsSet self.old.min_maxes group (Some (widened value (Some previous))) self.new.min_maxes }
@@ -124,8 +123,10 @@ impl Holder {
         self.put(group, wide);
     }
 
-    /// A value more in a row group, which leaves what is reserved as it is. Returns the previous min-max there, or
-    /// `None` if the key did not occur. Refused with `NoMemory` (1) alone, where the key is new there, and then nothing is changed.
+    /// Observes a value in a row group, and leaves the reserved memory as it is. Returns the previous min-max there, or `None` if the key
+    /// did not occur.
+    ///
+    /// Refused with `NoMemory` (1) alone, and only if the key is new there. Then nothing is changed.
     pub fn observe(
         &mut self,
         alloc: Global,
@@ -151,7 +152,7 @@ impl Holder {
         }
     }
 
-    /// A row group more, which takes the memory that is reserved. Allocates nothing.
+    /// Adds a row group, which takes the reserved memory. Allocates nothing.
     pub fn fill(&mut self, group: u32, min_max: MinMax)
         requires reserved { self.old.reserved ≡ true }
         requires new { at self.old.min_maxes group ≡ None }
@@ -170,7 +171,7 @@ impl Holder {
         }
     }
 
-    /// A min-max in place of that of a row group in which the key occurs. Allocates nothing.
+    /// Sets the min-max of a row group in which the key occurs. Allocates nothing.
     pub fn put(&mut self, group: u32, min_max: MinMax)
         requires { at self.old.min_maxes group ≢ None }
         ensures min_maxes { IsSet self.old.min_maxes group (Some min_max) self.new.min_maxes }
@@ -186,7 +187,7 @@ impl Holder {
         }
     }
 
-    /// A row group in which the key occurs no more. Allocates nothing.
+    /// Removes a row group. Allocates nothing.
     pub fn leave(&mut self, group: u32)
         requires { at self.old.min_maxes group ≢ None }
         ensures min_maxes { IsSet self.old.min_maxes group None self.new.min_maxes }
@@ -206,8 +207,8 @@ impl Holder {
         self.groups = None;
     }
 
-    /// A value less in a row group, of which the rows are left. They are read only if the value was the least or the
-    /// greatest. Returns the min-max that is left, or `None` if the key occurs there no more. Allocates nothing.
+    /// Removes a value from a row group. `rows` are the rows that are left, which it reads only if the value was the least or the greatest.
+    /// Returns the min-max that is left, or `None` if the key no longer occurs there. Allocates nothing.
     pub fn shrink<R: RowsLeft>(&mut self, group: u32, value: i64, rows: &R) -> Option<MinMax>
         requires at_hand { R.at_hand rows.now }
         requires previous { at self.old.min_maxes group ≡ Some (widened value (R.extremes rows.now)) }
@@ -232,7 +233,7 @@ impl Holder {
         }
     }
 
-    /// A row group in which the key occurs no more, if it did. Allocates nothing.
+    /// Removes a row group, if the key occurs in it. Allocates nothing.
     pub fn clear(&mut self, group: u32)
         ensures min_maxes { IsSet self.old.min_maxes group None self.new.min_maxes }
         ensures reserved { self.new.reserved ≡ self.old.reserved }

@@ -18,10 +18,10 @@ use far_types::{Key, Refusal, clone_key};
 use std::alloc::Global;
 use std::collections::BTreeMap;
 
-/// What stands by key.
+/// The row groups by key.
 pub type Holders = BTreeMap<Option<Key>, Holder>;
 
-/// The min-max of a key in a row group. Allocates nothing.
+/// Returns the min-max of a key in a row group. Allocates nothing.
 pub fn min_max_in(holders: &Holders, group: u32, key: &Option<Key>) -> Option<MinMax>
     ensures { result ≡ min_max_at (holders_of holders.now.entries) group key.now }
 {
@@ -31,9 +31,10 @@ pub fn min_max_in(holders: &Holders, group: u32, key: &Option<Key>) -> Option<Mi
     }
 }
 
-/// A value more under a key in a row group. One look-up brings it in where the key is known. Returns the previous
-/// min-max there, or `None`. A clone of the key is made where it is new. Refused with `NoMemory` (1) alone, where the key is new in the
-/// row group, and then nothing is changed.
+/// Observes a value under a key in a row group, with one look-up if the key is known. Clones the key if it is new. Returns the previous
+/// min-max there, or `None`.
+///
+/// Refused with `NoMemory` (1) alone, and only if the key is new in the row group. Then nothing is changed.
 pub fn observe_in(
     holders: &mut Holders,
     alloc: Global,
@@ -57,7 +58,7 @@ pub fn observe_in(
     }
 }
 
-/// A min-max in place of that of a key in a row group. Allocates nothing.
+/// Sets the min-max of a key in a row group. Allocates nothing.
 pub fn set_in(holders: &mut Holders, group: u32, key: &Option<Key>, min_max: MinMax)
     requires { min_max_at (holders_of holders.old.entries) group key.now ≢ None }
     ensures min_maxes { IsPut (holders_of holders.old.entries) group key.now (Some min_max) (holders_of holders.new.entries) }
@@ -69,7 +70,7 @@ pub fn set_in(holders: &mut Holders, group: u32, key: &Option<Key>, min_max: Min
     }
 }
 
-/// A row group in which a key occurs no more: the key goes with its last one, if it is not reserved. Allocates nothing.
+/// Removes a row group from a key. The key goes with its last row group, unless it is reserved. Allocates nothing.
 pub fn leave_in(holders: &mut Holders, group: u32, key: &Option<Key>)
     requires { min_max_at (holders_of holders.old.entries) group key.now ≢ None }
     ensures min_maxes { IsPut (holders_of holders.old.entries) group key.now None (holders_of holders.new.entries) }
@@ -87,9 +88,10 @@ pub fn leave_in(holders: &mut Holders, group: u32, key: &Option<Key>)
     holders.remove(key);
 }
 
-/// A value less under a key in a row group, of which the rows are left. They are read only if the value was the least or the
-/// greatest. Returns the min-max that is left, or `None`; the key goes with its last row group, if it is not reserved. One look-up
-/// finds the key, and one more lets it go. Allocates nothing.
+/// Removes a value under a key in a row group. `rows` are the rows that are left, which it reads only if the value was the least or the
+/// greatest. Returns the min-max that is left, or `None`. Allocates nothing.
+///
+/// The key goes with its last row group, unless it is reserved. One look-up finds the key, and one more removes it.
 pub fn shrink_in<R: RowsLeft>(
     holders: &mut Holders,
     group: u32,
@@ -116,7 +118,7 @@ pub fn shrink_in<R: RowsLeft>(
     None
 }
 
-/// Reserves memory for a row group more of a key. Refused with `NoMemory` (1) alone.
+/// Reserves memory for one more row group of a key. Refused with `NoMemory` (1) alone.
 fn reserve_in(holders: &mut Holders, alloc: Global, key: &Option<Key>) -> Result<(), Refusal>
     ensures min_maxes { HaveSameMinMaxes (holders_of holders.old.entries) (holders_of holders.new.entries) }
     ensures kept { KeepsReserved (holders_of holders.old.entries) (holders_of holders.new.entries) }
@@ -133,8 +135,7 @@ fn reserve_in(holders: &mut Holders, alloc: Global, key: &Option<Key>) -> Result
     }
 }
 
-/// Reserves memory for a row group more of each of these keys. Refused with `NoMemory` (1) alone, and then some may be
-/// reserved.
+/// Reserves memory for one more row group of each of these keys. Refused with `NoMemory` (1) alone. Then some may be reserved.
 pub fn reserve_all(
     holders: &mut Holders,
     alloc: Global,
@@ -150,7 +151,7 @@ pub fn reserve_all(
     Ok(())
 }
 
-/// A row group more for a reserved key. Allocates nothing.
+/// Adds a row group to a reserved key. Allocates nothing.
 fn fill_in(holders: &mut Holders, group: u32, key: &Option<Key>, min_max: MinMax)
     requires reserved { reserved_at (holders_of holders.old.entries) key.now ≢ None }
     requires new { min_max_at (holders_of holders.old.entries) group key.now ≡ None }
@@ -163,7 +164,7 @@ fn fill_in(holders: &mut Holders, group: u32, key: &Option<Key>, min_max: MinMax
     }
 }
 
-/// These are the min-maxes of a row group in which no key occurs yet; each of their keys is reserved. Allocates nothing.
+/// Sets the min-maxes of a row group in which no key occurs yet. Each of their keys must be reserved. Allocates nothing.
 pub fn fill_all(holders: &mut Holders, group: u32, min_maxes: &MinMaxes)
     requires reserved { IsReservedFor (extrema_of min_maxes.now.entries) (holders_of holders.old.entries) }
     requires new { (q : Option Key) → min_max_at (holders_of holders.old.entries) group q ≡ None }
@@ -174,7 +175,7 @@ pub fn fill_all(holders: &mut Holders, group: u32, min_maxes: &MinMaxes)
     }
 }
 
-/// A row group in which a key occurs no more, if it did. Says whether a row group is left to the key, or it is reserved.
+/// Removes a row group from a key, if the key occurs in it. Returns whether the key stays: it has a row group left, or is reserved.
 fn clear(holder: &mut Holder, group: u32) -> bool
     ensures { IsCleared group holder.old result holder.new }
 {
@@ -182,7 +183,7 @@ fn clear(holder: &mut Holder, group: u32) -> bool
     !holder.is_vacant()
 }
 
-/// No key occurs in a row group any more. Allocates nothing.
+/// Removes a row group from all keys. Allocates nothing.
 pub fn clear_in(holders: &mut Holders, group: u32)
     ensures min_maxes { IsGroup (holders_of holders.old.entries) group fin.empty (holders_of holders.new.entries) }
     ensures reserved { HaveSameReserved (holders_of holders.old.entries) (holders_of holders.new.entries) }
@@ -190,14 +191,14 @@ pub fn clear_in(holders: &mut Holders, group: u32)
     holders.retain(|_, holder| clear(holder, group));
 }
 
-/// A line of an answer.
+/// Makes a line of an answer.
 fn line(key: Option<Key>, min_max: MinMax) -> (Option<Key>, i64, i64)
     ensures { result ≡ (key, min_max.0, min_max.1) }
 {
     (key, min_max.0, min_max.1)
 }
 
-/// The lines of the min-maxes of all row groups, by their keys, of which clones are made. A key that is only reserved has none.
+/// Makes the lines of the joined min-maxes of all row groups, by key. Clones the keys. A key that is only reserved has no line.
 pub fn lines(alloc: Global, holders: &Holders) -> Result<Vec<(Option<Key>, i64, i64)>, Refusal>
     ensures ok { IfOk result (λ lines. lines.items ≡ filter_map line_of holders.now.entries) }
     ensures ordered { IsOrdered line_cmp holders.now }

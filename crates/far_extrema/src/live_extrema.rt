@@ -15,13 +15,22 @@ use std::alloc::Global;
 use std::collections::BTreeMap;
 use std::marker::Model;
 
-/// The least and the greatest value under each key, kept up to date row group by row group, and how many row groups
-/// are pending: not yet scanned. By key there is a tournament of the row groups in which it occurs. So a min-max that changes
-/// costs a look-up by key and a few steps for each doubling of the row groups, and an answer costs nothing for a row
-/// group.
+/// The least and the greatest value under each key, kept up to date row group by row group. It also counts the row groups that are pending:
+/// not yet scanned.
 ///
-/// Contracts see how many are pending, and for each row group that is reserved, in their order, the extrema of its
-/// rows.
+/// Each key has a tournament of the row groups in which it occurs. So a changed min-max costs a look-up by key, and a few steps for each
+/// doubling of the row groups. The cost of an answer does not depend on the row groups.
+///
+/// The first row under a key in row group 1 had none before it. Each further row returns the min-max before it:
+///
+/// ```
+/// let first = live.observe_under(1, key, 4)?;
+/// let beyond = live.observe_under(1, key, 9);
+/// let within = live.observe_under(1, key, 5);
+/// Ok(first.is_none() && beyond == Ok(Some((4, 4))) && within == Ok(Some((4, 9))))
+/// ```
+///
+/// Contracts see how many row groups are pending. For each row group that is reserved, in their order, they see the extrema of its rows.
 #[derive(Drop)]
 pub struct LiveExtrema {
     left: u32,
@@ -50,7 +59,7 @@ impl LiveExtrema {
     ghost use Rattle.far_extrema.specs.Live.{with_reserved, group_at, IsReservedFor};
     ghost use Rattle.far_extrema.specs.MinMaxes.{put_min_max};
 
-    /// No row group is reserved, and so many are pending. Allocates nothing.
+    /// Makes extrema without a reserved row group, with `left` row groups pending. Allocates nothing.
     pub fn new(alloc: Global, left: u32) -> LiveExtrema
         ensures left { result.left ≡ left }
         ensures empty { result.groups ≡ [] }
@@ -70,16 +79,17 @@ impl LiveExtrema {
         self.left
     }
 
-    /// Reserves the row groups up to this one; those that are new have no row. Allocates nothing.
+    /// Reserves the row groups up to this one. New ones have no row. Allocates nothing.
     pub fn make_room(&mut self, group: u32)
         ensures { self.new ≡ record self.old { groups = with_reserved group self.old.groups } }
     {
         self.reserved_groups = self.reserved_groups.max(group as usize + 1);
     }
 
-    /// Reserves as `make_room` does, and memory for each key of these extrema, so that they can stand for the row group. No key
-    /// is listed for being reserved alone. Refused with `NoMemory` (1) alone: then no other row group is reserved, but some of
-    /// the keys may be.
+    /// Reserves as `make_room` does, and reserves memory for each key of these extrema, so that `set_group` or `merge` can take them for
+    /// the row group. A key that is only reserved is in no answer.
+    ///
+    /// Refused with `NoMemory` (1) alone. Then no other row group is reserved, but some of the keys may be.
     pub fn reserve_for(&mut self, group: u32, extrema: &GroupExtrema) -> Result<(), Refusal>
         ensures left { self.new.left ≡ self.old.left }
         ensures groups { OnOk result (self.new.groups ≡ with_reserved group self.old.groups) }
@@ -92,9 +102,11 @@ impl LiveExtrema {
         Ok(())
     }
 
-    /// One folded row more in a row group. Returns the previous min-max of its key there, or `None` if it did not occur:
-    /// `put_min_max` of that undoes the row. Costs one look-up, where the key occurs in some row group. A clone of the key is made where
-    /// it is new. Refused with `NoMemory` (1) alone, where the key is new in the row group, and then nothing is changed.
+    /// Observes one folded row in a row group. Returns the previous min-max of its key there, or `None` if the key did not occur.
+    /// `put_min_max` of that undoes the row.
+    ///
+    /// Costs one look-up, if the key occurs in some row group. Clones the key if it is new. Refused with `NoMemory` (1) alone, and only if
+    /// the key is new in the row group. Then nothing is changed.
     pub fn observe_under(
         &mut self,
         group: u32,
@@ -111,8 +123,8 @@ impl LiveExtrema {
         observe_in(&mut self.holders, self.alloc, group, key, value)
     }
 
-    /// What `observe_under` does, for a caller that knows what stands under the key in the row group: a value within that costs
-    /// no look-up. Allocates nothing.
+    /// Does what `observe_under` does, for a caller that knows the key's min-max in the row group. A value within it costs no look-up.
+    /// Allocates nothing.
     pub fn observe_over(&mut self, group: u32, key: &Option<Key>, value: i64, previous: MinMax)
         requires reserved { group < length self.old.groups }
         requires previous { fin.get (group_at self.old.groups group) key.now ≡ Some previous }
@@ -125,16 +137,16 @@ impl LiveExtrema {
         set_in(&mut self.holders, group, key, wide);
     }
 
-    /// The least and the greatest value under a key in a row group, or `None` if it does not occur there, as in a
-    /// row group that is not reserved. Allocates nothing.
+    /// Returns the least and the greatest value under a key in a row group, or `None` if it does not occur there. In a row group that is
+    /// not reserved no key occurs. Allocates nothing.
     pub fn min_max(&self, group: u32, key: &Option<Key>) -> Option<MinMax>
         ensures { result ≡ fin.get (group_at self.now.groups group) key.now }
     {
         min_max_in(&self.holders, group, key)
     }
 
-    /// Puts a min-max in place of the one under a key that occurs in a row group; none makes the key go. With the
-    /// previous min-max there, this undoes `observe_under`. Allocates nothing.
+    /// Replaces the min-max of a key that occurs in a row group. `None` removes the key there. With the previous min-max, this undoes
+    /// `observe_under`. Allocates nothing.
     pub fn put_min_max(&mut self, group: u32, key: &Option<Key>, min_max: Option<MinMax>)
         requires reserved { group < length self.old.groups }
         requires there { fin.get (group_at self.old.groups group) key.now ≢ None }
@@ -146,9 +158,10 @@ impl LiveExtrema {
         }
     }
 
-    /// One folded row less in a row group, of which the rows under its key are left: these are read only if its value was the
-    /// least or the greatest there. Returns the min-max that is left, or `None` if the key goes. Costs one look-up, and one more
-    /// if the key goes with its last row group. Allocates nothing.
+    /// Removes one folded row from a row group. `rows` are the rows that are left under its key, which it reads only if the value was the
+    /// least or the greatest there. Returns the min-max that is left, or `None` if the key goes. Allocates nothing.
+    ///
+    /// Costs one look-up, and one more if the key goes with its last row group.
     pub fn shrink<R: RowsLeft>(
         &mut self,
         group: u32,
@@ -165,8 +178,8 @@ impl LiveExtrema {
         shrink_in(&mut self.holders, group, key, value, rows)
     }
 
-    /// These are the rows of a row group, in place of those that stood for it. Costs a look at each key that occurs
-    /// anywhere, and a look-up for each that is given. Allocates nothing.
+    /// Replaces the extrema of a row group. Costs a step for each key that occurs anywhere, and a look-up for each given key. Allocates
+    /// nothing.
     pub fn set_group(&mut self, group: u32, extrema: GroupExtrema)
         requires reserved { group < length self.old.groups }
         requires keys { IsReservedFor extrema self.old }
@@ -177,8 +190,8 @@ impl LiveExtrema {
         fill_all(&mut self.holders, group, extrema.min_maxes());
     }
 
-    /// These are the rows of a row group in which no key occurs yet, and one row group less is pending. Costs a look-up for
-    /// each key that is given. Allocates nothing.
+    /// Sets the extrema of a row group in which no key occurs yet. One row group less is pending. Costs a look-up for each given key.
+    /// Allocates nothing.
     pub fn merge(&mut self, group: u32, extrema: GroupExtrema)
         requires reserved { group < length self.old.groups }
         requires keys { IsReservedFor extrema self.old }
@@ -191,9 +204,12 @@ impl LiveExtrema {
         self.left -= 1;
     }
 
-    /// The keys that occur in any row group, ascending, each with its least and its greatest value. Costs nothing for a
-    /// row group. Refused with `Building` (15) and how many row groups are pending exactly if that is
-    /// not 0, else with `NoMemory` (1) alone.
+    /// Returns the keys that occur in any row group, ascending, each with its least and its greatest value. The cost does not depend on the
+    /// row groups.
+    ///
+    /// Refused with:
+    /// - `Building` (15), which says how many row groups are pending, exactly if that is not 0;
+    /// - else `NoMemory` (1) alone.
     pub fn answer(&self, alloc: Global) -> Result<Answer, Refusal>
         ensures ok { IfOk result (λ answer. answer ≡ Answer.Extrema (extrema_lines (all_groups self.now.groups))) }
         ensures built { OnOk result (self.now.left ≡ 0) }

@@ -11,27 +11,27 @@ use far_types::{Key, Refusal, clone_key};
 use std::alloc::Global;
 use std::collections::BTreeMap;
 
-/// The least and the greatest of the values that stand under a key.
+/// The least and the greatest of the values under a key.
 pub type MinMax = (i64, i64);
 
-/// What stands by key.
+/// The min-maxes by key.
 pub type MinMaxes = BTreeMap<Option<Key>, MinMax>;
 
-/// The least and the greatest of two min-maxes together.
+/// Joins two min-maxes.
 pub fn merge_two(min_max: MinMax, more: MinMax) -> MinMax
     ensures { result ≡ join_min_maxes min_max more }
 {
     (min_max.0.min(more.0), min_max.1.max(more.1))
 }
 
-/// Whether a value is within a min-max, its ends included, so that it changes nothing there.
+/// Whether a value is within a min-max, its ends included. Then it changes nothing there.
 pub fn is_within(value: i64, min_max: MinMax) -> bool
     ensures { IsTrue result → (min_max.0 ≤ℤ value) × (value ≤ℤ min_max.1) }
 {
     min_max.0 <= value && value <= min_max.1
 }
 
-/// Whether a value is strictly within a min-max, its ends left out, so that the min-max stays without it.
+/// Whether a value is strictly within a min-max, its ends excluded. Then the min-max stays if the value goes.
 #[inline(always)]
 pub fn is_strictly_within(value: i64, min_max: MinMax) -> bool
     ensures { IsTrue result → (min_max.0 <ℤ value) × (value <ℤ min_max.1) }
@@ -39,7 +39,7 @@ pub fn is_strictly_within(value: i64, min_max: MinMax) -> bool
     min_max.0 < value && value < min_max.1
 }
 
-/// A min-max more under a key that is there. Says whether it is. Allocates nothing.
+/// Joins a min-max to that under a key, if the key is there. Returns whether it is. Allocates nothing.
 fn widen(min_maxes: &mut MinMaxes, key: &Option<Key>, more: MinMax) -> bool
     ensures there { result ≡ is_some (fin.get (extrema_of min_maxes.old.entries) key.now) }
     ensures widened { IsTrue result → extrema_of min_maxes.new.entries ≡ with_min_max (extrema_of min_maxes.old.entries) key.now more }
@@ -54,7 +54,7 @@ fn widen(min_maxes: &mut MinMaxes, key: &Option<Key>, more: MinMax) -> bool
     }
 }
 
-/// A min-max more under a key, which is dropped where it is there already.
+/// Joins a min-max to that under a key. If the key is there already, drops the given one.
 pub fn observe(min_maxes: &mut MinMaxes, key: Option<Key>, more: MinMax) -> Result<(), Refusal>
     ensures ok { OnOk result (extrema_of min_maxes.new.entries ≡ with_min_max (extrema_of min_maxes.old.entries) key more) }
     ensures err { OnErr result (min_maxes.new.entries ≡ min_maxes.old.entries) }
@@ -67,7 +67,7 @@ pub fn observe(min_maxes: &mut MinMaxes, key: Option<Key>, more: MinMax) -> Resu
     Ok(())
 }
 
-/// A min-max more under a key, of which a clone is made where it is new.
+/// Joins a min-max to that under a key. Clones the key if it is new.
 pub fn observe_under(
     min_maxes: &mut MinMaxes,
     key: &Option<Key>,
@@ -84,14 +84,14 @@ pub fn observe_under(
     Ok(())
 }
 
-/// What stands under a key. Allocates nothing.
+/// Returns the min-max under a key. Allocates nothing.
 pub fn min_max_under(min_maxes: &MinMaxes, key: &Option<Key>) -> Option<MinMax>
     ensures { result ≡ fin.get (extrema_of min_maxes.now.entries) key.now }
 {
     min_maxes.get(key).copied()
 }
 
-/// A min-max in place of the one under a key that is there; none makes the key go. Allocates nothing.
+/// Replaces the min-max under a key that is there. `None` removes the key. Allocates nothing.
 pub fn put(min_maxes: &mut MinMaxes, key: &Option<Key>, min_max: Option<MinMax>)
     requires { fin.get (extrema_of min_maxes.old.entries) key.now ≢ None }
     ensures { extrema_of min_maxes.new.entries ≡ put_min_max (extrema_of min_maxes.old.entries) key.now min_max }
@@ -107,7 +107,7 @@ pub fn put(min_maxes: &mut MinMaxes, key: &Option<Key>, min_max: Option<MinMax>)
     }
 }
 
-/// The lines of the min-maxes, by their keys, of which clones are made.
+/// Makes the lines of the min-maxes, by their keys. Clones the keys.
 pub fn lines(alloc: Global, min_maxes: &MinMaxes) -> Result<Vec<(Option<Key>, i64, i64)>, Refusal>
     ensures ok { IfOk result (λ lines. lines.items ≡ map (λ (entry : Option Key × (ℤ × ℤ)). (entry.0, entry.1.0, entry.1.1)) min_maxes.now.entries) }
     ensures ordered { IsOrdered line_cmp min_maxes.now }

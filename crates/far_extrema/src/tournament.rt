@@ -11,17 +11,19 @@ use std::alloc::Global;
 use std::marker::Model;
 use std::mem;
 
-/// The min-maxes of the row groups in which a key occurs, and their min-max together: a tournament whose winners stand at the
-/// branches, over blocks of sixteen row groups. A branch parts its row groups at a number, which is that of the middle of
-/// the least aligned range of row groups in which they all are. So there are no more branches on the way to a block than
-/// its number has bits, and one branch less than blocks. A row group that is alone in its block's range takes no block.
+/// The min-maxes of the row groups in which a key occurs, and their joined min-max. It is a tournament over blocks of sixteen row groups,
+/// and a branch keeps its winner.
+///
+/// - A branch splits its row groups at the middle of the least aligned range that has them all.
+/// - So on the way to a block there are no more branches than its number has bits. There is one branch less than blocks.
+/// - A row group that is alone in its block's range takes no block.
 #[cycle(tournament)]
 #[derive(Drop)]
 pub struct Tournament {
     node: Node,
 }
 
-/// A node keeps the min-max of its row groups together; there is none if the last of them went.
+/// A node keeps the joined min-max of its row groups. There is none once the last of them is removed.
 #[cycle(tournament)]
 #[derive(Drop)]
 enum Node {
@@ -52,7 +54,7 @@ impl Branch {
     }
 }
 
-/// A block and a branch that stand nowhere yet: the memory of a row group more, which takes one of them or none.
+/// A block and a branch that are not in use: the memory for one more row group, which takes one of them or none.
 #[derive(Drop)]
 pub struct Spare {
     block: Box<Block>,
@@ -60,7 +62,7 @@ pub struct Spare {
 }
 
 impl Spare {
-    /// Refused with `NoMemory` (1) alone.
+    /// Allocates a block and a branch. Refused with `NoMemory` (1) alone.
     pub fn new(alloc: Global) -> Result<Spare, Refusal>
         ensures memory { IfErr result (λ e. e ≡ Refusal.NoMemory) }
     {
@@ -97,7 +99,7 @@ impl Model for Tournament {
 }
 
 impl Tournament {
-    /// One row group alone. Allocates nothing.
+    /// Makes a tournament of one row group. Allocates nothing.
     pub fn new(group: u32, min_max: MinMax) -> Tournament
         ensures { result.min_maxes ≡ (group, min_max) ∷ [] }
     {
@@ -106,7 +108,7 @@ impl Tournament {
         }
     }
 
-    /// The min-max of all row groups together, or `None` if there is none.
+    /// Returns the joined min-max of all row groups, or `None` if there is none.
     pub fn top(&self) -> Option<MinMax>
         ensures is { result ≡ self.now.top }
         ensures top { IsTopOf self.now.min_maxes result }
@@ -118,14 +120,14 @@ impl Tournament {
         }
     }
 
-    /// The min-max of a row group, or `None` if the key does not occur in it.
+    /// Returns the min-max of a row group, or `None` if the key does not occur in it.
     pub fn min_max(&self, group: u32) -> Option<MinMax>
         ensures { result ≡ at self.now.min_maxes group }
     {
         self.find(group).copied()
     }
 
-    /// The min-max of a row group where it stands. It comes back in registers, so that the way down is a loop.
+    /// Borrows the min-max of a row group. It is returned in registers, so the way down is a loop.
     fn find(&self, group: u32) -> Option<&MinMax>
         ensures { option_copied result ≡ at self.now.min_maxes group }
     {
@@ -152,8 +154,7 @@ impl Tournament {
         }
     }
 
-    /// A min-max, or none, in place of that of a row group, where there is an element for it. Says whether there is. Takes no
-    /// memory.
+    /// Sets the min-max of a row group, or removes it, if there is an element for it. Returns whether there is. Allocates nothing.
     pub fn set(&mut self, group: u32, min_max: Option<MinMax>) -> bool
         ensures set { IsTrue result → IsSet self.old.min_maxes group min_max self.new.min_maxes }
         ensures same { result ≡ false → self.new ≡ self.old }
@@ -196,7 +197,7 @@ impl Tournament {
         true
     }
 
-    /// A branch one of whose parts has no row group gives way to the other part.
+    /// Replaces a branch one of whose parts has no row group by the other part.
     fn prune(&mut self)
         ensures { AreSame self.old.min_maxes self.new.min_maxes }
     {
@@ -217,7 +218,7 @@ impl Tournament {
         *self = rest;
     }
 
-    /// A row group more in which the key occurs, which gets a block or a branch that was made for it. Allocates nothing.
+    /// Adds a row group in which the key occurs. It gets a block or a branch that was made for it. Allocates nothing.
     pub fn add(&mut self, spare: Spare, group: u32, min_max: MinMax)
         requires { at self.old.min_maxes group ≡ None }
         ensures { IsSet self.old.min_maxes group (Some min_max) self.new.min_maxes }
@@ -273,7 +274,7 @@ impl Tournament {
         }
     }
 
-    /// A row group more, before all that may be here.
+    /// Adds a row group that is before all that may be here.
     fn add_before(&mut self, spare: Spare, group: u32, min_max: MinMax, first: u32, last: u32)
         requires from { IsFrom first self.old.min_maxes }
         requires below { IsBelow (last + 1) self.old.min_maxes }
@@ -294,7 +295,7 @@ impl Tournament {
         self.node = Node::Several(top, branch);
     }
 
-    /// A row group more, after all that may be here.
+    /// Adds a row group that is after all that may be here.
     fn add_after(&mut self, spare: Spare, group: u32, min_max: MinMax, first: u32, last: u32)
         requires from { IsFrom first self.old.min_maxes }
         requires below { IsBelow (last + 1) self.old.min_maxes }
@@ -316,7 +317,7 @@ impl Tournament {
     }
 }
 
-/// A row group alone, and one more in the range of its block. Allocates nothing.
+/// Makes a block of a row group that was alone, and of another in its range. Allocates nothing.
 fn widened(
     spare: Spare,
     holder: u32,
@@ -338,8 +339,9 @@ fn widened(
     }
 }
 
-/// The least aligned range in which two numbers are: its first number, that of its second half, and its last. The least
-/// and the greatest only spare the proof the bits: the numbers in between are between them as they are.
+/// Returns the least aligned range that has two numbers: its first number, the first of its second half, and its last.
+///
+/// For the proof: `max` and `min` make the bounds of the split obvious without the bits. The split lies within them as it is.
 fn middle(low: u32, high: u32) -> (u32, u32, u32)
     requires { low < high }
     ensures above { low < result.1 }

@@ -1,4 +1,4 @@
-//! What tests begin with, each made a second time where the first finds no memory.
+//! What tests begin with. Each call is made a second time if the first runs out of memory.
 ghost use Rattle.std.specs.Prelude.{◌≡◌, ◌≤◌, ℕ, List, IfOk};
 ghost use Rattle.far_codec.specs.Spelling.{IsSpelled};
 ghost use Rattle.far_scopes.specs.Movement.{AreHere};
@@ -10,7 +10,7 @@ use far_store::{AgentStore, FarStore, FarTickets, Meter};
 use far_types::Refusal;
 use std::alloc::Global;
 
-/// A store of so many contents.
+/// Makes a store for `capacity` contents.
 pub fn agent<R: Copy>(rt: R, alloc: Global, capacity: u64) -> Result<AgentStore<R>, Refusal> {
     match AgentStore::new(rt, alloc, capacity) {
         Err(Refusal::NoMemory) => AgentStore::new(rt, alloc, capacity),
@@ -18,7 +18,7 @@ pub fn agent<R: Copy>(rt: R, alloc: Global, capacity: u64) -> Result<AgentStore<
     }
 }
 
-/// No object of frame 7, within these limits.
+/// Makes an empty collection of objects of frame 7, with these limits.
 pub fn no_objects<T: Elem, S: FarTickets>(
     alloc: Global,
     _store: &S,

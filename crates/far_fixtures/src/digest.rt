@@ -1,12 +1,12 @@
-//! All that is known of objects, in one number. Its making allocates nothing, so no refused allocation is met in it.
+//! A digest of all that is known of objects. Its making allocates nothing, so no failed allocation shows in it.
 ghost use Rattle.std.specs.Prelude.{◌<◌, length};
 
 use crate::Element;
 use far_scopes::Objects;
 use far_store::FarTickets;
 
-/// A number that all goes into that is known of objects: their lists, words and records, whether lists of up to 64 elements
-/// fit, and which goes away first. Allocates nothing.
+/// The digest of all that is known of objects. It covers their lists, words and records, whether lists of up to 64 elements fit, and which
+/// object goes away first. Allocates nothing.
 pub fn digest_of<T: Element, S: FarTickets>(objects: &Objects<T, S>) -> u64 {
     let mut digest = with_optional(0, objects.coldest().map(u64::from));
     for len in 0..65 {
@@ -35,14 +35,14 @@ fn with_object<T: Element, S: FarTickets>(digest: u64, objects: &Objects<T, S>, 
     digest
 }
 
-/// The digest once this number went into it.
+/// Adds a number to the digest.
 pub fn with(digest: u64, number: u64) -> u64 {
     digest
         .wrapping_mul(1_099_511_628_211)
         .wrapping_add(number ^ 0x5555)
 }
 
-/// The digest once this number, or that there is none, went into it.
+/// Adds a number, or the fact that there is none, to the digest.
 pub fn with_optional(digest: u64, number: Option<u64>) -> u64 {
     match number {
         Some(number) => with(with(digest, 1), number),

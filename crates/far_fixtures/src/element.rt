@@ -4,7 +4,17 @@ ghost use Rattle.std.specs.Prelude.{IsTrue};
 use far_codec::{Elem, kind_of};
 use far_types::Kind;
 
-/// An element of which a test can tell whether a list of it has a far form, and which goes into a digest.
+/// An element for tests: a test can tell whether a list of it has a far form, and can add it to a digest.
+///
+/// The list of an object goes into a digest:
+///
+/// ```
+/// if let Ok(list) = objects.lend(o) {
+///     for element in list {
+///         digest = with(digest, element.number());
+///     }
+/// }
+/// ```
 pub trait Element: Elem + PartialEq {
     /// Whether the list has a far form.
     fn is_spelled(list: &[Self]) -> bool

@@ -1,6 +1,8 @@
 #![tactic(auto)]
-//! What the tests of objects and of what stands on them share: stores and objects to begin with, objects that go away and come
-//! back, and one number for all that is known of objects.
+//! What the tests of objects, and of the crates above them, share:
+//! - stores and objects to begin with;
+//! - objects that go away and come back;
+//! - a digest of all that is known of objects.
 
 mod beginning;
 mod digest;

@@ -10,7 +10,7 @@ use far_store::{FarStore, Meter};
 use far_types::Refusal;
 use std::alloc::Global;
 
-/// Sends an object away, where its list has a far form, it has no pin and may leave once more.
+/// Sends an object away, if its list has a far form, it has no pin and may go away once more.
 pub fn send_away<T: Element, S: FarStore>(
     alloc: Global,
     objects: &mut Objects<T, S>,

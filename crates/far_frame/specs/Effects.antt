@@ -23,7 +23,7 @@ use Rattle.far_frame.specs.declared.step.Step.TheVariants as step
 use Rattle.far_frame.specs.declared.step.Reply.{Reply}
 use Rattle.far_frame.specs.declared.step.Reply.TheVariants as reply
 
--- a reply is a refusal with a reason, or serves
+-- a reply is a refusal with a reason, or it serves the step
 abbrev pub Replies : (Reply → Type 0) → (Refusal → Type 0) → Reply → Type 0
 Replies serves refuses (reply.Refused given) = refuses given
 Replies serves refuses (reply.Place place) = serves (reply.Place place)
@@ -35,7 +35,7 @@ Replies serves refuses (reply.Texts pieces) = serves (reply.Texts pieces)
 Replies serves refuses (reply.Job n) = serves (reply.Job n)
 Replies serves refuses (reply.Next found) = serves (reply.Next found)
 
--- the reply of a call that says nothing where it is done
+-- the reply of a call that returns nothing if it is done
 abbrev pub done_or : Result Unit Refusal → Reply
 done_or (Ok done) = reply.Done
 done_or (Err given) = reply.Refused given
@@ -45,14 +45,14 @@ abbrev pub Proposes : List ℕ → Reply → Type 0
 Proposes groups (reply.Next found) = found.items ≡ groups
 Proposes groups _ = ⊥
 
--- what an edit that is made is answered: the place of a row that was appended
+-- the reply to an accepted edit: the place of a row that was appended
 abbrev pub edit_reply : Table → Edit → Reply
 edit_reply table (edit.Insert row) = reply.Place (length table.places)
 edit_reply table (edit.Set place column cell) = reply.Done
 edit_reply table (edit.Remove place) = reply.Done
 
 module _ {K : Type 0} where
-  -- why a segment is not compacted: there is none, or no other is without parts, or memory is wanted
+  -- why a segment is not compacted: there is none, or no other is without parts, or memory ran out
   abbrev pub CompactRefusal : Kind → ℕ → Rows K → Refusal → Type 0
   CompactRefusal kind segment r given = ((given ≡ refusal.OutOfRange) × (segments_of kind r ≤ segment))
       ⊎ (((given ≡ refusal.RegionFull) × (segment < segments_of kind r) × HasNoOther kind segment r)
@@ -84,7 +84,7 @@ module _ {K : Type 0} where
 
   module _ (content : K → List ℕ) where
     -- a step is accepted: nothing refuses it, and its reply and its effect are those of the plain table. An answer is computed
-    -- anew from the rows as they are now
+    -- from scratch from the rows as they are now
     abbrev pub Accepts : State K → Step → Reply → State K → Type 0
     Accepts old (step.Edit e) given new = (given ≡ edit_reply old.table e) × Alters (λ before after. IsEdited content before e after) old new
     Accepts old (step.Watch spec) given new = (a : ℕ) × (given ≡ reply.Aggregate a) × Alters (λ before after. IsWatched before after spec a) old new

@@ -85,7 +85,7 @@ module _ {K : Type 0} where
   WorkRefusal (work.Offload build) given = IsOneOf (21 ∷ 1 ∷ []) given
   WorkRefusal (work.Offloaded build) given = given ≡ refusal.StaleJob
 
-  -- why a job is not carried: it was already; else the store failed or was full, or memory was wanted
+  -- why a job is not carried: it was already; else the store failed or was full, or memory ran out
   abbrev pub CarryRefusal : JobRecord K → Refusal → Type 0
   CarryRefusal job given = WorkRefusal job.work given
 
@@ -133,7 +133,7 @@ module _ {K : Type 0} where
     Commits (work.Carried carried) new = Alters (IsMoved (IsCommitted number_of carried)) old new
     Commits _ new = ⊥
 
-    -- or it is not: what it rests on does not hold any more, or its object has a pin. Any other job is stale here
+    -- or it is not: what it rests on holds no more, or its object has a pin. Any other job is stale here
     abbrev pub CommitRefusal : WorkOf K → Refusal → Type 0
     CommitRefusal (work.Carried carried) given = ((given ≡ refusal.StaleJob) × ¬ (IsEvacAccepted number_of old.rows carried))
         ⊎ ((given ≡ refusal.Pinned) × IsEvacAccepted number_of old.rows carried × (pins_by old.rows carried ≢ 0))
@@ -144,8 +144,8 @@ module _ {K : Type 0} where
     Merges (work.Offloaded build) new = Alters (λ before after. IsMerged number_of before build after) old new
     Merges _ new = ⊥
 
-    -- or it is not: its aggregate is not registered, what it rests on does not hold any more, or memory is wanted. Any other job is
-    -- stale here
+    -- or it is not: its aggregate is not registered, what it rests on holds no more, or memory ran out. Any other job is stale
+    -- here
     abbrev pub MergeRefusal : WorkOf K → Refusal → Type 0
     MergeRefusal (work.Offloaded build) given = ((given ≡ refusal.NoAggregate) × (aggregate_at old.table build.aggregate ≡ None))
         ⊎ (((given ≡ refusal.StaleJob) × IsSome (aggregate_at old.table build.aggregate) × ¬ (IsMergeable number_of (live old) build))
@@ -158,8 +158,7 @@ module _ {K : Type 0} where
       Installs (work.Fetched fetched) new = Alters (IsMoved (IsInstalled content number_of fetched)) old new
       Installs _ new = ⊥
 
-      -- or it is not: what it rests on does not hold any more, its object does not fit, or memory is wanted. Any other job is
-      -- stale here
+      -- or it is not: what it rests on holds no more, its object does not fit, or memory ran out. Any other job is stale here
       abbrev pub InstallRefusal : WorkOf K → Refusal → Type 0
       InstallRefusal (work.Fetched fetched) given = ((given ≡ refusal.StaleJob) × ¬ (IsFetchAccepted number_of old.rows fetched))
           ⊎ (((given ≡ refusal.RegionFull) × IsFetchAccepted number_of old.rows fetched × HasNoSpace content old.rows fetched)

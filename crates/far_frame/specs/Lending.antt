@@ -21,7 +21,7 @@ use Rattle.far_frame.specs.declared.step.Reply.{Reply}
 use Rattle.far_frame.specs.declared.step.Reply.TheVariants as reply
 use Rattle.far_frame.specs.State.{State}
 
--- places of one row group that follow each other: the cells of a column there, and whether each place is alive
+-- adjacent places of one row group: the cells of a column there, and whether each place is alive
 pub record Piece : Type 0 where
   pub cells : List Cell
   pub flags : List Bool

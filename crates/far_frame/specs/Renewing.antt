@@ -5,8 +5,8 @@ use Rattle.far_frame.specs.State.{State}
 use Rattle.far_frame.specs.Worlds.{World}
 
 module _ {K L : Type 0} (content : K → List ℕ) (new_content : L → List ℕ) where
-  -- the contents of the objects that are away are in another store under these tickets. Every row, aggregate and answer stays; a local
-  -- object is dirty, since that store has no copy of it
+  -- the contents of the objects that are away are in another store under these tickets. Every row, aggregate and answer stays.
+  -- A local object is dirty, since that store has no copy of it
   pub record IsMigrated (old : State K) (new : State L) : Type 0 where
     pub tickets : RowsTickets L
     pub renews : RenewsRows content new_content old.rows tickets

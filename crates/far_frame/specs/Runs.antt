@@ -1,4 +1,4 @@
--- What a list of steps makes of the rows, told without the aggregates.
+-- What a list of steps makes of the rows, without the aggregates.
 use Rattle.std.specs.Prelude.{ℕ, Bool, true, false, cond, List, [], ◌∷◌, Option, None, Some}
 use Rattle.far_types.specs.Edits.{places_after}
 use Rattle.far_types.specs.Table.{Place}
@@ -44,7 +44,7 @@ plain_rows [] replies places = places
 plain_rows (s ∷ steps) [] places = places
 plain_rows (s ∷ steps) (given ∷ replies) places = plain_rows steps replies (cond (is_refused given) places (rows_after s places))
 
--- the step lends a part of a column, pins objects, moves them, tells which to move next, or is about a job that does
+-- the step lends a part of a column, pins objects, moves them, returns which to move next, or is about a job that does
 abbrev pub is_movement : Step → Bool
 is_movement (step.Edit e) = false
 is_movement (step.Watch spec) = false

@@ -23,7 +23,7 @@ module _ {K : Type 0} where
   abbrev pub live : State K → LiveState K
   live s = record { table = s.table; rows = s.rows }
 
-  -- the table and its rows change so, and the access history stays
+  -- the table and its rows change like this, and the access history stays
   pub record Alters (change : LiveState K → LiveState K → Type 0) (old new : State K) : Type 0 where
     pub changed : change (live old) (live new)
     pub accesses : new.accesses ≡ old.accesses

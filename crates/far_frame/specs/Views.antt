@@ -8,7 +8,7 @@ use Rattle.far_rows.specs.Refusing.{absents}
 use Rattle.far_table.specs.State.{State}
 
 module _ {K : Type 0} where
-  -- the objects of so many row groups, from one on: which are away, by row group and there by column
+  -- the objects of `count` row groups, from one on: which are away, by row group and there by column
   abbrev pub absents_of : Rows K → ℕ → ℕ → List (Bool × Refusal)
   absents_of r g zero = []
   absents_of r g (suc count) = absents r g ++ absents_of r (g + 1) count

@@ -11,7 +11,7 @@ use Rattle.far_types.specs.Refusals.{number_of as refusal_number}
 use Rattle.far_aggregates.specs.Aggregates.{joined}
 use Rattle.far_frame.specs.Jobs.{JobRecord, IsJobAt, IsCarried}
 
--- the jobs that are not spent, by number; none stands under a number only while its job is being carried
+-- the jobs that are not spent, by number; a number has none only while its job is being carried
 abbrev pub Waiting : Type 0 → Type 0
 Waiting K = List (ℕ × Option (JobRecord K))
 

@@ -17,7 +17,7 @@ use Rattle.far_frame.specs.Jobs.{JobRecord, WorkOf, CarryRefusal}
 use Rattle.far_frame.specs.Waiting.{Waiting, AreJobsAt, IsCarriedAt, RefusalAt, is_number, job_at, one_more, spends, without_job}
 
 -- all that a step can see or change: the table and its objects, the id of the store that they go to, how many jobs were begun
--- and which are not spent, and how many faults of the store were met
+-- and which are not spent, and how many faults of the store occurred
 pub record World (K : Type 0) : Type 0 where
   pub state : State K
   pub store : List ℕ
@@ -43,7 +43,7 @@ module _ {K : Type 0} where
     pub begun : begins job
     pub world : new ≡ record old { begun = old.begun + 1; jobs = one_more old.jobs old.begun job }
 
-  -- no job is begun: this was due, or the numbers are used up, or memory is wanted
+  -- no job is begun: this was due, or the numbers are used up, or memory ran out
   pub record IsNotBegun (due : Option Refusal) (old : World K) (given : Refusal) (new : World K) : Type 0 where
     pub refused : MayRefuse (option_or due (used_up old)) true given
     pub world : new ≡ old
@@ -54,7 +54,7 @@ module _ {K : Type 0} where
     pub carried : IsCarriedAt content n old.jobs new.jobs
     pub world : new ≡ record old { jobs = new.jobs }
 
-  -- it is not carried: it is spent or unknown, or was carried, or memory is wanted, or the store is full or fails, which is
+  -- it is not carried: it is spent or unknown, or was carried, or memory ran out, or the store is full or fails, which is
   -- counted
   pub record IsNoCarry (n : ℕ) (old : World K) (given : Refusal) (new : World K) : Type 0 where
     pub refused : RefusalAt CarryRefusal (job_at old.jobs n) given
@@ -71,12 +71,12 @@ module _ {K : Type 0} where
     pub refused : RefusalAt (λ job. why job.work) (job_at old.jobs n) given
     pub world : new ≡ record old { jobs = cond (spends (Err given)) (without_job old.jobs n) old.jobs }
 
-  -- each job stands under a number of its own, and all these numbers were given out: they are below the count of jobs begun
+  -- each job has a number of its own, and all these numbers were given out: they are below the count of jobs begun
   pub record AreNumbered (world : World K) : Type 0 where
     pub given : All (λ n. n < world.begun) (keys_of world.jobs)
     pub distinct : IsDistinct is_number (keys_of world.jobs)
 
-  -- the number was given out, and no job stands under it any more
+  -- the number was given out, and no job has it any more
   pub record IsSpent (n : ℕ) (world : World K) : Type 0 where
     pub given : n < world.begun
     pub gone : lookup (is_number n) world.jobs ≡ None

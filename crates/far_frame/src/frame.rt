@@ -1,4 +1,4 @@
-// A table and what it answers.
+// A table and its answers.
 ghost use Rattle.std.specs.Prelude.{◌≡◌, ◌⊎◌, ℕ, List, true, false, length, option_map, IfOk, IfErr, IfSome, IfNone, OnOk};
 ghost use Rattle.std.specs.Option.{option_copied};
 ghost use Rattle.far_types.specs.declared.edit.Edit.TheVariants as edit;
@@ -29,7 +29,7 @@ use std::marker::Model;
 /// A table whose rows lie in objects that are local or away, and whose aggregates are kept up to date under every edit.
 /// Contracts see its state: the plain table, the rows over objects that hold its places, and the access history of each column.
 ///
-/// All calls of one table that take a store are given the store to which its objects went.
+/// All calls of one table that take a store get the store to which its objects went.
 ///
 /// A table without rows:
 ///
@@ -40,7 +40,7 @@ use std::marker::Model;
 /// }
 /// ```
 ///
-/// A row is inserted, which gets the next place:
+/// An insert of a row, which gets the next place:
 ///
 /// ```
 /// match row_of(alloc, number) {
@@ -67,10 +67,13 @@ impl<S: FarTickets> Model for Frame<S> {
 }
 
 impl<S: FarTickets> Frame<S> {
-    /// An empty table. The number tells the jobs of its objects from those of other tables. All memory for elements is taken
-    /// here.
+    /// Returns an empty table. The number distinguishes the jobs of its objects from those of other tables. Allocates all
+    /// memory for elements.
     ///
-    /// Refused with `BadSchema` (2) exactly if the limits are not what a table may have, else with `NoMemory` (1) alone.
+    /// Refused with the first of these that applies:
+    ///
+    /// - `BadSchema` (2): the limits are not what a table may have.
+    /// - `NoMemory` (1): an allocation fails.
     pub fn open(
         alloc: Global,
         schema: Schema,
@@ -92,16 +95,21 @@ impl<S: FarTickets> Frame<S> {
         })
     }
 
-    /// Cells that are needed no more: a row to come may be made in their memory. Allocates nothing.
+    /// Returns cells that are no longer needed: a later row may be made in their memory. Allocates nothing.
     pub fn spare_cells(&mut self) -> Vec<Cell>
         ensures { self.new ≡ self.old }
     {
         self.table.spare_cells()
     }
 
-    /// Appends a row and gives its place. Refused with `WrongKind` (5) if a cell is of another kind than its column,
-    /// `RowWidth` (6), `TextTooLong` (7), `TableFull` (10), `Absent` (16) if the last row group is begun and an object of it
-    /// is away, `ChunkFull` (11), `RegionFull` (17), `EditsUsedUp` (24) and `NoMemory` (1): the first that applies.
+    /// Appends a row and returns its place.
+    ///
+    /// Refused with the first of these that applies:
+    ///
+    /// - `WrongKind` (5): a cell is of another kind than its column.
+    /// - `RowWidth` (6), `TextTooLong` (7), `TableFull` (10)
+    /// - `Absent` (16): the last row group is begun, and an object of it is away.
+    /// - `ChunkFull` (11), `RegionFull` (17), `EditsUsedUp` (24), `NoMemory` (1)
     pub fn insert(&mut self, row: Row) -> Result<u32, Refusal>
         ensures ok { IfOk result (λ place. Accepts S.content self.old (step.Edit (edit.Insert row)) (reply.Place place) self.new) }
         ensures err { IfErr result (λ e. Refuses self.old (step.Edit (edit.Insert row)) e self.new) }
@@ -110,9 +118,13 @@ impl<S: FarTickets> Frame<S> {
         self.table.insert(row)
     }
 
-    /// Puts a cell in a place's column; the same cell again counts as an edit too. Refused with `NoColumn` (4), `WrongKind`
-    /// (5), `TextTooLong` (7), `NoRow` (8), `RemovedRow` (9), `Absent` (16) if an object of the place's row group is away,
-    /// `ChunkFull` (11), `RegionFull` (17), `EditsUsedUp` (24) and `NoMemory` (1): the first that applies.
+    /// Puts a cell in a place's column; the same cell again counts as an edit too.
+    ///
+    /// Refused with the first of these that applies:
+    ///
+    /// - `NoColumn` (4), `WrongKind` (5), `TextTooLong` (7), `NoRow` (8), `RemovedRow` (9)
+    /// - `Absent` (16): an object of the place's row group is away.
+    /// - `ChunkFull` (11), `RegionFull` (17), `EditsUsedUp` (24), `NoMemory` (1)
     pub fn set(&mut self, place: u32, column: u32, cell: Cell) -> Result<(), Refusal>
         ensures ok { OnOk result (Accepts S.content self.old (step.Edit (edit.Set place column cell)) reply.Done self.new) }
         ensures err { IfErr result (λ e. Refuses self.old (step.Edit (edit.Set place column cell)) e self.new) }
@@ -121,8 +133,13 @@ impl<S: FarTickets> Frame<S> {
         self.table.set(column, place, cell)
     }
 
-    /// Marks a place dead; its cells stay. Refused with `NoRow` (8), `RemovedRow` (9), `Absent` (16) if an object of the
-    /// place's row group is away, `EditsUsedUp` (24) and `NoMemory` (1): the first that applies.
+    /// Marks a place dead; its cells stay.
+    ///
+    /// Refused with the first of these that applies:
+    ///
+    /// - `NoRow` (8), `RemovedRow` (9)
+    /// - `Absent` (16): an object of the place's row group is away.
+    /// - `EditsUsedUp` (24), `NoMemory` (1)
     pub fn remove(&mut self, place: u32) -> Result<(), Refusal>
         ensures ok { OnOk result (Accepts S.content self.old (step.Edit (edit.Remove place)) reply.Done self.new) }
         ensures err { IfErr result (λ e. Refuses self.old (step.Edit (edit.Remove place)) e self.new) }
@@ -131,9 +148,13 @@ impl<S: FarTickets> Frame<S> {
         self.table.remove(place)
     }
 
-    /// Registers an aggregate under the lowest free number of 0 to 31, with all row groups that hold a place still
-    /// pending. Refused with `BadSpec` (3), `NoColumn` (4) or `WrongKind` (5) if the aggregate cannot be had over
-    /// this schema, `TooManyAggregates` (13) if 32 are registered or 2^32 were, and `NoMemory` (1).
+    /// Registers an aggregate under the lowest free number of 0 to 31. All row groups that hold a place are pending in it.
+    ///
+    /// Refused with the first of these that applies:
+    ///
+    /// - `BadSpec` (3), `NoColumn` (4) or `WrongKind` (5): the aggregate cannot be had over this schema.
+    /// - `TooManyAggregates` (13): 32 are registered, or 2^32 were.
+    /// - `NoMemory` (1): an allocation fails.
     pub fn watch(&mut self, spec: Spec) -> Result<u32, Refusal>
         ensures ok { IfOk result (λ a. Accepts S.content self.old (step.Watch spec) (reply.Aggregate a) self.new) }
         ensures err { IfErr result (λ e. Refuses self.old (step.Watch spec) e self.new) }
@@ -149,9 +170,15 @@ impl<S: FarTickets> Frame<S> {
         self.table.unwatch(a)
     }
 
-    /// Builds the rows of a row group into an aggregate. Refused with `NoAggregate` (12), `OutOfRange` (14) if no place
-    /// is in the row group, `StaleJob` (20) if it is scanned already, `Absent` (16) if the object of a column that the
-    /// aggregate needs is away, naming the lowest such column, and `NoMemory` (1).
+    /// Scans the rows of a row group into an aggregate.
+    ///
+    /// Refused with the first of these that applies:
+    ///
+    /// - `NoAggregate` (12): there is no such aggregate.
+    /// - `OutOfRange` (14): no place is in the row group.
+    /// - `StaleJob` (20): it is scanned already.
+    /// - `Absent` (16): the object of a column that the aggregate needs is away. It names the lowest such column.
+    /// - `NoMemory` (1): an allocation fails.
     pub fn scan_group(&mut self, a: u32, group: u32) -> Result<(), Refusal>
         ensures ok { OnOk result (Accepts S.content self.old (step.ScanGroup a group) reply.Done self.new) }
         ensures err { IfErr result (λ e. Refuses self.old (step.ScanGroup a group) e self.new) }
@@ -159,8 +186,13 @@ impl<S: FarTickets> Frame<S> {
         self.table.scan_group(a, group)
     }
 
-    /// What the aggregate of a number answers over the rows as they are, whichever objects are away. Refused with
-    /// `NoAggregate` (12), `Building` (15) with how many row groups are left where that is not 0, and `NoMemory` (1).
+    /// Returns the answer of the aggregate of a number over the rows as they are, whichever objects are away.
+    ///
+    /// Refused with the first of these that applies:
+    ///
+    /// - `NoAggregate` (12): there is no such aggregate.
+    /// - `Building` (15): row groups are pending. It says how many.
+    /// - `NoMemory` (1): an allocation fails.
     pub fn ask(&self, a: u32) -> Result<Answer, Refusal>
         ensures ok { IfOk result (λ answer. Accepts S.content self.now (step.Ask a) (reply.Answer answer) self.now) }
         ensures err { IfErr result (λ e. Refuses self.now (step.Ask a) e self.now) }
@@ -168,21 +200,21 @@ impl<S: FarTickets> Frame<S> {
         self.table.ask(a)
     }
 
-    /// The rows, lent in place. Allocates nothing.
+    /// Returns a view of the rows, which reads them in place. Allocates nothing.
     pub fn scope(&self) -> View<'_, S>
         ensures { result ≡ live self.now }
     {
         View::new(&self.table)
     }
 
-    /// The kinds of the columns. Allocates nothing.
+    /// Returns the kinds of the columns. Allocates nothing.
     pub fn schema(&self) -> &Schema
         ensures { result.now ≡ self.now.table.schema }
     {
         self.table.rows().schema()
     }
 
-    /// The limits of the table. Allocates nothing.
+    /// Returns the limits of the table. Allocates nothing.
     pub fn limits(&self) -> &Limits
         ensures same { result.now ≡ self.now.table.limits }
         ensures bounds { AreLimits self.now.table.limits }
@@ -190,23 +222,23 @@ impl<S: FarTickets> Frame<S> {
         self.table.rows().limits()
     }
 
-    /// How many places there are, dead ones too. Allocates nothing.
+    /// Returns how many places there are, dead ones too. Allocates nothing.
     pub fn places(&self) -> u32
         ensures { result ≡ length self.now.table.places }
     {
-        // For the proof: that a table has at most 16,777,216 places.
+        // For the proof: a table has at most 16,777,216 places.
         let _limits = self.table.rows().limits();
         self.table.rows().len() as u32
     }
 
-    /// The specification of the aggregate of a number, or `None` if there is none. Allocates nothing.
+    /// Returns the specification of the aggregate of a number, or `None` if there is none. Allocates nothing.
     pub fn spec(&self, a: u32) -> Option<&Spec>
         ensures { option_copied result ≡ option_map (λ aggregate. aggregate.spec) (aggregate_at self.now.table a) }
     {
         self.table.spec(a)
     }
 
-    /// An aggregate and a row group that is still pending in it, or `None` if there is none. Allocates nothing.
+    /// Returns an aggregate and a row group that is still pending in it, or `None` if there is none. Allocates nothing.
     pub fn unbuilt(&self) -> Option<(u32, u32)>
         ensures some { IfSome result (λ at. is_pending_in (aggregate_at self.now.table at.0) at.1 ≡ true) }
         ensures none { IfNone result ((a : ℕ) → (g : ℕ) → is_pending_in (aggregate_at self.now.table a) g ≡ false) }
@@ -214,8 +246,8 @@ impl<S: FarTickets> Frame<S> {
         self.table.unbuilt()
     }
 
-    /// How many rows an aggregate of totals without key column folds, and the sum of their values: `None` if there is
-    /// no such aggregate, and where row groups are still pending. Allocates nothing.
+    /// Returns how many rows an aggregate of totals without key column folds, and the sum of their values. `None` if there is
+    /// no such aggregate, or row groups are still pending. Allocates nothing.
     pub fn plain(&self, a: u32) -> Option<(u64, i128)>
         ensures { result ≡ plain_in self.now.table.places (aggregate_at self.now.table a) }
     {

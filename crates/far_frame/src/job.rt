@@ -12,6 +12,14 @@ use std::alloc::Global;
 use std::marker::Model;
 
 /// What a job does.
+///
+/// ```
+/// match job.kind() {
+///     JobKind::Evac => frame.commit(store, job),
+///     JobKind::Fetch => frame.install(store, job),
+///     JobKind::Offload => frame.merge(store, job),
+/// }
+/// ```
 #[derive(Clone, Copy, Debug, PartialEq, Eq)]
 pub enum JobKind {
     /// It sends an object away.
@@ -23,17 +31,28 @@ pub enum JobKind {
 }
 
 /// The work of a job, by kind and phase. The parameters are the jobs of the crates below.
+///
+/// ```
+/// match &job.work {
+///     Work::Offloaded(carried) => self.table.merge(store, carried),
+///     Work::Offload(_) => Err(Refusal::StaleJob),
+///     Work::Evac(_) => Err(Refusal::StaleJob),
+///     Work::Carried(_) => Err(Refusal::StaleJob),
+///     Work::Fetch(_) => Err(Refusal::StaleJob),
+///     Work::Fetched(_) => Err(Refusal::StaleJob),
+/// }
+/// ```
 #[derive(Drop)]
 pub enum Work<E, C, F, D, B, M> {
-    /// An evacuation that was begun.
+    /// A begun evacuation.
     Evac(E),
-    /// An evacuation whose far form the store has.
+    /// An evacuation whose far form is in the store.
     Carried(C),
-    /// A fetch that was begun.
+    /// A begun fetch.
     Fetch(F),
     /// A fetch whose bytes were read.
     Fetched(D),
-    /// An offloaded build that was begun.
+    /// A begun offloaded build.
     Offload(B),
     /// An offloaded build whose contents were read.
     Offloaded(M),
@@ -49,10 +68,10 @@ type JobWork<S> = Work<
     OffloadCarried<S>,
 >;
 
-/// A job of a table. It owns all that it holds, so no table is borrowed between its beginning and its end, and any thread can carry
-/// it. Contracts see the name of its object, if it moves one, and its work.
+/// A job of a table. It owns all that it holds, so it borrows no table between its beginning and its end, and any thread can
+/// carry it. Contracts see the name of its object, if it moves one, and its work.
 ///
-/// A job is begun:
+/// A job begins:
 ///
 /// ```
 /// match end {
@@ -98,7 +117,7 @@ impl<S: FarTickets> Model for Job<S> {
 }
 
 impl<S: FarTickets> Job<S> {
-    /// What the job does. Allocates nothing.
+    /// Returns what the job does. Allocates nothing.
     pub fn kind(&self) -> JobKind
         ensures { result ≡ kind_of self.now }
     {
@@ -112,7 +131,8 @@ impl<S: FarTickets> Job<S> {
         }
     }
 
-    /// The column and the row group of the object that the job moves; `None` exactly for an offloaded build. Allocates nothing.
+    /// Returns the column and the row group of the object that the job moves; `None` exactly for an offloaded build. Allocates
+    /// nothing.
     pub fn object(&self) -> Option<Name>
         ensures name { result ≡ self.now.name }
         ensures offload { is_none result ≡ is_offload self.now.work }
@@ -122,12 +142,15 @@ impl<S: FarTickets> Job<S> {
 }
 
 impl<S: FarStore> Job<S> {
-    /// Carries the job: an evacuation puts its far form into the store, a fetch reads its ticket's content, an offloaded build those of
-    /// its tickets. It borrows no table, so it may be done beside every other step.
+    /// Carries the job. An evacuation puts its far form into the store, a fetch reads its ticket's content, an offloaded build
+    /// those of its tickets. It borrows no table, so it may run while any other step is served.
     ///
-    /// Refused with `StaleJob` (20) exactly if the job was carried already; else with `FarFault` (21) if the store fails in
-    /// this call, exactly if the meter rises, by one; with `FarFull` (22), an evacuation alone; and with `NoMemory` (1). The job
-    /// then comes back whole.
+    /// Refused with one of these; the job then comes back whole:
+    ///
+    /// - `StaleJob` (20), before all others, exactly if the job was carried already.
+    /// - `FarFault` (21): the store fails in this call, exactly if the meter rises, by one.
+    /// - `FarFull` (22), for an evacuation alone: the number drawn from the store is not below its capacity.
+    /// - `NoMemory` (1): an allocation fails.
     pub fn carry(
         self,
         alloc: Global,
@@ -150,7 +173,7 @@ impl<S: FarStore> Job<S> {
     }
 }
 
-/// Carries the work of a job, or gives it back.
+/// Carries the work of a job, or returns it.
 fn carry_work<S: FarStore>(
     work: JobWork<S>,
     alloc: Global,

@@ -1,4 +1,4 @@
-// The promises of a run in the subject's own words, as they follow from the relation of steps.
+// The promises of a run in the subject's own words, which follow from the relation of steps.
 ghost use Rattle.std.specs.Prelude.{◌≡◌, ◌≢◌, ◌<◌, ◌≤◌, ℕ, List, ◌∷◌, [], ◌++◌, None, Some, IfSome, IsSome, IsSomeAnd, true, false, slice_range};
 ghost use Rattle.std.specs.List.{flat_map};
 ghost use Rattle.far_types.specs.declared.answer.Answer.{Answer};
@@ -40,22 +40,23 @@ ghost use Rattle.far_frame.specs.Worlds.{AreNumbered, IsSpent, World};
 
 use far_store::FarTickets;
 
-/// After any list of steps the rows are those of the plain list under the edits that were accepted, whatever was
+/// After any list of steps the rows are those of the plain list under the accepted edits. It does not matter what was
 /// registered, scanned and asked between them.
 pub fn rows_are_those_of_the_plain_list<S: FarTickets>()
     ensures { (old : World S.Ticket) → (steps : List Step) → (replies : List Reply) → (new : World S.Ticket) → IsRun S.content S.number_of old steps replies new → new.state.table.places ≡ plain_rows steps replies old.state.table.places }
 {}
 
-/// An aggregate that answers gives what folding it over the table's rows as they are now gives, and nothing is still pending
-/// in it.
+/// An answer of an aggregate is what folding it over the table's rows as they are now gives. No row group is still pending in
+/// it.
 pub fn an_answer_is_over_the_rows_now<S: FarTickets>()
     ensures answer { (old : World S.Ticket) → (a : ℕ) → (answer : Answer) → (new : World S.Ticket) → (aggregate : Registered) → aggregate_at old.state.table a ≡ Some aggregate → IsStep S.content S.number_of old (step.Ask a) (reply.Answer answer) new → answer ≡ answer_now aggregate.spec old.state.table }
     ensures built { (old : World S.Ticket) → (a : ℕ) → (answer : Answer) → (new : World S.Ticket) → (aggregate : Registered) → aggregate_at old.state.table a ≡ Some aggregate → IsStep S.content S.number_of old (step.Ask a) (reply.Answer answer) new → left aggregate.pending ≡ 0 }
     ensures same { (old : World S.Ticket) → (a : ℕ) → (answer : Answer) → (new : World S.Ticket) → IsStep S.content S.number_of old (step.Ask a) (reply.Answer answer) new → new ≡ old }
 {}
 
-/// An accepted edit does to the rows what it does to the plain list, and its reply is the plain list's. A refused edit is refused as there,
-/// or because an object is away or does not fit. If none of these holds, memory ran out.
+/// An accepted edit does to the rows what it does to the plain list, and its reply is the plain list's.
+///
+/// A refused edit is refused as there, or because an object is away or does not fit. If none of these holds, memory ran out.
 pub fn an_edit_is_that_of_the_plain_list<S: FarTickets>()
     ensures inserted { (old : World S.Ticket) → (e : Edit) → (place : ℕ) → (new : World S.Ticket) → IsStep S.content S.number_of old (step.Edit e) (reply.Place place) new → new.state.table ≡ edited e old.state.table }
     ensures done { (old : World S.Ticket) → (e : Edit) → (new : World S.Ticket) → IsStep S.content S.number_of old (step.Edit e) reply.Done new → new.state.table ≡ edited e old.state.table }
@@ -64,8 +65,9 @@ pub fn an_edit_is_that_of_the_plain_list<S: FarTickets>()
     ensures refused { (old : World S.Ticket) → (e : Edit) → (given : Refusal) → (new : World S.Ticket) → IsStep S.content S.number_of old (step.Edit e) (reply.Refused given) new → MayRefuse (edit_due (live old.state) e) true given }
 {}
 
-/// A recount that answers gives what folding the aggregate over the table's rows as they are now gives. This is said of every answer of
-/// `Frame::recount`: whichever row groups are still pending, whichever objects are away, and for every number of workers.
+/// An answer of a recount is what folding the aggregate over the table's rows as they are now gives. That holds for every
+/// answer of `Frame::recount`: whichever row groups are still pending, whichever objects are away, and for every number of
+/// workers.
 pub fn a_recount_is_over_the_rows_now()
     ensures { (table : Table) → (a : ℕ) → (answer : Answer) → (aggregate : Registered) → aggregate_at table a ≡ Some aggregate → IsAnswerNow table a answer → answer ≡ answer_now aggregate.spec table }
 {}
@@ -75,34 +77,37 @@ pub fn a_migration_keeps_the_table<S: FarTickets, N: FarTickets>()
     ensures { (id : List ℕ) → (old : World S.Ticket) → (new : World N.Ticket) → IsMigratedTo S.content N.content id old new → new.state.table ≡ old.state.table }
 {}
 
-/// The pieces of a part of a column (`lent_part`) are, joined, that part of its column, with the flags of its places; dead places are in
-/// it too. The contracts of `View::ints` and of the two `record_lending` cite `lent_part`, as does the step `Lend`. `View::texts` lends the
-/// part in one piece, so its contract says of the whole what is said here of the pieces joined.
+/// The pieces of a part of a column (`lent_part`), joined, are that part of its column, with the flags of its places. Dead
+/// places are in it too.
+///
+/// The contracts of `View::ints` and of the two `record_lending` cite `lent_part`, as does the step `Lend`. `View::texts`
+/// returns the part in one piece: its contract says of the whole what is said here of the joined pieces.
 pub fn a_lent_part_is_that_of_its_column()
     ensures cells { (table : Table) → AreLimits table.limits → (column from to : ℕ) → from ≤ to → flat_map (λ piece. piece.cells) (lent_part table column from to) ≡ part column from to table.places }
     ensures flags { (table : Table) → AreLimits table.limits → (column from to : ℕ) → from ≤ to → flat_map (λ piece. piece.flags) (lent_part table column from to) ≡ slice_range (flags_of table.places) from to }
 {}
 
-/// The reply of a lending gives, joined, that part of the column, with the flags of its places.
+/// The pieces in the reply of a lending, joined, are that part of the column, with the flags of its places.
 pub fn a_lent_reply_is_that_part<S: FarTickets>()
     ensures cells { (old : World S.Ticket) → AreLimits old.state.table.limits → (column from to : ℕ) → (given : Reply) → (new : World S.Ticket) → is_refused given ≡ false → IsStep S.content S.number_of old (step.Lend column from to) given new → flat_map (λ piece. piece.cells) (pieces_in given) ≡ part column from to old.state.table.places }
     ensures flags { (old : World S.Ticket) → AreLimits old.state.table.limits → (column from to : ℕ) → (given : Reply) → (new : World S.Ticket) → is_refused given ≡ false → IsStep S.content S.number_of old (step.Lend column from to) given new → flat_map (λ piece. piece.flags) (pieces_in given) ≡ slice_range (flags_of old.state.table.places) from to }
 {}
 
-/// A step that is refused changes no row, column, aggregate or object, and nothing that is remembered of lendings.
+/// A step that is refused changes no row, column, aggregate or object, and no access history.
 pub fn a_refused_step_changes_nothing<S: FarTickets>()
     ensures { (old : World S.Ticket) → (s : Step) → (given : Refusal) → (new : World S.Ticket) → IsStep S.content S.number_of old s (reply.Refused given) new → new.state ≡ old.state }
 {}
 
-/// Lendings, pins, jobs that move objects in any phase, beginnings and carries of offloaded builds, compactions and proposals change no
-/// row, no aggregate and no answer.
+/// None of these changes a row, an aggregate or an answer: lendings, pins, jobs that move objects in any phase, beginnings and
+/// carries of offloaded builds, compactions and proposals.
 pub fn movement_changes_no_row<S: FarTickets>()
     ensures { (old : World S.Ticket) → (s : Step) → (given : Reply) → (new : World S.Ticket) → is_movement s ≡ true → IsStep S.content S.number_of old s given new → new.state.table ≡ old.state.table }
 {}
 
-/// No step of any kind sends an object away that has a pin: a commit of its evacuation is refused. Only `Pin` and `Unpin` change how many
-/// pins an object has. A migration sends no object away and brings none back, and each object keeps its pins. So from a table as it is
-/// opened on, every object that has a pin is local, and a lending is not refused for it.
+/// No step of any kind sends an object away that has a pin: a commit of its evacuation is refused. Only `Pin` and `Unpin`
+/// change how many pins an object has. A migration sends no object away and brings none back, and each object keeps its pins.
+///
+/// So from the opening of a table on, every object that has a pin is local, and a lending is not refused for it.
 pub fn a_pinned_object_stays<S: FarTickets, N: FarTickets>()
     ensures stays { (old : World S.Ticket) → (s : Step) → (given : Reply) → (new : World S.Ticket) → IsStep S.content S.number_of old s given new → (o : Object) → pins_at old.state.rows o ≢ 0 → is_here old.state.rows o ≡ true → is_here new.state.rows o ≡ true }
     ensures pins { (old : World S.Ticket) → (s : Step) → (given : Reply) → (new : World S.Ticket) → is_pinning s ≡ false → IsStep S.content S.number_of old s given new → (o : Object) → pins_at new.state.rows o ≡ pins_at old.state.rows o }
@@ -115,15 +120,18 @@ pub fn a_pinned_object_stays<S: FarTickets, N: FarTickets>()
     ensures migrated_places { (id : List ℕ) → (old : World S.Ticket) → (new : World N.Ticket) → IsMigratedTo S.content N.content id old new → (o : Object) → is_here new.state.rows o ≡ is_here old.state.rows o }
 {}
 
-/// A merge that is accepted does to the table exactly what a scan of its row group does, and changes no row and no object.
+/// An accepted merge does to the table exactly what a scan of its row group does, and changes no row and no object.
 pub fn a_merge_is_a_scan<S: FarTickets>()
     ensures table { (old : World S.Ticket) → (n : ℕ) → (job : JobRecord S.Ticket) → (build : Build S.Ticket) → job_at old.jobs n ≡ Some job → job.work ≡ work.Offloaded build → (new : World S.Ticket) → IsStep S.content S.number_of old (step.Merge n) reply.Done new → new.state ≡ record old.state { table = scanned_at build.aggregate build.group old.state.table } }
     ensures scan { (old : World S.Ticket) → (n : ℕ) → (job : JobRecord S.Ticket) → (build : Build S.Ticket) → job_at old.jobs n ≡ Some job → job.work ≡ work.Offloaded build → (new : World S.Ticket) → IsStep S.content S.number_of old (step.Merge n) reply.Done new → (scanned : World S.Ticket) → IsStep S.content S.number_of old (step.ScanGroup build.aggregate build.group) reply.Done scanned → new.state ≡ scanned.state }
 {}
 
-/// A job that is stale changes nothing but that its number is spent: one that was accepted, is of another kind or phase, or whose
-/// object was written or away since; or a build whose row group was edited, scanned otherwise, or whose aggregate is another now.
-/// One that is spent or was never begun is stale, whichever step names it.
+/// A stale job changes nothing but that its number is spent. These jobs are stale:
+///
+/// - one that was accepted, or is of another kind or phase;
+/// - one whose object was written or away since;
+/// - a build whose row group was edited or scanned otherwise, or whose aggregate is another now;
+/// - one that is spent or was never begun, whichever step names it.
 pub fn a_stale_job_changes_nothing<S: FarTickets>()
     ensures committed { (old : World S.Ticket) → (n : ℕ) → (new : World S.Ticket) → IsStep S.content S.number_of old (step.Commit n) (reply.Refused Refusal.StaleJob) new → new ≡ record old { jobs = without_job old.jobs n } }
     ensures installed { (old : World S.Ticket) → (n : ℕ) → (new : World S.Ticket) → IsStep S.content S.number_of old (step.Install n) (reply.Refused Refusal.StaleJob) new → new ≡ record old { jobs = without_job old.jobs n } }
@@ -132,9 +140,12 @@ pub fn a_stale_job_changes_nothing<S: FarTickets>()
     ensures spent { (old : World S.Ticket) → (s : Step) → IsSomeAnd (job_of s) (λ n. job_at old.jobs n ≡ None) → (given : Reply) → (new : World S.Ticket) → IsStep S.content S.number_of old s given new → given ≡ reply.Refused refusal.StaleJob }
 {}
 
-/// A number names one job. All jobs stand under different numbers in a world as `World::new` or `World::migrate` makes it, and after any
-/// run on it. A job that is accepted or stale at its end spends its number: no job stands under that again, whatever the steps are, and
-/// every step that names it is stale. A migration spends all numbers that were given out. `run` tells of spent numbers by itself.
+/// A number names one job. All jobs have different numbers in a world that `World::new` or `World::migrate` makes, and after
+/// any run on it.
+///
+/// A job that is accepted or stale at its end spends its number. No job has that number again, whatever the steps are, and
+/// every step that names it is stale. A migration spends all numbers that were given out. That a spent number stays spent is a
+/// clause of `run` too.
 pub fn a_number_names_one_job<S: FarTickets, N: FarTickets>()
     ensures opened { (old : World S.Ticket) → old.jobs ≡ [] → AreNumbered old }
     ensures run { (old : World S.Ticket) → (steps : List Step) → (replies : List Reply) → (new : World S.Ticket) → AreNumbered old → IsRun S.content S.number_of old steps replies new → AreNumbered new }
@@ -145,7 +156,7 @@ pub fn a_number_names_one_job<S: FarTickets, N: FarTickets>()
     ensures migrated { (id : List ℕ) → (old : World S.Ticket) → (new : World N.Ticket) → IsMigratedTo S.content N.content id old new → (n : ℕ) → n < old.begun → IsSpent n new }
 {}
 
-/// Lists of steps served one after another are served as one list.
+/// Serving lists of steps one after another is serving one list.
 pub fn runs_join<S: FarTickets>()
     ensures { (old : World S.Ticket) → (steps : List Step) → (replies : List Reply) → (mid : World S.Ticket) → (more : List Step) → (others : List Reply) → (new : World S.Ticket) → IsRun S.content S.number_of old steps replies mid → IsRun S.content S.number_of mid more others new → IsRun S.content S.number_of old (steps ++ more) (replies ++ others) new }
 {}

@@ -1,7 +1,14 @@
-// What the step `Lend` replies: copies of parts of columns.
+// What the step `Lend` returns: copies of parts of columns.
 use far_types::Text;
 
-/// Numbers of places that follow each other in one row group, each of which may be missing, and whether each place is alive.
+/// Numbers of adjacent places of one row group, each of which may be missing, and whether each place is alive.
+///
+/// ```
+/// Ok(IntPiece {
+///     values: Vec::from_slice(alloc, lent.values)?,
+///     flags: Vec::from_slice(alloc, lent.alive)?,
+/// })
+/// ```
 #[derive(Drop, Debug)]
 pub struct IntPiece {
     /// The numbers.
@@ -10,7 +17,17 @@ pub struct IntPiece {
     pub flags: Vec<bool>,
 }
 
-/// Texts of places that follow each other in one row group, each of which may be missing, and whether each place is alive.
+/// Texts of adjacent places of one row group, each of which may be missing, and whether each place is alive.
+///
+/// ```
+/// let mut values = Vec::new(alloc);
+/// let mut flags = Vec::new(alloc);
+/// while let Some(cell) = lent.next() {
+///     values.push(copy_text(alloc, cell.text)?)?;
+///     flags.push(cell.alive)?;
+/// }
+/// Ok(TextPiece { values, flags })
+/// ```
 #[derive(Drop, Debug)]
 pub struct TextPiece {
     /// The texts.

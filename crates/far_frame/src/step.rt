@@ -6,6 +6,14 @@ use super::piece::{IntPiece, TextPiece};
 use far_types::{Answer, Edit, Kind, Refusal, Spec};
 
 /// One request to a table.
+///
+/// ```
+/// let mut cells = Vec::new(alloc);
+/// for value in values {
+///     cells.push(cell(alloc, *value)?)?;
+/// }
+/// Ok(Step::Edit(Edit::Insert(Row::new(cells))))
+/// ```
 #[derive(Drop, Debug)]
 pub enum Step {
     /// Changes the rows.
@@ -14,7 +22,7 @@ pub enum Step {
     Watch(Spec),
     /// Forgets the aggregate of a number.
     Unwatch(u32),
-    /// Builds the rows of one row group, the second number, into the aggregate of the first.
+    /// Scans the rows of one row group, the second number, into the aggregate of the first.
     ScanGroup(u32, u32),
     /// Asks the aggregate of a number.
     Ask(u32),
@@ -27,14 +35,14 @@ pub enum Step {
         /// The place behind the last.
         to: u32,
     },
-    /// Keeps the object of a row group of a column from going away, once more.
+    /// Pins the object of a row group of a column once more, so that it does not go away.
     Pin {
         /// The column.
         column: u32,
         /// The row group.
         group: u32,
     },
-    /// Takes back one pin of an object.
+    /// Removes one pin of an object.
     Unpin {
         /// The column.
         column: u32,
@@ -64,11 +72,11 @@ pub enum Step {
     },
     /// Carries the job of a number.
     Carry(u64),
-    /// Ends the job of a number, an evacuation that was carried: its object is away.
+    /// Ends the job of a number, a carried evacuation: its object is away.
     Commit(u64),
-    /// Ends the job of a number, a fetch that was carried: its object is back.
+    /// Ends the job of a number, a carried fetch: its object is back.
     Install(u64),
-    /// Ends the job of a number, an offloaded build that was carried: its row group is scanned.
+    /// Ends the job of a number, a carried offloaded build: its row group is scanned.
     Merge(u64),
     /// Compacts a segment, the second, of the objects of a kind.
     Compact(Kind, u32),
@@ -77,21 +85,35 @@ pub enum Step {
 }
 
 /// The reply to a step: there is one for each.
+///
+/// ```
+/// match reply {
+///     Reply::Place(place) => numbered(page, "place", u64::from(*place)),
+///     Reply::Done => page.text(done),
+///     Reply::Aggregate(aggregate) => numbered(page, "aggregate", u64::from(*aggregate)),
+///     Reply::Answer(found) => answer(page, found),
+///     Reply::Ints(copies) => ints(page, copies.as_slice()),
+///     Reply::Texts(copies) => texts(page, copies.as_slice()),
+///     Reply::Job(job) => numbered(page, "job", *job),
+///     Reply::Next(groups) => next(page, groups.as_slice()),
+///     Reply::Refused(refusal) => refused(page, refusal),
+/// }
+/// ```
 #[derive(Drop, Debug)]
 pub enum Reply {
     /// The place of an inserted row.
     Place(u32),
-    /// The step is done, and there is nothing to say.
+    /// The step is done, and returns nothing.
     Done,
     /// The number of a registered aggregate.
     Aggregate(u32),
-    /// What the aggregate answers.
+    /// The answer of an aggregate.
     Answer(Answer),
     /// A part of a column of numbers, a piece for each row group that has some of it.
     Ints(Vec<IntPiece>),
     /// A part of a column of texts, a piece for each row group that has some of it.
     Texts(Vec<TextPiece>),
-    /// The number of a job that was begun.
+    /// The number of a begun job.
     Job(u64),
     /// The row groups to fetch next.
     Next(Vec<u32>),
@@ -100,7 +122,7 @@ pub enum Reply {
 }
 
 impl Reply {
-    /// The reply of a call that says nothing if it is done.
+    /// Returns the reply of a call that returns nothing if it is done.
     pub(crate) fn done_or(outcome: Result<(), Refusal>) -> Reply
         ensures { result ≡ done_or outcome }
     {

@@ -1,4 +1,4 @@
-// The rows and columns of a table, lent in place.
+// The rows and columns of a table, borrowed.
 ghost use Rattle.std.specs.Prelude.{◌≡◌, ◌<◌, ◌≤◌, ◌/◌, ◌^◌, ℕ, None, Some, length, map, option_map, option_copied, slice_get, slice_range, IfOk, OnOk};
 ghost use Rattle.far_types.specs.FirstOf.{first_of};
 ghost use Rattle.far_scopes.specs.Refusing.{refusal_in};
@@ -17,10 +17,9 @@ use far_texts::TextCells;
 use far_types::{Kind, LentRow, Refusal};
 use std::marker::Model;
 
-/// The rows of a table, lent where they lie: no object comes, goes or changes while a view is there. Contracts see the table's
-/// state.
+/// The rows of a table, read in place: no object comes, goes or changes while a view is there. Contracts see the table's state.
 ///
-/// A part of a column is lent piece by piece, and here each piece is copied:
+/// A part of a column is borrowed piece by piece. Here each piece is copied:
 ///
 /// ```
 /// let view = frame.scope();
@@ -45,29 +44,29 @@ impl<'a, S: FarTickets> Model for View<'a, S> {
 }
 
 impl<'a, S: FarTickets> View<'a, S> {
-    /// The rows of this table. Allocates nothing.
+    /// Returns a view of the rows of this table. Allocates nothing.
     pub(crate) fn new(table: &'a LiveTable<S>) -> View<'a, S>
         ensures { result ≡ table.now }
     {
         View { table }
     }
 
-    /// Whether a place is alive; `None` if there is no such place. Allocates nothing.
+    /// Returns whether a place is alive; `None` if there is no such place. Allocates nothing.
     pub fn is_alive(&self, place: u32) -> Option<bool>
         ensures { result ≡ option_map (λ p. p.alive) (slice_get self.now.table.places place) }
     {
         self.table.rows().is_alive(place as usize)
     }
 
-    /// Whether every place can be lent. Allocates nothing.
+    /// Checks that every place can be lent. Allocates nothing.
     ///
-    /// Refused with `Absent` (16) exactly if an object is away, naming the first: of the lowest row group, and there of the
+    /// Refused with `Absent` (16) exactly if an object is away. It names the first: of the lowest row group, and there of the
     /// lowest column.
     pub fn all(&self) -> Result<(), Refusal>
         ensures refused { refusal_in result ≡ away self.now }
         ensures here { OnOk result ((place : ℕ) → place < length self.now.table.places → first_of (absents self.now.rows (place / self.now.table.limits.group)) ≡ None) }
     {
-        // They tell what the rows are.
+        // For the proof: what the rows are.
         let rows = self.table.rows();
         let _limits = rows.limits();
         let _len = rows.len();
@@ -78,10 +77,12 @@ impl<'a, S: FarTickets> View<'a, S> {
         Ok(())
     }
 
-    /// The row of a place, each cell lent in place. A dead place has its cells still. Allocates nothing.
+    /// Returns the row of a place, with each cell borrowed. A dead place still has its cells. Allocates nothing.
     ///
-    /// Refused with `NoRow` (8) exactly past the places, else with `Absent` (16) exactly if an object of the place's row group
-    /// is away, naming the first in the order of the columns.
+    /// Refused with the first of these that applies:
+    ///
+    /// - `NoRow` (8): the place is past the end.
+    /// - `Absent` (16): an object of the place's row group is away. It names the first in the order of the columns.
     pub fn row(&self, place: u32) -> Result<LentRow<'_>, Refusal>
         ensures row { IfOk result (λ row. option_map (λ p. p.cells) (slice_get self.now.table.places place) ≡ Some row) }
         ensures past { length self.now.table.places ≤ place → refusal_in result ≡ Some Refusal.NoRow }
@@ -94,7 +95,7 @@ impl<'a, S: FarTickets> View<'a, S> {
         rows.row(place as usize)
     }
 
-    /// The row of a place, each cell lent in place once it is asked for, so that the row is not copied. Allocates nothing.
+    /// Returns the row of a place. It borrows each cell when it is asked for, so that the row is not copied. Allocates nothing.
     ///
     /// Refused as `row` is, with `NoRow` (8) and `Absent` (16).
     pub fn row_ref(&self, place: u32) -> Result<RowRef<'_, S>, Refusal>
@@ -109,18 +110,18 @@ impl<'a, S: FarTickets> View<'a, S> {
         rows.row_ref(place as usize)
     }
 
-    /// The kind of a column; `None` if there is no such column. Allocates nothing.
+    /// Returns the kind of a column; `None` if there is no such column. Allocates nothing.
     pub(crate) fn kind(&self, column: u32) -> Option<Kind>
         ensures schema { result ≡ slice_get self.now.table.schema column }
         ensures column_index { result ≡ option_map kind_of (slice_get self.now.rows.column_indexes column) }
     {
         let rows = self.table.rows();
-        // For the proof: that the kinds are those of the columns.
+        // For the proof: the kinds are those of the columns.
         let _held = rows.held();
         rows.schema().get(column as usize)
     }
 
-    /// How many places a row group has. Allocates nothing.
+    /// Returns how many places a row group has. Allocates nothing.
     pub fn size(&self) -> usize
         ensures rows { result ≡ self.now.rows.size }
         ensures limit { result ≡ self.now.table.limits.group }
@@ -128,17 +129,20 @@ impl<'a, S: FarTickets> View<'a, S> {
         ensures small { result ≤ 2 ^ 16 }
     {
         let rows = self.table.rows();
-        // For the proof: that the rows are cut as the limits say.
+        // For the proof: the rows are cut as the limits say.
         let _held = rows.held();
         rows.limits().group as usize
     }
 
-    /// The numbers of the places `from` up to `to` of a column, lent in place with the flags of their places: a piece for each row
-    /// group that has some of them. Allocates nothing.
+    /// Returns the numbers of the places `from` up to `to` of a column with the flags of their places, borrowed. There is a
+    /// piece for each row group that has some of them. Allocates nothing.
     ///
-    /// Refused with `NoColumn` (4), `WrongKind` (5) if the column is of texts, `OutOfRange` (14) if `from` is above `to` or
-    /// `to` is past the places, `Absent` (16) if the object of a row group that has some of them is away, naming the first: the
-    /// first that applies.
+    /// Refused with the first of these that applies:
+    ///
+    /// - `NoColumn` (4): there is no such column.
+    /// - `WrongKind` (5): the column is of texts.
+    /// - `OutOfRange` (14): `from` is above `to`, or `to` is past the places.
+    /// - `Absent` (16): the object of a row group with some of them is away. It names the first such.
     pub fn ints(&self, column: u32, from: u32, to: u32) -> Result<Lents<'_, S>, Refusal>
         ensures lent { IfOk result (λ lents. map ints_lent lents ≡ lent_part self.now.table column from to) }
         ensures refused { refusal_in result ≡ ints_refusal self.now.rows column from to }
@@ -151,11 +155,15 @@ impl<'a, S: FarTickets> View<'a, S> {
             .ints(column as usize, from as usize, to as usize)
     }
 
-    /// The texts of the places `from` up to `to` of a column, lent in place, each with the flag of its place. Allocates nothing.
+    /// Returns the texts of the places `from` up to `to` of a column, each borrowed, with the flag of its place. Allocates
+    /// nothing.
     ///
-    /// Refused with `NoColumn` (4), `WrongKind` (5) if the column is of numbers, `OutOfRange` (14) if `from` is above `to` or
-    /// `to` is past the places, `Absent` (16) if the object of a row group that has some of them is away, naming the first: the
-    /// first that applies.
+    /// Refused with the first of these that applies:
+    ///
+    /// - `NoColumn` (4): there is no such column.
+    /// - `WrongKind` (5): the column is of numbers.
+    /// - `OutOfRange` (14): `from` is above `to`, or `to` is past the places.
+    /// - `Absent` (16): the object of a row group with some of them is away. It names the first such.
     pub fn texts(&self, column: u32, from: u32, to: u32) -> Result<TextCells<'_, S>, Refusal>
         ensures cells { IfOk result (λ lent. map (λ cell. text_cell cell.0) lent ≡ part column from to self.now.table.places) }
         ensures flags { IfOk result (λ lent. map (λ cell. cell.1) lent ≡ slice_range (flags_of self.now.table.places) from to) }
@@ -168,10 +176,14 @@ impl<'a, S: FarTickets> View<'a, S> {
             .texts(column as usize, from as usize, to as usize)
     }
 
-    /// The text of a place, lent in place; `None` if it is missing. A dead place has its text still. Allocates nothing.
+    /// Returns the text of a place, borrowed; `None` if it is missing. A dead place still has its text. Allocates nothing.
     ///
-    /// Refused with `NoColumn` (4), `WrongKind` (5) if the column is of numbers, `NoRow` (8) past the places, `Absent` (16) where
-    /// the object of the place's row group is away: the first that applies.
+    /// Refused with the first of these that applies:
+    ///
+    /// - `NoColumn` (4): there is no such column.
+    /// - `WrongKind` (5): the column is of numbers.
+    /// - `NoRow` (8): the place is past the end.
+    /// - `Absent` (16): the object of the place's row group is away.
     pub fn text(&self, column: u32, place: u32) -> Result<Option<&str>, Refusal>
         ensures text { IfOk result (λ text. slice_get (column_of column self.now.table.places) place ≡ Some (text_cell (option_copied text))) }
         ensures refused { refusal_in result ≡ text_refusal self.now.rows column place }

@@ -11,8 +11,8 @@ use std::alloc::Global;
 use std::collections::BTreeMap;
 use std::marker::Model;
 
-/// The jobs that are not spent, by number. One stands without its job only while that is being carried, so that its place is there
-/// when it comes back.
+/// The jobs that are not spent, by number. A number has no job only while that is being carried. Its place is kept for its
+/// return.
 #[derive(Drop)]
 pub(crate) struct Waiting<S: FarTickets> {
     jobs: BTreeMap<u64, Option<Job<S>>>,
@@ -27,7 +27,7 @@ impl<S: FarTickets> Model for Waiting<S> {
 }
 
 impl<S: FarTickets> Waiting<S> {
-    /// No job. Allocates nothing.
+    /// Returns the list of no job. Allocates nothing.
     pub(crate) fn new(alloc: Global) -> Waiting<S>
         ensures { result ≡ [] }
     {
@@ -36,7 +36,7 @@ impl<S: FarTickets> Waiting<S> {
         }
     }
 
-    /// The job of a number.
+    /// Returns the job of a number.
     pub(crate) fn get(&self, n: u64) -> Option<&Job<S>>
         ensures { option_copied result ≡ job_at self.now n }
     {
@@ -46,7 +46,7 @@ impl<S: FarTickets> Waiting<S> {
         }
     }
 
-    /// Takes the job of a number out, for the while of a carry.
+    /// Takes the job of a number out, while it is carried.
     fn take(&mut self, n: u64) -> Option<Job<S>>
         ensures value { result ≡ job_at self.old n }
         ensures after { self.new ≡ with_job self.old n None }
@@ -67,7 +67,7 @@ impl<S: FarTickets> Waiting<S> {
         let_go(place.replace(job));
     }
 
-    /// One job more. Refused with `NoMemory` (1) alone; then nothing is changed.
+    /// Adds a job. Refused with `NoMemory` (1) alone. A refused call changes nothing.
     pub(crate) fn add(&mut self, n: u64, job: Job<S>) -> Result<(), Refusal>
         ensures added { OnOk result (self.new ≡ one_more self.old n job) }
         ensures memory { IfErr result (λ e. e ≡ Refusal.NoMemory) }
@@ -77,14 +77,14 @@ impl<S: FarTickets> Waiting<S> {
         Ok(())
     }
 
-    /// The job of a number is spent.
+    /// Spends the number of a job.
     fn spend(&mut self, n: u64)
         ensures { self.new ≡ without_job self.old n }
     {
         let_go(self.jobs.remove(&n));
     }
 
-    /// The job of a number came to this end: its number is spent where it was accepted or is stale.
+    /// Records how the job of a number ended. Its number is spent if it was accepted or is stale.
     pub(crate) fn end(&mut self, n: u64, ended: &Result<(), Refusal>)
         ensures { self.new ≡ cond (spends ended.now) (without_job self.old n) self.old }
     {
@@ -97,7 +97,8 @@ impl<S: FarTickets> Waiting<S> {
 }
 
 impl<S: FarStore> Waiting<S> {
-    /// Carries the job of a number. Refused as a carry is, and with `StaleJob` (20) if there is none; then nothing is changed.
+    /// Carries the job of a number. Refused as a carry is, and with `StaleJob` (20) if there is none. A refused call changes
+    /// nothing.
     pub(crate) fn carry(
         &mut self,
         n: u64,
@@ -129,5 +130,5 @@ impl<S: FarStore> Waiting<S> {
     }
 }
 
-/// Lets a value go.
+/// Drops a value.
 fn let_go<T: Drop>(_value: T) {}

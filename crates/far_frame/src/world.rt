@@ -21,10 +21,10 @@ use std::marker::Model;
 
 /// A table, the store to which its objects go, its jobs, and all else that a step can see or change.
 ///
-/// Jobs are numbered 0, 1, 2, .. in the order in which they are begun. A number is spent once its job was accepted at its end, or
+/// Jobs are numbered 0, 1, 2, .. in the order in which they begin. A number is spent once its job was accepted at its end, or
 /// was stale there.
 ///
-/// Steps are served in order, and each has a reply. Few faults were met before:
+/// Steps are served in order, and each has a reply. Here few faults occurred before:
 ///
 /// ```
 /// if world.faults() < 9 && steps.len() < 99 {
@@ -54,8 +54,8 @@ impl<S: FarStore> Model for World<S> {
 }
 
 impl<S: FarStore> World<S> {
-    /// A world with this table and this store, in which no job was begun and no fault was met. It allocates nothing, so it is never
-    /// refused: the frame and the store are given back to those who match on both outcomes.
+    /// Returns a world with this table and this store, in which no job was begun and no fault occurred. It allocates nothing,
+    /// so it is never refused. An error would return the frame and the store, for those who match on both outcomes.
     pub fn new(alloc: Global, frame: Frame<S>, store: S) -> Result<World<S>, (Refusal, Frame<S>, S)>
         requires here { AreAt S.is_of (S.store_id store) frame.rows }
         ensures made { IsOk result }
@@ -71,14 +71,14 @@ impl<S: FarStore> World<S> {
         })
     }
 
-    /// The table. Allocates nothing.
+    /// Returns the table. Allocates nothing.
     pub fn frame(&self) -> &Frame<S>
         ensures { result.now ≡ self.now.state }
     {
         &self.frame
     }
 
-    /// The store to which the table's objects go. All tickets of the rows are of it. Allocates nothing.
+    /// Returns the store to which the table's objects go. All tickets of the rows are of it. Allocates nothing.
     pub fn store(&self) -> &S
         ensures store_id { S.store_id result.now ≡ self.now.store }
         ensures here { AreAt S.is_of self.now.store self.now.state.rows }
@@ -86,21 +86,21 @@ impl<S: FarStore> World<S> {
         &self.store
     }
 
-    /// How many faults its stores answered since `new`. Allocates nothing.
+    /// Returns how many faults of its stores occurred since `new`. Allocates nothing.
     pub fn faults(&self) -> u64
         ensures { result ≡ self.now.faults }
     {
         self.meter.faults()
     }
 
-    /// Cells that are needed no more: the row of an edit to come may be made in their memory. Allocates nothing.
+    /// Returns cells that are no longer needed: the row of a later edit may be made in their memory. Allocates nothing.
     pub fn spare_cells(&mut self) -> Vec<Cell>
         ensures { self.new ≡ self.old }
     {
         self.frame.spare_cells()
     }
 
-    /// Serves an edit, as its step is served. No fault is met.
+    /// Serves an edit, as its step is served. No fault occurs.
     pub fn edit(&mut self, edit: Edit) -> Reply
         ensures step { IsStep S.content S.number_of self.old (Step.Edit edit) result self.new }
         ensures faults { self.new.faults ≡ self.old.faults }
@@ -108,12 +108,17 @@ impl<S: FarStore> World<S> {
         serving::edit(&mut self.frame, edit)
     }
 
-    /// Records that a part of a column was lent, as serving the step `Lend` records it: for those who read the part in a view of the
-    /// frame, where no value is copied. There is a reply that gives the part, and the world changes as by the step with this reply.
+    /// Records that a part of a column was lent, as the step `Lend` records it. Use it after reading the part in a view of the
+    /// frame, where no value is copied. There is a reply with the part, and the world changes as by the step with this reply.
     /// Allocates nothing.
     ///
-    /// Refused with `NoColumn` (4), `OutOfRange` (14) if `from` is above `to` or `to` is past the places, `Absent` (16) if the
-    /// object of a row group that has some of them is away, naming the first: the first that applies. Then nothing is changed.
+    /// Refused with the first of these that applies:
+    ///
+    /// - `NoColumn` (4): there is no such column.
+    /// - `OutOfRange` (14): `from` is above `to`, or `to` is past the places.
+    /// - `Absent` (16): the object of a row group with some of them is away. It names the first such.
+    ///
+    /// A refused call changes nothing.
     pub fn record_lending(&mut self, column: u32, from: u32, to: u32) -> Result<(), Refusal>
         ensures ok { OnOk result ((given : Reply) × Gives (slice_get self.old.state.table.schema column) (lent_part self.old.state.table column from to) given × IsStep S.content S.number_of self.old (Step.Lend column from to) given self.new) }
         ensures refused { refusal_in result ≡ lend_refusal self.old.state.rows column from to }
@@ -123,7 +128,7 @@ impl<S: FarStore> World<S> {
         self.frame.record_lending(column, from, to)
     }
 
-    /// Serves one step. There is a reply always; where it is a refusal, no row, column, aggregate or object was changed.
+    /// Serves one step. It always has a reply. If that is a refusal, no row, column, aggregate or object changed.
     pub fn serve(&mut self, step: Step) -> Reply
         requires few { self.old.faults < 2 ^ 63 }
         ensures step { IsStep S.content S.number_of self.old step result self.new }
@@ -153,11 +158,18 @@ impl<S: FarStore> World<S> {
     }
 }
 
-/// Serves steps in order, with one reply to each: the replies and the new state are a run of the plain table from the
-/// old one. So after any list of steps, in which edits, registrations, lendings, pins and every phase of evacuations, fetches and
-/// offloaded builds follow one another anyhow, each aggregate that answers gives what folding it over the rows as they are gives, each lent
-/// slice is that part of its column, each edit's reply is the plain list's, and a refused step changes no row, column or answer. A number
-/// of a job that is spent stays spent. Refused with `NoMemory` (1) alone, before any step, and then nothing is changed.
+/// Serves steps in order, with one reply to each. The replies and the new state are a run of the plain table from the old one.
+///
+/// Edits, registrations, lendings, pins and every phase of evacuations, fetches and offloaded builds may follow one another in
+/// any order. After any list of steps:
+///
+/// - Each answer of an aggregate is what folding it over the rows as they are gives.
+/// - Each lent slice is that part of its column.
+/// - Each edit's reply is the plain list's.
+/// - A refused step changes no row, column or answer.
+/// - A spent number of a job stays spent.
+///
+/// Refused with `NoMemory` (1) alone, before any step. A refused call changes nothing.
 pub fn run<S: FarStore>(world: &mut World<S>, steps: Vec<Step>) -> Result<Vec<Reply>, Refusal>
     requires few { world.old.faults + length steps.items < 2 ^ 63 }
     ensures run { IfOk result (λ replies. IsRun S.content S.number_of world.old steps.items replies.items world.new) }

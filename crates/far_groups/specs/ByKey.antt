@@ -1,4 +1,4 @@
--- What stands by key: all under no key, at the places of small numbers, in a tree of numbers, or in a tree of keys.
+-- Counts and sums by key: under no key alone, in a list by small number, in a tree of numbers, or in one of keys.
 use Rattle.std.specs.Prelude.{ℕ, ℤ, [], ◌∷◌, Option, None, IsSome}
 use Rattle.far_types.specs.declared.key.Key.{Key}
 use Rattle.far_types.specs.Answers.{Totals}
@@ -13,18 +13,18 @@ use Rattle.far_groups.specs.Dense.{by_place}
 abbrev pub plain_totals : ℕ × ℤ → Totals
 plain_totals count_sum = totals_of ((None, count_sum) ∷ [])
 
--- what a form has by key
+-- the totals of a form
 abbrev pub in_form : Form → Totals
 in_form (Plain count_sum) = plain_totals count_sum
 in_form (Dense dense) = by_place dense.items
 in_form (Numbered numbers) = by_number numbers.entries
 in_form (Keyed keys) = totals_of keys.entries
 
--- what stands by key
+-- the totals of counts and sums by key
 abbrev pub totals_in : ByKey → Totals
 totals_in by_key = in_form by_key.form
 
--- more under a key may be put elsewhere, unless both it and what is there stand under no key
+-- a count and a sum under a key may need another form, unless both they and those that are there stand under no key
 abbrev pub MayBeElsewhere : Form → Option Key → Type 0
 MayBeElsewhere (Plain count_sum) key = IsSome key
 MayBeElsewhere (Dense dense) key = Unit {0}

@@ -6,15 +6,15 @@ use Rattle.far_types.specs.declared.key.Key.{Key}
 use Rattle.far_types.specs.Answers.{Totals}
 use Rattle.far_types.specs.Effects.{add_count_sums}
 
--- what entries have by key
+-- the totals of entries
 abbrev pub totals_of : List (Option Key × (ℕ × ℤ)) → Totals
 totals_of entries = fin.from_entries entries
 
--- a sum that so many numbers of 64 bits can have
+-- a sum that this many numbers of 64 bits can have
 abbrev pub IsSumOf : ℕ → ℤ → Type 0
 IsSumOf count sum = (neg_ℤ (pos (count * 2 ^ 63)) ≤ℤ sum) × (sum ≤ℤ pos (count * (2 ^ 63 - 1)))
 
--- a count of 1 to 2^26, and a sum that so many numbers can have
+-- a count of 1 to 2^26, and a sum that this many numbers can have
 abbrev pub IsCountSum : ℕ × ℤ → Type 0
 IsCountSum count_sum = (1 ≤ count_sum.0) × (count_sum.0 ≤ 2 ^ 26) × IsSumOf count_sum.0 count_sum.1
 
@@ -25,12 +25,12 @@ AreCountSums totals = (key : Option Key) → IfSome (fin.get totals key) IsCount
 abbrev pub with_count_sum : Totals → Option Key → ℕ × ℤ → Totals
 with_count_sum totals key more = fin.insert totals key (option_map_or (λ count_sum. add_count_sums count_sum more) (fin.get totals key) more)
 
--- as many are there, and the sum that is left is one that those left can have
+-- the key has at least this count, and the sum that is left is one that the values left can have
 abbrev pub LeavesCountSum : ℕ × ℤ → Option (ℕ × ℤ) → Type 0
 LeavesCountSum less None = ⊥
 LeavesCountSum less (Some count_sum) = (less.0 ≤ count_sum.0) × IsSumOf (count_sum.0 - less.0) (count_sum.1 -ℤ less.1)
 
--- a key of which nothing is left goes
+-- totals with a count and a sum subtracted from those that the key has. A key whose count is then 0 goes
 abbrev pub without_less : Totals → Option Key → ℕ × ℤ → Option (ℕ × ℤ) → Totals
 without_less totals key less None = totals
 without_less totals key less (Some count_sum) = cond (count_sum.0 == less.0) (fin.remove totals key) (fin.insert totals key (count_sum.0 - less.0, count_sum.1 -ℤ less.1))
@@ -43,15 +43,15 @@ abbrev pub CanTakeAll : Totals → List (Option Key × (ℕ × ℤ)) → Type 0
 CanTakeAll totals [] = Unit {0}
 CanTakeAll totals (entry ∷ entries) = LeavesCountSum entry.1 (fin.get totals entry.0) × CanTakeAll (without_count_sum totals entry.0 entry.1) entries
 
--- what is left when they are taken
+-- the totals once they are taken
 abbrev pub without_all : Totals → List (Option Key × (ℕ × ℤ)) → Totals
 without_all totals [] = totals
 without_all totals (entry ∷ entries) = without_all (without_count_sum totals entry.0 entry.1) entries
 
--- a count of at most 2^26, and a sum that so many numbers can have: two such together have a count and a sum that fit
+-- a count of at most 2^26, and a sum that this many numbers can have. Two such fit when they are added
 abbrev pub IsAddend : ℕ × ℤ → Type 0
 IsAddend count_sum = (count_sum.0 ≤ 2 ^ 26) × IsSumOf count_sum.0 count_sum.1
 
--- what two maps have under a key, where they have something
+-- what two maps have under a key, if they have something there, can be added
 abbrev pub AreAddends : Option (ℕ × ℤ) → Option (ℕ × ℤ) → Type 0
 AreAddends one other = IfSome one IsAddend × IfSome other IsAddend

@@ -15,11 +15,11 @@ pub record Live : Type 0 where
 abbrev pub coded_live : Coded Live
 coded_live = code_by (ℕ × Totals) (coded× coded_ℕ coded_totals) (λ live. (live.left, live.totals)) (λ p. record { left = p.0; totals = p.1 }) (λ _. refl)
 
--- a value can be taken from a count and a sum where the sum that is left is one that the pairs that are left can have
+-- a value can be taken from a count and a sum if the sum that is left is one that the pairs left can have
 abbrev pub CanTake : ℤ → Option (ℕ × ℤ) → Type 0
 CanTake value None = ⊥
 CanTake value (Some count_sum) = (1 ≤ count_sum.0) × IsSumOf (count_sum.0 - 1) (count_sum.1 -ℤ value)
 
--- two totals can be joined where at most 2^26 pairs come to stand under each key
+-- two totals can be joined if each key then has at most 2^26 pairs
 abbrev pub CanJoin : Totals → Totals → Type 0
 CanJoin one other = (key : Option Key) → count_in (fin.get one key) + count_in (fin.get other key) ≤ 2 ^ 26

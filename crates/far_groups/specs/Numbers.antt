@@ -1,4 +1,4 @@
--- What stands by key where all keys are numbers.
+-- Counts and sums by key if all keys are numbers.
 use Rattle.std.specs.Prelude.{ℕ, ℤ, List, map, Option, None, Some}
 use Rattle.far_types.specs.declared.key.Key.{Key}
 use Rattle.far_types.specs.declared.key.Key.TheVariants.{Int, Text}
@@ -9,17 +9,17 @@ use Rattle.far_groups.specs.CountSums.{totals_of}
 abbrev pub number_key : ℤ → Option Key
 number_key number = Some (Int number)
 
--- the number that a key is
+-- the number of a key that is one
 abbrev pub number_of : Option Key → Option ℤ
 number_of None = None
 number_of (Some (Int number)) = Some number
 number_of (Some (Text text)) = None
 
--- counts and sums by number, as they stand by key
+-- counts and sums by number, as entries by key
 abbrev pub numbered : List (ℤ × (ℕ × ℤ)) → List (Option Key × (ℕ × ℤ))
 numbered entries = map (λ (entry : ℤ × (ℕ × ℤ)). (number_key entry.0, entry.1)) entries
 
--- what they have by key
+-- their totals
 abbrev pub by_number : List (ℤ × (ℕ × ℤ)) → Totals
 by_number entries = totals_of (numbered entries)
 

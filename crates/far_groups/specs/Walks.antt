@@ -1,4 +1,4 @@
--- What a walk along a map has before it, and what two maps are told apart by on the way.
+-- What a walk along a map has ahead of it, and how two maps differ.
 -- Internal: no public contract cites it.
 use Rattle.std.specs.Prelude.{ℕ, ℤ, pos, List, [], ◌∷◌, map, filter, not, is_some, Option, None, Some}
 use Rattle.std.specs.Map.{lookup}
@@ -12,12 +12,12 @@ use Rattle.far_types.specs.Effects.{add_count_sums, merge_two}
 abbrev pub Lines : Type 0
 Lines = List (Option Key × (ℕ × ℤ))
 
--- the lines of a map that a walk has before it: the one that it stands at, and those after it
+-- the lines of a map that a walk has ahead of it: the one where it is, and those after it
 abbrev pub ahead : Option (Bor (Option Key) × Bor (ℕ × ℤ)) → Lines → Lines
 ahead None rest = []
 ahead (Some next) rest = (next.0.now, next.1.now) ∷ rest
 
--- what lines have under a key
+-- the count and the sum of lines under a key
 abbrev pub count_sum_at : Lines → Option Key → Option (ℕ × ℤ)
 count_sum_at lines key = lookup (is_at (line_cmp key)) lines
 
@@ -25,7 +25,7 @@ count_sum_at lines key = lookup (is_at (line_cmp key)) lines
 abbrev pub new_lines : Lines → Lines → Lines
 new_lines lines others = map (λ line. (line.0, (0, pos 0))) (filter (λ line. not (is_some (count_sum_at lines line.0))) others)
 
--- what is there with what comes; what is not there stays away
+-- a count and a sum with more added, if there is more; a key that is not there is not added
 abbrev pub added_to : Option (ℕ × ℤ) → Option (ℕ × ℤ) → Option (ℕ × ℤ)
 added_to more None = None
 added_to more (Some count_sum) = merge_two add_count_sums (Some count_sum) more

@@ -1,4 +1,5 @@
-// What stands by key, where mostly there is the one key of an aggregate without key column, or all keys are small numbers.
+// Counts and sums by key, in one of four forms. Mostly there is the one key of an aggregate without key column, or all keys are small
+// numbers.
 ghost use Rattle.std.specs.Prelude.{ℕ, ◌≡◌, ◌+◌, ◌^◌, ◌≤◌, ◌<◌, ◌∷◌, [], pos, None, unwrap_or, IsSome, IfSome, IfNone, IfOk, IfErr, OnOk, OnErr};
 ghost use Rattle.std.specs.Option.{option_copied};
 ghost use Rattle.std.specs.FinMap as fin;
@@ -18,29 +19,31 @@ use far_types::{Key, Refusal};
 use std::alloc::Global;
 use std::collections::BTreeMap;
 
-/// Where counts and sums by key stand.
+/// The form in which counts and sums are kept by key.
 #[derive(Drop)]
 enum Form {
-    /// All under no key, as in an aggregate without key column. The count is not 0.
+    /// One count and sum, under no key, as in an aggregate without key column. The count is not 0.
     Plain(CountSum),
-    /// At the places of small numbers, where a look-up is an index.
+    /// A list by small number, in which a look-up is an index.
     Dense(Dense),
-    /// In a tree of bare numbers, where a look-up takes a third of the time.
+    /// A tree of bare numbers, in which a look-up takes a third of the time.
     Numbered(Numbers),
-    /// In a tree of keys.
+    /// A tree of keys.
     Keyed(CountSums),
 }
 
-/// Counts and sums by key, which begin as a list without places. What comes under no key then takes its place, and is
-/// changed with no look-up. A number without a place brings all into a tree of numbers. Another key that has no place in a
-/// form brings all into a tree of keys. In a tree they stay.
+/// Counts and sums by key. They begin as an empty list:
+/// - A row under no key replaces the empty list. Its count and sum change without a look-up.
+/// - A number without a place in the list moves all into a tree of numbers.
+/// - Any other key without a place in a form moves all into a tree of keys.
+/// - A tree of numbers or of keys stays one, except that a tree of numbers may become one of keys.
 #[derive(Drop)]
 pub struct ByKey {
     alloc: Global,
     form: Form,
 }
 
-/// Nothing stands under any key. Allocates nothing.
+/// Makes empty counts and sums: no key has any. Allocates nothing.
 pub fn nothing(alloc: Global) -> ByKey
     ensures empty { totals_in result ≡ fin.empty }
 {
@@ -50,7 +53,7 @@ pub fn nothing(alloc: Global) -> ByKey
     }
 }
 
-/// The number that a key is, if it is one.
+/// Returns the number of a key that is one.
 fn number_of(key: &Option<Key>) -> Option<&i64>
     ensures number { option_copied result ≡ number_of key.now }
     ensures key { IfSome result (λ number. key.now ≡ number_key number.now) }
@@ -61,7 +64,7 @@ fn number_of(key: &Option<Key>) -> Option<&i64>
     }
 }
 
-/// The place of a key that is a number, if it is not below 0.
+/// Returns the place of a key that is a number, if that is not below 0.
 #[inline(always)]
 fn place_in(key: &Option<Key>) -> Option<usize>
     ensures some { IfSome result (λ place. key.now ≡ place_key place) }
@@ -74,7 +77,7 @@ fn place_in(key: &Option<Key>) -> Option<usize>
     }
 }
 
-/// What stands under no key, in a tree of keys.
+/// Moves the count and the sum under no key into a tree of keys.
 fn keyed_plain(alloc: Global, count_sum: CountSum) -> Result<CountSums, Refusal>
     ensures ok { IfOk result (λ keys. totals_of keys.entries ≡ plain_totals count_sum) }
     ensures memory { IfErr result (λ e. e ≡ Refusal.NoMemory) }
@@ -84,7 +87,7 @@ fn keyed_plain(alloc: Global, count_sum: CountSum) -> Result<CountSums, Refusal>
     Ok(keys)
 }
 
-/// What stands under no key, with a count and a sum more under another key, in a tree of keys.
+/// Moves the count and the sum under no key into a tree of keys, and adds a count and a sum under another key.
 fn plain_with_key(
     alloc: Global,
     count_sum: CountSum,
@@ -105,7 +108,7 @@ fn plain_with_key(
     Ok(keys)
 }
 
-/// What stands by number, with a count and a sum more under a key that is no number, in a tree of keys.
+/// Moves counts and sums by number into a tree of keys, and adds a count and a sum under a key that is no number.
 fn with_key(
     alloc: Global,
     numbers: &Numbers,
@@ -126,7 +129,7 @@ fn with_key(
     Ok(Form::Keyed(keys))
 }
 
-/// What stands by number, with a count and a sum more under a key, in a tree of numbers or one of keys.
+/// Adds a count and a sum under a key to counts and sums by number. Returns a tree of numbers, or one of keys.
 fn in_tree(
     alloc: Global,
     mut numbers: Numbers,
@@ -149,8 +152,7 @@ fn in_tree(
     }
 }
 
-/// What stands at places, with a count and a sum more under a key that has none. Where there is no place and no key, it takes
-/// no memory.
+/// Adds a count and a sum under a key without a place to counts and sums by place. Without places and without a key, it allocates nothing.
 fn with_new_key(
     alloc: Global,
     dense: &Dense,
@@ -170,7 +172,7 @@ fn with_new_key(
     in_tree(alloc, numbers_of(alloc, dense)?, key, more)
 }
 
-/// The place that a key has in a list or gets there.
+/// Returns the place that a key has in a list, or gets there.
 fn place_for(dense: &Dense, key: &Option<Key>) -> Option<usize>
     ensures some { IfSome result (λ place. (key.now ≡ place_key place) × (place < 2 ^ 63)) }
     ensures none { IfNone result (fin.get (by_place dense.now.items) key.now ≡ None) }
@@ -187,7 +189,7 @@ fn place_for(dense: &Dense, key: &Option<Key>) -> Option<usize>
     }
 }
 
-/// A count and a sum more under a key, which is dropped where it is there already.
+/// Adds a count and a sum under a key. If the key is there already, drops the given one.
 pub fn add(by_key: &mut ByKey, key: Option<Key>, more: CountSum) -> Result<(), Refusal>
     requires valid_sums { AreCountSums (totals_in by_key.old) }
     requires more_valid_sums { IsCountSum more }
@@ -204,7 +206,7 @@ pub fn add(by_key: &mut ByKey, key: Option<Key>, more: CountSum) -> Result<(), R
     }
 }
 
-/// A count and a sum more under a key, of which a clone is made where it is new.
+/// Adds a count and a sum under a key. Clones the key if it is new.
 #[inline(always)]
 pub fn add_under(by_key: &mut ByKey, key: &Option<Key>, more: CountSum) -> Result<(), Refusal>
     requires valid_sums { AreCountSums (totals_in by_key.old) }
@@ -237,8 +239,9 @@ pub fn add_under(by_key: &mut ByKey, key: &Option<Key>, more: CountSum) -> Resul
     }
 }
 
-/// A count and a sum more under a key, where it may have no place yet. It is no part of `add_under`, which so stays
-/// short, and is handed numbers, which need no memory.
+/// Adds a count and a sum under a key that may have no place yet.
+///
+/// It is a function of its own, so that `add_under` stays short. It takes the count and the sum as two numbers, which need no memory.
 #[inline(never)]
 fn add_elsewhere(
     by_key: &mut ByKey,
@@ -280,7 +283,7 @@ fn add_elsewhere(
     }
 }
 
-/// A count and a sum less under a key. A key of which nothing is left goes. Allocates nothing.
+/// Subtracts a count and a sum under a key. Removes a key whose count is then 0. Allocates nothing.
 #[inline(always)]
 pub fn take(by_key: &mut ByKey, key: &Option<Key>, less: CountSum)
     requires valid_sums { AreCountSums (totals_in by_key.old) }
@@ -309,7 +312,7 @@ pub fn take(by_key: &mut ByKey, key: &Option<Key>, less: CountSum)
     }
 }
 
-/// A tree of keys to which another is joined.
+/// Joins another tree of keys to a tree of keys.
 fn with_keys(alloc: Global, mut keys: CountSums, more: &CountSums) -> Result<CountSums, Refusal>
     requires valid_sums { AreCountSums (totals_of keys.entries) }
     requires other_valid_sums { AreCountSums (totals_of more.now.entries) }
@@ -322,7 +325,7 @@ fn with_keys(alloc: Global, mut keys: CountSums, more: &CountSums) -> Result<Cou
     Ok(keys)
 }
 
-/// Joins what stands in a tree of keys to what stands here.
+/// Joins a tree of keys to these counts and sums.
 fn join_keys(by_key: &mut ByKey, more: &CountSums) -> Result<(), Refusal>
     requires valid_sums { AreCountSums (totals_in by_key.old) }
     requires other_valid_sums { AreCountSums (totals_of more.now.entries) }
@@ -353,7 +356,7 @@ fn join_keys(by_key: &mut ByKey, more: &CountSums) -> Result<(), Refusal>
     }
 }
 
-/// Joins what stands by number to what stands here.
+/// Joins a tree of numbers to these counts and sums.
 fn join_numbers(by_key: &mut ByKey, more: &Numbers) -> Result<(), Refusal>
     requires valid_sums { AreCountSums (totals_in by_key.old) }
     requires other_valid_sums { AreCountSums (by_number more.now.entries) }
@@ -381,7 +384,7 @@ fn join_numbers(by_key: &mut ByKey, more: &Numbers) -> Result<(), Refusal>
     }
 }
 
-/// Joins what stands at places to what stands here.
+/// Joins a list by small number to these counts and sums.
 fn join_dense(by_key: &mut ByKey, more: &Dense) -> Result<(), Refusal>
     requires valid_sums { AreCountSums (totals_in by_key.old) }
     requires other_valid_sums { AreCountSums (by_place more.now.items) }
@@ -400,7 +403,7 @@ fn join_dense(by_key: &mut ByKey, more: &Dense) -> Result<(), Refusal>
     }
 }
 
-/// Joins what stands elsewhere to what stands here.
+/// Joins other counts and sums to these.
 pub fn join(by_key: &mut ByKey, other: &ByKey) -> Result<(), Refusal>
     requires valid_sums { AreCountSums (totals_in by_key.old) }
     requires other_valid_sums { AreCountSums (totals_in other.now) }
@@ -418,7 +421,7 @@ pub fn join(by_key: &mut ByKey, other: &ByKey) -> Result<(), Refusal>
     }
 }
 
-/// The one line of what stands under no key.
+/// Makes the one line of the count and the sum under no key.
 fn plain_line(alloc: Global, count_sum: CountSum) -> Result<Vec<(Option<Key>, u64, i128)>, Refusal>
     ensures ok { IfOk result (λ lines. lines.items ≡ (None, count_sum.0, count_sum.1) ∷ []) }
     ensures memory { IfErr result (λ e. e ≡ Refusal.NoMemory) }
@@ -428,7 +431,7 @@ fn plain_line(alloc: Global, count_sum: CountSum) -> Result<Vec<(Option<Key>, u6
     Ok(lines)
 }
 
-/// The lines by key, ascending.
+/// Makes the lines by key, ascending.
 pub fn lines(alloc: Global, by_key: &ByKey) -> Result<Vec<(Option<Key>, u64, i128)>, Refusal>
     ensures ok { IfOk result (λ lines. lines.items ≡ total_lines (totals_in by_key.now)) }
     ensures memory { IfErr result (λ e. e ≡ Refusal.NoMemory) }
@@ -441,7 +444,7 @@ pub fn lines(alloc: Global, by_key: &ByKey) -> Result<Vec<(Option<Key>, u64, i12
     }
 }
 
-/// What stands under no key: 0 and 0 if nothing does. Allocates nothing.
+/// Returns the count and the sum under no key: 0 and 0 if there are none. Allocates nothing.
 pub fn plain(by_key: &ByKey) -> CountSum
     ensures { result ≡ unwrap_or (fin.get (totals_in by_key.now) None) (0, pos 0) }
 {

@@ -12,10 +12,10 @@ use far_types::{Key, Refusal, clone_key};
 use std::alloc::Global;
 use std::collections::BTreeMap;
 
-/// How many values stand under a key, at least one, and their sum.
+/// The count of the values under a key, at least 1, and their sum.
 pub type CountSum = (u64, i128);
 
-/// What stands by key. No key has a count of 0.
+/// Counts and sums by key. No key has a count of 0.
 pub type CountSums = BTreeMap<Option<Key>, CountSum>;
 
 /// The count and the sum of one value.
@@ -27,7 +27,7 @@ pub fn count_sum_of(value: i64) -> CountSum
     (1, i128::from(value))
 }
 
-/// Two counts and sums together.
+/// Adds two counts and sums.
 #[inline(always)]
 pub fn merge_two(count_sum: CountSum, more: CountSum) -> CountSum
     requires valid_sums { IsCountSum count_sum }
@@ -39,7 +39,7 @@ pub fn merge_two(count_sum: CountSum, more: CountSum) -> CountSum
     (count_sum.0 + more.0, count_sum.1 + more.1)
 }
 
-/// What is left of a count and a sum when another goes.
+/// Subtracts a count and a sum from another.
 #[inline(always)]
 pub fn subtract(count_sum: CountSum, less: CountSum) -> CountSum
     requires valid_sums { IsCountSum count_sum }
@@ -49,7 +49,7 @@ pub fn subtract(count_sum: CountSum, less: CountSum) -> CountSum
     (count_sum.0 - less.0, count_sum.1 - less.1)
 }
 
-/// A count and a sum more under a key that is there. Says whether it is. Takes no memory.
+/// Adds a count and a sum under a key, if it is there. Returns whether it is. Allocates nothing.
 pub fn add_existing(count_sums: &mut CountSums, key: &Option<Key>, more: CountSum) -> bool
     requires valid_sums { AreCountSums (totals_of count_sums.old.entries) }
     requires more_valid_sums { IsCountSum more }
@@ -68,7 +68,7 @@ pub fn add_existing(count_sums: &mut CountSums, key: &Option<Key>, more: CountSu
     }
 }
 
-/// A count and a sum more under a key, which is dropped where it is there already.
+/// Adds a count and a sum under a key. If the key is there already, drops the given one.
 pub fn add(count_sums: &mut CountSums, key: Option<Key>, more: CountSum) -> Result<(), Refusal>
     requires valid_sums { AreCountSums (totals_of count_sums.old.entries) }
     requires more_valid_sums { IsCountSum more }
@@ -85,7 +85,7 @@ pub fn add(count_sums: &mut CountSums, key: Option<Key>, more: CountSum) -> Resu
     Ok(())
 }
 
-/// A count and a sum more under a key, of which a clone is made where it is new.
+/// Adds a count and a sum under a key. Clones the key if it is new.
 pub fn add_under(
     count_sums: &mut CountSums,
     key: &Option<Key>,
@@ -106,7 +106,7 @@ pub fn add_under(
     Ok(())
 }
 
-/// A count and a sum less under a key. A key of which nothing is left goes. Takes no memory.
+/// Subtracts a count and a sum under a key. Removes a key whose count is then 0. Allocates nothing.
 #[inline(never)]
 pub fn take(count_sums: &mut CountSums, key: &Option<Key>, less: CountSum)
     requires valid_sums { AreCountSums (totals_of count_sums.old.entries) }
@@ -127,7 +127,7 @@ pub fn take(count_sums: &mut CountSums, key: &Option<Key>, less: CountSum)
     }
 }
 
-/// Takes the first `count` of the counts and sums of another map out of these. Takes no memory.
+/// Subtracts the first `count` entries of another map from these. Allocates nothing.
 fn take_first(count_sums: &mut CountSums, other: &CountSums, count: usize)
     requires valid_sums { AreCountSums (totals_of count_sums.old.entries) }
     requires there { CanTakeAll (totals_of count_sums.old.entries) (take count other.now.entries) }
@@ -143,7 +143,7 @@ fn take_first(count_sums: &mut CountSums, other: &CountSums, count: usize)
     }
 }
 
-/// Joins the counts and sums of another map to these. What a refusal cut short is undone.
+/// Joins the counts and sums of another map to these. If it is refused, it undoes what it did.
 pub fn join(count_sums: &mut CountSums, other: &CountSums) -> Result<(), Refusal>
     requires valid_sums { AreCountSums (totals_of count_sums.old.entries) }
     requires other_valid_sums { AreCountSums (totals_of other.now.entries) }
@@ -166,7 +166,7 @@ pub fn join(count_sums: &mut CountSums, other: &CountSums) -> Result<(), Refusal
     Ok(())
 }
 
-/// The lines of the counts and sums, by their keys.
+/// Makes the lines of the counts and sums, by their keys.
 pub fn lines(
     alloc: Global,
     count_sums: &CountSums,

@@ -1,4 +1,4 @@
-// Counts and sums by small number, in a list with a place for each number from 0 on: a look-up there is an index.
+// Counts and sums by small number, in a list with a place for each number from 0 on. A look-up is an index.
 ghost use Rattle.std.specs.Prelude.{◌≡◌, ◌+◌, ◌^◌, ◌≤◌, ◌<◌, ◌<ℤ◌, pos, None, false, true, IsTrue, IfSome, IfNone, IfOk, IfErr, OnOk, OnErr, length};
 ghost use Rattle.std.specs.Option.{option_map_or};
 ghost use Rattle.std.specs.FinMap as fin;
@@ -14,13 +14,13 @@ use far_types::{Key, Refusal};
 use std::alloc::Global;
 use std::collections::BTreeMap;
 
-/// What stands by number, from 0 on. A count of 0 says that nothing stands at a place.
+/// Counts and sums by number, from 0 on. A count of 0 says that the number does not occur.
 pub type Dense = Vec<CountSum>;
 
-/// How many places a list gets for numbers that come: it takes 32 KB then.
+/// The numbers below this always get a place. A list of as many places takes 32 KB.
 const PLACES: usize = 1024;
 
-/// The place of a number, if it is not below 0.
+/// Returns the place of a number, if it is not below 0.
 #[inline(always)]
 pub fn place_of(number: i64) -> Option<usize>
     ensures some { IfSome result (λ place. number ≡ pos place) }
@@ -33,7 +33,7 @@ pub fn place_of(number: i64) -> Option<usize>
     Some(number as usize)
 }
 
-/// The number of a place.
+/// Returns the number of a place.
 #[inline(always)]
 fn number_at(place: usize) -> i64
     requires { place < 2 ^ 63 }
@@ -42,14 +42,14 @@ fn number_at(place: usize) -> i64
     place as i64
 }
 
-/// Whether a list has a place or gets it.
+/// Whether a list has a place, or may get it.
 pub fn may_place(dense: &Dense, place: usize) -> bool
     ensures { result ≡ false → length dense.now.items ≤ place }
 {
     place < PLACES || place < dense.len()
 }
 
-/// What stands at a place, with more.
+/// Adds a count and a sum to those of a place.
 #[inline(always)]
 fn added(count_sum: CountSum, more: CountSum) -> CountSum
     requires valid_sums { IfSome (standing count_sum) IsCountSum }
@@ -64,7 +64,7 @@ fn added(count_sum: CountSum, more: CountSum) -> CountSum
     merge_two(count_sum, more)
 }
 
-/// A count and a sum more at a place, if the list has it. Says whether it does. Allocates nothing.
+/// Adds a count and a sum at a place, if the list has it. Returns whether it does. Allocates nothing.
 #[inline(always)]
 pub fn add_existing(dense: &mut Dense, place: usize, more: CountSum) -> bool
     requires valid_sums { AreCountSums (by_place dense.old.items) }
@@ -84,7 +84,7 @@ pub fn add_existing(dense: &mut Dense, place: usize, more: CountSum) -> bool
     true
 }
 
-/// At least so many places. Nothing stands at those that are new.
+/// Extends a list to at least `len` places. The new ones have count 0.
 fn grow(dense: &mut Dense, len: usize) -> Result<(), Refusal>
     ensures same { by_place dense.new.items ≡ by_place dense.old.items }
     ensures len { OnOk result (len ≤ length dense.new.items) }
@@ -96,7 +96,7 @@ fn grow(dense: &mut Dense, len: usize) -> Result<(), Refusal>
     Ok(())
 }
 
-/// A count and a sum more at a place, which comes to be where it was not.
+/// Adds a count and a sum at a place. Extends the list if the place is new.
 pub fn add(dense: &mut Dense, place: usize, more: CountSum) -> Result<(), Refusal>
     requires valid_sums { AreCountSums (by_place dense.old.items) }
     requires more_valid_sums { IsCountSum more }
@@ -115,7 +115,7 @@ pub fn add(dense: &mut Dense, place: usize, more: CountSum) -> Result<(), Refusa
     Ok(())
 }
 
-/// A count and a sum less at a place. Allocates nothing.
+/// Subtracts a count and a sum at a place. Allocates nothing.
 #[inline(always)]
 pub fn take(dense: &mut Dense, place: usize, less: CountSum)
     requires valid_sums { AreCountSums (by_place dense.old.items) }
@@ -128,7 +128,7 @@ pub fn take(dense: &mut Dense, place: usize, less: CountSum)
     }
 }
 
-/// Joins what stands at the places of another list to these. The places come to be first, which alone can be refused.
+/// Joins another list to this one. Extends this one first, and only that can be refused.
 pub fn join(dense: &mut Dense, other: &Dense) -> Result<(), Refusal>
     requires valid_sums { AreCountSums (by_place dense.old.items) }
     requires other_valid_sums { AreCountSums (by_place other.now.items) }
@@ -148,7 +148,7 @@ pub fn join(dense: &mut Dense, other: &Dense) -> Result<(), Refusal>
     Ok(())
 }
 
-/// What stands at the places, in a tree of numbers.
+/// Copies the list into a tree of numbers.
 pub fn numbers_of(alloc: Global, dense: &Dense) -> Result<Numbers, Refusal>
     requires { AreCountSums (by_place dense.now.items) }
     ensures ok { IfOk result (λ numbers. by_number numbers.entries ≡ by_place dense.now.items) }
@@ -164,7 +164,7 @@ pub fn numbers_of(alloc: Global, dense: &Dense) -> Result<Numbers, Refusal>
     Ok(numbers)
 }
 
-/// The line of a place.
+/// Makes the line of a place.
 fn line(place: usize, count_sum: CountSum) -> (Option<Key>, u64, i128)
     requires { place < 2 ^ 63 }
     ensures { result ≡ (place_key place, count_sum.0, count_sum.1) }
@@ -172,7 +172,7 @@ fn line(place: usize, count_sum: CountSum) -> (Option<Key>, u64, i128)
     (Some(Key::Int(number_at(place))), count_sum.0, count_sum.1)
 }
 
-/// The lines of the places at which something stands, by their numbers.
+/// Makes the lines of the places with a count above 0, by their numbers.
 pub fn lines(alloc: Global, dense: &Dense) -> Result<Vec<(Option<Key>, u64, i128)>, Refusal>
     ensures ok { IfOk result (λ lines. lines.items ≡ number_lines (entries_from 0 dense.now.items)) }
     ensures memory { IfErr result (λ e. e ≡ Refusal.NoMemory) }

@@ -1,4 +1,4 @@
-// Pairs that are folded into counts and sums one after another.
+// Pairs folded into counts and sums, one after another.
 ghost use Rattle.std.specs.Prelude.{◌≡◌, ◌≤◌, length, take, OnOk, OnErr, IfErr};
 ghost use Rattle.far_types.specs.Answers.{Totals};
 ghost use Rattle.far_groups.specs.CountSums.{AreCountSums};
@@ -12,7 +12,7 @@ use far_types::{Key, Refusal};
 /// A folded row: its key, none in an aggregate without key column, and its value.
 pub type Pair = (Option<Key>, i64);
 
-/// Undoes the folding of the first pairs into counts and sums, the last of them first. Allocates nothing.
+/// Undoes the folding of the first `count` pairs into counts and sums, the last of them first. Allocates nothing.
 fn undo_first(count_sums: &mut ByKey, pairs: &[Pair], count: usize)
     requires within { count ≤ length pairs.now }
     requires valid_sums { AreCountSums (totals_in count_sums.old) }
@@ -25,7 +25,7 @@ fn undo_first(count_sums: &mut ByKey, pairs: &[Pair], count: usize)
     }
 }
 
-/// Folds pairs into counts and sums. What a refusal cut short is undone.
+/// Folds pairs into counts and sums. If it is refused, it undoes what it did.
 pub fn fold_all(count_sums: &mut ByKey, pairs: &[Pair]) -> Result<(), Refusal>
     requires valid_sums { AreCountSums (totals_in count_sums.old) }
     requires can { CanFoldAll (totals_in count_sums.old) pairs.now }

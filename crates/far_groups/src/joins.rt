@@ -1,4 +1,4 @@
-// One map of counts and sums joined to another by walks along both.
+// Joins one map of counts and sums to another, by walks along both: a merge join.
 ghost use Rattle.std.specs.Prelude.{◌≡◌, IfOk, IfErr, OnOk, OnErr, Option};
 ghost use Rattle.std.specs.BTreeMap.{IsOrdered, IsFromIterResult};
 ghost use Rattle.std.specs.declared.cmp.Ordering.TheVariants.{Less};
@@ -16,11 +16,11 @@ use std::cmp::Ordering;
 use std::collections::btree_map::Iter;
 use std::marker::Model;
 
-/// Where the other has fewer than one key for so many here, a look-up for each of its keys costs less than walks along
-/// both maps (measured).
+/// The other map has few keys if it has fewer than one for this many keys here. Then a look-up for each of its keys costs less than walks
+/// along both maps (measured).
 const WALKED: usize = 4;
 
-/// A walk along the lines of a map, for keys that ascend. Contracts see the lines that are before it.
+/// A walk along the lines of a map, for keys that ascend. Contracts see the lines ahead of it.
 #[derive(Drop)]
 struct Walk<'a> {
     next: Option<(&'a Option<Key>, &'a CountSum)>,
@@ -41,7 +41,7 @@ impl<'a> Model for Walk<'a> {
 }
 
 impl<'a> Walk<'a> {
-    /// At the first line.
+    /// Begins a walk at the first line.
     fn new(count_sums: &'a CountSums) -> Walk<'a>
         ensures { result ≡ count_sums.now.entries }
     {
@@ -50,7 +50,7 @@ impl<'a> Walk<'a> {
         Walk { next, rest }
     }
 
-    /// Goes past the lines below a key and that of the key, and says what stands there.
+    /// Goes past the lines below a key and that of the key. Returns the key's count and sum.
     fn find(&mut self, key: &Option<Key>) -> Option<CountSum>
         ensures found { result ≡ count_sum_at self.old key.now }
         ensures rest { (above : Option Key) → line_cmp key.now above ≡ Less → count_sum_at self.new above ≡ count_sum_at self.old above }
@@ -69,7 +69,7 @@ impl<'a> Walk<'a> {
     }
 }
 
-/// The keys that are only in the other, each with a count of 0.
+/// Lists the keys that are only in the other map, each with a count of 0.
 fn new_lines(
     alloc: Global,
     count_sums: &CountSums,
@@ -89,7 +89,7 @@ fn new_lines(
     Ok(lines)
 }
 
-/// A map of lines whose keys ascend.
+/// Makes a map of lines whose keys ascend.
 pub fn map_of(alloc: Global, lines: Vec<(Option<Key>, CountSum)>) -> Result<CountSums, Refusal>
     ensures ok { IfOk result (IsFromIterResult line_cmp lines.items) }
     ensures memory { IfErr result (λ e. e ≡ Refusal.NoMemory) }
@@ -98,7 +98,7 @@ pub fn map_of(alloc: Global, lines: Vec<(Option<Key>, CountSum)>) -> Result<Coun
     Ok(all.collect(alloc)?)
 }
 
-/// Puts in the keys that are only in the other, each with a count of 0. Where memory runs out, all of count 0 go again.
+/// Inserts the keys that are only in the other map, each with a count of 0. If memory runs out, it removes all keys of count 0.
 fn reserve_keys(alloc: Global, count_sums: &mut CountSums, other: &CountSums) -> Result<(), Refusal>
     requires valid_sums { AreCountSums (totals_of count_sums.old.entries) }
     ensures ok { OnOk result (totals_of count_sums.new.entries ≡ joined_totals (totals_of count_sums.old.entries) (totals_of (new_lines count_sums.old.entries other.now.entries))) }
@@ -116,7 +116,7 @@ fn reserve_keys(alloc: Global, count_sums: &mut CountSums, other: &CountSums) ->
     }
 }
 
-/// Two counts and sums together, exactly if they are so few that their sum fits.
+/// Adds two counts and sums. The result is exact if the counts are so small that the sum fits.
 fn added(count_sum: CountSum, more: CountSum) -> CountSum
     ensures { IsAddend count_sum → IsAddend more → result ≡ add_count_sums count_sum more }
 {
@@ -126,7 +126,7 @@ fn added(count_sum: CountSum, more: CountSum) -> CountSum
     )
 }
 
-/// Adds what the other has to what is here, under each key of both. Allocates nothing.
+/// Adds the counts and sums of the other map under each key that both have. Allocates nothing.
 fn add_all_existing(count_sums: &mut CountSums, other: &CountSums)
     requires addends { (key : Option Key) → AreAddends (count_sum_at count_sums.old.entries key) (count_sum_at other.now.entries key) }
     ensures { (key : Option Key) → count_sum_at count_sums.new.entries key ≡ added_to (count_sum_at other.now.entries key) (count_sum_at count_sums.old.entries key) }
@@ -140,8 +140,7 @@ fn add_all_existing(count_sums: &mut CountSums, other: &CountSums)
     });
 }
 
-/// Joins the counts and sums of another map to these, by walks along both. The new keys come in first, which alone can be
-/// refused.
+/// Joins the counts and sums of another map to these, by walks along both. Inserts the new keys first, and only that can be refused.
 fn join_walking(alloc: Global, count_sums: &mut CountSums, other: &CountSums) -> Result<(), Refusal>
     requires valid_sums { AreCountSums (totals_of count_sums.old.entries) }
     requires other_valid_sums { AreCountSums (totals_of other.now.entries) }
@@ -156,7 +155,7 @@ fn join_walking(alloc: Global, count_sums: &mut CountSums, other: &CountSums) ->
     Ok(())
 }
 
-/// Joins the counts and sums of another map to these: by walks along both, or by look-ups where the other has few keys.
+/// Joins the counts and sums of another map to these: by walks along both, or by look-ups if the other has few keys.
 pub fn join_all(alloc: Global, count_sums: &mut CountSums, other: &CountSums) -> Result<(), Refusal>
     requires valid_sums { AreCountSums (totals_of count_sums.old.entries) }
     requires other_valid_sums { AreCountSums (totals_of other.now.entries) }

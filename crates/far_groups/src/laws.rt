@@ -1,4 +1,4 @@
-// What the conditions of live totals come to where the totals are those of pairs.
+// The conditions of live totals, if the totals are those of pairs.
 ghost use Rattle.std.specs.Prelude.{◌≡◌, ◌+◌, ◌^◌, ◌≤◌, ℤ, List, ◌∷◌, length, map, Option, FitsSigned};
 ghost use Rattle.std.specs.Int.{w64};
 ghost use Rattle.std.specs.List.{AllByRecursion};
@@ -10,16 +10,18 @@ ghost use Rattle.far_types.specs.Effects.{count_in};
 ghost use Rattle.far_groups.specs.Live.{CanTake, CanJoin};
 ghost use Rattle.far_groups.specs.CountSums.{IsCountSum};
 
-/// Where the totals are those of some pairs whose values are numbers of 64 bits, a pair that is in can be taken; no
-/// more stand under a key than there are pairs; and the totals of at most 2^26 pairs can be joined.
+/// If the totals are those of some pairs, whose values are numbers of 64 bits:
+/// - A pair that is in can be taken out.
+/// - No more values stand under a key than there are pairs.
+/// - The totals of at most 2^26 pairs can be joined.
 pub fn pairs_meet_the_conditions()
     ensures takeable { (pair : Pair) → (pairs : List Pair) → PairsFit (pair ∷ pairs) → CanTake pair.1 (fin.get (totals (pair ∷ pairs)) pair.0) }
     ensures counted { (pairs : List Pair) → (key : Option Key) → count_in (fin.get (totals pairs) key) ≤ length pairs }
     ensures joinable { (some : List Pair) → (others : List Pair) → length some + length others ≤ 2 ^ 26 → CanJoin (totals some) (totals others) }
 {}
 
-/// Rows that all stand under one key, as `add_rows` takes them: their totals are their count and their sum under that
-/// key, which are a count and a sum that rows can have.
+/// Rows that all stand under one key, as `add_rows` takes them: their totals are their count and their sum under that key. Rows can have
+/// such a count and such a sum.
 pub fn rows_under_one_key_are_folded()
     ensures totals { (key : Option Key) → (value : ℤ) → (values : List ℤ) → totals (map (λ each. (key, each)) (value ∷ values)) ≡ fin.insert fin.empty key (count_sum (value ∷ values)) }
     ensures valid_sums { (value : ℤ) → (values : List ℤ) → AllByRecursion (FitsSigned w64) (value ∷ values) → length (value ∷ values) ≤ 2 ^ 26 → IsCountSum (count_sum (value ∷ values)) }

@@ -1,5 +1,5 @@
 #![tactic(auto)]
-//! Totals by key that are kept up to date: how many rows are folded under each key, and the sum of their values.
+//! Totals by key that are kept up to date: the count and the sum of the rows folded under each key.
 
 mod by_key;
 mod count_sums;

@@ -8,12 +8,22 @@ use far_types::{Answer, Key, Refusal, TotalLines};
 use std::alloc::Global;
 use std::marker::Model;
 
-/// How many rows are folded under each key and the sum of their values, kept up to date row by row, and how many row
-/// groups are still pending. Without key column all rows stand under the key `None`. A sum is exact: at most
-/// 2^26 numbers of 64 bits stand under one key.
+/// The count and the sum of the rows under each key, kept up to date row by row. It also counts the row groups that are still pending.
+/// Without a key column all rows have the key `None`. A sum is exact: at most 2^26 numbers of 64 bits have one key.
 ///
-/// Contracts see how many are left and the totals of the pairs that are in: keys, each with a count of at least 1 and
-/// a sum. The lists of pairs that have these totals follow each call by the laws of `far_types::laws`.
+/// Rows under no key are added at once, by their count and their sum:
+///
+/// ```
+/// let mut live = LiveTotals::new(alloc, 0);
+/// let (count, sum) = count_sum_of(spec, columns, alive);
+/// if count != 0 {
+///     live.add_rows(None, count, sum)?;
+/// }
+/// Ok(live)
+/// ```
+///
+/// Contracts see how many row groups are pending, and the totals of the pairs that are in. Each key has a count of at least 1 and a sum.
+/// The lists of pairs with these totals follow each call by the laws of `far_types::laws`.
 #[derive(Drop)]
 pub struct LiveTotals {
     left: u32,
@@ -42,7 +52,7 @@ impl LiveTotals {
     ghost use Rattle.far_groups.specs.Live.{CanTake, CanJoin};
     ghost use Rattle.far_groups.specs.CountSums.{IsCountSum};
 
-    /// No row is in, and as many row groups are still pending. Allocates nothing.
+    /// Makes totals without rows, with `left` row groups pending. Allocates nothing.
     pub fn new(alloc: Global, left: u32) -> LiveTotals
         ensures left { result.left ≡ left }
         ensures empty { result.totals ≡ fin.empty }
@@ -60,8 +70,9 @@ impl LiveTotals {
         self.left
     }
 
-    /// One folded row more. Where its key is there already, the key that is given is dropped and no memory is taken.
-    /// Refused with `NoMemory` (1) alone, where the key is new, and then nothing is changed.
+    /// Adds a folded row. If its key is there already, it drops the given key and allocates nothing.
+    ///
+    /// Refused with `NoMemory` (1) alone, and only if the key is new. Then nothing is changed.
     pub fn add(&mut self, key: Option<Key>, value: i64) -> Result<(), Refusal>
         requires { count_in (fin.get self.old.totals key) < 2 ^ 26 }
         ensures ok { OnOk result (self.new ≡ record self.old { totals = with_pair self.old.totals (key, value) }) }
@@ -72,7 +83,7 @@ impl LiveTotals {
         add(&mut self.count_sums, key, count_sum_of(value))
     }
 
-    /// One folded row more, as `add`, for a caller that keeps the key: a clone is made where it is new.
+    /// Adds a folded row, as `add` does, for a caller that keeps the key. Clones the key if it is new.
     #[inline(always)]
     pub fn add_under(&mut self, key: &Option<Key>, value: i64) -> Result<(), Refusal>
         requires { count_in (fin.get self.old.totals key.now) < 2 ^ 26 }
@@ -84,8 +95,8 @@ impl LiveTotals {
         add_under(&mut self.count_sums, key, count_sum_of(value))
     }
 
-    /// Some folded rows more, at least one, all under one key: how many they are, and the sum of their values, which the
-    /// caller folded by itself. Refused as `add`, and then nothing is changed.
+    /// Adds folded rows, at least one, all under one key: their count and their sum, which the caller computed. Refused as `add` is. Then
+    /// nothing is changed.
     pub fn add_rows(&mut self, key: Option<Key>, count: u64, sum: i128) -> Result<(), Refusal>
         requires valid_sums { IsCountSum (count, sum) }
         requires capacity { count_in (fin.get self.old.totals key) + count ≤ 2 ^ 26 }
@@ -97,7 +108,7 @@ impl LiveTotals {
         add(&mut self.count_sums, key, (count, sum))
     }
 
-    /// One folded row less, of those that are in. A key without rows is kept no more. Allocates nothing.
+    /// Removes a folded row, one of those that are in. If no row is left under its key, removes the key too. Allocates nothing.
     #[inline(always)]
     pub fn take(&mut self, key: &Option<Key>, value: i64)
         requires { CanTake value (fin.get self.old.totals key.now) }
@@ -106,11 +117,14 @@ impl LiveTotals {
         take(&mut self.count_sums, key, count_sum_of(value));
     }
 
-    /// Joins the rows of another to these, key by key; one row group less is left. Nothing else of the other is looked
-    /// at. Costs a look-up for each key of the other where the keys are numbers. Else it costs two walks along the keys of
-    /// both, and a look-up for each key that is new here unless these are more than a quarter as many as the keys here; where
-    /// the other has less than a quarter as many keys, a look-up for each of them and no walk. Refused with `NoMemory` (1)
-    /// alone, and then nothing is changed.
+    /// Joins the rows of another to these, key by key. One row group less is pending. Of the other it reads nothing else. Refused with
+    /// `NoMemory` (1) alone. Then nothing is changed.
+    ///
+    /// What it costs:
+    /// - If the keys are numbers: a look-up for each key of the other.
+    /// - Else, if the other has less than a quarter as many keys as there are here: a look-up for each of them.
+    /// - Else two walks along the keys of both. If the keys that are new here are at most a quarter as many as the keys here, also a
+    ///   look-up for each new key.
     pub fn merge(&mut self, other: &LiveTotals) -> Result<(), Refusal>
         requires left { self.old.left ≢ 0 }
         requires can_join { CanJoin self.old.totals other.now.totals }
@@ -123,9 +137,9 @@ impl LiveTotals {
         Ok(())
     }
 
-    /// The folded rows of a row group more, and one row group less is left. Costs a look-up for each row, where `merge`
-    /// costs one for each key once these are folded by themselves. Refused with `NoMemory` (1) alone, and then nothing is
-    /// changed.
+    /// Adds the folded rows of a row group. One row group less is pending. Refused with `NoMemory` (1) alone. Then nothing is changed.
+    ///
+    /// Costs a look-up for each row. `merge` costs one for each key, once the rows are folded by themselves.
     pub fn fold_in(&mut self, pairs: &[Pair]) -> Result<(), Refusal>
         requires left { self.old.left ≢ 0 }
         requires fits { PairsFit pairs.now }
@@ -139,9 +153,11 @@ impl LiveTotals {
         Ok(())
     }
 
-    /// The keys that occur, ascending, each with its count and its sum. Without key column and without rows there is
-    /// no line. Refused with `Building` (15) and how many row groups are left exactly if that is not 0, else with
-    /// `NoMemory` (1) alone.
+    /// Returns the keys that occur, ascending, each with its count and its sum. Without a key column and without rows there is no line.
+    ///
+    /// Refused with:
+    /// - `Building` (15), which says how many row groups are pending, exactly if that is not 0;
+    /// - else `NoMemory` (1) alone.
     pub fn answer(&self, alloc: Global) -> Result<Answer, Refusal>
         ensures ok { IfOk result (λ answer. answer ≡ Answer.Totals (total_lines self.now.totals)) }
         ensures built { OnOk result (self.now.left ≡ 0) }
@@ -154,8 +170,8 @@ impl LiveTotals {
         Ok(Answer::Totals(TotalLines::new(lines(alloc, &self.count_sums)?)))
     }
 
-    /// How many rows stand under no key, and the sum of their values: 0 and 0 if none does. Whatever is still
-    /// pending. Allocates nothing.
+    /// Returns the count and the sum of the rows under no key: 0 and 0 if there are none. Pending row groups do not matter. Allocates
+    /// nothing.
     pub fn plain(&self) -> (u64, i128)
         ensures { result ≡ unwrap_or (fin.get self.now.totals None) (0, pos 0) }
     {

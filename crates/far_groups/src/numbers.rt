@@ -1,4 +1,4 @@
-// Counts and sums by number, in a tree map of bare numbers: a look-up there compares words alone.
+// Counts and sums by number, in a tree map of bare numbers. A look-up compares words alone.
 ghost use Rattle.std.specs.Prelude.{◌≡◌, ◌+◌, ◌^◌, ◌≤◌, None, false, IsTrue, is_some, IfOk, IfErr, OnOk, OnErr, take};
 ghost use Rattle.std.specs.BTreeMap.{IsOrdered};
 ghost use Rattle.std.specs.Ordering.{int_cmp};
@@ -14,10 +14,10 @@ use far_types::{Key, Refusal};
 use std::alloc::Global;
 use std::collections::BTreeMap;
 
-/// What stands by number. No number has a count of 0.
+/// Counts and sums by number. No number has a count of 0.
 pub type Numbers = BTreeMap<i64, CountSum>;
 
-/// A count and a sum more under a number that is there. Says whether it is. Allocates nothing.
+/// Adds a count and a sum under a number, if it is there. Returns whether it is. Allocates nothing.
 fn add_existing(numbers: &mut Numbers, number: &i64, more: CountSum) -> bool
     requires valid_sums { AreCountSums (by_number numbers.old.entries) }
     requires more_valid_sums { IsCountSum more }
@@ -36,7 +36,7 @@ fn add_existing(numbers: &mut Numbers, number: &i64, more: CountSum) -> bool
     }
 }
 
-/// A count and a sum more under a number.
+/// Adds a count and a sum under a number.
 pub fn add(numbers: &mut Numbers, number: &i64, more: CountSum) -> Result<(), Refusal>
     requires valid_sums { AreCountSums (by_number numbers.old.entries) }
     requires more_valid_sums { IsCountSum more }
@@ -53,7 +53,7 @@ pub fn add(numbers: &mut Numbers, number: &i64, more: CountSum) -> Result<(), Re
     Ok(())
 }
 
-/// A count and a sum less under a number. A number of which nothing is left goes. Allocates nothing.
+/// Subtracts a count and a sum under a number. Removes a number whose count is then 0. Allocates nothing.
 #[inline(never)]
 pub fn take(numbers: &mut Numbers, number: &i64, less: CountSum)
     requires valid_sums { AreCountSums (by_number numbers.old.entries) }
@@ -74,7 +74,7 @@ pub fn take(numbers: &mut Numbers, number: &i64, less: CountSum)
     }
 }
 
-/// Takes the first `count` of the counts and sums of another map out of these. Allocates nothing.
+/// Subtracts the first `count` entries of another map from these. Allocates nothing.
 fn take_first(numbers: &mut Numbers, other: &Numbers, count: usize)
     requires valid_sums { AreCountSums (by_number numbers.old.entries) }
     requires there { CanTakeAll (by_number numbers.old.entries) (take count (numbered other.now.entries)) }
@@ -90,7 +90,7 @@ fn take_first(numbers: &mut Numbers, other: &Numbers, count: usize)
     }
 }
 
-/// Joins the counts and sums of another map to these. What a refusal cut short is undone.
+/// Joins the counts and sums of another map to these. If it is refused, it undoes what it did.
 pub fn join(numbers: &mut Numbers, other: &Numbers) -> Result<(), Refusal>
     requires valid_sums { AreCountSums (by_number numbers.old.entries) }
     requires other_valid_sums { AreCountSums (by_number other.now.entries) }
@@ -113,7 +113,7 @@ pub fn join(numbers: &mut Numbers, other: &Numbers) -> Result<(), Refusal>
     Ok(())
 }
 
-/// The lines by number, with the numbers as keys.
+/// Makes the entries by number, with the numbers as keys.
 fn keyed_lines(alloc: Global, numbers: &Numbers) -> Result<Vec<(Option<Key>, CountSum)>, Refusal>
     ensures ok { IfOk result (λ lines. lines.items ≡ numbered numbers.now.entries) }
     ensures ordered { IsOrdered int_cmp numbers.now }
@@ -126,7 +126,7 @@ fn keyed_lines(alloc: Global, numbers: &Numbers) -> Result<Vec<(Option<Key>, Cou
     Ok(lines)
 }
 
-/// What stands by number, in a tree map of keys.
+/// Copies the counts and sums into a tree map of keys.
 pub fn keyed(alloc: Global, numbers: &Numbers) -> Result<CountSums, Refusal>
     ensures ok { IfOk result (λ keys. keys.entries ≡ numbered numbers.now.entries) }
     ensures memory { IfErr result (λ e. e ≡ Refusal.NoMemory) }
@@ -135,14 +135,14 @@ pub fn keyed(alloc: Global, numbers: &Numbers) -> Result<CountSums, Refusal>
     map_of(alloc, lines)
 }
 
-/// A line of an answer.
+/// Makes a line of an answer.
 fn line(number: &i64, count_sum: &CountSum) -> (Option<Key>, u64, i128)
     ensures { result ≡ number_line (number.now, count_sum.now) }
 {
     (Some(Key::Int(*number)), count_sum.0, count_sum.1)
 }
 
-/// The lines of the counts and sums, by their numbers.
+/// Makes the lines of the counts and sums, by their numbers.
 pub fn lines(alloc: Global, numbers: &Numbers) -> Result<Vec<(Option<Key>, u64, i128)>, Refusal>
     ensures ok { IfOk result (λ lines. lines.items ≡ number_lines numbers.now.entries) }
     ensures ordered { IsOrdered int_cmp numbers.now }

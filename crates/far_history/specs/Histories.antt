@@ -11,19 +11,19 @@ use Rattle.far_types.specs.Table.{Place, Table, empty_table, rows_of}
 use Rattle.far_history.specs.declared.reading.Reading.{Reading}
 use Rattle.far_history.specs.declared.view.Entry.{Entry}
 
--- what a shared table is made for: its schema and limits, the aggregate that is its gauge, and how many sessions it has
+-- the plan of a shared table: its schema and limits, the aggregate that is its gauge, and how many sessions it has
 pub record Planned : Type 0 where
   pub schema : List Kind
   pub limits : Limits
   pub gauge : Spec
   pub sessions : ℕ
 
--- the table that a history leaves of another
+-- the table once the edits of a history are made in this one
 abbrev pub replay_on : Table → List Entry → Table
 replay_on table [] = table
 replay_on table (entry ∷ log) = replay_on (edited entry.edit table) log
 
--- the table that a history leaves
+-- the table after a history
 abbrev pub replay : Planned → List Entry → Table
 replay p log = replay_on (empty_table p.schema p.limits) log
 
@@ -39,7 +39,7 @@ IsLegal p log = IsLegalOn (empty_table p.schema p.limits) log
 abbrev pub folded : Spec → List Place → ℕ × ℤ
 folded spec places = count_sum (map (λ (pair : Pair). pair.1) (pairs_of spec (rows_of places)))
 
--- what a history leaves: how many edits it has, and the count and the sum of the gauge over the rows of its table
+-- the reading after a history: how many edits it has, and the count and the sum of the gauge over the rows of its table
 abbrev pub gauge_of : Planned → List Entry → Reading
 gauge_of p log = record { edits = length log; count = (folded p.gauge (replay p log).places).0; sum = (folded p.gauge (replay p log).places).1 }
 
@@ -53,7 +53,7 @@ abbrev pub AllBelow : ℕ → List Entry → Type 0
 AllBelow n [] = Unit {0}
 AllBelow n (entry ∷ log) = (entry.by < n) × AllBelow n log
 
--- some plan, where none is named
+-- some plan, if none is named
 abbrev pub no_plan : Planned
 no_plan = record {
   schema = [];

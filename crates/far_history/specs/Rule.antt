@@ -1,4 +1,4 @@
--- The rule of a cell beside a table's lock, and what its steps tell.
+-- The rule of a history's cell, and what its steps do.
 use Rattle.std.specs.Prelude.{◌≡◌, ℕ, ◌<◌, true, List, [], ◌∷◌, ◌++◌}
 use mathlib.Core.Option.{some}
 use mathlib.Core.List.{IsPrefix}
@@ -12,17 +12,17 @@ use Rattle.far_history.specs.declared.view.View.{View}
 abbrev pub entry : ℕ → Edit → Entry
 entry by edit = record { by = by; edit = edit }
 
--- the words tell what a history leaves
+-- the words are the reading after a history
 abbrev pub Reads : Planned → List ℕ → List Entry → Type 0
 Reads p words log = reading_in words ≡ gauge_of p log
 
--- what the rule says of one pass. One keeps the history, and `owner` says which has a session
+-- what the rule says of one pass: `keeper_at` is the pass that keeps the history, and `owner` gives the pass of each session
 pub record Fits (keeper_at : ℕ) (owner : ℕ → ℕ) (given : ℕ) (log : List Entry) (at : ℕ) (v : View) : Type 0 where
   pub keeps : v.keeps ≡ true → (at ≡ keeper_at) × (v.all ≡ log) × (v.given ≡ given)
   pub sits : v.sits ≡ true → (at ≡ owner v.by) × (v.by < given) × IsPrefix v.seen log × (by_session v.by log ≡ v.mine)
 
--- there is one legal history, which the words tell. One pass keeps it, and each session has seen a beginning of it, and knows which
--- entries are its own
+-- there is one legal history, and the words are the reading after it. One pass keeps it. Each session has seen a prefix of it, and knows
+-- which entries are its own
 pub record Kept (p : Planned) (words : List ℕ) (views : List View) : Type 0 where
   pub keeper_at : ℕ
   pub owner : ℕ → ℕ
@@ -33,13 +33,13 @@ pub record Kept (p : Planned) (words : List ℕ) (views : List View) : Type 0 wh
   pub below : AllBelow given log
   pub each : (at : ℕ) (v : View) → get_elem? views at ≡ some v → Fits keeper_at owner given log at v
 
--- a session sees the history so far, which the words tell
+-- a session sees the history so far, whose reading is the words
 abbrev pub Looks : Planned → View → List ℕ → List ℕ → View → Type 0
 Looks p v before after w =
     (w ≡ record v { seen = w.seen }) × IsPrefix v.seen w.seen × (v.keeps ≡ true → w.seen ≡ v.all)
     × IsLegal p w.seen × Reads p before w.seen × (by_session v.by w.seen ≡ v.mine) × (v.keeps ≡ true → AllBelow v.given w.seen)
 
--- a pass that keeps the history and has a session, with one edit more, which is the session's
+-- a pass that keeps the history and has a session, once that session adds an edit
 abbrev pub added : View → Edit → View
 added v e = record { keeps = v.keeps; all = v.all ++ entry v.by e ∷ []; given = v.given; sits = v.sits; by = v.by; seen = v.all ++ entry v.by e ∷ []; mine = v.mine ++ entry v.by e ∷ [] }
 

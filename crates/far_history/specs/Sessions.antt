@@ -5,7 +5,7 @@ use Rattle.far_history.specs.Views.{keeper, session}
 use Rattle.far_history.specs.declared.view.Entry.{Entry}
 use Rattle.far_history.specs.declared.view.View.{View}
 
--- its number, the beginning of the history that it has seen, and its own entries in it
+-- its number, the prefix of the history that it has seen, and its own entries in it
 pub record Told : Type 0 where
   pub by : ℕ
   pub seen : List Entry

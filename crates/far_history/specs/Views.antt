@@ -1,9 +1,9 @@
--- What a pass of a cell knows, and how it is cut and joined.
+-- What a pass of a cell knows, and how passes are split and joined.
 use Rattle.std.specs.Prelude.{ℕ, ◌+◌, true, false, List, []}
 use Rattle.far_history.specs.declared.view.Entry.{Entry}
 use Rattle.far_history.specs.declared.view.View.{View}
 
--- a pass that keeps the history, by which some sessions were given out
+-- a pass that keeps this history, and has given out this many sessions
 abbrev pub keeper : List Entry → ℕ → View
 keeper all given = record { keeps = true; all = all; given = given; sits = false; by = 0; seen = []; mine = [] }
 
@@ -11,7 +11,7 @@ keeper all given = record { keeps = true; all = all; given = given; sits = false
 abbrev pub session : ℕ → List Entry → List Entry → View
 session by seen mine = record { keeps = false; all = []; given = 0; sits = true; by = by; seen = seen; mine = mine }
 
--- a pass that was joined to another, or whose session went
+-- a pass that was joined to another, or whose session was taken out
 abbrev pub nobody : View
 nobody = record { keeps = false; all = []; given = 0; sits = false; by = 0; seen = []; mine = [] }
 
@@ -25,7 +25,7 @@ keeper_part v = joined v nobody
 abbrev pub session_part : View → View
 session_part v = joined nobody v
 
--- the keeper once it has given out one session more, and that session
+-- the keeper once it has given out one more session, and that session
 abbrev pub one_given : View → View
 one_given v = record { keeps = v.keeps; all = v.all; given = v.given + 1; sits = false; by = 0; seen = []; mine = [] }
 

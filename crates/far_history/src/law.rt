@@ -1,4 +1,4 @@
-// The cell beside a table's lock, its passes, and the kinds of step.
+// The cell of a history, its passes, and the kinds of step.
 use crate::view::View;
 use atomic_table::{Join, Split};
 use crossbeam_utils::atomic::seq_cell;
@@ -6,8 +6,17 @@ use crossbeam_utils::atomic::seq_cell::RuledSeqCell;
 use crossbeam_utils::rule::{Outcome, Protocol};
 use std::marker::{Brand, PhantomData};
 
-/// Names the plan of a shared table: its schema, its limits, its gauge and how many sessions it has. A lock's value is known by its
+/// Names the plan of a shared table: its schema, its limits, its gauge and how many sessions it has. A proof knows a lock's value by its
 /// type alone, so the plan is a type parameter of all that lies under a lock.
+///
+/// A plan that was made gets a `Brand` as its name:
+///
+/// ```
+/// match plan_of(alloc, scene.table, scene.roles.len() as u64) {
+///     Ok(plan) => planned::<Brand, S, R>(rt, alloc, plan, store, scene),
+///     Err(refusal) => Err(refusal),
+/// }
+/// ```
 pub trait Naming {
     ghost use Rattle.far_history.specs.Histories.{Planned};
 
@@ -33,8 +42,10 @@ impl Asking for Brand {
     ghost edit = { Remove 0 };
 }
 
-/// The rule of a cell: there is one legal history, which the words tell. One pass keeps it, and each session has seen a beginning of
-/// it and knows which entries are its own.
+/// The rule of a cell:
+/// - There is one legal history, and the words are the reading after it.
+/// - One pass keeps it.
+/// - Each session has seen a prefix of it, and knows which entries are its own.
 pub struct Law<N> {
     of: PhantomData<N>,
 }
@@ -49,7 +60,7 @@ impl<N: Naming> Protocol<[u64; 4], View> for Law<N> {
     ghost first = { keeper [] 0 };
 }
 
-/// A step that looks: the session has seen the history so far.
+/// A step that reads: the session has then seen the history so far.
 pub struct Look<N> {
     of: PhantomData<N>,
 }
@@ -71,7 +82,7 @@ impl<E: Asking> Outcome<[u64; 4], View> for Add<E> {
     ghost then = { Adds E.edit };
 }
 
-/// Gives a new session out.
+/// A step that gives out a new session.
 pub struct Give;
 
 impl Split<View> for Give {
@@ -82,7 +93,7 @@ impl Split<View> for Give {
     ghost right = { new_session };
 }
 
-/// Takes the session out of its pass.
+/// A step that takes the session out of its pass.
 pub struct Rise;
 
 impl Split<View> for Rise {
@@ -93,7 +104,7 @@ impl Split<View> for Rise {
     ghost right = { session_part };
 }
 
-/// Puts the session of one pass into the keeper's.
+/// A step that puts the session of one pass into the keeper's.
 pub struct Sit;
 
 impl Join<View> for Sit {

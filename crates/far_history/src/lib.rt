@@ -1,9 +1,11 @@
 #![tactic(auto)]
-//! Histories of edits that threads share: the cell beside a table's lock, the rule that ties it to what each session knows, and the
-//! steps that keep the rule.
+//! Histories of edits that threads share:
+//! - a cell outside the table's lock;
+//! - the rule that ties it to what each session knows;
+//! - the steps that keep the rule.
 //!
-//! A history exists in proofs alone. What threads share of it is one cell of four words: how many edits there were, and the count
-//! and the sum of the table's gauge.
+//! A history exists in proofs alone. At run time threads share one cell of four words: the number of edits, and the count and the sum of
+//! the table's gauge.
 
 pub mod law;
 pub mod reading;

@@ -1,8 +1,17 @@
-// What a cell tells, and the words that it is kept in.
+// The reading of a cell, and its encoding in words.
 ghost use Rattle.std.specs.Prelude.{◌≡◌};
 ghost use Rattle.far_history.specs.Readings.{reading_in};
 
-/// What a table's history so far leaves.
+/// What a table's history so far leaves: the reading of its gauge.
+///
+/// The keeper of a stripe adds an edit. `after` is the reading that the longer history has:
+///
+/// ```
+/// add(rt, &counter.cell, &mut pass, words_of(after), told);
+/// look(rt, &counter.cell, &mut pass);
+/// me.pass = rise(&counter.cell, &mut pass);
+/// self.pass = Some(Kept::new(pass));
+/// ```
 #[derive(Clone, Copy, Debug, PartialEq, Eq)]
 pub struct Reading {
     /// How many edits were accepted.
@@ -13,7 +22,7 @@ pub struct Reading {
     pub sum: i128,
 }
 
-/// The words of a cell that tell this: the edits, the count, and the sum in two's complement, its low word first.
+/// Encodes a reading as the words of a cell: the edits, the count, and the sum in two's complement, its low word first.
 pub fn words_of(reading: Reading) -> [u64; 4]
     ensures { reading_in result ≡ reading }
 {
@@ -23,7 +32,7 @@ pub fn words_of(reading: Reading) -> [u64; 4]
     [reading.edits, reading.count, low as u64, high as u64]
 }
 
-/// What the words of a cell tell.
+/// Decodes the words of a cell.
 pub fn reading_of(words: [u64; 4]) -> Reading
     ensures { result ≡ reading_in words }
 {

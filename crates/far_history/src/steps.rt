@@ -1,4 +1,4 @@
-// The steps that keep a cell's rule, each with what it tells.
+// The steps that keep a cell's rule.
 ghost use Rattle.std.specs.Prelude.{◌≡◌, [], true, None, IfOk};
 ghost use Rattle.crossbeam_utils.specs.Seq.{cell_view, IsSamePass};
 ghost use Rattle.far_types.specs.Edits.{edit_refusal};
@@ -13,7 +13,7 @@ use std::marker::Brand;
 use std::snapshot::Snapshot;
 use std::sync::Wait;
 
-/// The cell of an empty history, and the pass that keeps it. Refused if memory is out.
+/// Makes the cell of an empty history, and the pass that keeps it. Fails only if out of memory.
 pub fn begin<N: Naming>(alloc: Global) -> Result<(Cell<N>, Pass), AllocError>
     ensures { IfOk result (λ made. (made.1.table_id ≡ made.0.table.shared.table_id) × (cell_view made.1 ≡ keeper [] 0)) }
 {
@@ -48,7 +48,7 @@ fn add_named<N: Naming, E: Asking, R: Wait>(
     cell.swap_as::<Add<E>, R>(rt, pass, words);
 }
 
-/// Adds an edit to the history, as the session that sits in the keeper's pass. Writes the four words in one step.
+/// Adds an edit to the history, by the session that sits in the keeper's pass. Writes the four words in one step.
 pub fn add<N: Naming, R: Wait>(
     rt: &R,
     cell: &Cell<N>,
@@ -66,7 +66,7 @@ pub fn add<N: Naming, R: Wait>(
     add_named::<N, Brand, R>(rt, cell, pass, words, told);
 }
 
-/// The session of a pass, in a pass of its own.
+/// Moves the session of a pass into a pass of its own.
 pub fn rise<N: Naming>(cell: &Cell<N>, pass: &mut Pass) -> Pass
     requires { pass.old.table_id ≡ cell.now.table.shared.table_id }
     ensures same { IsSamePass pass.old pass.new }
@@ -86,7 +86,7 @@ pub fn sit<N: Naming>(cell: &Cell<N>, pass: &mut Pass, other: Pass)
     cell.join_pass::<Sit>(pass, other)
 }
 
-/// Gives a new session out, by the pass that keeps the history.
+/// Gives out a new session, by the pass that keeps the history.
 pub fn give<N: Naming>(cell: &Cell<N>, pass: &mut Pass) -> Pass
     requires cell { pass.old.table_id ≡ cell.now.table.shared.table_id }
     requires keeps { (cell_view pass.old).keeps ≡ true }

@@ -1,4 +1,4 @@
-// What a pass knows of a history. No value of these types is made.
+// What a pass knows of a history. These types exist for proofs alone: no value of them is made.
 use far_types::Edit;
 use std::collections::LinkedList;
 
@@ -12,15 +12,15 @@ pub struct Entry {
 pub struct View {
     /// Whether the pass keeps the history.
     pub keeps: bool,
-    /// The history, if it keeps it.
+    /// The history, if the pass keeps it.
     pub all: LinkedList<Entry>,
-    /// How many sessions were given out, if it keeps the history.
+    /// How many sessions were given out, if the pass keeps the history.
     pub given: u64,
     /// Whether the pass has a session.
     pub sits: bool,
     /// The session's number.
     pub by: u64,
-    /// The beginning of the history that the session has seen.
+    /// The prefix of the history that the session has seen.
     pub seen: LinkedList<Entry>,
     /// The session's own entries.
     pub mine: LinkedList<Entry>,

@@ -1,8 +1,8 @@
 #![tactic(auto)]
-//! A pass of a ruled cell that may lie under a lock which many threads read at once.
+//! A pass of a ruled cell, wrapped so that it may lie under a lock which many threads read at once.
 //!
-//! A pass is a value with no bytes, in which a thread carries what it knows of a cell. It may go from thread to thread, and is
-//! not known to be safe behind a shared reference. A [`Kept`] is: through a reference nothing can be done with it.
+//! A pass is a value without bytes. A thread carries in it what it knows of a cell. A pass may go from thread to thread, but is not known
+//! to be safe behind a shared reference. A [`Kept`] is safe there: through a reference nothing can be done with it.
 
 ghost use Rattle.std.specs.Prelude.{◌≡◌};
 
@@ -11,7 +11,21 @@ use std::marker::Model;
 
 /// A pass that is put away. It takes no bytes.
 ///
-/// Only its owner gets the pass out again, so threads that share a reference to it learn and do nothing by it.
+/// Only its owner gets the pass out again. Threads that share a reference to it learn nothing and do nothing by it.
+///
+/// The keeper of a stripe shows a session the history, by the pass that it keeps:
+///
+/// ```
+/// let Some(kept) = self.pass.take() else {
+///     unreachable!()
+/// };
+/// let mut pass = kept.into_pass();
+/// let session = rise(&counter.cell, &mut me.pass);
+/// sit(&counter.cell, &mut pass, session);
+/// let words = look(rt, &counter.cell, &mut pass);
+/// me.pass = rise(&counter.cell, &mut pass);
+/// self.pass = Some(Kept::new(pass));
+/// ```
 pub struct Kept<S, V> {
     pass: Seat<S, V>,
 }
@@ -35,7 +49,7 @@ impl<S, V> Kept<S, V> {
         Kept { pass }
     }
 
-    /// The pass that was put away.
+    /// Returns the pass that was put away.
     pub fn into_pass(self) -> Seat<S, V>
         ensures { result ≡ self.pass }
     {

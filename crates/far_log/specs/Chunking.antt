@@ -3,7 +3,7 @@
 use Rattle.std.specs.Prelude.{◌≡◌, ℕ, zero, suc, ◌+◌, ◌≤◌, ◌<◌, ◌^◌, List, [], ◌∷◌, ◌++◌, length, vec_capacity}
 use Rattle.std.specs.declared.vec.Vec.{Vec}
 
--- how many elements the chunk with this number takes, where the first takes `size`
+-- the capacity of the chunk with this number, if that of the first is `size`
 abbrev pub capacity_at : ℕ → ℕ → ℕ
 capacity_at size zero = size
 capacity_at size (suc number) = capacity_at (size + size) number
@@ -13,7 +13,7 @@ abbrev pub start_at : ℕ → ℕ → ℕ
 start_at size zero = 0
 start_at size (suc number) = size + start_at (size + size) number
 
--- the element with this index lies in this chunk, at this place in it; the first chunk takes 64
+-- the element with this index lies in this chunk, at this index of it; the capacity of the first chunk is 64
 pub record IsPlaceOf (index chunk at : ℕ) : Type 0 where
   pub index_is : start_at 64 chunk + at ≡ index
   pub within : at < capacity_at 64 chunk
@@ -24,13 +24,13 @@ module _ {X Z : Type 0} where
   joined [] = []
   joined (c ∷ cs) = c.items ++ joined cs
 
-  -- each chunk but the last is full, and the last has its space reserved; the first takes `size`
+  -- each chunk but the last is full, and the last has its space reserved; the capacity of the first is `size`
   abbrev pub AreChunks : ℕ → List (Vec X Z) → Type 0
   AreChunks size [] = Unit {0}
   AreChunks size (c ∷ []) = (length c.items ≤ size) × (size ≤ vec_capacity c)
   AreChunks size (c ∷ (d ∷ cs)) = (length c.items ≡ size) × AreChunks (size + size) (d ∷ cs)
 
-  -- the first `len` elements of the chunks are the list; what lies behind them is from before a cut
+  -- the first `len` elements of the chunks are the list; those behind them were cut off
   pub record IsChunked (cs : List (Vec X Z)) (len : ℕ) : Type 0 where
     pub chunks : AreChunks 64 cs
     pub within : len ≤ length (joined cs)

@@ -3,7 +3,7 @@ use Rattle.std.specs.Prelude.{◌≡◌, ◌≢◌, ℕ, ◌+◌, ◌-◌, ◌<�
 use Rattle.far_pointer.specs.declared.pointer.At.{At}
 use Rattle.far_log.specs.RegionState.{Part, SegmentState, RegionState, fill_of, list_at, segment_of, part_of, target_of}
 
--- new is old, but that `now` lies at this location
+-- new is old, except that `now` lies at this location
 pub record ChangesOnly {X : Type 0} (old new : RegionState X) (at : At) (now : Option (List X)) : Type 0 where
   pub here : part_of new at ≡ now
   pub others : (q : At) → q ≢ at → part_of new q ≡ part_of old q
@@ -25,16 +25,16 @@ module _ {X : Type 0} where
   abbrev pub with_list : SegmentState X → ℕ → List X → SegmentState X
   with_list s offset list = record s { parts = map (replaced offset list) s.parts }
 
-  -- xs with ws written over its elements from place i on; its length stays
+  -- xs with ws written over its elements from index i on; its length stays
   abbrev pub written_over : List X → ℕ → List X → List X
   written_over xs i ws = take (length xs) (take i xs ++ (ws ++ drop (i + length ws) xs))
 
-  -- a part once ws is written over the elements of its segment from place `from` on
+  -- a part once ws is written over the elements of its segment from offset `from` on
   abbrev pub overwritten : ℕ → List X → Part X → Part X
   overwritten from ws p =
       record p { list = written_over p.list (from - p.offset) (drop (p.offset - from) ws) }
 
-  -- a segment with ws written over its elements from place `from` on
+  -- a segment with ws written over its elements from offset `from` on
   abbrev pub written : SegmentState X → ℕ → List X → SegmentState X
   written s from ws = record s { parts = map (overwritten from ws) s.parts }
 
@@ -62,7 +62,7 @@ module _ {X : Type 0} where
   layout_from from [] = []
   layout_from from (xs ∷ xss) = record { offset = from; list = xs } ∷ layout_from (from + length xs) xss
 
-  -- the list that begins at an offset, and the empty one where none does
+  -- the list that begins at an offset, or the empty one if none does
   abbrev pub list_or_none : List (Part X) → ℕ → List X
   list_or_none parts offset = unwrap_or (list_at parts offset) []
 
@@ -81,7 +81,7 @@ module _ {X : Type 0} where
     pub whole : (offset : ℕ) → IsSome (list_at parts offset) → Contains order offset
     pub once : AllPairs (λ offset other. offset ≢ other) order
 
-  -- new is old with this list as a new part at this location: in the lowest segment that takes it, at its fill
+  -- new is old with this list as a new part at this location: in the lowest segment that has the space, at its fill
   pub record IsPlaced (old new : RegionState X) (at : At) (list : List X) : Type 0 where
     pub segment : target_of old (length list) ≡ Some at.segment
     pub offset : at.offset ≡ fill_of (segment_of old at.segment)

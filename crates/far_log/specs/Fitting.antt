@@ -4,12 +4,12 @@ use Rattle.std.specs.Prelude.{ℕ, ◌-◌, ◌==◌, nat_le, if◌then◌else�
 use Rattle.std.specs.Option.{option_map_or}
 use Rattle.far_log.specs.RegionState.{lowest_for}
 
--- the lengths that wait once a segment has taken those that it can, in their order: each that it took is then 0
+-- the waiting lengths once a segment has taken those that fit, in their order: each that it took is 0
 abbrev pub once_filled : ℕ → List ℕ → List ℕ
 once_filled space [] = []
 once_filled space (n ∷ ns) = if nat_le n space then 0 ∷ once_filled (space - n) ns else n ∷ once_filled space ns
 
--- whether the lengths that wait, those that are not 0, can be placed one after the other
+-- whether the waiting lengths, those that are not 0, can be placed one after the other
 abbrev pub waiting_fit : List ℕ → List ℕ → Bool
 waiting_fit spaces [] = true
 waiting_fit spaces (n ∷ ns) =

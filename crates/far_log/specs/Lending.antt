@@ -1,4 +1,4 @@
--- What stacks, segments and a region are once a list that they lent is given back.
+-- The state of stacks, segments and a region once a mutable borrow of a list ends.
 use Rattle.std.specs.Prelude.{ℕ, List, ◌++◌, length, take, drop}
 use Rattle.std.specs.Borrow.{Lends, Fml, RattleType, MutBor, Array}
 use Rattle.std.specs.Vec.{with_items}
@@ -12,16 +12,16 @@ use Rattle.far_log.specs.contracts.stacks.Stacks as stacks
 use Rattle.far_log.specs.contracts.segments.Segments as segments
 use Rattle.far_log.specs.contracts.region.Region as region
 
--- internal: a block with ws written over its elements from a place on
+-- internal: a block with ws written over its elements from an index on
 abbrev pub with_list_from : {X : Type 0} → Block X → ℕ → List X → Block X
 with_list_from b from ws = record b { items = with_items b.items (take from b.items.items ++ (ws ++ drop (length ws) (drop from b.items.items))) }
 
 module _ (T : RattleType) (s : MutBor (Block T.Denot)) where
-  -- internal: what the borrow r leaves is written over the block's elements from a place on
+  -- internal: what the borrow r leaves is written over the block's elements from an index on
   abbrev pub lends_block : ℕ → MutBor (List T.Denot) → Fml
   lends_block from r = Lends (block.the_row T) (Array T 0) s r (with_list_from s.now from)
 
-  -- internal: the first `most` elements of it are
+  -- internal: the first `most` elements of what r leaves are
   abbrev pub lends_bounded : ℕ → ℕ → MutBor (List T.Denot) → Fml
   lends_bounded from most r = Lends (block.the_row T) (Array T 0) s r (λ ws. with_list_from s.now from (take most ws))
 

@@ -1,4 +1,4 @@
--- What a local region shows: which parts lie where, and how much space is behind them.
+-- What contracts see of a local region: which parts lie where, and how much space is behind them.
 use Rattle.std.specs.Prelude.{◌≡◌, ℕ, ◌+◌, ◌-◌, ◌≤◌, ◌<◌, ◌==◌, nat_le, if◌then◌else◌, Bool, true, false, List, [], ◌∷◌, length, map, sum_by, position, All, is_some, Option, Some, None, slice_index_or, slice_index, slice_set}
 use Rattle.std.specs.Option.{option_map_or}
 use Rattle.far_pointer.specs.declared.pointer.At.{At}
@@ -8,7 +8,7 @@ pub record Part (X : Type 0) : Type 0 where
   pub offset : ℕ
   pub list : List X
 
--- the state of a segment: its parts by ascending offset, and for how many elements it is made
+-- the state of a segment: its parts by ascending offset, and its capacity in elements
 pub record SegmentState (X : Type 0) : Type 0 where
   pub parts : List (Part X)
   pub size : ℕ
@@ -18,24 +18,24 @@ abbrev pub RegionState : Type 0 → Type 0
 RegionState X = List (SegmentState X)
 
 module _ {X : Type 0} where
-  -- the place behind a part
+  -- the offset behind a part
   abbrev pub end_of : Part X → ℕ
   end_of p = p.offset + length p.list
 
-  -- where the last of some parts ends, and `from` where there is none
+  -- where the last of some parts ends, or `from` if there is none
   abbrev pub fill_from : ℕ → List (Part X) → ℕ
   fill_from from [] = from
   fill_from from (p ∷ ps) = fill_from (end_of p) ps
 
-  -- the fill of a segment: the end of its last part, 0 where it has none
+  -- the fill of a segment: the end of its last part, 0 if it has none
   abbrev pub fill_of : SegmentState X → ℕ
   fill_of s = fill_from 0 s.parts
 
-  -- the space of a segment: how many elements it takes behind its fill
+  -- the space of a segment: how many elements fit behind its fill
   abbrev pub space_in : SegmentState X → ℕ
   space_in s = s.size - fill_of s
 
-  -- the lengths of a segment's parts together
+  -- the lengths of a segment's parts, added up
   abbrev pub used_in : SegmentState X → ℕ
   used_in s = sum_by (λ p. length p.list) s.parts
 
@@ -53,7 +53,7 @@ module _ {X : Type 0} where
   list_at [] offset = None
   list_at (p ∷ ps) offset = if p.offset == offset then Some p.list else list_at ps offset
 
-  -- the state of the segment with this number; one that takes nothing where there is none
+  -- the state of the segment with this number, or a segment without space if there is none
   abbrev pub segment_of : RegionState X → ℕ → SegmentState X
   segment_of state number = slice_index_or state number record { parts = []; size = 0 }
 
@@ -61,7 +61,7 @@ module _ {X : Type 0} where
   abbrev pub part_of : RegionState X → At → Option (List X)
   part_of state at = list_at (segment_of state at.segment).parts at.offset
 
-  -- the lengths of all parts together
+  -- the lengths of all parts, added up
   abbrev pub used_of : RegionState X → ℕ
   used_of state = sum_by used_in state
 
@@ -69,34 +69,34 @@ module _ {X : Type 0} where
   abbrev pub spaces_of : RegionState X → List ℕ
   spaces_of state = map space_in state
 
-  -- the spaces of all segments together
+  -- the spaces of all segments, added up
   abbrev pub space_of : RegionState X → ℕ
   space_of state = sum_by space_in state
 
-  -- the sizes of all segments together
+  -- the sizes of all segments, added up
   abbrev pub capacity_of : RegionState X → ℕ
   capacity_of state = sum_by (λ s. s.size) state
 
--- the lowest segment that takes n elements, where each has so much space
+-- the lowest segment with space for n elements, by the space of each
 abbrev pub lowest_for : List ℕ → ℕ → Option ℕ
 lowest_for spaces n = position (λ space. nat_le n space) spaces
 
--- whether lists of these lengths can be placed one after the other, each in the lowest segment that takes it
+-- whether lists of these lengths can be placed one after the other, each in the lowest segment that has the space
 abbrev pub fit_in_order : List ℕ → List ℕ → Bool
 fit_in_order spaces [] = true
 fit_in_order spaces (n ∷ ns) =
     option_map_or (λ i. fit_in_order (slice_set spaces i (slice_index spaces i - n)) ns) (lowest_for spaces n) false
 
 module _ {X : Type 0} where
-  -- the segment that takes a list of n elements: the lowest that has the space
+  -- the segment where a list of n elements goes: the lowest that has the space
   abbrev pub target_of : RegionState X → ℕ → Option ℕ
   target_of state n = lowest_for (spaces_of state) n
 
-  -- whether some segment takes a list of n elements
+  -- whether some segment has the space for a list of n elements
   abbrev pub fits_in : RegionState X → ℕ → Bool
   fits_in state n = is_some (target_of state n)
 
-  -- at most 65,536 segments, each for as many elements as the first, and no two parts of one overlap
+  -- at most 65,536 segments, all with the capacity of the first, and no two parts of one overlap
   pub record IsRegion (state : RegionState X) : Type 0 where
     pub few : length state ≤ 65536
     pub same_length : All (λ s. s.size ≡ (segment_of state 0).size) state

@@ -1,22 +1,21 @@
--- What a region knows of its segments, so that a search for space need not look at them.
+-- Which segments a search for space skips.
 -- Internal: no public contract cites it.
 use Rattle.std.specs.Prelude.{◌≡◌, ◌≢◌, ℕ, ◌<◌, ◌≤◌}
 use Rattle.far_log.specs.declared.skip.Skip.{Skip}
 use Rattle.far_log.specs.RegionState.{RegionState, space_in, segment_of, IsRegion}
 
 module _ {X : Type 0} where
-  -- no segment below `next`, but `first`, has the space for `len` elements
+  -- no segment below `next`, except `first`, has the space for `len` elements
   pub record IsSkip (state : RegionState X) (skip : Skip) : Type 0 where
     pub ordered : skip.first ≤ skip.next
     pub full : (k : ℕ) → k < skip.next → k ≢ skip.first → space_in (segment_of state k) < skip.len
 
-  -- the segments, and what a search skips of them
+  -- the segments are those of a region, and this is what a search skips of them
   pub record IsSearched (state : RegionState X) (skip : Skip) : Type 0 where
     pub region : IsRegion state
     pub skipped : IsSkip state skip
 
--- what is skipped once the segment with this number has this space: what was skipped before, or this segment without the
--- space
+-- what is skipped once the segment with this number has this space: what was skipped before, or this segment if it has not the space
 pub record IsSpaced (old new : Skip) (number space : ℕ) : Type 0 where
   pub len : new.len ≡ old.len
   pub ordered : new.first ≤ new.next

@@ -1,4 +1,4 @@
--- How segments keep their parts: the elements of each in a stack, and a table of extents.
+-- How segments keep their parts: the elements of a segment in a stack, and a table of extents.
 -- Internal: no public contract cites it.
 use Rattle.std.specs.Prelude.{◌≡◌, ℕ, zero, suc, ◌+◌, ◌≤◌, ◌<◌, ◌^◌, if◌then◌else◌, true, false, List, [], ◌∷◌, length, take, drop, map, filter, sum_by, slice_get, Some}
 use Rattle.far_log.specs.declared.extents.Extent.{Extent}
@@ -29,20 +29,20 @@ abbrev pub extents_end : ℕ → List Extent → ℕ
 extents_end from [] = from
 extents_end from (s ∷ ss) = extents_end (from + s.len) ss
 
--- the last extent, where there is one, has a part
+-- the last extent, if there is one, has a part
 abbrev pub EndsLive : List Extent → Type 0
 EndsLive [] = Unit {0}
 EndsLive (s ∷ []) = s.live ≡ true
 EndsLive (s ∷ (t ∷ ss)) = EndsLive (t ∷ ss)
 
--- a table in which this extent has a part no more
+-- a table in which this extent no longer has a part
 abbrev pub emptied_at : List Extent → ℕ → List Extent
 emptied_at [] number = []
 emptied_at (s ∷ ss) zero = record s { live = false } ∷ ss
 emptied_at (s ∷ ss) (suc number) = s ∷ emptied_at ss number
 
--- the live extents of a table, from this number on, name one another: each tells how many extents there are up to the live one
--- before it, which names it; `before` and `behind` are what is so told of those in front
+-- the live extents of a table, from this number on, are linked. Each has the count of extents up to the live one before it, and that one
+-- has its number. `before` and `behind` are the two for the extents in front
 abbrev pub AreLinked : ℕ → ℕ → ℕ → List Extent → List Link → Type 0
 AreLinked number before behind [] [] = Unit {0}
 AreLinked number before behind [] (l ∷ ls) = ⊥
@@ -51,13 +51,13 @@ AreLinked number before behind (s ∷ ss) (l ∷ ls) =
     (s.live ≡ true → (l.before ≡ before) × (0 < before → behind ≡ number))
     × AreLinked (suc number) (if s.live then suc number else before) (if s.live then l.behind else behind) ss ls
 
--- links in which one names another extent behind it
+-- links in which one has another extent behind it
 abbrev pub with_behind : List Link → ℕ → ℕ → List Link
 with_behind [] i behind = []
 with_behind (l ∷ ls) zero behind = record l { behind = behind } ∷ ls
 with_behind (l ∷ ls) (suc i) behind = l ∷ with_behind ls i behind
 
--- links in which one names another extent before it
+-- links in which one has another extent before it
 abbrev pub with_before : List Link → ℕ → ℕ → List Link
 with_before [] i before = []
 with_before (l ∷ ls) zero before = record l { before = before } ∷ ls
@@ -72,7 +72,7 @@ module _ {X : Type 0} where
   abbrev pub parts_in : List X → List Extent → List (Part X)
   parts_in items extents = map (part_in items) (filter (λ s. s.live) extents)
 
-  -- the table says where each part lies, and the elements end with the last part
+  -- the table has the location of each part, and the elements end with the last part
   pub record IsStored (items : List X) (extents : List Extent) (used size : ℕ) : Type 0 where
     pub adjacent : AreAdjacent 0 extents
     pub end : extents_end 0 extents ≡ length items
@@ -81,18 +81,18 @@ module _ {X : Type 0} where
     pub enough : length items ≤ size
     pub small : size < 2 ^ 32
 
-  -- so it is kept, and the extents of the parts name one another
+  -- so it is kept, and the extents of the parts are linked
   pub record IsKept (items : List X) (table : Table) (size : ℕ) : Type 0 where
     pub stored : IsStored items (extents_of table.entries) table.used size
     pub linked : AreLinked 0 0 0 (extents_of table.entries) (links_of table.entries)
 
-  -- what segments of this size show
+  -- the state of segments of this size
   abbrev pub segment_states : ℕ → List (List X) → List Table → RegionState X
   segment_states size [] ts = []
   segment_states size (xs ∷ xss) [] = []
   segment_states size (xs ∷ xss) (t ∷ ts) = record { parts = parts_in xs (extents_of t.entries); size = size } ∷ segment_states size xss ts
 
-  -- each is kept so
+  -- each segment is kept so
   abbrev pub AreKept : ℕ → List (List X) → List Table → Type 0
   AreKept size [] [] = Unit {0}
   AreKept size [] (t ∷ ts) = ⊥

@@ -3,14 +3,14 @@ ghost use Rattle.std.specs.Prelude.{◌≡◌, ◌+◌, ◌-◌, ◌<◌, ◌≤
 ghost use Rattle.std.specs.Borrow.{sem};
 ghost use Rattle.far_log.specs.Stacking.{IsPut};
 
-/// A block that is reserved once. What was written of it, up to the highest place, is its list.
+/// A block of memory that is reserved once. Its list is what was written of it, up to the highest index.
 #[derive(Drop)]
 pub struct Block<T> {
     pub items: Vec<T>,
 }
 
 impl<T: Copy + Drop> Block<T> {
-    /// Writes a list at a place. A gap between the list's end and the place is filled with the first element. Allocates nothing.
+    /// Writes a list at index `at`. Fills a gap in front of it with the list's first element. Allocates nothing.
     pub fn write_at(&mut self, at: usize, list: &[T])
         requires some { 0 < length list.now }
         requires enough { at + length list.now ≤ vec_capacity self.old.items }
@@ -31,7 +31,7 @@ impl<T: Copy + Drop> Block<T> {
         };
     }
 
-    // Makes the list so long, if it is shorter, by copies of an element.
+    // Extends a shorter list to `len` elements by copies of `filler`.
     fn lengthen(&mut self, len: usize, filler: T)
         requires { len ≤ vec_capacity self.old.items }
         ensures grown { self.new.items.items ≡ self.old.items.items ++ replicate (len - vec_len self.old.items) filler }
@@ -45,7 +45,7 @@ impl<T: Copy + Drop> Block<T> {
         };
     }
 
-    /// Copies a list of the block to a place. Allocates nothing.
+    /// Copies `len` elements of the block to another index. Allocates nothing.
     pub fn copy_to(&mut self, from: usize, len: usize, to: usize)
         requires some { 0 < len }
         requires within { from + len ≤ length self.old.items.items }
@@ -58,7 +58,7 @@ impl<T: Copy + Drop> Block<T> {
         self.items.copy_within(from..from + len, to);
     }
 
-    /// A list of the block, in place.
+    /// Borrows a range of the block in place.
     pub fn slice(&self, begin: usize, end: usize) -> &[T]
         requires ordered { begin ≤ end }
         requires within { end ≤ length self.now.items.items }
@@ -71,7 +71,7 @@ impl<T: Copy + Drop> Block<T> {
 impl<T> Block<T> {
     ghost use Rattle.far_log.specs.Lending.{lends_block, lends_bounded};
 
-    // A list of the block, to be written.
+    // Mutably borrows a range of the block.
     fn slice_mut(&mut self, begin: usize, end: usize) -> &mut [T]
         requires ordered { begin ≤ end }
         requires within { end ≤ vec_len self.old.items }
@@ -81,10 +81,10 @@ impl<T> Block<T> {
         self.items.slice_mut(begin..end)
     }
 
-    /// A list of the block, to be written. What is left in it counts as no more than `most` elements, the space that it has.
+    /// Mutably borrows a range of the block. What the borrow leaves counts as no more than `most` elements, the space of the range.
     ///
-    /// A slice keeps its length, so this is no more than `slice_mut`. But a contract on a borrow speaks of longer lists too,
-    /// and by that of `slice_mut` they would lie over what comes behind the space.
+    /// A slice keeps its length, so this does what `slice_mut` does. But a contract on a borrow speaks of longer lists too. By the contract
+    /// of `slice_mut` they would lie over what comes behind the space.
     pub fn lend(&mut self, begin: usize, end: usize, most: usize) -> &mut [T]
         requires ordered { begin ≤ end }
         requires within { end ≤ vec_len self.old.items }

@@ -1,4 +1,4 @@
-// A list in chunks that double.
+// A list in chunks whose sizes double.
 ghost use Rattle.std.specs.Prelude.{◌≡◌, ℕ, ◌+◌, ◌<◌, ◌≤◌, ◌^◌, List, [], ◌∷◌, ◌++◌, length, take, drop, vec_len, slice_get, slice_set, Some, OnOk, OnErr, IfErr};
 ghost use Rattle.far_log.specs.Chunking.{capacity_at, start_at, joined, AreChunks, IsPlaceOf};
 
@@ -6,19 +6,19 @@ use far_types::Refusal;
 use std::alloc::Global;
 use std::marker::Model;
 
-// How many elements the first chunk takes, and its binary logarithm.
+// The capacity of the first chunk, and its binary logarithm.
 const FIRST: usize = 64;
 
 const FIRST_LEVEL: usize = 6;
 
-// Where an element lies: the number of its chunk, and its place there.
+// Where an element lies: the number of its chunk, and its index there.
 #[derive(Clone, Copy)]
 struct Place {
     chunk: usize,
     at: usize,
 }
 
-// How many elements a chunk takes.
+// The capacity of a chunk.
 fn chunk_capacity(chunk: usize) -> usize
     requires { chunk ≤ 26 }
     ensures size { result ≡ capacity_at 64 chunk }
@@ -28,13 +28,13 @@ fn chunk_capacity(chunk: usize) -> usize
     FIRST << chunk
 }
 
-// Where the element with an index lies.
+// Returns where the element with an index lies.
 fn place_of(index: usize) -> Place
     requires { index ≤ 2 ^ 32 }
     ensures place { IsPlaceOf index result.chunk result.at }
     ensures few { result.chunk ≤ 26 }
 {
-    // In front of chunk k lie 64 * 2^k - 64 elements, so that the highest bit of the sum tells the chunk.
+    // In front of chunk k lie 64 * 2^k - 64 elements, so the highest bit of the sum gives the chunk.
     let sum = index + FIRST;
     let chunk = sum.ilog2() as usize - FIRST_LEVEL;
     Place {
@@ -50,7 +50,7 @@ pub fn chunk_of(index: usize) -> usize
     ensures to { index < start_at 64 result + capacity_at 64 result }
     ensures few { result ≤ 26 }
 {
-    // A short list has one chunk, and this choice spares it the logarithm.
+    // A short list has one chunk: this branch saves it the logarithm.
     if index < FIRST {
         0
     } else {
@@ -67,7 +67,7 @@ pub fn start_of(chunk: usize) -> usize
     chunk_capacity(chunk) - FIRST
 }
 
-// Makes a chunk, unless it is there. Refused, the chunks are as before.
+// Makes a chunk, unless it is there. If it is refused, the chunks are as before.
 fn make_chunk<T: Drop>(chunks: &mut Vec<Vec<T>>, chunk: usize) -> Result<(), Refusal>
     requires few { chunk ≤ 26 }
     requires kept { AreChunks 64 chunks.old.items }
@@ -87,9 +87,10 @@ fn make_chunk<T: Drop>(chunks: &mut Vec<Vec<T>>, chunk: usize) -> Result<(), Ref
 
 /// A list of plain values that grows without moving what it holds (a segmented array).
 ///
-/// It lies in chunks, the first with space for 64 values and each other with twice the space of the one before it. A
-/// chunk is made when it is first needed; only the list of at most 27 chunks moves. A cut keeps the chunks for values
-/// to come, as `Vec` keeps its memory: they are given back when the list is dropped.
+/// It lies in chunks. The first has space for 64 values, and each other has twice the space of the one before it. A chunk is allocated when
+/// it is first needed. Only the list of the chunks moves, which are at most 27.
+///
+/// `truncate` keeps the chunks for later values, as `Vec` keeps its memory. They are freed when the list is dropped.
 #[derive(Drop)]
 pub struct ChunkedVec<T> {
     chunks: Vec<Vec<T>>,
@@ -108,7 +109,7 @@ impl<T> Model for ChunkedVec<T> {
 }
 
 impl<T: Copy + Drop> ChunkedVec<T> {
-    /// An empty list, which allocates nothing.
+    /// Makes an empty list. Allocates nothing.
     pub fn new(alloc: Global) -> ChunkedVec<T>
         ensures { result ≡ [] }
     {
@@ -136,7 +137,7 @@ impl<T: Copy + Drop> ChunkedVec<T> {
         chunks[chunk][at]
     }
 
-    /// The values of one chunk, in place.
+    /// Borrows the values of one chunk in place.
     pub fn chunk(&self, chunk: usize) -> &[T]
         requires few { chunk ≤ 26 }
         requires there { start_at 64 chunk < length self.now }
@@ -160,8 +161,7 @@ impl<T: Copy + Drop> ChunkedVec<T> {
         chunks[chunk][at] = value;
     }
 
-    /// Puts a value behind the last. Moves none. Refused with `NoMemory` (1) alone, where a chunk cannot be made; then
-    /// the list is as before.
+    /// Appends a value, and moves none. Refused with `NoMemory` (1) alone, if a chunk cannot be allocated. Then the list is as before.
     pub fn push(&mut self, value: T) -> Result<(), Refusal>
         requires few { length self.old < 2 ^ 32 }
         ensures pushed { OnOk result (self.new ≡ self.old ++ value ∷ []) }
@@ -180,8 +180,7 @@ impl<T: Copy + Drop> ChunkedVec<T> {
         Ok(())
     }
 
-    /// Cuts the list to its first `len` values; a shorter one is left as it is. Costs the same whatever it cuts off,
-    /// and gives no memory back.
+    /// Cuts the list to its first `len` values; a shorter one stays as it is. Costs the same however much it cuts off, and frees no memory.
     pub fn truncate(&mut self, len: usize)
         ensures { self.new ≡ take len self.old }
     {

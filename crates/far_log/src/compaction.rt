@@ -1,4 +1,4 @@
-// The move of a segment's parts into another segment.
+// Compaction: moves a segment's parts into another segment.
 ghost use Rattle.std.specs.Prelude.{◌≡◌, ◌≢◌, ◌<◌, ◌≤◌, [], length, map, OnOk, OnErr, IfOk, IfErr};
 ghost use Rattle.far_log.specs.RegionState.{segment_of, IsLayout};
 ghost use Rattle.far_log.specs.Effects.{gathered, compacted, with_segment, IsOrder};
@@ -9,17 +9,26 @@ use far_types::Refusal;
 use std::alloc::Global;
 
 /// Where the parts of a compacted segment are.
+///
+/// A segment is compacted, and the result compared with what is due:
+///
+/// ```
+/// match region.compact(alloc, u32::from(from), order) {
+///     Ok(moved) => wanted == Ok((moved.segment, moved.offsets.as_slice())),
+///     Err(refusal) => wanted == Err(refusal),
+/// }
+/// ```
 #[derive(Debug, Drop)]
 pub struct Moved {
     /// The number of the segment in which they lie now.
     pub segment: u16,
-    /// Where each begins there, in the order in which they were asked for.
+    /// Where each part begins there, in the order in which the call listed them.
     pub offsets: Vec<u32>,
 }
 
 impl<T: Copy + Drop> Segments<T> {
-    // Places copies of the parts of segment `from` in segment `to`, which has none, in the given order, and answers where each
-    // begins. Copies each element once. Refused with `NoMemory` (1) alone, and then some of the parts may lie there.
+    // Places copies of the parts of segment `from` in segment `to`, which has none, in the given order. Returns where each begins. Copies
+    // each element once. Refused with `NoMemory` (1) alone. Then some of the parts may lie there.
     fn gather(
         &mut self,
         alloc: Global,
@@ -51,8 +60,8 @@ impl<T: Copy + Drop> Segments<T> {
         Ok(offsets)
     }
 
-    /// Moves the parts of segment `from` into segment `to`, which has none. Refused with `NoMemory` (1) alone; then the
-    /// segments are as before.
+    /// Moves the parts of segment `from` into segment `to`, which has none. Refused with `NoMemory` (1) alone. Then the segments are as
+    /// before.
     pub fn compact(
         &mut self,
         alloc: Global,

@@ -1,4 +1,4 @@
-// The table of a segment: where its parts lie, and where parts lay that are gone.
+// The table of a segment: where its parts lie, and where dropped parts lay.
 ghost use Rattle.std.specs.Prelude.{◌≡◌, ℕ, ◌+◌, ◌<◌, ◌≤◌, ◌^◌, length, slice_get, Some, IfSome};
 ghost use Rattle.far_log.specs.Chunking.{capacity_at, start_at};
 ghost use Rattle.far_log.specs.Storage.{AreAdjacent, IsSorted, extents_end, extents_of};
@@ -6,18 +6,18 @@ ghost use Rattle.far_log.specs.Storage.{AreAdjacent, IsSorted, extents_end, exte
 use super::chunked_vec::{ChunkedVec, chunk_of, start_of};
 use super::part_entry::PartEntry;
 
-/// A stretch of a segment that has a part, or had one.
+/// A range of a segment that has a part, or had one.
 #[derive(Clone, Copy)]
 pub struct Extent {
-    /// The place in the segment where it begins.
+    /// Where it begins in the segment.
     pub offset: u32,
     /// How many elements it has.
     pub len: u32,
-    /// A part lies there.
+    /// Whether a part lies there.
     pub live: bool,
 }
 
-// The number among these extents of the one that begins at an offset; some number where none does.
+// The index of the extent that begins at an offset; some index if none does.
 fn extent_among(entries: &[PartEntry], offset: u32) -> usize
     requires some { 0 < length entries.now }
     requires sorted { IsSorted (extents_of entries.now) }
@@ -29,7 +29,7 @@ fn extent_among(entries: &[PartEntry], offset: u32) -> usize
     while size > 1 {
         let half = size / 2;
         let middle = low + half;
-        // One choice, so that a compiler can do without a branch.
+        // One choice, so that a compiler needs no branch.
         low = if entries[middle].extent.offset <= offset {
             middle
         } else {
@@ -40,7 +40,7 @@ fn extent_among(entries: &[PartEntry], offset: u32) -> usize
     low
 }
 
-// The number of the chunk in which the extent lies that begins at an offset; that of some chunk where none does.
+// The number of the chunk with the extent that begins at an offset; the number of some chunk if none does.
 fn chunk_at(table: &ChunkedVec<PartEntry>, offset: u32) -> usize
     requires some { 0 < length table.now }
     requires adjacent { AreAdjacent 0 (extents_of table.now) }
@@ -48,7 +48,7 @@ fn chunk_at(table: &ChunkedVec<PartEntry>, offset: u32) -> usize
     ensures there { start_at 64 result < length table.now }
     ensures found { (k : ℕ) (s : Extent) → slice_get (extents_of table.now) k ≡ Some s → s.offset ≡ offset → (start_at 64 result ≤ k) × (k < start_at 64 result + capacity_at 64 result) }
 {
-    // The last chunk has about half of the extents, so it is looked at first.
+    // The last chunk has about half of the extents, so it is searched first.
     let mut number = chunk_of(table.len() - 1);
     while number > 0 {
         if table.chunk(number)[0].extent.offset <= offset {
@@ -59,7 +59,7 @@ fn chunk_at(table: &ChunkedVec<PartEntry>, offset: u32) -> usize
     0
 }
 
-// The number of the extent that begins at an offset, which is searched for; some number where none does.
+// Searches for the number of the extent that begins at an offset; some number if none does.
 fn number_among(table: &ChunkedVec<PartEntry>, offset: u32) -> usize
     requires some { 0 < length table.now }
     requires adjacent { AreAdjacent 0 (extents_of table.now) }
@@ -69,14 +69,14 @@ fn number_among(table: &ChunkedVec<PartEntry>, offset: u32) -> usize
     start_of(chunk) + extent_among(table.chunk(chunk), offset)
 }
 
-/// The number of the extent that begins at an offset; some number where none does.
+/// The number of the extent that begins at an offset; some number if none does.
 pub fn number_at(table: &ChunkedVec<PartEntry>, offset: u32) -> usize
     requires some { 0 < length table.now }
     requires adjacent { AreAdjacent 0 (extents_of table.now) }
     ensures { (k : ℕ) (s : Extent) → slice_get (extents_of table.now) k ≡ Some s → s.offset ≡ offset → result ≡ k }
 {
-    // An object that gets another list loses its part once the new one lies behind it, so the last extent but one is looked
-    // at first. If the new one lies in another segment, its part may be the last.
+    // An object that gets another list loses its part once the new one lies behind it. So the last extent but one is tried first. If the
+    // new part lies in another segment, the old one may be the last.
     let last = table.len() - 1;
     let number = last.saturating_sub(1);
     if table.get(number).extent.offset == offset {
@@ -88,7 +88,7 @@ pub fn number_at(table: &ChunkedVec<PartEntry>, offset: u32) -> usize
     number_among(table, offset)
 }
 
-/// The extent that begins at an offset; some extent where none does, and none where there is no extent.
+/// Returns the extent that begins at an offset. If none does, returns some extent, or `None` if the table has no extent.
 pub fn extent_at(table: &ChunkedVec<PartEntry>, offset: u32) -> Option<Extent>
     requires { AreAdjacent 0 (extents_of table.now) }
     ensures there { IfSome result (λ s. (k : ℕ) × (slice_get (extents_of table.now) k ≡ Some s)) }

@@ -3,7 +3,7 @@ ghost use Rattle.std.specs.Prelude.{◌≡◌, ◌==◌};
 ghost use Rattle.std.specs.List.{list_all};
 ghost use Rattle.far_log.specs.Fitting.{once_filled};
 
-/// Gives the space of a segment to the lengths that wait, in their order: each that it takes is then 0.
+/// Gives the space of a segment to the waiting lengths, in their order. Each length that fits is then 0.
 pub fn fill(space: usize, waiting: &mut [usize])
     ensures { waiting.new ≡ once_filled space waiting.old }
 {

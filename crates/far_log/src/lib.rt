@@ -1,12 +1,13 @@
 #![tactic(auto)]
-//! The local region: parts of elements in segments, each part behind the one before it as in a log.
+//! The local region: parts of elements in segments. Each part lies behind the one before it, as in a log.
 //!
-//! A `Region` takes all its memory for elements when it is made. `place` puts a list behind the last part of the lowest
-//! segment that has the space, `part`, `part_mut` and `range_mut` lend it in place, `drop_at` takes it away. Space
-//! between parts is not used again until `compact` moves a segment's parts into an empty one.
+//! A `Region` allocates all its memory for elements when it is made:
+//! - `place` puts a list behind the last part of the lowest segment that has the space.
+//! - `part`, `part_mut` and `range_mut` borrow a part in place.
+//! - `drop_at` drops a part. The space between parts is not used again until `compact` moves a segment's parts into an empty one.
 //!
-//! Contracts see a region as the list of its segments, each as its parts (where a part begins, and its elements) and its
-//! size: `specs/RegionState.antt`. How it changes is in `specs/Effects.antt`.
+//! Contracts see a region as the list of its segments. Of each they see its parts (where a part begins, and its elements) and its size:
+//! `specs/RegionState.antt`. How it changes is in `specs/Effects.antt`.
 
 mod block;
 mod chunked_vec;

@@ -1,4 +1,4 @@
-// How the live extents of a table name one another, so that the last part is found at once when the one behind it goes.
+// Links between the live extents of a table. When the last part is dropped, they give the part before it at once.
 ghost use Rattle.std.specs.Prelude.{◌≡◌, ◌+◌, ◌<◌, ◌≤◌, ◌^◌, ◌++◌, [], ◌∷◌, true, List, length, take, filter, slice_get, IsSomeAnd, OnOk, OnErr, IfErr};
 ghost use Rattle.far_log.specs.Storage.{AreLinked, EndsLive, emptied_at, with_behind, with_before, extents_of, links_of};
 
@@ -7,16 +7,16 @@ use super::extents::Extent;
 use super::part_entry::PartEntry;
 use far_types::Refusal;
 
-/// The nearest live extents of a live one. Those of another extent mean nothing.
+/// The nearest live extents of a live one. The link of a dead extent means nothing.
 #[derive(Clone, Copy)]
 pub struct Link {
     /// How many extents there are up to the live one before it; 0 if there is none.
     pub before: u32,
-    /// The number of the live one behind it, where there is one.
+    /// The number of the live one behind it, if there is one.
     pub behind: u32,
 }
 
-// Writes which live extent is behind an extent.
+// Sets the number of the live extent behind an extent.
 fn set_behind(table: &mut ChunkedVec<PartEntry>, number: usize, behind: u32)
     requires { number < length table.old }
     ensures extents { extents_of table.new ≡ extents_of table.old }
@@ -30,7 +30,7 @@ fn set_behind(table: &mut ChunkedVec<PartEntry>, number: usize, behind: u32)
     table.set(number, PartEntry { link, ..entry });
 }
 
-// Writes how many extents there are up to the live one before an extent.
+// Sets how many extents there are up to the live one before an extent.
 fn set_before(table: &mut ChunkedVec<PartEntry>, number: usize, before: u32)
     requires { number < length table.old }
     ensures extents { extents_of table.new ≡ extents_of table.old }
@@ -44,8 +44,8 @@ fn set_before(table: &mut ChunkedVec<PartEntry>, number: usize, before: u32)
     table.set(number, PartEntry { link, ..entry });
 }
 
-/// Puts a live extent behind the last, which is live where there is one, and links the two. Refused with `NoMemory` (1) alone;
-/// then the table is as before.
+/// Appends a live extent and links it with the last one, which is live if there is one. Refused with `NoMemory` (1) alone. Then the table
+/// is as before.
 pub fn push_linked(table: &mut ChunkedVec<PartEntry>, extent: Extent) -> Result<(), Refusal>
     requires linked { AreLinked 0 0 0 (extents_of table.old) (links_of table.old) }
     requires ends { EndsLive (extents_of table.old) }
@@ -68,8 +68,8 @@ pub fn push_linked(table: &mut ChunkedVec<PartEntry>, extent: Extent) -> Result<
     Ok(())
 }
 
-/// Takes a live extent out of the links, and answers how many extents are left once those behind the last part are taken
-/// off. Looks at the extent's neighbours alone.
+/// Takes a live extent out of the links. Returns how many extents are left once those behind the last part are cut off. Reads only the
+/// extent's neighbours.
 pub fn unlink(table: &mut ChunkedVec<PartEntry>, number: usize) -> usize
     requires linked { AreLinked 0 0 0 (extents_of table.old) (links_of table.old) }
     requires ends { EndsLive (extents_of table.old) }

@@ -16,9 +16,19 @@ use std::marker::Model;
 
 /// Parts of elements in segments, after the log-structured local memory of AIFM (Ruan et al., OSDI 2020).
 ///
-/// A part is a list of elements that is not empty and lies in one segment, in one piece. A segment's fill is where its
-/// last part ends, 0 if it has none: it falls when the last part is taken away. A location says the segment and where
-/// in it the part begins, counted in elements.
+/// - A part is a list of elements that is not empty. It lies in one segment, in one piece.
+/// - A segment's fill is where its last part ends, 0 if it has none. It falls when the last part is dropped.
+/// - A location is a segment and where in it the part begins, counted in elements.
+///
+/// An object gets another list. The new part is placed before the old one is dropped:
+///
+/// ```
+/// let word = self.words[o];
+/// let at = self.region.place(items)?;
+/// self.words[o] = word.with_at(at);
+/// self.region.drop_at(at_of(word));
+/// Ok(())
+/// ```
 #[derive(Drop)]
 pub struct Region<T> {
     segments: Segments<T>,
@@ -38,10 +48,10 @@ impl<T> Model for Region<T> {
 }
 
 impl<T: Copy + Drop> Region<T> {
-    /// A region of so many segments, each for `size` elements, without parts.
+    /// Makes a region of `segments` segments, each for `size` elements, without parts.
     ///
-    /// All memory for elements is allocated here, as one block, and none of it is written. A later `place` writes up to its
-    /// own list, gaps in front of that included. Refused with `NoMemory` (1) alone.
+    /// It allocates all memory for elements, as one block, and writes none of it. A later `place` writes its own list, and the gap in front
+    /// of it as far as nothing was written there yet. Refused with `NoMemory` (1) alone.
     pub fn new(alloc: Global, segments: u32, size: u32) -> Result<Region<T>, Refusal>
         requires { segments ≤ 65536 }
         ensures empty { IfOk result (λ region. region ≡ replicate segments record { parts = []; size = size }) }
@@ -54,8 +64,8 @@ impl<T: Copy + Drop> Region<T> {
         })
     }
 
-    // Looks for the lowest segment that has the space for a list of `len` elements: `first` of what is found, which tells
-    // of all segments that the search passed.
+    // Searches for the lowest segment that has the space for a list of `len` elements. It is `first` of the result, which also records all
+    // segments that the search passed.
     fn search(&self, len: usize) -> Option<Skip>
         ensures lowest { option_map (λ found. found.first) result ≡ target_of self.now len }
         ensures passed { IfSome result (IsSkip self.now) }
@@ -87,11 +97,11 @@ impl<T: Copy + Drop> Region<T> {
         self.search(len).is_some()
     }
 
-    /// Whether lists of these lengths, none of them empty and at most 16, can be placed one after the other. Takes no
-    /// memory and places nothing.
+    /// Whether at most 16 lists of these lengths, none of them empty, can be placed one after the other. Allocates nothing and places
+    /// nothing.
     ///
-    /// Each list goes to the lowest segment that has the space. So the lists that go to a segment can be told from that
-    /// segment alone, and the segments are gone through once, but those that a search for each list would skip.
+    /// Each list goes to the lowest segment that has the space. So a segment alone decides which lists go to it. One pass over the segments
+    /// is enough, without those that a search for each list would skip.
     pub fn fits_in_order(&self, lens: &[usize]) -> bool
         requires few { length lens.now ≤ 16 }
         requires some { All (λ len. 0 < len) lens.now }
@@ -119,23 +129,23 @@ impl<T: Copy + Drop> Region<T> {
         self.segments.used()
     }
 
-    /// How many elements the segments take behind their fills, all together. Allocates nothing.
+    /// How many elements the segments have space for behind their fills, all together. Allocates nothing.
     ///
-    /// A list needs its space in one segment, so one that is no longer than this need not fit.
+    /// A list needs its space in one segment. So a list that is no longer than this may still not fit.
     pub fn space(&self) -> usize
         ensures { result ≡ space_of self.now }
     {
         self.capacity() - self.segments.filled()
     }
 
-    /// For how many elements all segments are made together. Allocates nothing.
+    /// The capacity of all segments together, in elements. Allocates nothing.
     pub fn capacity(&self) -> usize
         ensures { result ≡ capacity_of self.now }
     {
         self.segments.len() * self.size() as usize
     }
 
-    /// For how many elements each segment is made; 0 if there is no segment. Allocates nothing.
+    /// The capacity of each segment, in elements; 0 if there is no segment. Allocates nothing.
     pub fn size(&self) -> u32
         ensures size { result ≡ (segment_of self.now 0).size }
         ensures sound { IsRegion self.now }
@@ -153,7 +163,7 @@ impl<T: Copy + Drop> Region<T> {
         (at.segment as usize) < self.segments.len() && self.segments.holds(at)
     }
 
-    /// The part at a location, lent in place. Allocates nothing.
+    /// Borrows the part at a location in place. Allocates nothing.
     pub fn part(&self, at: At) -> &[T]
         requires { IsSome (part_of self.now at) }
         ensures { part_of self.now at ≡ Some result.now }
@@ -161,8 +171,8 @@ impl<T: Copy + Drop> Region<T> {
         self.segments.part(at)
     }
 
-    /// The part at a location, which has so many elements, lent in place. Allocates nothing, and looks at no segment's table:
-    /// the length tells where the part ends.
+    /// Borrows the part at a location, which has `len` elements, in place. Allocates nothing, and reads no segment's table: the length
+    /// gives where the part ends.
     pub fn part_long(&self, at: At, len: usize) -> &[T]
         requires { IsSomeAnd (part_of self.now at) (λ list. length list ≡ len) }
         ensures { part_of self.now at ≡ Some result.now }
@@ -170,7 +180,7 @@ impl<T: Copy + Drop> Region<T> {
         self.segments.part_long(at, len)
     }
 
-    /// Takes the part at a location away, and moves no other. Allocates nothing.
+    /// Drops the part at a location, and moves no other. Allocates nothing.
     pub fn drop_at(&mut self, at: At)
         requires { IsSome (part_of self.old at) }
         ensures state { self.new ≡ with_segment self.old at.segment (without_part (segment_of self.old at.segment) at.offset) }
@@ -183,10 +193,11 @@ impl<T: Copy + Drop> Region<T> {
         self.skip = self.skip.with_space(number, space);
     }
 
-    /// Places a list as a new part in the lowest segment that has the space, at its fill, and answers where it lies.
+    /// Places a list as a new part in the lowest segment that has the space, at its fill. Returns where it lies.
     ///
-    /// It allocates nothing for elements. Refused with `RegionFull` (17) exactly if `fits` is false, else with `NoMemory`
-    /// (1) alone, where the table of parts cannot grow; then nothing is changed.
+    /// It allocates nothing for elements. If it is refused, nothing is changed. Refused with:
+    /// - `RegionFull` (17) exactly if `fits` is false;
+    /// - else `NoMemory` (1) alone, if the table of parts cannot grow.
     pub fn place(&mut self, items: &[T]) -> Result<At, Refusal>
         requires some { 0 < length items.now }
         ensures placed { IfOk result (λ at. IsPlaced self.old self.new at items.now) }
@@ -226,8 +237,9 @@ impl<T: Copy + Drop> Region<T> {
 
     /// Whether segment `from` may be compacted. Allocates nothing.
     ///
-    /// Refused with `OutOfRange` (14) exactly if there is no segment `from`, and with `RegionFull` (17) exactly where
-    /// there is one and no other is without parts.
+    /// Refused with:
+    /// - `OutOfRange` (14) exactly if there is no segment `from`;
+    /// - `RegionFull` (17) exactly if there is one and no other is without parts.
     pub fn may_compact(&self, from: u32) -> Result<(), Refusal>
         ensures missing { IsErrOf result Refusal.OutOfRange ↔ (length self.now ≤ from) }
         ensures full { IsErrOf result Refusal.RegionFull ↔ ((from < length self.now) × HasNoEmptyOther self.now from) }
@@ -243,12 +255,13 @@ impl<T: Copy + Drop> Region<T> {
         Ok(())
     }
 
-    /// Moves the parts of segment `from` into the lowest other segment without parts, in the order in which `order`
-    /// lists where they begin, and answers where they lie now. Segment `from` is left without parts.
+    /// Moves the parts of segment `from` into the lowest other segment without parts. `order` lists where the parts begin, and they are
+    /// moved in its order. Returns where they lie now. Segment `from` is left without parts.
     ///
-    /// Copies each element once, from one place of the block to another. Refused with `OutOfRange` (14) exactly if there
-    /// is no segment `from`, with `RegionFull` (17) exactly if there is one and no other is without parts, else with
-    /// `NoMemory` (1) alone, where the tables cannot grow; then nothing is changed.
+    /// Copies each element once, within the block. If it is refused, nothing is changed. Refused with:
+    /// - `OutOfRange` (14) exactly if there is no segment `from`;
+    /// - `RegionFull` (17) exactly if there is one and no other is without parts;
+    /// - else `NoMemory` (1) alone, if the tables cannot grow.
     pub fn compact(&mut self, alloc: Global, from: u32, order: &[u32]) -> Result<Moved, Refusal>
         requires { IsOrder (segment_of self.old from).parts order.now }
         ensures compacted { IfOk result (λ moved. Compacts self.old self.new from moved.segment order.now moved.offsets.items) }
@@ -278,7 +291,7 @@ impl<T: Copy + Drop> Region<T> {
 impl<T: Copy + Drop> Region<T> {
     ghost use Rattle.far_log.specs.Lending.{lends_part};
 
-    /// The part at a location, lent in place to be written. Allocates nothing.
+    /// Mutably borrows the part at a location, in place. Allocates nothing.
     ///
     /// What the borrow leaves is the part's list, and no other part changes (`alone`).
     pub fn part_mut(&mut self, at: At) -> &mut [T]
@@ -291,8 +304,7 @@ impl<T: Copy + Drop> Region<T> {
         self.part_long_mut(at, len)
     }
 
-    /// The part at a location, which has so many elements, lent in place to be written. Allocates nothing, and looks at no
-    /// segment's table.
+    /// Mutably borrows the part at a location, which has `len` elements, in place. Allocates nothing, and reads no segment's table.
     ///
     /// What the borrow leaves is the part's list, and no other part changes (`alone`).
     pub fn part_long_mut(&mut self, at: At, len: usize) -> &mut [T]
@@ -304,7 +316,7 @@ impl<T: Copy + Drop> Region<T> {
         self.segments.range_mut(at, 0, len)
     }
 
-    /// The elements `from` to `to` of the part at a location, lent in place to be written. Allocates nothing.
+    /// Mutably borrows the elements `from` to `to` of the part at a location, in place. Allocates nothing.
     pub fn range_mut(&mut self, at: At, from: usize, to: usize) -> &mut [T]
         requires ordered { from ≤ to }
         requires within { IsSomeAnd (part_of self.old at) (λ list. to ≤ length list) }

@@ -33,7 +33,7 @@ impl<T> Model for Segments<T> {
 }
 
 impl<T: Copy + Drop> Segments<T> {
-    /// So many segments, each for `size` elements, without parts. Their memory is reserved and not written. Refused with
+    /// Makes `count` segments, each for `size` elements, without parts. Reserves their memory and does not write it. Refused with
     /// `NoMemory` (1) alone.
     pub fn new(alloc: Global, count: u32, size: u32) -> Result<Segments<T>, Refusal>
         requires { count ≤ 65536 }
@@ -55,14 +55,14 @@ impl<T: Copy + Drop> Segments<T> {
         self.tables.len()
     }
 
-    /// For how many elements each segment is made.
+    /// The capacity of each segment, in elements.
     pub fn size(&self) -> u32
         ensures { (number : ℕ) → number < length self.now → (segment_of self.now number).size ≡ result }
     {
         self.stacks.size()
     }
 
-    /// How many elements a segment takes behind its last part.
+    /// How many elements a segment has space for behind its last part.
     pub fn space(&self, number: usize) -> usize
         requires { number < length self.now }
         ensures space { result ≡ space_in (segment_of self.now number) }
@@ -106,7 +106,7 @@ impl<T: Copy + Drop> Segments<T> {
         }
     }
 
-    /// The part at a location.
+    /// Borrows the part at a location.
     pub fn part(&self, at: At) -> &[T]
         requires { IsSome (part_of self.now at) }
         ensures { part_of self.now at ≡ Some result.now }
@@ -120,7 +120,7 @@ impl<T: Copy + Drop> Segments<T> {
             .slice(number, extent.offset as usize, extent.len as usize)
     }
 
-    /// The part at a location, which has so many elements.
+    /// Borrows the part at a location, which has `len` elements.
     pub fn part_long(&self, at: At, len: usize) -> &[T]
         requires { IsSomeAnd (part_of self.now at) (λ list. length list ≡ len) }
         ensures { part_of self.now at ≡ Some result.now }
@@ -129,8 +129,8 @@ impl<T: Copy + Drop> Segments<T> {
             .slice(at.segment as usize, at.offset as usize, len)
     }
 
-    /// Places a list behind the last part of a segment, and answers where it begins. Refused with `NoMemory` (1) alone, where
-    /// the table of parts cannot grow; it allocates nothing for elements.
+    /// Places a list behind the last part of a segment. Returns where it begins. Refused with `NoMemory` (1) alone, if the table of parts
+    /// cannot grow. It allocates nothing for elements.
     pub fn place(&mut self, number: usize, items: &[T]) -> Result<u32, Refusal>
         requires there { number < length self.old }
         requires some { 0 < length items.now }
@@ -147,8 +147,8 @@ impl<T: Copy + Drop> Segments<T> {
         Ok(offset)
     }
 
-    /// Places a copy of the part at a location behind the last part of a segment, and answers where it begins. Refused with
-    /// `NoMemory` (1) alone, where the table of parts cannot grow; it allocates nothing for elements.
+    /// Places a copy of the part at a location behind the last part of a segment. Returns where it begins. Refused with `NoMemory` (1)
+    /// alone, if the table of parts cannot grow. It allocates nothing for elements.
     pub fn place_copy(&mut self, from: At, number: usize) -> Result<u32, Refusal>
         requires there { number < length self.old }
         requires part { IsSome (part_of self.old from) }
@@ -167,7 +167,7 @@ impl<T: Copy + Drop> Segments<T> {
         Ok(offset)
     }
 
-    /// Takes the part at a location away. Moves no elements.
+    /// Drops the part at a location. Moves no elements.
     pub fn drop_at(&mut self, at: At)
         requires { IsSome (part_of self.old at) }
         ensures { self.new ≡ with_segment self.old at.segment (without_part (segment_of self.old at.segment) at.offset) }
@@ -185,7 +185,7 @@ impl<T: Copy + Drop> Segments<T> {
         self.stacks.truncate(segment, end);
     }
 
-    /// Takes all parts of a segment away.
+    /// Drops all parts of a segment.
     pub fn clear(&mut self, number: usize)
         requires { number < length self.old }
         ensures { self.new ≡ with_segment self.old number (record (segment_of self.old number) { parts = [] }) }
@@ -199,7 +199,7 @@ impl<T: Copy + Drop> Segments<T> {
 impl<T> Segments<T> {
     ghost use Rattle.far_log.specs.Lending.{lends_range};
 
-    /// A range of the part at a location, to be written.
+    /// Mutably borrows a range of the part at a location.
     pub fn range_mut(&mut self, at: At, from: usize, to: usize) -> &mut [T]
         requires ordered { from ≤ to }
         requires within { IsSomeAnd (part_of self.old at) (λ list. to ≤ length list) }

@@ -3,22 +3,23 @@ ghost use Rattle.std.specs.Prelude.{◌≡◌, ◌≤◌, ◌⊎◌, nat_le, tru
 ghost use Rattle.std.specs.List.{list_all};
 ghost use Rattle.far_log.specs.Skipping.{IsSpaced};
 
-// How many segments a search may go through again, each time, so that shorter lists go on to skip those in front.
+// How many segments each search may go through again, so that shorter lists still skip those in front.
 const NEAR: usize = 64;
 
-/// What a search for space need not look at: no segment below `next`, but `first`, has the space for `len` elements. So a
-/// search for a list that is not shorter looks at `first`, and then at `next` and those behind it.
+/// The segments that a search for space skips: no segment below `next`, except `first`, has the space for `len` elements. So a search for a
+/// list that is not shorter tries `first`, and then `next` and those behind it.
 ///
-/// It is more than the number of a segment. A full segment mostly has the space for some short list, so `len` says for
-/// which lists it counts as full. And a list that is replaced leaves space in its segment, which may be far in front of
-/// the others that have some. It is `first`, and when it is full again the search goes on where it was.
+/// One segment number would not do:
+/// - A full segment mostly has the space for some short list, so `len` says for which lists it counts as full.
+/// - A list that is replaced leaves space in its segment, which may be far in front of the others that have some. That segment is `first`.
+///   When it is full again, the search goes on where it was.
 #[derive(Clone, Copy)]
 pub struct Skip {
-    /// The number of the segment that is looked at first.
+    /// The number of the segment that is tried first.
     pub first: usize,
-    /// The number of the segment that is looked at after it.
+    /// The number of the segment that is tried after it.
     pub next: usize,
-    /// How long a list is at least for which so few segments are looked at.
+    /// The least length of a list whose search skips the others.
     pub len: usize,
 }
 
@@ -34,7 +35,7 @@ impl Skip {
         }
     }
 
-    /// What a search for a list of `len` elements skips.
+    /// Returns what a search for a list of `len` elements skips.
     pub fn for_list(self, len: usize) -> Skip
         ensures long { result.len ≤ len }
         ensures known { (result ≡ self) ⊎ (result ≡ record { first = 0; next = 0; len = 0 }) }
@@ -42,7 +43,7 @@ impl Skip {
         if self.len <= len { self } else { Skip::none() }
     }
 
-    /// What a search for several lists skips.
+    /// Returns what a search for several lists skips.
     pub fn for_lists(self, lens: &[usize]) -> Skip
         ensures { (result ≡ record { first = 0; next = 0; len = 0 }) ⊎ ((result ≡ self) × (list_all (λ n. nat_le self.len n) lens.now ≡ true)) }
     {
@@ -53,10 +54,10 @@ impl Skip {
         }
     }
 
-    /// What is skipped once a search for a list of `len` elements ended with `found`.
+    /// Returns what is skipped once a search for a list of `len` elements ended with `found`.
     ///
-    /// After a search through many segments that is `found`, so that the next one need not look at them again. After a short
-    /// one it is that only if no list is the worse for it, which is so of each where nothing was skipped yet.
+    /// After a search through many segments this is `found`, so that the next search skips them. After a short search it is `found` only if
+    /// no list loses by it, or if nothing was skipped yet.
     pub fn after_search(self, found: Skip, len: usize) -> Skip
         ensures { (result ≡ self) ⊎ (result ≡ found) }
     {
@@ -73,7 +74,7 @@ impl Skip {
         }
     }
 
-    /// What is skipped once a segment has this space, more or less than before.
+    /// Returns what is skipped once a segment has this space, more or less than before.
     pub fn with_space(self, number: usize, space: usize) -> Skip
         requires { self.first ≤ self.next }
         ensures { IsSpaced self result number space }

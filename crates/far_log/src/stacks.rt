@@ -8,9 +8,9 @@ use far_types::Refusal;
 use std::alloc::Global;
 use std::marker::Model;
 
-/// A number of stacks, each of at most `size` elements, in one block of memory that is reserved once.
+/// Stacks of at most `size` elements each, in one block of memory that is reserved once.
 ///
-/// The stack with the number k lies from `k * size` on. Behind its last element lies what was there before, which means nothing.
+/// Stack number k begins at `k * size`. Behind its last element lie old elements, which mean nothing.
 #[derive(Drop)]
 pub struct Stacks<T> {
     block: Block<T>,
@@ -39,8 +39,7 @@ fn begin_of(number: usize, size: u32) -> usize
 }
 
 impl<T: Copy + Drop> Stacks<T> {
-    /// Empty stacks. All memory for their elements is taken here; it is reserved and not written. Refused with `NoMemory`
-    /// (1) alone.
+    /// Makes empty stacks. Reserves all memory for their elements, and does not write it. Refused with `NoMemory` (1) alone.
     pub fn new(alloc: Global, count: u32, size: u32) -> Result<Stacks<T>, Refusal>
         requires { count ≤ 65536 }
         ensures empty { IfOk result (λ s. s ≡ record { stacks = replicate count []; size = size }) }
@@ -78,7 +77,7 @@ impl<T: Copy + Drop> Stacks<T> {
         self.lens.iter().map(|len| *len as usize).sum()
     }
 
-    /// A list of a stack's elements, in place.
+    /// Borrows a range of a stack's elements in place.
     pub fn slice(&self, number: usize, from: usize, len: usize) -> &[T]
         requires there { number < length self.now.stacks }
         requires some { 0 < length (stack_of self.now number) }
@@ -89,7 +88,7 @@ impl<T: Copy + Drop> Stacks<T> {
         self.block.slice(begin, begin + len)
     }
 
-    /// Puts a list on a stack. Allocates nothing.
+    /// Pushes a list onto a stack. Allocates nothing.
     pub fn push_slice(&mut self, number: usize, list: &[T])
         requires there { number < length self.old.stacks }
         requires some { 0 < length list.now }
@@ -102,7 +101,7 @@ impl<T: Copy + Drop> Stacks<T> {
         self.lens[number] = len + list.len() as u32;
     }
 
-    /// Puts a list of one stack's elements on a stack, this one or another. Allocates nothing, and copies each element once.
+    /// Pushes a range of one stack's elements onto a stack, the same or another. Allocates nothing, and copies each element once.
     pub fn push_from(&mut self, source: usize, from: usize, len: usize, number: usize)
         requires source { source < length self.old.stacks }
         requires there { number < length self.old.stacks }
@@ -132,7 +131,7 @@ impl<T: Copy + Drop> Stacks<T> {
 impl<T> Stacks<T> {
     ghost use Rattle.far_log.specs.Lending.{lends_stack};
 
-    /// A list of a stack's elements, to be written.
+    /// Mutably borrows a range of a stack's elements.
     pub fn slice_mut(&mut self, number: usize, from: usize, len: usize) -> &mut [T]
         requires there { number < length self.old.stacks }
         requires some { 0 < length (stack_of self.old number) }

@@ -9,7 +9,7 @@ use super::part_entry::PartEntry;
 use far_types::Refusal;
 use std::alloc::Global;
 
-/// The lengths of the parts in some tables together.
+/// The lengths of all parts in some tables together.
 pub fn used_by(tables: &[Table]) -> u64
     requires { length tables.now ≤ 65536 }
     ensures { result ≡ sum_by (λ t. t.used) tables.now }
@@ -17,7 +17,7 @@ pub fn used_by(tables: &[Table]) -> u64
     tables.iter().map(|table| table.used as u64).sum()
 }
 
-/// Where the parts of a segment lie, and how long they are together.
+/// The table of a segment's parts: where they lie, and how long they are together.
 #[derive(Drop)]
 pub struct Table {
     pub entries: ChunkedVec<PartEntry>,
@@ -25,7 +25,7 @@ pub struct Table {
 }
 
 impl Table {
-    /// No part. Allocates nothing.
+    /// Makes a table without parts. Allocates nothing.
     pub fn new(alloc: Global) -> Table
         ensures { result ≡ record { entries = []; used = 0 } }
     {
@@ -35,8 +35,8 @@ impl Table {
         }
     }
 
-    /// Notes a part of so many elements behind the last, and answers where it begins. Refused with `NoMemory` (1) alone,
-    /// where the table cannot grow; then it is as before.
+    /// Adds a part of `len` elements behind the last. Returns where it begins. Refused with `NoMemory` (1) alone, if the table cannot grow.
+    /// Then it is as before.
     pub fn push(&mut self, offset: usize, len: usize) -> Result<u32, Refusal>
         requires linked { AreLinked 0 0 0 (extents_of self.old.entries) (links_of self.old.entries) }
         requires ends { EndsLive (extents_of self.old.entries) }
@@ -60,7 +60,7 @@ impl Table {
         Ok(extent.offset)
     }
 
-    /// Forgets all parts.
+    /// Removes all parts.
     pub fn clear(&mut self)
         ensures { self.new ≡ record { entries = []; used = 0 } }
     {

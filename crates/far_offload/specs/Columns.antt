@@ -39,6 +39,6 @@ cell_of place column = slice_index_or column.1 place cell.Missing
 abbrev pub cells_at : Columns → ℕ → Cells
 cells_at columns place number = option_map (cell_of place) (column_of columns number)
 
--- the numbers are those of the key column, of which the number is given where there is one
+-- the numbers are those of the key column, of which the number is given if there is one
 abbrev pub AreKeys : Columns → Option ℕ → List (Option ℤ) → Type 0
 AreKeys columns key numbers = (column : ℕ × List Cell) × (option_and_then (column_of columns) key ≡ Some column) × (column.1 ≡ map int_cell numbers)

@@ -21,7 +21,7 @@ columns_under content tickets = map (λ ticket. (ticket.0, cells_meant (content 
 abbrev pub AreForms : {K : Type 0} → (K → List ℕ) → List (ℕ × K) → Type 0
 AreForms content tickets = All (λ ticket. IsForm (content ticket.1)) tickets
 
--- how a call came out that hands its job back where it is refused
+-- how a call came out that returns its job if it is refused
 abbrev pub outcome : {A J : Type 0} → Result A (Refusal × J) → Result A Refusal
 outcome (Ok done) = Ok done
 outcome (Err refused) = Err refused.0

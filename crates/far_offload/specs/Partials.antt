@@ -16,7 +16,7 @@ use Rattle.far_offload.specs.declared.partial.PartialDone.{PartialDone}
 use Rattle.far_offload.specs.declared.partial.PartialDone.TheVariants.{Totals, Extrema}
 use Rattle.far_offload.specs.Columns.{Columns, cells_at}
 
--- what a place gives: the pair of its row, where it is alive, kept and folded
+-- what a place gives: the pair of its row, if it is alive, kept and folded
 abbrev pub pair_at : Spec → Columns → ℕ × Bool → Option Pair
 pair_at spec columns place = cond place.1 (pair_of spec (cells_at columns place.0)) None
 
@@ -24,7 +24,7 @@ pair_at spec columns place = cond place.1 (pair_of spec (cells_at columns place.
 abbrev pub pairs_over : Spec → Columns → List Bool → List Pair
 pairs_over spec columns flags = filter_map (pair_at spec columns) (enumerate_from 0 flags)
 
--- the value of a place that is alive and kept, where it has one
+-- the value of a place that is alive and kept, if it has one
 abbrev pub value_at : Spec → Columns → ℕ × Bool → Option ℤ
 value_at spec columns place = cond place.1 (cond (keeps spec.filter (cells_at columns place.0)) (number_in (cells_at columns place.0 spec.value)) None) None
 
@@ -32,7 +32,7 @@ value_at spec columns place = cond place.1 (cond (keeps spec.filter (cells_at co
 abbrev pub values_over : Spec → Columns → List Bool → List ℤ
 values_over spec columns flags = filter_map (value_at spec columns) (enumerate_from 0 flags)
 
--- the least and the greatest of some values, where there is one
+-- the least and the greatest of some values, if there is one
 abbrev pub min_max_in : List ℤ → Option (ℤ × ℤ)
 min_max_in [] = None
 min_max_in (value ∷ values) = Some (min_max (value ∷ values))
@@ -41,7 +41,8 @@ min_max_in (value ∷ values) = Some (min_max (value ∷ values))
 abbrev pub MinMaxFits : Option (ℤ × ℤ) → Type 0
 MinMaxFits min_max = IfSome min_max (λ s. FitsSigned w64 s.0 × FitsSigned w64 s.1)
 
--- a value is within the least and the greatest, which it leaves as they are; where there is none there is nothing to leave
+-- a value is within the least and the greatest, so that they stay the same; a missing value is within, and if there is no
+-- least, no other is
 abbrev pub IsWithin : Option (ℤ × ℤ) → Option ℤ → Type 0
 IsWithin min_max None = Unit {0}
 IsWithin None (Some value) = ⊥

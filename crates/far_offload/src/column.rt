@@ -26,6 +26,10 @@ pub(crate) enum ColumnValues<'a> {
 }
 
 /// A column: its number, and its values where they lie. Contracts see the number and the cells.
+///
+/// ```
+/// [Column::of_numbers(0, numbers), Column::of_form(1, form)]
+/// ```
 #[derive(Drop)]
 pub struct Column<'a> {
     number: u32,
@@ -43,7 +47,7 @@ impl<'a> Model for Column<'a> {
 }
 
 impl<'a> Column<'a> {
-    /// The column of this number with these numbers, read where they lie. Allocates nothing.
+    /// Returns the column of this number with these numbers, read in place. Allocates nothing.
     pub fn of_numbers(number: u32, values: &'a [Option<i64>]) -> Column<'a>
         ensures { result ≡ (number, map int_cell values.now) }
     {
@@ -53,8 +57,8 @@ impl<'a> Column<'a> {
         }
     }
 
-    /// The column of this number with the values of a far form, read where they lie. The form must be one of the
-    /// caller's own: it is not tested. Allocates nothing, and looks at the head alone.
+    /// Returns the column of this number with the values of a far form, read in place. The form must be one of the caller's
+    /// own: it is not checked. Allocates nothing, and reads the head alone.
     pub fn of_form(number: u32, form: &'a [u8]) -> Column<'a>
         requires { IsForm form.now }
         ensures { result ≡ (number, cells_meant form.now) }
@@ -65,9 +69,10 @@ impl<'a> Column<'a> {
         }
     }
 
-    /// The column of this number with the values of a content, read where they lie. The bytes came from a store, so they are
-    /// tested, once and in one pass, before a value is read. Bytes that are no far form, which only a store that breaks its
-    /// contract gives, are a column without values. Allocates nothing.
+    /// Returns the column of this number with the values of a content, read in place. Allocates nothing.
+    ///
+    /// The bytes came from a store. So they are checked, once and in one pass, before a value is read. Bytes that are no far
+    /// form are a column without values. Only a store that breaks its contract gives such bytes.
     pub fn of_content(number: u32, bytes: &'a [u8]) -> Column<'a>
         ensures form { IsForm bytes.now → result ≡ (number, cells_meant bytes.now) }
         ensures other { (¬ IsForm bytes.now) → result ≡ (number, []) }
@@ -84,14 +89,14 @@ impl<'a> Column<'a> {
         }
     }
 
-    /// The number of the column.
+    /// Returns the number of the column.
     pub fn number(&self) -> u32
         ensures { result ≡ self.now.0 }
     {
         self.number
     }
 
-    /// Whether the values are numbers. Only the time that a fold takes rests on it.
+    /// Returns whether the values are numbers. Only the time that a fold takes depends on it.
     pub(crate) fn has_numbers(&self) -> bool {
         matches!(
             &self.values,
@@ -99,7 +104,7 @@ impl<'a> Column<'a> {
         )
     }
 
-    /// The list of the numbers, where the values lie in one.
+    /// Returns the list of the numbers, if the values lie in one.
     pub(crate) fn numbers(&self) -> Option<&'a [Option<i64>]>
         ensures { IfSome result (λ numbers. self.now.1 ≡ map int_cell numbers.now) }
     {
@@ -109,7 +114,7 @@ impl<'a> Column<'a> {
         }
     }
 
-    /// The numbers of a far form, where the values are such.
+    /// Returns the numbers of a far form, if the values are such.
     pub(crate) fn ints(&self) -> Option<&LentInts<'a>>
         ensures { IfSome result (λ ints. self.now.1 ≡ map int_cell ints.now) }
     {
@@ -119,7 +124,7 @@ impl<'a> Column<'a> {
         }
     }
 
-    /// The cell of a place. Past the end there is no value.
+    /// Returns the cell of a place. Past the end there is no value.
     #[inline(always)]
     pub(crate) fn cell(&self, place: usize) -> CellRef<'_>
         ensures cell { lent_cell result ≡ cell_of place self.now }
@@ -143,7 +148,7 @@ impl<'a> Column<'a> {
     }
 }
 
-/// The values of a form, as a column has them.
+/// Returns the values of a form, as a column has them.
 fn values_in(values: LentValues<'_>) -> ColumnValues<'_>
     ensures { cells_lent result ≡ cells_in values.entry }
 {
@@ -153,7 +158,7 @@ fn values_in(values: LentValues<'_>) -> ColumnValues<'_>
     }
 }
 
-/// The values of bytes that are a far form; `None` if they are none.
+/// Returns the values of bytes that are a far form; `None` if they are none.
 fn tested(bytes: &[u8]) -> Option<LentValues<'_>>
     ensures form { IsForm bytes.now → result ≡ Some (lent_in bytes.now) }
     ensures other { (¬ IsForm bytes.now) → result ≡ None }
@@ -165,7 +170,7 @@ fn tested(bytes: &[u8]) -> Option<LentValues<'_>>
     }
 }
 
-/// The column of a number, where it is at hand.
+/// Returns the column of a number, if it is at hand.
 pub(crate) fn find<'a, 'b>(columns: &'a [Column<'b>], number: u32) -> Option<&'a Column<'b>>
     ensures { option_copied result ≡ column_of columns.now number }
 {

@@ -1,4 +1,4 @@
-// Contents that were got from the store.
+// Contents that were read from the store.
 ghost use Rattle.std.specs.Prelude.{◌≡◌, ◌+◌, ◌<◌, ◌^◌, [], ◌∷◌, IfOk, IfErr, All};
 ghost use Rattle.far_codec.specs.Lent.{IsForm};
 ghost use Rattle.far_store.specs.Faults.{faults_in, RefusedBy};
@@ -32,7 +32,7 @@ impl Model for Content {
 }
 
 impl Content {
-    /// The column of this number, read where its form lies.
+    /// Returns the column of this number, read where its form lies.
     fn lend(&self) -> Column<'_>
         ensures { result ≡ self.now }
     {
@@ -40,7 +40,7 @@ impl Content {
     }
 }
 
-/// The content under a ticket of a column.
+/// Reads the content under a ticket of a column.
 fn content_under<S: FarRead>(
     alloc: Global,
     store: &S,
@@ -60,7 +60,7 @@ fn content_under<S: FarRead>(
     Ok(Content { number, form })
 }
 
-/// The contents under some tickets, one buffer for each.
+/// Reads the contents under some tickets, one buffer for each.
 pub(crate) fn contents_under<S: FarRead>(
     alloc: Global,
     store: &S,
@@ -81,7 +81,7 @@ pub(crate) fn contents_under<S: FarRead>(
     Ok(contents)
 }
 
-/// The columns of some contents, read where they lie.
+/// Returns the columns of some contents, read in place.
 pub(crate) fn lend_all(alloc: Global, contents: &[Content]) -> Result<Vec<Column<'_>>, AllocError>
     ensures { IfOk result (λ columns. columns.items ≡ contents.now) }
 {

@@ -1,4 +1,4 @@
-// Which places a filter keeps, and the values that they have.
+// Which places pass a filter, and the values that they have.
 ghost use Rattle.std.specs.Prelude.{◌≡◌, Some, None, IsTrue, IfSome, IfNone, FitsSigned, option_map, cond};
 ghost use Rattle.std.specs.Int.{w64};
 ghost use Rattle.std.specs.Option.{option_copied};
@@ -30,7 +30,7 @@ impl<'a, 'b> LendCells for PlaceCells<'a, 'b> {
     }
 }
 
-/// The number of a column at a place, where there is one.
+/// Returns the number of a column at a place, if there is one.
 #[inline(always)]
 fn number_in(column: Option<&Column<'_>>, place: usize) -> Option<i64>
     ensures number { result ≡ number_in (option_map (cell_of place) (option_copied column.entry)) }
@@ -39,8 +39,8 @@ fn number_in(column: Option<&Column<'_>>, place: usize) -> Option<i64>
     column?.cell(place).number()
 }
 
-/// The value of a place that is alive or not: there is one where it is alive, kept and has a value. The column of the
-/// values is found once for all places.
+/// Returns the value of a place, if the place is alive, passes the filter and has a value. The column of the values is looked
+/// up once for all places.
 #[inline(always)]
 pub(crate) fn value_at(
     spec: &Spec,
@@ -62,7 +62,7 @@ pub(crate) fn value_at(
     number_in(values, place)
 }
 
-/// The number of a place in the column of the values, where the place is alive and has one.
+/// Returns the number of a place in the column of the values, if the place is alive and has one.
 #[inline(always)]
 fn number_alive(values: Option<&Column<'_>>, place: usize, alive: bool) -> Option<i64>
     ensures number { result ≡ cond alive (number_in (option_map (cell_of place) (option_copied values.entry))) None }
@@ -75,7 +75,7 @@ fn number_alive(values: Option<&Column<'_>>, place: usize, alive: bool) -> Optio
     }
 }
 
-/// Whether a value is within a min-max, so that it changes nothing there.
+/// Returns whether a value is within a min-max, so that it changes nothing there.
 #[inline(always)]
 fn is_within(min_max: Option<(i64, i64)>, value: i64) -> bool
     ensures { IsTrue result → IsWithin min_max (Some value) }
@@ -86,8 +86,8 @@ fn is_within(min_max: Option<(i64, i64)>, value: i64) -> bool
     }
 }
 
-/// The value of a place as `value_at` says, where it is not within a min-max. The filter is asked last: of the values of a row
-/// group most are within the min-max of those before them.
+/// Returns the value of a place as `value_at` does, unless it is within a min-max. The filter comes last: most values of a row
+/// group are within the min-max of those before them.
 #[inline(always)]
 pub(crate) fn value_beyond(
     spec: &Spec,

@@ -14,7 +14,7 @@ use far_groups::LiveTotals;
 use far_types::{Fold, Refusal, Spec};
 use std::alloc::Global;
 
-/// Totals without key column.
+/// Folds totals without key column.
 fn plain_totals(
     alloc: Global,
     spec: &Spec,
@@ -34,7 +34,7 @@ fn plain_totals(
     Ok(live)
 }
 
-/// Extrema without key column.
+/// Folds extrema without key column.
 fn plain_extrema(
     alloc: Global,
     spec: &Spec,
@@ -52,7 +52,7 @@ fn plain_extrema(
     Ok(observed)
 }
 
-/// The partial aggregate of an aggregate with a key column.
+/// Folds an aggregate with a key column.
 fn keyed(
     alloc: Global,
     spec: &Spec,
@@ -80,8 +80,8 @@ fn keyed(
     Ok(done)
 }
 
-/// What the live places of columns at hand come to: there is a place for each flag, at most 2^26. A column that is not
-/// at hand, and a place past the end of a column, have no value. Of columns with one number the first counts.
+/// Folds the live places of columns at hand. There is a place for each flag, at most 2^26. A column that is not at hand, and a
+/// place past the end of a column, have no value. Of columns with one number the first counts.
 ///
 /// Refused with `NoMemory` (1) alone.
 pub fn fold(

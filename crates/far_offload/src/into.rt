@@ -14,11 +14,13 @@ use far_groups::LiveTotals;
 use far_types::{Refusal, Spec};
 use std::alloc::Global;
 
-/// The live places of a row group come into totals in which a row group is left. There is a place for each flag, at most
-/// 2^26. What a place gives is as in `fold`; a partial of the row group is made only if the keys are texts or there
-/// are none, since a key that is a number costs no memory.
+/// Adds the live places of a row group to totals in which a row group is pending. There is a place for each flag, at most 2^26.
+/// Each place gives what it gives in `fold`.
 ///
-/// Refused with `NoMemory` (1) alone, and then the totals are not changed.
+/// A key that is a number costs no memory. So a partial aggregate of the row group is made only if the keys are texts or there
+/// are none.
+///
+/// Refused with `NoMemory` (1) alone. A refused call changes no totals.
 pub fn fold_into(
     alloc: Global,
     live: &mut LiveTotals,
@@ -46,7 +48,7 @@ pub fn fold_into(
     }
 }
 
-/// Whether a column has numbers. Only the time that a fold takes rests on it.
+/// Returns whether a column has numbers. Only the time that a fold takes depends on it.
 fn have_numbers(columns: &[Column<'_>], number: u32) -> bool {
     match find(columns, number) {
         Some(column) => column.has_numbers(),

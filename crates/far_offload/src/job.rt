@@ -12,11 +12,19 @@ use far_types::{Refusal, Spec};
 use std::alloc::Global;
 use std::marker::Model;
 
-/// What a remote agent is to compute: an aggregate over the live places of one row group, whose columns lie in a far
-/// store. A job borrows nothing, so it can be carried by any thread.
+/// What a remote agent is to compute: an aggregate over the live places of one row group, whose columns lie in a far store. A
+/// job borrows nothing, so any thread can carry it.
 ///
-/// Contracts see the aggregate, the tickets of the columns by number, and the alive flags. That the remote agent works
-/// on far data where it lies, and only what it came to travels, is AIFM's offloading (OSDI 2020, section 4.4).
+/// Contracts see the aggregate, the tickets of the columns by number, and the alive flags. The remote agent works on far data
+/// where it lies, and only the result travels. That is AIFM's offloading (OSDI 2020, section 4.4).
+///
+/// ```
+/// let ints = put_ints(alloc, store, &[Some(1), Some(2), Some(3), Some(4)])?;
+/// let mut tickets = Vec::new(alloc);
+/// tickets.push((0, ints))?;
+/// let alive = Vec::from_array(alloc, ALIVE)?;
+/// let job = OffloadJob::new(Spec::totals(alloc, 0), tickets, alive);
+/// ```
 #[derive(Drop)]
 pub struct OffloadJob<S: FarTickets> {
     spec: Spec,
@@ -37,7 +45,7 @@ impl<S: FarTickets> Model for OffloadJob<S> {
 }
 
 impl<S: FarTickets> OffloadJob<S> {
-    /// A job over these columns: for each column that the aggregate needs, its number and a ticket whose content is a
+    /// Returns a job over these columns: for each column that the aggregate needs, its number and a ticket whose content is a
     /// far form. There is a place for each flag, at most 2^26. A column without a ticket, and a place past the end of a
     /// content, have no value. Allocates nothing.
     pub fn new(spec: Spec, tickets: Vec<(u32, S::Ticket)>, alive: Vec<bool>) -> OffloadJob<S>
@@ -52,21 +60,21 @@ impl<S: FarTickets> OffloadJob<S> {
         }
     }
 
-    /// The aggregate.
+    /// Returns the aggregate.
     pub fn spec(&self) -> &Spec
         ensures { result.now ≡ self.now.spec }
     {
         &self.spec
     }
 
-    /// The tickets, each with the number of its column.
+    /// Returns the tickets, each with the number of its column.
     pub fn tickets(&self) -> &[(u32, S::Ticket)]
         ensures { result.now ≡ self.now.tickets }
     {
         &self.tickets
     }
 
-    /// The alive flag of each place.
+    /// Returns the alive flag of each place.
     pub fn alive(&self) -> &[bool]
         ensures { result.now ≡ self.now.alive }
     {
@@ -75,10 +83,13 @@ impl<S: FarTickets> OffloadJob<S> {
 }
 
 impl<S: FarRead> OffloadJob<S> {
-    /// What the live places come to: the aggregate over the rows that the contents mean, in the words of the plain
-    /// table. Nothing enters the local region: the contents are read into buffers of their own, which are let go.
-    /// Refused with `FarFault` (21) if the store fails in this call, exactly if the meter rises, by one, and
-    /// with `NoMemory` (1). The job then comes back whole.
+    /// Computes the aggregate over the live rows that the contents mean, in the words of the plain table. Nothing enters the
+    /// local region: the contents are read into buffers of their own, which are dropped.
+    ///
+    /// Refused with one of these; the job then comes back whole:
+    ///
+    /// - `FarFault` (21): the store fails in this call, exactly if the meter rises, by one.
+    /// - `NoMemory` (1): an allocation fails.
     pub fn carry(
         self,
         alloc: Global,
@@ -98,7 +109,7 @@ impl<S: FarRead> OffloadJob<S> {
         }
     }
 
-    /// What `carry` answers, of a job that is kept. Refused as `carry` is, with `FarFault` (21) and `NoMemory` (1).
+    /// Returns what `carry` does, and keeps the job. Refused as `carry` is, with `FarFault` (21) and `NoMemory` (1).
     pub fn partial(
         &self,
         alloc: Global,

@@ -8,7 +8,7 @@ use crate::column::Column;
 use far_types::{Key, Refusal};
 use std::alloc::Global;
 
-/// The key of a column at a place, where there is one. The memory of an earlier key is used again.
+/// Returns the key of a column at a place, if there is one. The memory of an earlier key is used again.
 #[inline(always)]
 pub(crate) fn key_at(
     alloc: Global,

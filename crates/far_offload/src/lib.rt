@@ -1,7 +1,9 @@
 #![tactic(auto)]
-//! Aggregates of a row group whose columns are at hand, as lists of numbers or as far forms: `fold` and `min_max_under` read
-//! them where they lie. Where they lie in the far store an `OffloadJob` reads the contents under their tickets and folds
-//! those, so nothing enters the local region.
+//! Aggregates of a row group whose columns are at hand, as lists of numbers or as far forms. `fold` and `min_max_under` read
+//! them in place.
+//!
+//! If the columns lie in the far store, an `OffloadJob` reads the contents under their tickets and folds those. So nothing
+//! enters the local region.
 
 mod column;
 mod content;

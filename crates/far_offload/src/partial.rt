@@ -8,16 +8,23 @@ use far_types::{Fold, Key, Refusal};
 use std::alloc::Global;
 
 /// What the live places of one row group come to, to be merged into an aggregate.
+///
+/// ```
+/// match done {
+///     PartialDone::Totals(live) => live.answer(alloc),
+///     PartialDone::Extrema(observed) => observed.answer(alloc),
+/// }
+/// ```
 #[derive(Drop)]
 pub enum PartialDone {
-    /// Counts and sums by key. No row group is left to these totals.
+    /// Counts and sums by key. No row group is pending in these totals.
     Totals(LiveTotals),
     /// The least and the greatest value by key.
     Extrema(GroupExtrema),
 }
 
 impl PartialDone {
-    /// No place is folded yet. Allocates nothing.
+    /// Returns the partial aggregate of no place. Allocates nothing.
     pub(crate) fn new(alloc: Global, fold: Fold) -> PartialDone
         ensures { result ≡ partial_of fold [] }
     {
@@ -27,7 +34,7 @@ impl PartialDone {
         }
     }
 
-    /// One folded place more. The key is cloned where it is new.
+    /// Folds one more place. The key is cloned if it is new.
     pub(crate) fn fold_under(&mut self, key: &Option<Key>, value: i64) -> Result<(), Refusal>
         requires { CanFold self.old key.now }
         ensures ok { OnOk result (self.new ≡ with_folded self.old (key.now, value)) }

@@ -1,4 +1,4 @@
-// The fold of a row group without key column, where all values stand under one key.
+// The fold of a row group without key column: all values belong to one key.
 ghost use Rattle.std.specs.Prelude.{◌≡◌, ◌≤◌, ◌^◌, ◌<◌, ◌+◌, ◌+ℤ◌, Some, length, IfSome, FitsSigned};
 ghost use Rattle.std.specs.Int.{w64};
 ghost use Rattle.far_types.specs.Answers.{count_sum};
@@ -10,7 +10,7 @@ use crate::column::{Column, find};
 use crate::filtering::{value_at, value_beyond};
 use far_types::Spec;
 
-/// A count and a sum with one value more.
+/// Returns a count and a sum with one more value.
 #[inline(always)]
 fn added(count_sum: (u64, i128), value: i64) -> (u64, i128)
     requires few { count_sum.0 < 2 ^ 26 }
@@ -22,7 +22,7 @@ fn added(count_sum: (u64, i128), value: i64) -> (u64, i128)
     (count_sum.0 + 1, count_sum.1 + i128::from(value))
 }
 
-/// How many values the live and kept places have, and their sum.
+/// Returns how many values the live and kept places have, and their sum.
 pub(crate) fn count_sum_of(spec: &Spec, columns: &[Column<'_>], alive: &[bool]) -> (u64, i128)
     requires { length alive.now ≤ 2 ^ 26 }
     ensures count_sum { result ≡ count_sum (values_over spec.now columns.now alive.now) }
@@ -39,7 +39,7 @@ pub(crate) fn count_sum_of(spec: &Spec, columns: &[Column<'_>], alive: &[bool]) 
     count_sum
 }
 
-/// The least and the greatest of some values with one more.
+/// Returns the least and the greatest of some values with one more.
 #[inline(always)]
 pub(crate) fn widened(min_max: Option<(i64, i64)>, value: i64) -> (i64, i64)
     requires { MinMaxFits min_max }
@@ -52,7 +52,7 @@ pub(crate) fn widened(min_max: Option<(i64, i64)>, value: i64) -> (i64, i64)
     }
 }
 
-/// The least and the greatest of the values that the live and kept places have, where they have one.
+/// Returns the least and the greatest of the values that the live and kept places have, if they have one.
 pub(crate) fn min_max_of(spec: &Spec, columns: &[Column<'_>], alive: &[bool]) -> Option<(i64, i64)>
     ensures min_max { result ≡ min_max_in (values_over spec.now columns.now alive.now) }
     ensures fits { MinMaxFits result }

@@ -18,14 +18,14 @@ use crate::plain::widened;
 use far_codec::LentInts;
 use far_types::{Key, Spec};
 
-/// The column of the keys, where there is one and it is at hand.
+/// Returns the column of the keys, if there is one and it is at hand.
 fn key_column<'a, 'b>(columns: &'a [Column<'b>], key: Option<u32>) -> Option<&'a Column<'b>>
     ensures { option_copied result ≡ option_and_then (column_of columns.now) key }
 {
     find(columns, key?)
 }
 
-/// Whether the key that a column gives at a place is this one.
+/// Returns whether the key that a column gives at a place is this one.
 #[inline(always)]
 fn gives(column: Option<&Column<'_>>, place: usize, key: &Key) -> bool
     ensures { IsTrue result ↔ (key_in (option_map (cell_of place) (option_copied column.entry)) ≡ Some key.now) }
@@ -36,7 +36,7 @@ fn gives(column: Option<&Column<'_>>, place: usize, key: &Key) -> bool
     }
 }
 
-/// Whether a place stands under a key. The column of the keys is found once for all places.
+/// Returns whether a place belongs to a key. The column of the keys is looked up once for all places.
 #[inline(always)]
 fn stands_under(
     spec: &Spec,
@@ -62,7 +62,7 @@ trait NumberKeys {
     /// The numbers, in the order of the places.
     ghost numbers: { Self → List (Option ℤ) };
 
-    /// Whether the number at a place is this one.
+    /// Returns whether the number at a place is this one.
     fn is_at(&self, place: usize, number: &i64) -> bool
         ensures { IsTrue result ↔ (slice_index_or (map int_cell (numbers self.now)) place Missing ≡ cell.Int number.now) };
 }
@@ -91,7 +91,7 @@ impl<'a> NumberKeys for &'a [Option<i64>] {
     }
 }
 
-/// What `min_max_under` gives of a key that is a number, where the key column is of numbers: what the key and the column are is
+/// Returns what `min_max_under` does, if the key is a number and the key column has numbers. What the key and the column are is
 /// decided once for all places.
 fn min_max_under_number<N: NumberKeys>(
     spec: &Spec,
@@ -116,7 +116,7 @@ fn min_max_under_number<N: NumberKeys>(
     min_max
 }
 
-/// What `min_max_under` gives of any key.
+/// Returns what `min_max_under` does of any key.
 fn min_max_under_key(
     spec: &Spec,
     columns: &[Column<'_>],
@@ -139,8 +139,8 @@ fn min_max_under_key(
     min_max
 }
 
-/// The least and the greatest value of the live places that stand under a key, where there is one: what the extrema of
-/// `fold` have under it. Allocates nothing.
+/// Returns the least and the greatest value of the live places that belong to a key, if there is one. That is what the extrema
+/// of `fold` have under the key. Allocates nothing.
 pub fn min_max_under(
     spec: &Spec,
     columns: &[Column<'_>],
@@ -152,7 +152,7 @@ pub fn min_max_under(
 {
     if let (Some(column), Some(Key::Int(number))) = (key_column(columns, spec.key), key) {
         if let Some(numbers) = column.numbers() {
-            // With a number for each place, no turn of the loop looks where the numbers end.
+            // With a number for each place, no turn of the loop checks where the numbers end.
             if numbers.len() >= alive.len() {
                 return min_max_under_number(spec, columns, alive, &numbers, number);
             }

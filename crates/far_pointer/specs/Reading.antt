@@ -12,17 +12,17 @@ use Rattle.far_pointer.specs.Layout.{bits_of, HasWord}
 abbrev pub has_bit : ℕ → ℕ → Bool
 has_bit n k = bit_at n k == 1
 
--- the parts that stand at the bits of a local word
+-- the parts that the bits of a local word hold
 abbrev pub local_of : ℕ → Pointer
 local_of n =
     let at : At = record { segment = n / 2 ^ 32 % 2 ^ 16; offset = n % 2 ^ 32 }
     in Local at (has_bit n 62) (has_bit n 61) (has_bit n 60)
 
--- what a word says whose bits are this number
+-- what the word with these bits says
 abbrev pub pointer_of : ℕ → Pointer
 pointer_of n = if has_bit n 63 then local_of n else Remote
 
--- the number is the bits of a word: what they say has a word, and that word has these bits
+-- the number is the bits of a word: some word says what they say, and that word has these bits
 pub record IsWord (n : ℕ) : Type 0 where
   pub spelled : bits_of (pointer_of n) ≡ n
   pub says : HasWord (pointer_of n)

@@ -1,15 +1,38 @@
 // What a pointer word can say.
 
 /// Where in the local region an object's elements begin.
+///
+/// The second element of the second segment:
+///
+/// ```
+/// const AT_1: At = At {
+///     segment: 1,
+///     offset: 1,
+/// };
+/// ```
 #[derive(Clone, Copy, Debug, PartialEq, Eq)]
 pub struct At {
     /// The number of the segment.
     pub segment: u16,
-    /// The place of the first element in the segment, counted in elements.
+    /// The index of the first element in the segment.
     pub offset: u32,
 }
 
 /// What a pointer word says of its object.
+///
+/// The word that says it, if there is one:
+///
+/// ```
+/// match pointer {
+///     Pointer::Local {
+///         at,
+///         dirty,
+///         hot,
+///         far,
+///     } => Word::local(at, dirty, hot, far),
+///     Pointer::Remote => Some(Word::remote()),
+/// }
+/// ```
 #[derive(Clone, Copy, Debug, PartialEq, Eq)]
 pub enum Pointer {
     /// The object is in local memory.
@@ -18,7 +41,7 @@ pub enum Pointer {
         at: At,
         /// It was changed since its far copy was written.
         dirty: bool,
-        /// It was used since the mark was last taken away.
+        /// It was used since the bit was last cleared: the reference bit.
         hot: bool,
         /// The far store holds a copy of it.
         far: bool,

@@ -38,6 +38,20 @@ const REMOTE: u64 = 1 << FAR;
 ///
 /// A local word is dirty, or has a far copy, or both. A remote word has bit 60 alone.
 ///
+/// The word of a clean object that is not hot is moved. Then its object is used, and written:
+///
+/// ```
+/// let Some(word) = Word::from_bits(0x9000_0000_0000_0000) else {
+///     return false;
+/// };
+/// let moved = word.with_at(At {
+///     segment: 3,
+///     offset: 9,
+/// });
+/// let hot = moved.with_hot(true);
+/// let dirty = hot.with_dirty();
+/// ```
+///
 /// After the remoteable pointer of AIFM (Ruan et al., OSDI 2020), whose flags and address lie in one word too.
 #[derive(Clone, Copy, Debug, PartialEq, Eq)]
 pub struct Word {
@@ -65,8 +79,8 @@ impl Word {
     ghost use Rattle.far_pointer.specs.declared.pointer.Pointer.{Pointer};
     ghost use Rattle.far_pointer.specs.Layout.{bits_of, HasWord, is_dirty, is_hot, with_dirty, with_hot, with_at};
 
-    /// The word of a local object. `None` exactly if the object is neither dirty nor has a far copy: no
-    /// object is in such a state, since what is clean equals its far copy.
+    /// Makes the word of a local object. Returns `None` exactly if the object is neither dirty nor has a far copy. No object is in such a
+    /// state, since a clean one equals its far copy.
     pub fn local(at: At, dirty: bool, hot: bool, far: bool) -> Option<Word>
         ensures { result ≡ (if dirty || far then Some (Pointer.Local at dirty hot far) else None) }
     {
@@ -79,14 +93,14 @@ impl Word {
         }
     }
 
-    /// The word of an object that is in the far store alone.
+    /// Makes the word of an object that is in the far store alone.
     pub fn remote() -> Word
         ensures { result ≡ Pointer.Remote }
     {
         Word { bits: REMOTE }
     }
 
-    /// The word whose bits these are; `None` exactly if no word has them.
+    /// Returns the word with these bits, or `None` exactly if no word has them.
     pub fn from_bits(bits: u64) -> Option<Word>
         ensures found { IfSome result (λ word. bits_of word ≡ bits) }
         ensures only { (p : Pointer) → HasWord p → bits_of p ≡ bits → result ≡ Some p }
@@ -101,14 +115,14 @@ impl Word {
         }
     }
 
-    /// The number that the word is.
+    /// Returns the bits of the word.
     pub fn bits(&self) -> u64
         ensures { result ≡ bits_of self.now }
     {
         self.bits
     }
 
-    /// What the word says, which is what it was made of.
+    /// Returns what the word says, which is what it was made of.
     pub fn read(&self) -> Pointer
         ensures says { result ≡ self.now }
         ensures valid { HasWord result }
@@ -134,14 +148,14 @@ impl Word {
         is_set(self.bits, DIRTY)
     }
 
-    /// Whether the object is local and was used since the mark was last taken away.
+    /// Whether the object is local and was used since its hot bit was last cleared.
     pub fn hot(&self) -> bool
         ensures { result ≡ is_hot self.now }
     {
         is_set(self.bits, HOT)
     }
 
-    /// The word with the dirty bit set, and nothing else changed. A remote word stays as it is.
+    /// Returns the word with the dirty bit set, and nothing else changed. A remote word stays as it is.
     pub fn with_dirty(self) -> Word
         ensures { result ≡ with_dirty self }
     {
@@ -153,7 +167,7 @@ impl Word {
         }
     }
 
-    /// The word with the hot bit as given, and nothing else changed. A remote word stays as it is.
+    /// Returns the word with the hot bit as given, and nothing else changed. A remote word stays as it is.
     pub fn with_hot(self, hot: bool) -> Word
         ensures { result ≡ with_hot self hot }
     {
@@ -165,7 +179,7 @@ impl Word {
         }
     }
 
-    /// The word of the same object at another place, and nothing else changed. A remote word stays as it is.
+    /// Returns the word of the same object at another location, and nothing else changed. A remote word stays as it is.
     pub fn with_at(self, at: At) -> Word
         ensures { result ≡ with_at self at }
     {

@@ -19,18 +19,18 @@ difference from to = pos to -ℤ pos from
 abbrev pub is_stride : ℤ → ℤ → ℤ → Bool
 is_stride first second third = int_eq first second && int_eq second third && not (int_eq third (pos 0))
 
--- the group of this number, where it exists
+-- the group of this number, if it exists
 abbrev pub existing : ℕ → ℤ → Option ℕ
 existing groups (pos group) = if nat_lt group groups then Some group else None
 existing groups (negsuc below) = None
 
--- the next two groups after the last, each as far from the one before as the last is, in so far as they exist
+-- those of the next two groups of the stride that exist: each is as far from the one before as the last is
 abbrev pub next_two : ℕ → ℕ → ℕ → List ℕ
 next_two groups before last =
     let stride = difference before last
     in filter_map (existing groups) ((pos last +ℤ stride) ∷ (pos last +ℤ stride +ℤ stride) ∷ [])
 
--- the proposals after four groups, oldest first: the next two of their stride, where they have one; after fewer, none
+-- the proposals after four groups, oldest first: the next two of their stride, if they have one; after fewer groups, none
 abbrev pub proposed_after : ℕ → List ℕ → List ℕ
 proposed_after groups (a ∷ b ∷ c ∷ d ∷ []) =
     if is_stride (difference a b) (difference b c) (difference c d) then next_two groups c d else []

@@ -30,7 +30,7 @@ impl Model for History {
 }
 
 impl History {
-    /// A history of no group, with space for all that it will remember. Refused with `NoMemory` (1) alone.
+    /// Makes an empty history, with space for all that it will remember. Refused with `NoMemory` (1) alone.
     pub fn new(alloc: Global) -> Result<History, Refusal>
         ensures empty { IfOk result (λ history. history ≡ []) }
         ensures memory { IfErr result (λ e. e ≡ Refusal.NoMemory) }
@@ -39,15 +39,15 @@ impl History {
         Ok(History { groups })
     }
 
-    /// Remembers one more group, and forgets the oldest where 8 are remembered. Allocates nothing.
+    /// Remembers one more group. If 8 are remembered, forgets the oldest. Allocates nothing.
     pub fn saw(&mut self, group: u32)
         ensures { self.new ≡ with_access self.old group }
     {
         self.groups.push_back(group);
     }
 
-    /// The row groups, of those below `groups`, that go on the stride of the last four; none if these have no
-    /// stride. Refused with `NoMemory` (1) alone.
+    /// Returns the row groups below `groups` that continue the stride of the last four; none if these have no stride. Refused with
+    /// `NoMemory` (1) alone.
     #[tactic(auto, using(crate::proofs::LastFour::proposed_by_four))]
     pub fn proposals(&self, alloc: Global, groups: u32) -> Result<Vec<u32>, Refusal>
         ensures found { IfOk result (λ proposals. proposals.items ≡ proposed groups self.now) }
@@ -64,7 +64,7 @@ impl History {
         }
     }
 
-    // The last four groups, where so many were accessed.
+    // The last four groups, if at least four were accessed.
     fn last_four(&self) -> Option<[u32; 4]>
         ensures fewer { IfNone result (length self.now < 4) }
         ensures four { IfSome result (λ last. (4 ≤ length self.now) × (keep_last 4 self.now ≡ last)) }
@@ -92,7 +92,7 @@ fn is_stride(first: i64, second: i64, third: i64) -> bool
     first == second && second == third && third != 0
 }
 
-// The next two groups after the last, each as far from the one before as the last is, in so far as they exist.
+// Those of the next two groups of the stride that exist: each is as far from the one before as `last` is from `before`.
 #[tactic(auto, using(crate::proofs::LastFour::two_options))]
 fn next_two(alloc: Global, groups: u32, before: u32, last: u32) -> Result<Vec<u32>, Refusal>
     ensures found { IfOk result (λ found. found.items ≡ next_two groups before last) }
@@ -106,7 +106,7 @@ fn next_two(alloc: Global, groups: u32, before: u32, last: u32) -> Result<Vec<u3
     Ok(found)
 }
 
-// Adds the group of this number, where it exists.
+// Adds the group of this number, if it exists.
 fn push_existing(found: &mut Vec<u32>, groups: u32, number: i64) -> Result<(), Refusal>
     ensures ok { OnOk result (found.new.items ≡ found.old.items ++ option_to_list (existing groups number)) }
     ensures memory { IfErr result (λ e. e ≡ Refusal.NoMemory) }

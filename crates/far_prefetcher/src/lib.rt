@@ -1,5 +1,5 @@
 #![tactic(auto)]
-//! Which objects to fetch next: for each column, the row groups that go on the stride in which it was read.
+//! Which objects to fetch next: for each column, the row groups that continue the stride in which it was read.
 
 mod history;
 pub mod prefetcher;

@@ -7,8 +7,28 @@ use far_types::Refusal;
 use std::alloc::Global;
 use std::marker::Model;
 
-/// What was read lately of each column, and what to fetch next by it. Contracts see one list for each column: the
-/// numbers of the last 8 row groups that were accessed, oldest first.
+/// What was read lately of each column, and what to fetch next. Contracts see one list for each column: the numbers of the last 8 row
+/// groups that were accessed, oldest first.
+///
+/// Row groups of column 0 of three are accessed:
+///
+/// ```
+/// let mut prefetcher = Prefetcher::new(alloc, 3)?;
+/// for group in accessed {
+///     prefetcher.saw(0, *group);
+/// }
+/// ```
+///
+/// If these were 0 to 3, of 6 row groups 4 and 5 are proposed for column 0, and none for column 1:
+///
+/// ```
+/// prefetcher.saw(1, 9);
+/// prefetcher.saw(2, 0);
+/// all(&[
+///     is_list(prefetcher.proposals(alloc, 0, 6), &[4, 5]),
+///     is_list(prefetcher.proposals(alloc, 1, 6), &[]),
+/// ])
+/// ```
 ///
 /// After the prefetcher of AIFM (Ruan et al., OSDI 2020), which proposes from a window of recent accesses too.
 #[derive(Drop)]
@@ -25,8 +45,8 @@ impl Model for Prefetcher {
 }
 
 impl Prefetcher {
-    /// A prefetcher of so many columns, of which nothing was accessed yet, with space for all that it will remember.
-    /// Refused with `NoMemory` (1) alone.
+    /// Makes a prefetcher of `columns` columns, of which nothing was accessed yet. It has space for all that it will remember. Refused with
+    /// `NoMemory` (1) alone.
     pub fn new(alloc: Global, columns: u32) -> Result<Prefetcher, Refusal>
         ensures empty { IfOk result (λ prefetcher. prefetcher ≡ replicate columns []) }
         ensures memory { IfErr result (λ e. e ≡ Refusal.NoMemory) }
@@ -38,8 +58,8 @@ impl Prefetcher {
         Ok(Prefetcher { histories })
     }
 
-    /// Remembers that a row group of a column was read, and forgets the oldest of that column where 8 are
-    /// remembered; of a column that is not there, nothing. Allocates nothing.
+    /// Remembers that a row group of a column was read. If 8 are remembered of that column, forgets the oldest. If there is no such column,
+    /// does nothing. Allocates nothing.
     pub fn saw(&mut self, column: u32, group: u32)
         ensures { self.new ≡ slice_set self.old column (with_access (history_of self.old column) group) }
     {
@@ -48,9 +68,10 @@ impl Prefetcher {
         }
     }
 
-    /// The row groups of a column to fetch next, of those below `groups`: where the last three differences of its
-    /// history are equal and not 0, the next two groups of that stride that exist, and else none. Refused with
-    /// `NoMemory` (1) alone.
+    /// Returns the row groups of a column to fetch next, all of them below `groups`. Refused with `NoMemory` (1) alone.
+    ///
+    /// If the last three differences of its history are equal and not 0, these are a stride. Then it returns those of the next two groups
+    /// of the stride that exist. Else it returns none.
     pub fn proposals(&self, alloc: Global, column: u32, groups: u32) -> Result<Vec<u32>, Refusal>
         ensures found { IfOk result (λ proposals. proposals.items ≡ proposed groups (history_of self.now column)) }
         ensures memory { IfErr result (λ e. e ≡ Refusal.NoMemory) }

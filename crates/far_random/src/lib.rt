@@ -1,22 +1,31 @@
 #![tactic(auto)]
-//! Numbers for tests that make random calls. They follow from a seed, so a test that fails once fails each time.
+//! Pseudorandom numbers, for tests that make random calls. They follow from a seed, so a test that fails once fails each time.
 ghost use Rattle.std.specs.Prelude.{◌≡◌, ◌<◌, ◌≤◌};
 
-/// Numbers that follow from a seed: Knuth's linear congruential generator (MMIX), of which the upper 31 bits are used.
+/// Pseudorandom numbers that follow from a seed: Knuth's linear congruential generator (MMIX), of which the upper 31 bits are used.
+///
+/// A byte of a list is changed at random:
+///
+/// ```
+/// let at = draws.index_or_end(bytes.len());
+/// if at < bytes.len() {
+///     bytes[at] = draws.below(4) as u8;
+/// }
+/// ```
 #[derive(Drop)]
 pub struct Draws {
     state: u64,
 }
 
 impl Draws {
-    /// The numbers that follow from this seed.
+    /// Makes the generator of this seed.
     pub fn new(seed: u64) -> Draws
         ensures { result ≡ record { state = seed } }
     {
         Draws { state: seed }
     }
 
-    /// The next number below `bound`; 0 if that is 0.
+    /// Draws the next number below `bound`; 0 if that is 0.
     pub fn below(&mut self, bound: u32) -> u32
         ensures { 0 < bound → result < bound }
     {
@@ -31,7 +40,7 @@ impl Draws {
         }
     }
 
-    /// An index of a list of `len` elements, or the one behind its last.
+    /// Draws an index of a list of `len` elements, or the one behind its last.
     pub fn index_or_end(&mut self, len: usize) -> usize
         ensures { result ≤ len }
     {

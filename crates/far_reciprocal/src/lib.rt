@@ -3,19 +3,29 @@
 
 ghost use Rattle.std.specs.Prelude.{◌≡◌, ◌<◌, ◌/◌, ◌%◌, ◌+◌, ◌^◌};
 
-/// A hint for divisions by a number that does not change, as that of the places of a row group: 2^40 over it, and a little
-/// more. A division takes a processor as long as some thirty other instructions; with the hint a product finds the quotient.
+/// A hint for divisions by a number that does not change, like the places of a row group: 2^40 over it, and a little more. A division takes
+/// a processor as long as some thirty other instructions. With the hint, a product finds the quotient.
 ///
-/// What the product finds is tested, and where the test fails a division is made. So a hint for another number costs time and
-/// nothing else. The test holds for numbers below 2^24 over at most 2^16, which places and row groups are. After Granlund and
-/// Montgomery, "Division by Invariant Integers using Multiplication" (PLDI 1994).
+/// The result of the product is tested. If the test fails, a division is made. So a hint for another number costs time and nothing else.
+/// The test holds for numbers below 2^24 over at most 2^16, as places and row groups are.
+///
+/// Divisions with the hint for the divisor, and with one for another number:
+///
+/// ```
+/// let hint = Reciprocal::new(64);
+/// hint.quotient(number, 64) == number / 64
+///     && hint.remainder(number, 64) == number % 64
+///     && Reciprocal::new(3).quotient(number, 64) == number / 64
+/// ```
+///
+/// After Granlund and Montgomery, "Division by Invariant Integers using Multiplication" (PLDI 1994).
 #[derive(Clone, Copy, Debug)]
 pub struct Reciprocal {
     factor: u64,
 }
 
 impl Reciprocal {
-    /// The hint for divisions by a number. Allocates nothing.
+    /// Makes the hint for divisions by a number. Allocates nothing.
     pub fn new(divisor: usize) -> Reciprocal
         requires { 0 < divisor }
         ensures { result.factor ≡ 2 ^ 40 / divisor + 1 }
@@ -25,15 +35,15 @@ impl Reciprocal {
         }
     }
 
-    /// How often a divisor goes into a number, rounded down. Allocates nothing.
+    /// Returns the quotient of a number and a divisor, rounded down. Allocates nothing.
     #[inline(always)]
     pub fn quotient(self, number: usize, divisor: usize) -> usize
         requires { 0 < divisor }
         ensures { result ≡ number / divisor }
     {
         let guess = ((number as u64).wrapping_mul(self.factor) >> 40) as usize;
-        // The guess has 24 bits, so its product with such a divisor has at most 56. Where that is more than the number, what is
-        // left wraps around to more than the divisor.
+        // The guess has 24 bits, so its product with such a divisor has at most 56. If that is more than the number, the difference wraps
+        // around to more than the divisor.
         if divisor <= 0xffff_ffff {
             let left = number.wrapping_sub(guess * divisor);
             if left < divisor {
@@ -43,7 +53,7 @@ impl Reciprocal {
         number / divisor
     }
 
-    /// What is left of a number once a divisor is taken from it as often as it goes. Allocates nothing.
+    /// Returns the remainder of a number over a divisor. Allocates nothing.
     #[inline(always)]
     pub fn remainder(self, number: usize, divisor: usize) -> usize
         requires { 0 < divisor }

@@ -10,7 +10,7 @@ use Rattle.far_rows.specs.ColumnIndexes.{Values}
 use Rattle.far_rows.specs.Rows.{Rows}
 use Rattle.far_rows.specs.Refusing.{absents}
 
--- the object of some column in the row group of the next place is away; else as the columns of texts are refused, and else
+-- the object of some column in the row group of the next place is away; otherwise as the columns of texts are refused, and then
 -- as those of numbers
 abbrev pub kinds_refusal : {K : Type 0} → (K → List ℕ) → Rows K → Values → Option Refusal
 kinds_refusal content r values =

@@ -9,7 +9,7 @@ use Rattle.far_rows.specs.declared.object.Object.{Object}
 use Rattle.far_rows.specs.declared.object.Object.TheVariants as object
 use Rattle.far_rows.specs.Rows.{Rows}
 
--- the name that the coldest of some objects bears
+-- the name that the coldest of some objects has
 abbrev pub coldest_name : {X K : Type 0} → Movement X K → Option Name
 coldest_name m = option_and_then (λ o. option_map (λ object_record. object_record.name) (record_of m o)) (coldest_in m)
 
@@ -21,7 +21,7 @@ module _ {K : Type 0} (r : Rows K) where
       let texts = r.text_objects.memory.state in
       nat_le (space_of numbers * capacity_of texts) (space_of texts * capacity_of numbers)
 
-  -- the name of the coldest object of the kind with less space; where that kind has none, of the other
+  -- the name of the coldest object of the kind with less space; if that kind has none, of the other
   abbrev pub coldest : Option Name
   coldest = cond numbers_go_first (option_or (coldest_name r.number_objects) (coldest_name r.text_objects)) (option_or (coldest_name r.text_objects) (coldest_name r.number_objects))
 

@@ -8,7 +8,7 @@ use Rattle.far_rows.specs.declared.column_index.ColumnIndex.{ColumnIndex}
 use Rattle.far_rows.specs.declared.column_index.ColumnIndex.TheVariants as column_index
 use Rattle.far_types.specs.Lent.{int_cell, text_cell}
 
--- the indexes of columns of these kinds, behind so many columns of numbers and so many of texts
+-- the indexes of columns of these kinds, behind `numbers` columns of numbers and `texts` of texts
 abbrev pub column_indexes_from : ℕ → ℕ → List Kind → List ColumnIndex
 column_indexes_from numbers texts [] = []
 column_indexes_from numbers texts (kind.Int ∷ kinds) = column_index.Number numbers ∷ column_indexes_from (numbers + 1) texts kinds
@@ -18,12 +18,12 @@ abbrev pub kind_of : ColumnIndex → Kind
 kind_of (column_index.Number i) = kind.Int
 kind_of (column_index.Text i) = kind.Text
 
--- there is such a column, of so many of numbers and so many of texts
+-- there is such a column, among `numbers` of numbers and `texts` of texts
 abbrev pub IsWithin : ℕ → ℕ → ColumnIndex → Type 0
 IsWithin numbers texts (column_index.Number i) = i < numbers
 IsWithin numbers texts (column_index.Text i) = i < texts
 
--- the indexes are those of so many columns of numbers and so many of texts, each of them once: as many as there are columns
+-- the indexes are those of `numbers` columns of numbers and `texts` of texts, each once: as many as there are columns
 pub record AreColumnIndexes (column_indexes : List ColumnIndex) (numbers texts : ℕ) : Type 0 where
   pub within : All (IsWithin numbers texts) column_indexes
   pub once : AllPairs (λ s t. s ≢ t) column_indexes

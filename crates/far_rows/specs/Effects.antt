@@ -18,7 +18,7 @@ module _ {K : Type 0} (content : K → List ℕ) (old : Rows K) where
     pub alive : new.alive ≡ old.alive ++ true ∷ []
     -- each column has a cell more
     pub cells : cells_of content new ≡ with_row (cells_of content old) (row_of old.column_indexes values)
-    -- each column has an element more: the last objects are written, or where a row group begins new ones are made
+    -- each column has an element more: the last objects are written, or new ones are made if a row group begins
     pub numbers : new.numbers ≡ all_pushed (length old.number_objects.records) old.numbers
     pub number_objects : new.number_objects ≡ all_pushed_in old.number_objects old.numbers values.numbers
     pub texts : new.texts ≡ all_texts_pushed (length old.text_objects.records) old.texts
@@ -31,7 +31,7 @@ module _ {K : Type 0} (content : K → List ℕ) (old : Rows K) where
     -- the column has that cell
     pub cells : cells_of content new ≡ with_cell_at (cells_of content old) column place (cell_of value)
 
--- what an edit leaves alone, accepted or not
+-- what an edit keeps, accepted or not
 pub record KeepsObjects {K : Type 0} (is_of : K → List ℕ → Type 0) (old new : Rows K) : Type 0 where
   -- tickets of a store stay tickets of it
   pub number_store : (id : List ℕ) → AreHere is_of id old.number_objects → AreHere is_of id new.number_objects

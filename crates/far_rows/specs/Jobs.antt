@@ -32,7 +32,7 @@ SpellsNumbers = IsSpelled (λ number. IfSome number (FitsSigned w64)) FitsCount 
 abbrev pub SpellsTexts : List ℕ → List ℕ → Type 0
 SpellsTexts = IsSpelled (λ byte. byte < 2 ^ 8) IsTextsForm (λ bytes. bytes)
 
--- what is alike for both kinds
+-- what both kinds share
 abbrev pub of_either : {A : Type 0} → ByKind A A → A
 of_either (Numbers a) = a
 of_either (Texts a) = a
@@ -101,12 +101,12 @@ module _ {K : Type 0} where
     after_commit (Texts carried) = record r { text_objects = after_leave r.text_objects carried.job.object carried.ticket }
 
   module _ (number_of : K → ℕ) (r : Rows K) where
-    -- a carried evacuation is accepted where its object has no pin
+    -- a carried evacuation is accepted if this holds and its object has no pin
     abbrev pub IsEvacAccepted : ByKind (CarriedEvacuation K) (CarriedEvacuation K) → Type 0
     IsEvacAccepted (Numbers carried) = IsCommittable number_of ints_form r.number_objects carried
     IsEvacAccepted (Texts carried) = IsCommittable number_of (λ bytes. bytes) r.text_objects carried
 
-    -- a carried fetch is accepted where there is space
+    -- a carried fetch is accepted if this holds and there is space
     abbrev pub IsFetchAccepted : ByKind (CarriedFetch K) (CarriedFetch K) → Type 0
     IsFetchAccepted (Numbers fetched) = IsInstallable number_of SpellsNumbers r.number_objects fetched
     IsFetchAccepted (Texts fetched) = IsInstallable number_of SpellsTexts r.text_objects fetched

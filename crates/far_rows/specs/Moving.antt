@@ -39,7 +39,7 @@ module _ {K : Type 0} where
   after_unpin r (object.Number o) = record r { number_objects = unpinned_in r.number_objects o }
   after_unpin r (object.Text o) = record r { text_objects = unpinned_in r.text_objects o }
 
-  -- it is used: it is hot, and used last, if it is local
+  -- it is marked as recently used: hot, and used last, if it is local
   abbrev pub after_touch : Rows K → Object → Rows K
   after_touch r (object.Number o) = record r { number_objects = touched_in r.number_objects o }
   after_touch r (object.Text o) = record r { text_objects = touched_in r.text_objects o }

@@ -9,16 +9,16 @@ use Rattle.far_rows.specs.declared.column_index.ColumnIndex.TheVariants as colum
 abbrev pub names_of : {X K : Type 0} → Movement X K → List Name
 names_of m = map (λ object_record. object_record.name) m.records
 
--- the objects of a column's row groups bear its number and theirs
+-- the objects of a column's row groups have its number and theirs
 abbrev pub AreNamed : List Name → ℕ → List ℕ → Type 0
 AreNamed names column objects = (g o : ℕ) → slice_get objects g ≡ Some o → slice_get names o ≡ Some record { column = column; group = g }
 
--- each object is that of the column and the row group that it is named by, among columns with these numbers and objects
+-- each object belongs to the column and the row group that it is named by, among columns with these numbers and objects
 abbrev pub AreOwned : {C : Type 0} → (C → ℕ) → (C → List ℕ) → List Name → List C → Type 0
 AreOwned {C} column_of objects_of names columns =
     (o : ℕ) (name : Name) → slice_get names o ≡ Some name → (i : ℕ) × (c : C) × (slice_get columns i ≡ Some c) × (column_of c ≡ name.column) × (slice_get (objects_of c) name.group ≡ Some o)
 
--- the number of an index's column, where those of numbers and those of texts have these
+-- the number of an index's column, if the columns of numbers and of texts have these numbers
 abbrev pub number_in : List ℕ → List ℕ → ColumnIndex → Option ℕ
 number_in numbers texts (column_index.Number i) = slice_get numbers i
 number_in numbers texts (column_index.Text i) = slice_get texts i

@@ -1,4 +1,4 @@
--- The places of a table, as its columns and its flags tell them.
+-- The places of a table, by its columns and its flags.
 use Rattle.std.specs.Prelude.{◌≡◌, ℕ, Bool, List, map, All, slice_index_or}
 use Rattle.std.specs.List.{enumerate_from}
 use Rattle.far_types.specs.declared.cell.Cell.{Cell}

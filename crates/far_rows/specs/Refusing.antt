@@ -18,7 +18,7 @@ use Rattle.far_rows.specs.ColumnIndexes.{Values, kind_of}
 use Rattle.far_rows.specs.Rows.{Rows, object_of}
 
 module _ {K : Type 0} (r : Rows K) where
-  -- the object of a row group of an index's column is away, as it is told by the name that the object bears
+  -- the object of a row group of an index's column is away; the refusal has the object's own name
   abbrev pub told_at : ℕ → ColumnIndex → Bool × Refusal
   told_at g (column_index.Number i) = option_map_or (absent r.number_objects) (object_of r (column_index.Number i) g) (false, refusal.StaleJob)
   told_at g (column_index.Text i) = option_map_or (absent r.text_objects) (object_of r (column_index.Text i) g) (false, refusal.StaleJob)
@@ -83,7 +83,7 @@ module _ {K : Type 0} (r : Rows K) where
   abbrev pub no_space_for_texts : List ℕ → Bool × Refusal
   no_space_for_texts lengths = (not (fit_in_order (spaces_of r.text_objects.memory.state) lengths), refusal.RegionFull)
 
-  -- where a row group begins: its objects of numbers, placed in order, do not fit
+  -- a row group begins, and its objects of numbers, placed in order, do not fit
   abbrev pub no_space_for_numbers : Bool × Refusal
   no_space_for_numbers = (begins && not (fit_in_order (spaces_of r.number_objects.memory.state) (replicate (length r.numbers) r.size)), refusal.RegionFull)
 
@@ -103,7 +103,7 @@ module _ {K : Type 0} (r : Rows K) where
       let g : ℕ = length r.alive / r.size
       in absents g ++ (too_long, refusal.ChunkFull) ∷ no_space_for_texts lengths ∷ no_space_for_numbers ∷ some_written_out g ∷ []
 
--- why a row of these values may not be appended, told by the forms of its columns of texts
+-- why a row of these values may not be appended, by the forms of its columns of texts
 abbrev pub push_refusal : {K : Type 0} → (K → List ℕ) → Rows K → Values → Option Refusal
 push_refusal content r values =
     let lists : Lists = lists_of content r.text_objects

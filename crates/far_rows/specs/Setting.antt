@@ -33,13 +33,13 @@ abbrev pub with_cell_at : List (List Cell) → ℕ → ℕ → Cell → List (Li
 with_cell_at columns c place cell = slice_set columns c (slice_set (slice_index_or columns c []) place cell)
 
 module _ {K : Type 0} (content : K → List ℕ) (r : Rows K) where
-  -- why a value of an index's kind cannot be put at a place, where its object is the only one that is looked at
+  -- why a value of an index's kind cannot be put at a place, by that column's object alone
   abbrev pub value_refusal : ColumnIndex → ℕ → NewCell → Option Refusal
   value_refusal (column_index.Number i) place value = option_and_then (λ c. number_refusal r.number_objects c place) (slice_get r.numbers i)
   value_refusal (column_index.Text i) place (new.Text text) = option_and_then (λ c. text_refusal content r.text_objects c place text) (slice_get r.texts i)
   value_refusal (column_index.Text i) place (new.Number number) = None
 
-  -- a set is refused if the object of some column in the place's row group is away, and as its own column is
+  -- a set is refused if the object of some column in the place's row group is away, and otherwise as its own column is
   abbrev pub set_refusal : ℕ → ℕ → NewCell → Option Refusal
   set_refusal column place value = option_or (first_of (absents r (place / r.size))) (option_and_then (λ s. value_refusal s place value) (slice_get r.column_indexes column))
 

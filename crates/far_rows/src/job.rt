@@ -1,4 +1,4 @@
-// Jobs on the objects of a table, which carry either kind of values.
+// Jobs on the objects of a table, of either kind of values.
 ghost use Rattle.std.specs.Prelude.{◌≡◌, ◌+◌, ◌<◌, ◌^◌, [], ◌∷◌, IfOk, IfErr, IsErr};
 ghost use Rattle.far_store.specs.Faults.{faults_in, RefusedBy};
 ghost use Rattle.far_evacuator.specs.Jobs.{outcome, IsFormOf, IsDirtyForm};
@@ -10,16 +10,34 @@ use far_types::Refusal;
 use std::alloc::Global;
 use std::marker::Model;
 
-/// One of two, by the kind of the values that it is about.
+/// One of two: for numbers, or for texts.
+///
+/// ```
+/// match &carried.carried {
+///     ByKind::Numbers(carried) => self.commit_numbers(store, carried),
+///     ByKind::Texts(carried) => self.commit_texts(store, carried),
+/// }
+/// ```
 #[derive(Drop)]
 pub enum ByKind<N, T> {
-    /// About numbers.
+    /// For numbers.
     Numbers(N),
-    /// About texts.
+    /// For texts.
     Texts(T),
 }
 
-/// An evacuation of an object of a table that was begun. It borrows nothing, so any thread can carry it.
+/// A begun evacuation of an object of a table. It borrows nothing, so any thread can carry it.
+///
+/// ```
+/// match job.carry(alloc, store, &mut Meter::new()) {
+///     Err((Refusal::NoMemory, job)) => carry_once(alloc, store, job),
+///     Err((refusal, job)) => {
+///         drop(job);
+///         Err(refusal)
+///     }
+///     Ok(carried) => Ok(carried),
+/// }
+/// ```
 #[derive(Drop)]
 pub struct RowsEvac<S: FarTickets> {
     pub(crate) job: ByKind<EvacJob<Option<i64>, S>, EvacJob<u8, S>>,
@@ -34,7 +52,11 @@ impl<S: FarTickets> Model for RowsEvac<S> {
     ghost view = { λ evac. evac.job };
 }
 
-/// An evacuation of an object of a table whose far form the far store has.
+/// An evacuation of an object of a table whose far form is in the far store.
+///
+/// ```
+/// rows.commit(store, carried)
+/// ```
 #[derive(Drop)]
 pub struct RowsCarried<S: FarTickets> {
     pub(crate) carried: ByKind<Carried<Option<i64>, S>, Carried<u8, S>>,
@@ -49,7 +71,18 @@ impl<S: FarTickets> Model for RowsCarried<S> {
     ghost view = { λ carried. carried.carried };
 }
 
-/// A fetch of an object of a table that was begun. It borrows nothing, so any thread can carry it.
+/// A begun fetch of an object of a table. It borrows nothing, so any thread can carry it.
+///
+/// ```
+/// match job.carry(alloc, store, &mut Meter::new()) {
+///     Err((Refusal::NoMemory, job)) => fetch_once(alloc, store, job),
+///     Err((refusal, job)) => {
+///         drop(job);
+///         Err(refusal)
+///     }
+///     Ok(fetched) => Ok(fetched),
+/// }
+/// ```
 #[derive(Drop)]
 pub struct RowsFetch<S: FarTickets> {
     pub(crate) job: ByKind<FetchJob<S>, FetchJob<S>>,
@@ -65,6 +98,13 @@ impl<S: FarTickets> Model for RowsFetch<S> {
 }
 
 /// A fetch of an object of a table whose bytes were read.
+///
+/// ```
+/// match rows.install(alloc, store, fetched) {
+///     Err(Refusal::NoMemory) => rows.install(alloc, store, fetched),
+///     reply => reply,
+/// }
+/// ```
 #[derive(Drop)]
 pub struct RowsFetched<S: FarTickets> {
     pub(crate) fetched: ByKind<Fetched<S>, Fetched<S>>,
@@ -80,11 +120,14 @@ impl<S: FarTickets> Model for RowsFetched<S> {
 }
 
 impl<S: FarStore> RowsEvac<S> {
-    /// Puts the far form that the job holds into the store. A job that was begun on a clean object asks the store for
-    /// nothing, and is not refused.
+    /// Puts the far form that the job holds into the store. A job begun on a clean object asks the store for nothing, and is
+    /// not refused.
     ///
-    /// Refused with `FarFault` (21) if the store fails in this call, exactly if the meter rises, by one; with
-    /// `FarFull` (22); and with `NoMemory` (1). The job then comes back whole.
+    /// Refused with one of these; the job then comes back whole:
+    ///
+    /// - `FarFault` (21): the store fails in this call, exactly if the meter rises, by one.
+    /// - `FarFull` (22): the number drawn from the store is not below its capacity.
+    /// - `NoMemory` (1): an allocation fails.
     pub fn carry(
         self,
         alloc: Global,
@@ -130,8 +173,10 @@ impl<S: FarStore> RowsEvac<S> {
 impl<S: FarRead> RowsFetch<S> {
     /// Reads the content of the job's ticket.
     ///
-    /// Refused with `FarFault` (21) if the store fails in this call, exactly if the meter rises, by one, and with
-    /// `NoMemory` (1). The job then comes back whole.
+    /// Refused with one of these; the job then comes back whole:
+    ///
+    /// - `FarFault` (21): the store fails in this call, exactly if the meter rises, by one.
+    /// - `NoMemory` (1): an allocation fails.
     pub fn carry(
         self,
         alloc: Global,

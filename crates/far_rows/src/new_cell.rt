@@ -1,4 +1,4 @@
-// A cell that is to come.
+// A new value for a cell.
 ghost use Rattle.std.specs.Prelude.{◌≡◌, true};
 ghost use Rattle.far_types.specs.Cells.{is_of_kind};
 ghost use Rattle.far_types.specs.Lent.{lent_cell, text_cell};
@@ -6,7 +6,14 @@ ghost use Rattle.far_rows.specs.Setting.{cell_of, kind_in};
 
 use far_types::{Cell, CellRef, Kind, Text};
 
-/// A value for a place of a column, a number or a text, each of which may be missing.
+/// A value for a place of a column: a number or a text, each of which may be missing.
+///
+/// ```
+/// if column % 2 == 1 {
+///     return Ok(NewCell::new(Kind::Int, number_cell(value)));
+/// }
+/// Ok(NewCell::new(Kind::Text, text_cell(alloc, value)?))
+/// ```
 #[derive(Drop, Debug)]
 pub enum NewCell {
     /// For a column of numbers.
@@ -16,7 +23,7 @@ pub enum NewCell {
 }
 
 impl NewCell {
-    /// The value of a cell for a column of this kind. Allocates nothing.
+    /// Returns the value of a cell for a column of this kind. Allocates nothing.
     pub fn new(kind: Kind, cell: Cell) -> NewCell
         requires { is_of_kind kind cell ≡ true }
         ensures cell { cell_of result ≡ cell }
@@ -31,7 +38,7 @@ impl NewCell {
         }
     }
 
-    /// The value as a cell, lent in place. Allocates nothing.
+    /// Returns the value as a cell, borrowed. Allocates nothing.
     pub fn lend(&self) -> CellRef<'_>
         ensures { lent_cell result ≡ cell_of self.now }
     {
@@ -42,7 +49,7 @@ impl NewCell {
     }
 }
 
-// The cell of a text that may be missing, lent in place.
+// Returns the cell of a text that may be missing, borrowed.
 #[inline(always)]
 pub(crate) fn text_ref(text: &Option<Text>) -> CellRef<'_>
     ensures { lent_cell result ≡ text_cell text.now }

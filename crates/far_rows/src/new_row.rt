@@ -1,4 +1,4 @@
-// A row that is to come.
+// The values of a new row.
 ghost use Rattle.std.specs.Prelude.{◌≡◌, ◌≤◌, None, replicate, true, false, length, map, IfOk, IfErr};
 ghost use Rattle.far_types.specs.Edits.{kinds_fit};
 ghost use Rattle.std.specs.List.{list_any};
@@ -15,13 +15,25 @@ use std::alloc::Global;
 use std::marker::Model;
 use std::mem;
 
-/// The values of a row that is to come, those of its columns of numbers and those of its columns of texts apart. It is
-/// made once for a table, and filled for each row without memory.
+/// The values of a new row, split into those of its number columns and those of its text columns. It is made once for a table,
+/// and loaded for each row without an allocation.
+///
+/// ```
+/// let column_indexes = [
+///     ColumnIndex::Text(0),
+///     ColumnIndex::Number(0),
+///     ColumnIndex::Text(1),
+///     ColumnIndex::Number(1),
+/// ];
+/// let mut taken = NewRow::new(alloc, 2, 2)?;
+/// taken.load(&column_indexes, row(alloc, values)?);
+/// Ok(taken)
+/// ```
 #[derive(Drop, Debug)]
 pub struct NewRow {
     numbers: Vec<Option<i64>>,
     texts: Vec<Option<Text>>,
-    // The list of the row that was taken last. Its texts are those of the row before.
+    // The list of the row that was loaded last. Its texts are those of the row before.
     spare: Vec<Cell>,
 }
 
@@ -38,7 +50,7 @@ impl Model for NewRow {
 }
 
 impl NewRow {
-    /// A row without a value, for so many columns of numbers and so many of texts. Refused with `NoMemory` (1) alone.
+    /// Returns a row without a value, with this many columns of numbers and of texts. Refused with `NoMemory` (1) alone.
     pub fn new(alloc: Global, numbers: usize, texts: usize) -> Result<NewRow, Refusal>
         ensures numbers { IfOk result (λ row. length row.numbers ≡ numbers) }
         ensures texts { IfOk result (λ row. length row.texts ≡ texts) }
@@ -52,7 +64,7 @@ impl NewRow {
         })
     }
 
-    /// Takes the cells of a row, whose columns have these indexes, and none of which is too long. Allocates nothing.
+    /// Loads the cells of a row, whose columns have these indexes. None is too long. Allocates nothing.
     pub fn load(&mut self, column_indexes: &[ColumnIndex], row: Row)
         requires column_indexes { AreColumnIndexes column_indexes.now (length self.old.numbers) (length self.old.texts) }
         requires width { length row ≡ length column_indexes.now }
@@ -70,7 +82,7 @@ impl NewRow {
         self.spare = cells;
     }
 
-    /// Cells that are needed no more: a row to come may be made in their memory. Allocates nothing.
+    /// Returns cells that are no longer needed: a later row may be made in their memory. Allocates nothing.
     pub fn spare_cells(&mut self) -> Vec<Cell>
         ensures { self.new ≡ self.old }
     {
@@ -78,7 +90,7 @@ impl NewRow {
         mem::replace(&mut self.spare, Vec::new(alloc))
     }
 
-    // Takes a cell, which is of the kind of its index, and gives back a text that stood there.
+    // Puts a cell, which is of the kind of its index, and returns a text that stood there.
     fn put(&mut self, column_index: ColumnIndex, cell: Cell) -> Cell
         requires within { IsWithin (length self.old.numbers) (length self.old.texts) column_index }
         requires of_kind { is_of_kind (kind_of column_index) cell ≡ true }
@@ -97,7 +109,7 @@ impl NewRow {
         }
     }
 
-    /// The row, whose columns have these indexes, each cell lent in place. Allocates nothing.
+    /// Returns the row, whose columns have these indexes, with each cell borrowed. Allocates nothing.
     pub fn lend(&self, column_indexes: &[ColumnIndex]) -> LentRow<'_>
         requires column_indexes { AreColumnIndexes column_indexes.now (length self.now.numbers) (length self.now.texts) }
         requires few { length column_indexes.now ≤ 16 }
@@ -110,7 +122,7 @@ impl NewRow {
         row
     }
 
-    /// The row, whose columns have these indexes, each cell lent in place once it is asked for. Allocates nothing.
+    /// Returns the row, whose columns have these indexes. It borrows each cell when it is asked for. Allocates nothing.
     #[inline(always)]
     pub fn row_ref<'a>(&'a self, column_indexes: &'a [ColumnIndex]) -> NewRowRef<'a>
         requires { AreColumnIndexes column_indexes.now (length self.now.numbers) (length self.now.texts) }
@@ -119,7 +131,7 @@ impl NewRow {
         NewRowRef::new(self, column_indexes)
     }
 
-    // The cell at an index.
+    // Returns the cell at an index.
     #[inline(always)]
     pub(crate) fn cell(&self, column_index: ColumnIndex) -> CellRef<'_>
         requires { IsWithin (length self.now.numbers) (length self.now.texts) column_index }
@@ -131,14 +143,14 @@ impl NewRow {
         }
     }
 
-    /// The numbers, lent in place: one for each column of numbers.
+    /// Returns the numbers, borrowed: one for each column of numbers.
     pub fn numbers(&self) -> &[Option<i64>]
         ensures { result.now ≡ self.now.numbers }
     {
         self.numbers.as_slice()
     }
 
-    /// The texts, lent in place: one for each column of texts. None has more than 4,096 bytes.
+    /// Returns the texts, borrowed: one for each column of texts. None has more than 4,096 bytes.
     pub fn texts(&self) -> &[Option<Text>]
         ensures texts { result.now ≡ self.now.texts }
         ensures short { (any_too_long self.now.texts).0 ≡ false }
@@ -147,7 +159,7 @@ impl NewRow {
     }
 }
 
-// A list of so many values, all missing.
+// Returns a list of `count` values, all missing.
 fn nothing<T: Drop>(alloc: Global, count: usize) -> Result<Vec<Option<T>>, Refusal>
     ensures count { IfOk result (λ values. length values.items ≡ count) }
     ensures missing { IfOk result (λ values. values.items ≡ replicate count None) }
@@ -160,7 +172,7 @@ fn nothing<T: Drop>(alloc: Global, count: usize) -> Result<Vec<Option<T>>, Refus
     Ok(values)
 }
 
-// The number of a cell of a column of numbers.
+// Returns the number of a cell of a column of numbers.
 fn number_of(cell: Cell) -> Option<i64>
     requires { is_of_kind Kind.Int cell ≡ true }
     ensures { int_cell result ≡ cell }
@@ -172,7 +184,7 @@ fn number_of(cell: Cell) -> Option<i64>
     }
 }
 
-// The cell of a text.
+// Returns the cell of a text.
 fn cell_of(text: Option<Text>) -> Cell
     ensures { result ≡ text_cell text }
 {
@@ -182,7 +194,7 @@ fn cell_of(text: Option<Text>) -> Cell
     }
 }
 
-// The text of a cell of a column of texts.
+// Returns the text of a cell of a column of texts.
 fn text_of(cell: Cell) -> Option<Text>
     requires { is_of_kind Kind.Text cell ≡ true }
     ensures { text_cell result ≡ cell }

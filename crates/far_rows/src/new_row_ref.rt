@@ -1,4 +1,4 @@
-// A row that is to come, read cell by cell.
+// A new row, read cell by cell.
 ghost use Rattle.std.specs.Prelude.{◌≡◌, length};
 ghost use Rattle.far_types.specs.Cells.{cells_of};
 ghost use Rattle.far_rows.specs.ColumnIndexes.{AreColumnIndexes, row_of};
@@ -8,8 +8,13 @@ use super::new_row::NewRow;
 use far_types::{CellRef, LendCells};
 use std::marker::Model;
 
-/// A row that is to come: each cell is lent where it lies once it is asked for, so the row is not copied. Contracts see the
-/// list of the cells.
+/// A new row that is not copied: each cell is borrowed when it is asked for. Contracts see the list of the cells.
+///
+/// ```
+/// let pending = self
+///     .aggregates
+///     .apply_deltas(self.alloc, &self.rows.new_row_ref(), group, place)?;
+/// ```
 #[derive(Drop)]
 pub struct NewRowRef<'a> {
     values: &'a NewRow,
@@ -29,7 +34,7 @@ impl<'a> Model for NewRowRef<'a> {
 }
 
 impl<'a> NewRowRef<'a> {
-    // The row of these values, whose columns have these indexes.
+    // Returns the row of these values, whose columns have these indexes.
     #[inline(always)]
     pub(crate) fn new(values: &'a NewRow, column_indexes: &'a [ColumnIndex]) -> NewRowRef<'a>
         requires { AreColumnIndexes column_indexes.now (length values.now.numbers) (length values.now.texts) }

@@ -1,10 +1,17 @@
 // The objects of a table.
 
 /// An object of a table, by its number among those of numbers or among those of texts.
+///
+/// ```
+/// match self.object(column, group)? {
+///     Object::Number(o) => self.number_objects.pin(o),
+///     Object::Text(o) => self.text_objects.pin(o),
+/// }
+/// ```
 #[derive(Clone, Copy, Debug, PartialEq, Eq)]
 pub enum Object {
-    /// Of numbers.
+    /// An object of numbers.
     Number(u32),
-    /// Of the bytes of texts.
+    /// An object of the bytes of texts.
     Text(u32),
 }

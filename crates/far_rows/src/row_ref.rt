@@ -11,8 +11,16 @@ use far_store::FarTickets;
 use far_types::CellRef;
 use std::marker::Model;
 
-/// The row of a place whose objects are all local: each cell is lent where it lies once it is asked for, so the row is not
-/// copied. Contracts see the list of the cells.
+/// The row of a place whose objects are all local. The row is not copied: each cell is borrowed when it is asked for. Contracts
+/// see the list of the cells.
+///
+/// ```
+/// let rows = self.table.rows();
+/// if place as usize >= rows.len() {
+///     return Err(Refusal::NoRow);
+/// }
+/// rows.row_ref(place as usize)
+/// ```
 #[derive(Drop)]
 pub struct RowRef<'a, S: FarTickets> {
     rows: &'a Rows<S>,
@@ -35,7 +43,7 @@ impl<'a, S: FarTickets> Model for RowRef<'a, S> {
 }
 
 impl<'a, S: FarTickets> RowRef<'a, S> {
-    // The row of a place, whose objects are local.
+    // Returns the row of a place, whose objects are local.
     #[inline(always)]
     pub(crate) fn new(rows: &'a Rows<S>, place: usize) -> RowRef<'a, S>
         requires place { place < length rows.now.alive }
@@ -45,7 +53,7 @@ impl<'a, S: FarTickets> RowRef<'a, S> {
         RowRef { rows, place }
     }
 
-    /// How many cells the row has. Allocates nothing.
+    /// Returns how many cells the row has. Allocates nothing.
     #[inline(always)]
     pub fn len(&self) -> usize
         ensures { result ≡ length self.now }
@@ -53,7 +61,7 @@ impl<'a, S: FarTickets> RowRef<'a, S> {
         self.rows.column_indexes().len()
     }
 
-    /// The cell of a column, lent where it lies, or `None` if the row has no such column. Allocates nothing.
+    /// Returns the cell of a column, borrowed, or `None` if the row has no such column. Allocates nothing.
     #[inline(always)]
     pub fn get(&self, column: usize) -> Option<CellRef<'_>>
         ensures { option_map lent_cell result ≡ slice_get self.now column }

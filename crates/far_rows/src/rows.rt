@@ -34,23 +34,30 @@ use opening::{columns_of, number_limits, text_limits};
 use std::alloc::Global;
 use std::marker::Model;
 
-/// The cells of a table by column, in objects that are local or away, and for each place whether it is alive.
+/// The cells of a table by column, in objects that are local or away, and the alive flag of each place.
 ///
-/// Contracts see where each column lies, the columns, the objects and the flags; `specs/Rows.antt` says which cells that
-/// is (`cells_of`).
+/// Contracts see the columns and their indexes, the objects and the flags. `specs/Rows.antt` defines their cells (`cells_of`).
+///
+/// ```
+/// limits.check()?;
+/// match four_columns(alloc) {
+///     Ok(schema) => Rows::new(alloc, &schema, limits, 7),
+///     Err(refusal) => Err(refusal),
+/// }
+/// ```
 #[derive(Drop)]
 pub struct Rows<S: FarTickets> {
     column_indexes: Vec<ColumnIndex>,
     // How many places a row group has.
     size: u32,
-    // A hint for divisions by it.
+    // A hint for divisions by `size`.
     reciprocal: Reciprocal,
     numbers: Vec<IntColumn>,
     texts: Vec<TextColumn>,
     number_objects: Objects<Option<i64>, S>,
     text_objects: Objects<u8, S>,
     alive: Alive,
-    // A form of texts that is needed no more: the next one is made in its memory.
+    // A form of texts that is no longer needed: the next one is made in its memory.
     spare: Vec<u8>,
 }
 
@@ -65,8 +72,8 @@ impl<S: FarTickets> Model for Rows<S> {
 }
 
 impl<S: FarTickets> Rows<S> {
-    /// The rows of a table with this schema, before any row. The number tells the jobs of its objects from those of other
-    /// tables. All memory for elements is taken here.
+    /// Returns the rows of a table with this schema, without a row. The number distinguishes the jobs of its objects from those
+    /// of other tables. Allocates all memory for elements.
     ///
     /// Refused with `NoMemory` (1) alone.
     pub fn new(
@@ -96,7 +103,7 @@ impl<S: FarTickets> Rows<S> {
         })
     }
 
-    /// How many places there are, dead ones too. Allocates nothing.
+    /// Returns how many places there are, dead ones too. Allocates nothing.
     pub fn len(&self) -> usize
         ensures len { result ≡ length self.now.alive }
         ensures rows { AreRows S.content self.now }
@@ -104,14 +111,14 @@ impl<S: FarTickets> Rows<S> {
         self.alive.len()
     }
 
-    /// Whether a place is alive; `None` if there is no such place. Allocates nothing.
+    /// Returns whether a place is alive; `None` if there is no such place. Allocates nothing.
     pub fn is_alive(&self, place: usize) -> Option<bool>
         ensures { result ≡ slice_get self.now.alive place }
     {
         self.alive.get(place)
     }
 
-    /// The place is not alive from now on; its cells stay. Allocates nothing.
+    /// Clears the flag of a place; its cells stay. Allocates nothing.
     pub fn clear(&mut self, place: usize)
         requires { place < length self.old.alive }
         ensures cleared { self.new ≡ record self.old { alive = slice_set self.old.alive place false } }
@@ -120,7 +127,7 @@ impl<S: FarTickets> Rows<S> {
         self.alive.clear(place);
     }
 
-    /// The kind of a column; `None` if there is no such column. Allocates nothing.
+    /// Returns the kind of a column; `None` if there is no such column. Allocates nothing.
     pub fn kind(&self, column: usize) -> Option<Kind>
         ensures { result ≡ option_map kind_of (slice_get self.now.column_indexes column) }
     {
@@ -130,7 +137,7 @@ impl<S: FarTickets> Rows<S> {
         }
     }
 
-    /// Where each column lies, by its number. Allocates nothing.
+    /// Returns the index of each column, by its number. Allocates nothing.
     pub fn column_indexes(&self) -> &[ColumnIndex]
         ensures { result.now ≡ self.now.column_indexes }
     {

@@ -13,6 +13,6 @@ module _ {X K : Type 0} (m : Movement X K) where
   abbrev pub is_cold : ℕ → Bool
   is_cold o = is_unpinned o && not (hot m o)
 
-  -- the last in the order of use, without pins, among those not hot; where there is none, among all without pins
+  -- the coldest object: the last in the order of use of those neither pinned nor hot; if there is none, of all without pins
   abbrev pub coldest : Option ℕ
   coldest = option_or (find is_cold (reverse m.order)) (find is_unpinned (reverse m.order))

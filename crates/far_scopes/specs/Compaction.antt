@@ -1,4 +1,4 @@
--- The local memory once a segment is compacted.
+-- The local memory after a compaction of a segment.
 use Rattle.std.specs.Prelude.{◌≡◌, ℕ, ◌+◌, ◌==◌, ◌&&◌, not, if◌then◌else◌, Bool, false, List, [], ◌∷◌, ◌++◌, length, map, filter}
 use Rattle.std.specs.List.{list_any}
 use Rattle.far_pointer.specs.declared.pointer.At.{At}
@@ -34,7 +34,7 @@ module _ {X : Type 0} where
   offset_after parts [] offset = 0
   offset_after parts (o ∷ order) offset = if o == offset then 0 else length (list_or_none parts o) + offset_after parts order offset
 
-  -- the word of an object once the parts of segment `from` lie in segment `to` in this order: it says where, and not hot
+  -- the word of an object once the parts of segment `from` lie in segment `to` in this order. It has the new location, and is not hot
   abbrev pub moved_word : List (Part X) → List ℕ → ℕ → ℕ → Pointer → Pointer
   moved_word parts order from to (Local at dirty hot far) =
       if at.segment == from then Local record { segment = to; offset = offset_after parts order at.offset } dirty false far
@@ -50,7 +50,7 @@ module _ {X : Type 0} where
         state = compacted memory.state from to order;
       }
 
-  -- new is old with segment `from` compacted: into the lowest other segment without parts
+  -- new is old with segment `from` compacted into the lowest other segment without parts
   pub record IsCompacted (old new : Memory X) (from : ℕ) : Type 0 where
     pub to : ℕ
     pub target : IsEmptyOther old.state from to

@@ -13,12 +13,12 @@ use Rattle.far_scopes.specs.Replacing.{replaced_all as replaced_all_in}
 abbrev pub new_record : {K : Type 0} → Name → ℕ → ObjectRecord K
 new_record name len = record { name = name; len = len; version = 0; leavings = 0; pins = 0; ticket = None }
 
--- another record for object o, made of its record
+-- the records with that of object o changed by a function
 abbrev pub with_record : {K : Type 0} → List (ObjectRecord K) → ℕ → (ObjectRecord K → ObjectRecord K) → List (ObjectRecord K)
 with_record records o change = option_map_or (λ object_record. slice_set records o (change object_record)) (slice_get records o) records
 
 module _ {X K : Type 0} where
-  -- one object more: local, dirty and hot, never written, away or pinned, without a far copy, used last
+  -- the objects with one more: local, dirty and hot, never written, away or pinned, without a far copy, used last
   abbrev pub after_create : Movement X K → Name → List X → Movement X K
   after_create m name list = record m {
     memory = added m.memory list;
@@ -26,7 +26,7 @@ module _ {X K : Type 0} where
     order = length m.records ∷ m.order;
   }
 
-  -- without the last object
+  -- the objects without the last one
   abbrev pub after_uncreate : Movement X K → Movement X K
   after_uncreate m = record m {
     memory = removed m.memory;
@@ -34,7 +34,7 @@ module _ {X K : Type 0} where
     order = without m.order (length m.records - 1);
   }
 
-  -- object o is used: it is hot, and used last, if it is local
+  -- object o is marked as recently used, if it is local: it is hot, and used last
   abbrev pub after_touch : Movement X K → ℕ → Movement X K
   after_touch m o = record m { memory = heated m.memory o; order = used m.order o }
 
@@ -57,7 +57,7 @@ module _ {X K : Type 0} where
     records = with_record m.records o (λ object_record. record object_record { len = length list });
   }) o
 
-  -- each listed object has a list of so many elements
+  -- the record of each listed object has the length of its new list
   abbrev pub with_lens : List (ObjectRecord K) → List (Replacement X) → List (ObjectRecord K)
   with_lens records [] = records
   with_lens records (r ∷ rs) = with_lens (with_record records r.object (λ object_record. record object_record { len = length r.list.items })) rs
@@ -79,7 +79,7 @@ module _ {X K : Type 0} where
   abbrev pub after_unpin : Movement X K → ℕ → Movement X K
   after_unpin m o = record m { records = with_record m.records o (λ object_record. record object_record { pins = object_record.pins - 1 }) }
 
-  -- object o goes away, with this far copy
+  -- object o goes away; its newest far copy has this ticket
   abbrev pub after_leave : Movement X K → ℕ → K → Movement X K
   after_leave m o ticket = record m {
     memory = sent_away m.memory o;

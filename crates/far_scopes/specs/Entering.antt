@@ -8,12 +8,12 @@ use Rattle.far_scopes.specs.Refusing.{first_absent}
 use Rattle.far_scopes.specs.Effects.{after_pin, after_unpin}
 
 module _ {X K : Type 0} where
-  -- each listed object has one pin more for each time that it is listed
+  -- each object has one pin more for each time that it is listed
   abbrev pub after_pin_all : Movement X K → List ℕ → Movement X K
   after_pin_all m [] = m
   after_pin_all m (o ∷ objects) = after_pin_all (after_pin m o) objects
 
-  -- the refusal where some listed object has 65,535 pins when its turn comes
+  -- the refusal if some listed object has 65,535 pins when its turn comes
   abbrev pub pins_overflow : Movement X K → List ℕ → Option Refusal
   pins_overflow m [] = None
   pins_overflow m (o ∷ objects) = if pins_of m o == 65535 then Some refusal.EditsUsedUp else pins_overflow (after_pin m o) objects
@@ -21,8 +21,7 @@ module _ {X K : Type 0} where
   abbrev pub enter_refusal : Movement X K → List ℕ → Option Refusal
   enter_refusal m objects = option_or (first_absent m objects) (pins_overflow m objects)
 
-  -- what a scope's objects are once their pins are taken back, one for each listing where there is one, and how many
-  -- pins that were
+  -- the objects once a scope's pins are taken back, one for each listing if the object has one; and how many pins that were
   abbrev pub after_close : Movement X K → List ℕ → Movement X K × ℕ
   after_close m [] = (m, 0)
   after_close m (o ∷ objects) =

@@ -1,4 +1,4 @@
--- What objects are once a list that they lent is given back.
+-- The local memory of objects once a mutable borrow of a list ends.
 -- Internal: no public contract cites it.
 use Rattle.std.specs.Prelude.{ℕ, List}
 use Rattle.std.specs.Borrow.{Lends, Fml, RattleType, MutBor, Array}

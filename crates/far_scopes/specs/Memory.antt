@@ -1,4 +1,4 @@
--- The local memory of objects: what the pointer word of each says, and the region in which the lists of the local ones lie.
+-- The local memory of objects: what the pointer word of each says, and the region with the lists of the local ones.
 use Rattle.std.specs.Prelude.{◌≡◌, ◌≢◌, ℕ, List, Option, None, Some, IsSome, slice_get}
 use Rattle.std.specs.Option.{option_and_then}
 use Rattle.far_pointer.specs.declared.pointer.At.{At}
@@ -23,19 +23,19 @@ place_of words o = option_and_then at_of (slice_get words o)
 abbrev pub list_in : {X : Type 0} → Memory X → ℕ → Option (List X)
 list_in memory o = option_and_then (part_of memory.state) (place_of memory.words o)
 
--- the lists of objects by number change in one: `now` is what there is of object o
+-- only the list of object o changes: it is `now`, or the object has none
 pub record ChangesList {X : Type 0} (old new : ℕ → Option (List X)) (o : ℕ) (now : Option (List X)) : Type 0 where
   pub here : new o ≡ now
   pub others : (p : ℕ) → p ≢ o → new p ≡ old p
 
--- objects by number, of which some have a place, and what lies at a place: each object that has one has it alone,
--- something lies there, and nothing lies elsewhere
+-- `place` has the locations of objects, and `part` what lies at a location. No two objects have the same location, something lies at each
+-- of them, and nothing lies elsewhere
 pub record OwnPlaces {X : Type 0} (place : ℕ → Option At) (part : At → Option (List X)) : Type 0 where
   pub placed : (o : ℕ) (at : At) → place o ≡ Some at → IsSome (part at)
   pub disjoint : (o p : ℕ) (at : At) → place o ≡ Some at → place p ≡ Some at → o ≡ p
   pub only : (at : At) → IsSome (part at) → (o : ℕ) × (place o ≡ Some at)
 
--- each local object has one part of the region, which is no other's, and there is no other part
+-- each local object has one part of the region of its own, and there is no other part
 pub record IsMemory {X : Type 0} (words : List Pointer) (state : RegionState X) : Type 0 where
   pub region : IsRegion state
   pub own : OwnPlaces (place_of words) (part_of state)

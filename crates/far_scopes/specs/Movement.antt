@@ -1,5 +1,5 @@
--- The movement record: all that is known of objects and of where they are. Objects are told apart by their numbers, 0,
--- 1, 2 and so on in the order in which they were made.
+-- The movement record: all that is known of objects and of where they are. Objects are numbered 0, 1, 2 and so on, in the order in which
+-- they were made.
 use Rattle.std.specs.Prelude.{◌≡◌, ◌≢◌, ℕ, ◌≤◌, ◌<◌, ◌^◌, Bool, true, false, List, length, Option, Some, is_some, IfSome, IsSomeAnd, option_map, slice_get}
 use Rattle.std.specs.Option.{option_map_or, option_and_then, option_or}
 use Rattle.far_pointer.specs.declared.pointer.Pointer.{Pointer}
@@ -9,9 +9,8 @@ use Rattle.far_scopes.specs.declared.object_record.ObjectRecord.{ObjectRecord}
 use Rattle.far_scopes.specs.Recency.{has, Once}
 use Rattle.far_scopes.specs.Memory.{Memory, place_of, list_in}
 
--- objects of lists over X, with far copies under tickets of the type K: the number that they were given, how often each
--- may be written and may go away, the local memory, the record of each, and the local ones in the order of their last
--- use, the last used first
+-- objects of lists over X, with far copies under tickets of type K: the frame's number, how often each object may be written, and how often
+-- it may go away. Then come the local memory, the record of each object, and the local ones in the order of use, the last used first
 pub record Movement (X K : Type 0) : Type 0 where
   pub number : ℕ
   pub max_writes : ℕ
@@ -20,12 +19,12 @@ pub record Movement (X K : Type 0) : Type 0 where
   pub records : List (ObjectRecord K)
   pub order : List ℕ
 
--- every object but o has the word and the record that it had
+-- every object but o keeps its word and its record
 pub record ChangesObject {X K : Type 0} (old new : Movement X K) (o : ℕ) : Type 0 where
   pub words : (p : ℕ) → p ≢ o → slice_get new.memory.words p ≡ slice_get old.memory.words p
   pub records : (p : ℕ) → p ≢ o → slice_get new.records p ≡ slice_get old.records p
 
--- whether the far store has a copy, however old
+-- whether the far store has a copy, up to date or not
 abbrev pub has_copy : Pointer → Bool
 has_copy (Local at dirty hot far) = far
 has_copy Remote = true
@@ -59,7 +58,7 @@ module _ {X K : Type 0} where
   abbrev pub ticket_of : Movement X K → ℕ → Option K
   ticket_of m o = option_and_then (λ e. e.ticket) (record_of m o)
 
-  -- each ticket is one of the store with this id
+  -- each ticket is of the store with this id
   abbrev pub AreHere : (K → List ℕ → Type 0) → List ℕ → Movement X K → Type 0
   AreHere is_of id m = (o : ℕ) → IfSome (ticket_of m o) (λ ticket. is_of ticket id)
 

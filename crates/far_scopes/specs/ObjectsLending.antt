@@ -1,4 +1,4 @@
--- What the objects are once a list that one of them lent is given back.
+-- The objects once a mutable borrow of the list of one of them ends.
 use Rattle.std.specs.Prelude.{ℕ, List}
 use Rattle.std.specs.Borrow.{Lends, Fml, RattleType, MutBor, Array}
 use Rattle.far_codec.specs.declared.elem.Elem as elem

@@ -3,7 +3,7 @@ use Rattle.std.specs.Prelude.{ℕ, [], replicate}
 use Rattle.far_scopes.specs.declared.limits.ObjectLimits.{ObjectLimits}
 use Rattle.far_scopes.specs.Movement.{Movement}
 
--- no object, under this number of a frame and within these limits: all segments are without parts
+-- no object, with this frame number and these limits: all segments are without parts
 abbrev pub no_objects : {X K : Type 0} → ℕ → ObjectLimits → Movement X K
 no_objects number limits = record {
   number = number;

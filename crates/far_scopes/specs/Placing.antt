@@ -10,7 +10,7 @@ use Rattle.far_log.specs.Effects.{with_segment, with_part, without_part, written
 use Rattle.far_scopes.specs.Memory.{Memory, place_of}
 
 module _ {X : Type 0} where
-  -- where a new part of n elements goes: to the lowest segment that takes it, at its fill
+  -- where a new part of n elements goes: to the lowest segment that has the space, at its fill
   abbrev pub spot : RegionState X → ℕ → At
   spot state n =
       let segment : ℕ = unwrap_or (target_of state n) 0
@@ -22,25 +22,25 @@ module _ {X : Type 0} where
       let segment : ℕ = unwrap_or (target_of state (length list)) 0
       in with_segment state segment (with_part (segment_of state segment) list)
 
-  -- the region without the part at a place
+  -- the region without the part at a location
   abbrev pub without_at : RegionState X → Option At → RegionState X
   without_at state None = state
   without_at state (Some at) = with_segment state at.segment (without_part (segment_of state at.segment) at.offset)
 
-  -- one object more, with this list: dirty and hot, and without a far copy
+  -- the memory with one object more, with this list: dirty and hot, and without a far copy
   abbrev pub added : Memory X → List X → Memory X
   added memory list = record {
     words = memory.words ++ Local (spot memory.state (length list)) true true false ∷ [];
     state = with_new memory.state list;
   }
 
-  -- without the last object
+  -- the memory without the last object
   abbrev pub removed : Memory X → Memory X
   removed memory =
       let last : ℕ = length memory.words - 1
       in record { words = take last memory.words; state = without_at memory.state (place_of memory.words last) }
 
-  -- another word for object o, made of its word
+  -- the memory with the word of object o changed by a function
   abbrev pub with_word : Memory X → ℕ → (Pointer → Pointer) → Memory X
   with_word memory o change = record memory { words = option_map_or (λ word. slice_set memory.words o (change word)) (slice_get memory.words o) memory.words }
 
@@ -52,7 +52,7 @@ module _ {X : Type 0} where
   abbrev pub heated : Memory X → ℕ → Memory X
   heated memory o = with_word memory o (λ word. with_hot word true)
 
-  -- object o is away, and its part is gone
+  -- object o is away, and its part is dropped
   abbrev pub sent_away : Memory X → ℕ → Memory X
   sent_away memory o = record {
     words = slice_set memory.words o Remote;

@@ -6,12 +6,12 @@ use Rattle.std.specs.List.{list_any}
 abbrev pub has : List ℕ → ℕ → Bool
 has order o = list_any (λ p. o == p) order
 
--- an order of use without an object
+-- an order of use with an object removed
 abbrev pub without : List ℕ → ℕ → List ℕ
 without [] o = []
 without (p ∷ order) o = if o == p then order else p ∷ without order o
 
--- an order of use once an object in it is used again: it goes first
+-- an order of use once an object in it is used again: that object goes first
 abbrev pub used : List ℕ → ℕ → List ℕ
 used order o = if has order o then o ∷ without order o else order
 

@@ -11,7 +11,7 @@ use Rattle.far_scopes.specs.declared.replacement.Replacement.{Replacement}
 use Rattle.far_scopes.specs.Movement.{Movement, record_of, is_local, version_of, pins_of}
 use Rattle.far_scopes.specs.Replacing.{no_space_for_all}
 
--- the refusal that a call answered
+-- the refusal that a call returned
 abbrev pub refusal_in : {A : Type 0} → Result A Refusal → Option Refusal
 refusal_in (Ok x) = None
 refusal_in (Err refusal) = Some refusal
@@ -25,7 +25,7 @@ module _ {X K : Type 0} (m : Movement X K) (o : ℕ) where
   abbrev pub written_out : Bool × Refusal
   written_out = (not (nat_lt (version_of m o) m.max_writes), refusal.EditsUsedUp)
 
-  -- its pins are
+  -- its pins are used up
   abbrev pub pinned_out : Bool × Refusal
   pinned_out = (pins_of m o == 65535, refusal.EditsUsedUp)
 
@@ -41,7 +41,7 @@ module _ {X K : Type 0} (m : Movement X K) (o : ℕ) where
   abbrev pub unpin_refusal : Option Refusal
   unpin_refusal = first_of ((pins_of m o == 0, refusal.NotPinned) ∷ [])
 
-  -- no segment takes a list of n elements
+  -- no segment has the space for a list of n elements
   abbrev pub no_space : ℕ → Bool × Refusal
   no_space n = (not (fits_in m.memory.state n), refusal.RegionFull)
 

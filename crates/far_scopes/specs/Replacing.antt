@@ -12,7 +12,7 @@ use Rattle.far_scopes.specs.Memory.{Memory, place_of}
 use Rattle.far_scopes.specs.Placing.{spot, with_new, without_at}
 use Rattle.far_scopes.specs.Movement.{Movement, dirty, ticket_of, meant, list_of}
 
--- the words once that of object o says another place
+-- the words once that of object o has another location
 abbrev pub with_place : List Pointer → ℕ → At → List Pointer
 with_place words o at = option_map_or (λ word. slice_set words o (with_at word at)) (slice_get words o) words
 
@@ -25,7 +25,7 @@ module _ {X : Type 0} where
   abbrev pub IsUnlisted : List (Replacement X) → ℕ → Type 0
   IsUnlisted lists o = All (λ r. o ≢ r.object) lists
 
-  -- the lists of objects by number change in those that are listed: each gets what is listed for it
+  -- only the lists of listed objects change: each gets the list that is listed for it
   pub record ChangesLists (old new : ℕ → Option (List X)) (lists : List (Replacement X)) : Type 0 where
     pub here : All (λ r. new r.object ≡ Some r.list.items) lists
     pub others : (p : ℕ) → IsUnlisted lists p → new p ≡ old p
@@ -34,7 +34,7 @@ module _ {X : Type 0} where
   abbrev pub no_space_for_all : RegionState X → List (Replacement X) → Bool × Refusal
   no_space_for_all state lists = (not (fit_in_order (spaces_of state) (map (λ r. length r.list.items) lists)), refusal.RegionFull)
 
-  -- the first of the new lists fits, where there is one
+  -- whether the first of the new lists fits, if there is one
   abbrev pub first_fits : RegionState X → List (Replacement X) → Bool
   first_fits state [] = true
   first_fits state (r ∷ rs) = fits_in state (length r.list.items)
@@ -49,19 +49,19 @@ module _ {X : Type 0} where
   without_all state words [] = state
   without_all state words (r ∷ rs) = without_at (without_all state words rs) (place_of words r.object)
 
-  -- the words, of which those of these objects say where the new lists are placed
+  -- the words once those of these objects have the locations of the new lists
   abbrev pub moved_all : RegionState X → List Pointer → List (Replacement X) → List Pointer
   moved_all state words [] = words
   moved_all state words (r ∷ rs) = with_place (moved_all (with_new state r.list.items) words rs) r.object (spot state (length r.list.items))
 
-  -- each of these objects, which are local, has its new list; all of them were placed before an old one was dropped
+  -- each of these objects, which are local, has its new list; all new lists were placed before an old one was dropped
   abbrev pub replaced_all : Memory X → List (Replacement X) → Memory X
   replaced_all memory lists = record {
     words = moved_all memory.state memory.words lists;
     state = without_all (with_all memory.state lists) memory.words lists;
   }
 
-  -- without the last object, whose part is now that of object o
+  -- the memory without the last object, whose part is now that of object o
   abbrev pub taken_over : Memory X → ℕ → Memory X
   taken_over memory o =
       let last : ℕ = length memory.words - 1

@@ -9,7 +9,8 @@ use far_store::FarTickets;
 
 /// A local object that is clean has a ticket whose content is the far form of the object's list.
 ///
-/// `Objects::number` tells that objects are tracked, and every call that changes them that they stay clean (`clean`).
+/// `Objects::number` gives that objects are tracked. Every call that changes them keeps this (`clean`): the list of each clean
+/// object is what its ticket means.
 pub fn clean_objects_have_copies<T: Elem, S: FarTickets>()
     ensures { (m : Movement T S.Ticket) → (o : ℕ) → (list : List T) → AreTracked T.meaning S.content (IsSpelled T.in_range T.has_spelling T.spelling) m → AreClean T.meaning S.content m → dirty m o ≡ false → list_in m.memory o ≡ Some list → IsSomeAnd (ticket_of m o) (λ ticket. IsSpelled T.in_range T.has_spelling T.spelling list (S.content ticket)) }
 {}

@@ -43,7 +43,7 @@ impl<T> Model for LocalMemory<T> {
 }
 
 impl<T: Elem> LocalMemory<T> {
-    /// No object, and all memory for elements.
+    /// Makes memory without objects. Allocates all memory for elements.
     pub fn new(alloc: Global, segments: u32, size: u32) -> Result<LocalMemory<T>, Refusal>
         requires { segments ≤ 65536 }
         ensures empty { IfOk result (λ m. m ≡ record { words = []; state = replicate segments record { parts = []; size = size } }) }
@@ -67,7 +67,7 @@ impl<T: Elem> LocalMemory<T> {
         word
     }
 
-    /// For the proof: gives that each local object has a part of the region for itself, and that there is no other part.
+    /// For the proof: gives that each local object has a part of the region of its own, and that there is no other part.
     #[inline(always)]
     pub fn each_owns_its_part(&self)
         ensures { IsMemory self.now.words self.now.state }
@@ -82,7 +82,7 @@ impl<T: Elem> LocalMemory<T> {
         self.cool
     }
 
-    /// The list of an object that is local, which has so many elements.
+    /// Borrows the list of an object that is local, which has `len` elements.
     pub fn lend(&self, o: usize, len: usize) -> &[T]
         requires local { IsSome (place_of self.now.words o) }
         requires long { IfSome (list_in self.now o) (λ list. length list ≡ len) }
@@ -91,7 +91,7 @@ impl<T: Elem> LocalMemory<T> {
         self.region.part_long(at_of(self.words[o]), len)
     }
 
-    /// One object more, with this list: dirty and hot. Refused, nothing is changed.
+    /// Adds an object with this list: dirty and hot. If it is refused, nothing is changed.
     pub fn add(&mut self, items: &[T]) -> Result<(), Refusal>
         requires some { 0 < length items.now }
         ensures ok { OnOk result (self.new ≡ added self.old items.now) }
@@ -110,7 +110,7 @@ impl<T: Elem> LocalMemory<T> {
         Ok(())
     }
 
-    /// Object `o` is away from now on, and its part is gone.
+    /// Sends object `o` away, and drops its part.
     pub fn send_away(&mut self, o: usize)
         requires { IsSome (place_of self.old.words o) }
         ensures away { self.new ≡ sent_away self.old o }
@@ -123,7 +123,7 @@ impl<T: Elem> LocalMemory<T> {
         self.region.drop_at(at);
     }
 
-    /// Takes the last object away, which is local.
+    /// Removes the last object, which is local.
     pub fn remove_last(&mut self)
         requires { IsSome (place_of self.old.words (length self.old.words - 1)) }
         ensures removed { self.new ≡ removed self.old }
@@ -136,7 +136,7 @@ impl<T: Elem> LocalMemory<T> {
         self.region.drop_at(at_of(word));
     }
 
-    /// Object `o`, which is away, is local with this list from now on: clean and hot. Refused, nothing is changed.
+    /// Makes object `o`, which is away, local with this list: clean and hot. If it is refused, nothing is changed.
     pub fn bring(&mut self, o: usize, items: &[T]) -> Result<(), Refusal>
         requires some { 0 < length items.now }
         requires away { slice_get self.old.words o ≡ Some Pointer.Remote }
@@ -151,8 +151,8 @@ impl<T: Elem> LocalMemory<T> {
         Ok(())
     }
 
-    /// Gives object `o`, which is local, another list: places the new one before it drops the old one. Refused, nothing
-    /// is changed.
+    /// Gives object `o`, which is local, another list: places the new one before it drops the old one. If it is refused, nothing is
+    /// changed.
     pub fn replace(&mut self, o: usize, items: &[T]) -> Result<(), Refusal>
         requires some { 0 < length items.now }
         requires local { IsSome (place_of self.old.words o) }
@@ -169,21 +169,21 @@ impl<T: Elem> LocalMemory<T> {
         Ok(())
     }
 
-    /// Whether a list of so many elements can be placed.
+    /// Whether a list of `len` elements can be placed.
     pub fn fits(&self, len: usize) -> bool
         ensures { result ≡ fits_in self.now.state len }
     {
         self.region.fits(len)
     }
 
-    /// How many elements there is space for, in all segments together.
+    /// The space of all segments together, in elements.
     pub fn space(&self) -> usize
         ensures { result ≡ space_of self.now.state }
     {
         self.region.space()
     }
 
-    /// For how many elements all segments are made together.
+    /// The capacity of all segments together, in elements.
     pub fn capacity(&self) -> usize
         ensures { result ≡ capacity_of self.now.state }
     {
@@ -199,7 +199,7 @@ impl<T: Elem> LocalMemory<T> {
         self.region.fits_in_order(lens)
     }
 
-    /// Object `o` is used: it is hot where it is local.
+    /// Sets the hot bit of object `o`, if it is local.
     pub fn heat(&mut self, o: usize)
         requires { o < length self.old.words }
         ensures heated { self.new ≡ heated self.old o }
@@ -210,7 +210,7 @@ impl<T: Elem> LocalMemory<T> {
         self.cool -= cool_of(word);
     }
 
-    /// Object `o` is written: it is dirty and hot where it is local.
+    /// Sets the dirty bit and the hot bit of object `o`, if it is local.
     pub fn mark(&mut self, o: usize)
         requires { o < length self.old.words }
         ensures marked { self.new ≡ marked self.old o }
@@ -225,7 +225,7 @@ impl<T: Elem> LocalMemory<T> {
     }
 }
 
-// Where the word of a local object says that it is.
+// The location that the word of a local object has.
 fn at_of(word: Word) -> At
     requires { IsSome (word_at word) }
     ensures { word_at word ≡ Some result }
@@ -236,7 +236,7 @@ fn at_of(word: Word) -> At
     at
 }
 
-// Whether the word of an object says that it is dirty and hot, as that of one that is written again and again.
+// Whether the word of an object says that it is dirty and hot, as it is if it is written again and again.
 fn is_marked(word: Word) -> bool
     ensures { IsTrue result → with_hot (with_dirty word) true ≡ word }
 {

@@ -1,13 +1,26 @@
-// What is known of an object beside its word and its list.
+// Object records: what is known of an object apart from its word and its list.
 ghost use Rattle.std.specs.Prelude.{◌≡◌};
 ghost use Rattle.far_scopes.specs.Renewal.{renewed_record};
 
 use far_types::Name;
 
 /// The record of an object: it is always in local memory, wherever the object's list is.
+///
+/// The record of a new object:
+///
+/// ```
+/// self.records.push_reserved(ObjectRecord {
+///     name,
+///     len: items.len(),
+///     version: 0,
+///     leavings: 0,
+///     pins: 0,
+///     ticket: None,
+/// });
+/// ```
 #[derive(Drop)]
 pub struct ObjectRecord<K> {
-    /// The column and the row group that the object is.
+    /// The name of the object: its column and its row group.
     pub(crate) name: Name,
     /// How many elements its list has.
     pub(crate) len: usize,
@@ -17,12 +30,12 @@ pub struct ObjectRecord<K> {
     pub(crate) leavings: u64,
     /// How often it is pinned.
     pub(crate) pins: u16,
-    /// Its far copy, the newest that there is. Of an object that was written since, it is an old one.
+    /// Its newest far copy. If the object was written since, this copy is out of date.
     pub(crate) ticket: Option<K>,
 }
 
 impl<K: Drop> ObjectRecord<K> {
-    // The record with a ticket of another store, or none.
+    // Returns the record with a ticket of another store, or without one.
     pub(crate) fn renewed<L>(self, ticket: Option<L>) -> ObjectRecord<L>
         ensures { result ≡ renewed_record self ticket }
     {

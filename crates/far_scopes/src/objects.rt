@@ -30,6 +30,18 @@ use std::alloc::Global;
 use std::marker::Model;
 
 /// Objects, each a list of elements, that move between local memory and the far store of `S`.
+///
+/// An object goes away: its list is put into the store, and its local part is dropped:
+///
+/// ```
+/// let list = objects.lend(o)?;
+/// if !T::is_spelled(list) || objects.pins(o) > 0 || !objects.may_leave(o) {
+///     return Err(Refusal::Pinned);
+/// }
+/// let ticket = put(alloc, store, list)?;
+/// objects.leave(store, o, &ticket);
+/// Ok(())
+/// ```
 #[derive(Drop)]
 pub struct Objects<T: Elem, S: FarTickets> {
     number: u32,
@@ -54,9 +66,9 @@ impl<T: Elem, S: FarTickets> Model for Objects<T, S> {
 }
 
 impl<T: Elem, S: FarTickets> Objects<T, S> {
-    /// No object. The frame's number is kept with them, which tells the jobs of one frame from those of another.
+    /// Makes an empty collection of objects. It keeps the frame's number, which tells the jobs of one frame from those of another.
     ///
-    /// All memory for elements is taken here. Refused with `NoMemory` (1) alone.
+    /// Allocates all memory for elements. Refused with `NoMemory` (1) alone.
     pub fn new(alloc: Global, number: u32, limits: ObjectLimits) -> Result<Objects<T, S>, Refusal>
         requires { limits.segments ≤ 65536 }
         ensures empty { IfOk result (λ m. m ≡ no_objects number limits) }
@@ -74,8 +86,8 @@ impl<T: Elem, S: FarTickets> Objects<T, S> {
 
     /// The number that was given to `new`. Allocates nothing.
     ///
-    /// It tells what holds of all objects (`tracked`), and that each local object has a part of the region for itself and
-    /// there is no other part (`own`).
+    /// For the proof: gives what holds of all objects (`tracked`). Also gives that each local object has a part of the region of its own,
+    /// and that there is no other part (`own`).
     pub fn number(&self) -> u32
         ensures number { result ≡ self.now.number }
         ensures tracked { AreTracked T.meaning S.content (IsSpelled T.in_range T.has_spelling T.spelling) self.now }
@@ -118,7 +130,7 @@ impl<T: Elem, S: FarTickets> Objects<T, S> {
         u32::from(self.records[o as usize].pins)
     }
 
-    /// The newest far copy that there is of an object. Allocates nothing.
+    /// The ticket of an object's newest far copy, if there is one. Allocates nothing.
     pub fn ticket(&self, o: u32) -> Option<&S::Ticket>
         requires { o < length self.now.records }
         ensures ticket { option_map (λ ticket. ticket.now) result ≡ ticket_of self.now o }

@@ -26,7 +26,7 @@ impl Model for Recency {
 }
 
 impl Recency {
-    /// An order of use without objects.
+    /// Makes an order of use without objects.
     pub fn new(alloc: Global) -> Result<Recency, Refusal>
         ensures empty { IfOk result (λ r. r ≡ []) }
         ensures memory { IfErr result (λ e. e ≡ Refusal.NoMemory) }
@@ -43,7 +43,7 @@ impl Recency {
         self.cache.len()
     }
 
-    /// Puts an object first that is not in the order.
+    /// Adds an object that is not in the order, as the first.
     pub fn add(&mut self, o: u32) -> Result<(), Refusal>
         requires { has self.old o ≡ false }
         ensures ok { OnOk result (self.new ≡ o ∷ self.old) }
@@ -55,14 +55,14 @@ impl Recency {
         Ok(())
     }
 
-    /// Takes an object out. Allocates nothing.
+    /// Removes an object. Allocates nothing.
     pub fn remove(&mut self, o: u32)
         ensures { self.new ≡ without self.old o }
     {
         self.cache.pop(&o);
     }
 
-    /// Puts an object first that is in the order. Allocates nothing.
+    /// Moves an object that is in the order to the front. Allocates nothing.
     pub fn touch(&mut self, o: u32)
         ensures { self.new ≡ used self.old o }
     {
@@ -71,7 +71,7 @@ impl Recency {
         }
     }
 
-    // Whether an object was used last, as most are that are used again: a use leaves the order as it is.
+    // Whether an object was used last. Then another use leaves the order as it is. Most objects that are used again were used last.
     fn is_first(&self, o: u32) -> bool
         ensures { IsTrue result → used self.now o ≡ self.now }
     {

@@ -1,10 +1,19 @@
-// What an object gets in place of its list.
+// A new list for an object.
 
-/// Another list for an object, as `Objects::replace_all` takes them.
+/// Another list for an object. `Objects::replace_all` takes several.
+///
+/// A copy of a list for an object:
+///
+/// ```
+/// Ok(Replacement {
+///     object,
+///     list: list.to_vec(alloc)?,
+/// })
+/// ```
 #[derive(Drop)]
 pub struct Replacement<T> {
     /// The number of the object.
     pub object: u32,
-    /// Its new list, which has an element.
+    /// Its new list, which is not empty.
     pub list: Vec<T>,
 }

@@ -11,7 +11,7 @@ status_of Output = 3
 status_of Memory = 4
 status_of Turns = 5
 
--- what holds where the fault is the input's
+-- what holds if the fault is the input's
 abbrev pub IfInput : ShellFault → Type 0 → Type 0
 IfInput BadStart holds = ⊤
 IfInput Input holds = holds
@@ -19,9 +19,9 @@ IfInput Output holds = ⊤
 IfInput Memory holds = ⊤
 IfInput Turns holds = ⊤
 
--- why a reader gives no more, though its end was not found: readers of its type may fail. Or no reads are left, and at least as many bytes
--- came as there were reads. Or no bytes are left, and those that come, if they are known, are more than there were. The numbers are the reads
--- and the bytes there were, and those that are left
+-- why a reader gives no more, though its end was not found: readers of its type may fail. Or no reads are left, and at least as
+-- many bytes came as there were reads. Or no bytes are left, and those that come, if they are known, are more than there were.
+-- The numbers are the reads and the bytes that there were, and those that are left
 abbrev pub IsCut : Type 0 → ℕ → ℕ → ℕ → ℕ → Option (List ℕ) → Type 0
 IsCut may_fail reads bytes reads_left bytes_left known =
     may_fail ⊎ (((reads_left ≡ 0) × (reads + bytes_left ≤ bytes)) ⊎ ((bytes_left ≡ 0) × IfSome known (λ coming. bytes < length coming)))

@@ -15,7 +15,7 @@ missing_mark = codes "\\N"
 abbrev pub is_missing_mark : List ℕ → Bool
 is_missing_mark field = pointwise ◌==◌ field missing_mark
 
--- a number where the field is one, else a text
+-- a number if the field is one, else a text
 abbrev pub number_or_text : Option ℤ → List ℕ → Cell
 number_or_text None field = cell.Text field
 number_or_text (Some number) field = cell.Int number

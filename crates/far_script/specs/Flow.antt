@@ -12,7 +12,7 @@ use Rattle.far_script.specs.declared.input.Line.TheVariants as line
 use Rattle.far_script.specs.declared.output.Output.{Output}
 use Rattle.far_script.specs.Faults.{IfInput, IsCut}
 
--- a text was printed: what was held before it and the text went to the writer, or are held still
+-- a text was printed: what was held before it and the text went to the writer, or are still held
 abbrev pub Prints : Option (List ℕ) → List ℕ → List ℕ → Option (List ℕ) → List ℕ → Type 0
 Prints old held text new left = (sent : List ℕ) × Appends old new sent × (held ++ text ≡ sent ++ left)
 
@@ -20,11 +20,11 @@ Prints old held text new left = (sent : List ℕ) × Appends old new sent × (he
 abbrev pub has_failed : Output → Bool
 has_failed output = output.failed
 
--- the bytes of a script, where they are known, are these and the rest behind them; and these are within the bound
+-- the bytes of a script, if they are known, are these and the rest behind them; and these are within the bound
 abbrev pub IsFrontOf : Option (List ℕ) → List ℕ → List ℕ → Type 0
 IsFrontOf known bytes rest = IfSome known (λ script. script ≡ bytes ++ rest) × (length bytes ≤ 16777216)
 
--- these bytes came from a reader, and no more: unless no bytes are left to be taken, where more may have come and are lost
+-- these bytes came from a reader, and no more; but if no bytes are left to be taken, more may have come and be lost
 abbrev pub Leaves : Option (List ℕ) → Option (List ℕ) → List ℕ → ℕ → Type 0
 Leaves old new came bytes_left = (lost : List ℕ) × Consumes old new (came ++ lost) × (0 < bytes_left → lost ≡ [])
 
@@ -41,8 +41,8 @@ module _ {R : Type 0} (read : Ghosts R) where
   abbrev pub bytes_in : Input R read → ByteRange → List ℕ
   bytes_in input byte_range = slice_range input.held byte_range.from byte_range.to
 
-  -- bytes of a script were taken: what was held before and what came from the reader were taken, or are held still. What
-  -- came counts, each read gave a byte as long as the end was not found, and nothing comes after the end
+  -- bytes of a script were taken: what was held before and what came from the reader were taken, or are still held. What came
+  -- counts, each read gave a byte as long as the end was not found, and nothing comes after the end
   pub record Reads (old : Input R read) (bytes : List ℕ) (new : Input R read) : Type 0 where
     pub came : List ℕ
     pub consumed : Consumes (read.remaining old.source.reader) (read.remaining new.source.reader) came
@@ -80,7 +80,7 @@ module _ {R : Type 0} (read : Ghosts R) where
   abbrev pub IsShort : Type 0 → Input R read → Input R read → List ℕ → Type 0
   IsShort may_fail old new rest = IsOver new rest ⊎ IsUnseen may_fail old new
 
-  -- what is left of a script, where it is known, is these bytes and the rest behind them
+  -- what is left of a script, if it is known, is these bytes and the rest behind them
   abbrev pub StartsWith : Input R read → List ℕ → List ℕ → Type 0
   StartsWith input bytes rest = IfSome (read.remaining input.source.reader) (λ coming. unread input ++ coming ≡ bytes ++ rest)
       × (IsSpent input → bytes ++ rest ≡ [])
@@ -90,7 +90,7 @@ module _ {R : Type 0} (read : Ghosts R) where
   Counts old bytes new = (new.source.bytes + length bytes ≡ old.source.bytes + length (unread old)) × (old.source.ended ≡ true → new.source.ended ≡ true)
       × ((came : List ℕ) × (unread old ++ came ≡ bytes) × Leaves (read.remaining old.source.reader) (read.remaining new.source.reader) came new.source.bytes)
 
-  -- what is left of a script is these bytes and the rest. Where the input is at fault, the bytes are all that came
+  -- what is left of a script is these bytes and the rest. If the input is at fault, the bytes are all that came
   abbrev pub Gives : ShellFault → Input R read → Input R read → List ℕ → List ℕ → Type 0
   Gives why old new bytes rest = StartsWith old bytes rest × IfInput why (Counts old bytes new)
 

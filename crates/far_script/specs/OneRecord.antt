@@ -5,18 +5,18 @@ use Rattle.csv.specs.Machine.{Read, next_record}
 use Rattle.csv.specs.Reading.{default_config, strip_bom}
 use Rattle.csv.specs.declared.parser.State.TheVariants as st
 
--- these fields, where no record comes after them
+-- these fields, if no record comes after them
 abbrev pub if_last : List (List ℕ) → Option Read → Option (List (List ℕ))
 if_last fields None = Some fields
 if_last fields (Some next) = None
 
--- the first record, where it is the only one
+-- the first record, if it is the only one
 abbrev pub only : Option Read → Option (List (List ℕ))
 only None = None
 only (Some first) = if_last first.0 (next_record default_config first.1 [] [] first.2)
 
--- the fields of a text that is exactly one record, as the format's machine reads it from its first byte, or from the
--- one after a byte order mark
+-- the fields of a text that is exactly one record. The format's machine reads it from its first byte, or from the one after a
+-- byte order mark
 abbrev pub one_record : List ℕ → Option (List (List ℕ))
 one_record text = only (next_record default_config st.StartRecord [] [] (strip_bom text))
 

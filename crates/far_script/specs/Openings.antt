@@ -73,7 +73,7 @@ between least most (Some n) = if nat_le least n && nat_le n most then Some n els
 abbrev pub threads_in : Option (List ℕ) → Option Start
 threads_in left = option_and_then (λ sessions. option_map (λ edits. Threads sessions edits) (between 1 1000 (last_number_in (after left)))) (between 1 4 (number_in left))
 
--- what the first line of a script says, where it is one
+-- what the first line of a script says, if it is one
 abbrev pub start_in : List ℕ → Option Start
 start_in text =
     if reads (word_of text) (codes "schema") then option_map Schema (opening_in (rest_of text))

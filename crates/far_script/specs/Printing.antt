@@ -55,7 +55,7 @@ refusal_text r = codes "refused " ++ decimal (number_of r) ++ space ++ name_of r
 abbrev pub numbered_text : List ℕ → ℕ → List ℕ
 numbered_text word n = word ++ space ++ decimal n ++ line_end
 
--- a key stands before its line as a record of one field, and a space behind it
+-- a key comes before its line as a record of one field, and a space behind it
 abbrev pub key_text : Option Key → List ℕ
 key_text None = []
 key_text (Some (key.Int n)) = record_text (signed_decimal n ∷ []) ++ space
@@ -64,11 +64,11 @@ key_text (Some (key.Text text)) = record_text (text ∷ []) ++ space
 abbrev pub total_text : Option Key × ℕ × ℤ → List ℕ
 total_text line = key_text line.0 ++ codes "count " ++ decimal line.1 ++ codes " sum " ++ signed_decimal line.2 ++ line_end
 
--- what a gauge tells: the edits, the count and the sum
+-- what a gauge reads: the edits, the count and the sum
 abbrev pub reading_text : ℕ → ℕ → ℤ → List ℕ
 reading_text edits count sum = decimal edits ++ space ++ decimal count ++ space ++ signed_decimal sum ++ line_end
 
--- what the gauge of a session's stripe tells
+-- what the gauge of a session's stripe reads
 abbrev pub gauge_text : ℕ → ℕ → ℕ → ℤ → List ℕ
 gauge_text session edits count sum = codes "session " ++ decimal session ++ codes " gauge " ++ reading_text edits count sum
 
@@ -79,7 +79,7 @@ abbrev pub texts_of : {A : Type 0} → (A → List ℕ) → List A → List ℕ
 texts_of text [] = []
 texts_of text (line ∷ lines) = text line ++ texts_of text lines
 
--- an answer is its lines, and `none` where it has none
+-- an answer is its lines, and `none` if it has none
 abbrev pub or_none : {A : Type 0} → (A → List ℕ) → List A → List ℕ
 or_none text [] = codes "none\n"
 or_none text (line ∷ lines) = texts_of text (line ∷ lines)

@@ -33,7 +33,7 @@ operator_of word =
     else if reads word (codes "^=") then Some operator.Begins
     else None
 
--- a test of texts, where there is one with this operator
+-- a test of texts, if there is one with this operator
 abbrev pub text_test : ℕ → Op → List ℕ → Option Test
 text_test column op.Eq constant = Some (test.TextIs column constant)
 text_test column op.Ne constant = None
@@ -42,7 +42,7 @@ text_test column op.Le constant = None
 text_test column op.Gt constant = None
 text_test column op.Ge constant = None
 
--- a test of numbers, where there is a number
+-- a test of numbers, if there is a number
 abbrev pub number_test : ℕ → Op → Option ℤ → Option Test
 number_test column op None = None
 number_test column op (Some value) = Some (test.Int column op value)
@@ -52,8 +52,9 @@ abbrev pub or_else : Option Test → Option Test → Option Test
 or_else None other = other
 or_else (Some first) other = Some first
 
--- the test of a constant with an operator that numbers have: in a column of numbers, and where there is no such column,
--- of the kind that the constant has; in a column of texts of texts, where texts have the operator
+-- the test of a constant with an operator that numbers have. In a column of numbers it is of the kind that the constant has. In
+-- a column of texts it is of texts, if they have the operator; else of numbers, if the constant is one. If there is no such
+-- column, it is of texts if the constant is no number and texts have the operator; else of numbers
 abbrev pub compared : Option Kind → ℕ → Op → List ℕ → Option Test
 compared (Some kind.Int) column op constant = or_else (number_test column op (signed_number_of constant)) (Some (test.TextIs column constant))
 compared (Some kind.Text) column op constant = or_else (text_test column op constant) (number_test column op (signed_number_of constant))

@@ -1,4 +1,4 @@
--- The words of a line, which stand behind one space each.
+-- The words of a line, with one space before each but the first.
 use Rattle.std.specs.Prelude.{ℕ, ◌==◌, Bool, false, nat_lt, List, [], length, Option, None, Some, option_map, option_and_then, is_none, if◌then◌else◌}
 use Rattle.std.specs.Option.{option_map_or}
 use Rattle.std.specs.Cmp.Lexicographic.{pointwise}
@@ -12,11 +12,11 @@ is_space c = c == 32
 abbrev pub word_of : List ℕ → List ℕ
 word_of text = before_first is_space text
 
--- what stands behind the first word and its space, where there is a space
+-- what stands behind the first word and its space, if there is a space
 abbrev pub rest_of : List ℕ → Option (List ℕ)
 rest_of text = if nat_lt (position_or_len is_space text) (length text) then Some (after_first is_space text) else None
 
--- the next word of what is left of a line, where something is
+-- the next word of what is left of a line, if something is left
 abbrev pub word_in : Option (List ℕ) → Option (List ℕ)
 word_in left = option_map word_of left
 

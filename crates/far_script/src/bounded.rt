@@ -1,4 +1,4 @@
-// A reader that a script may ask only so often, and for so much.
+// A reader with a bound on its reads and on its bytes.
 ghost use Rattle.std.specs.Prelude.{◌≡◌, ◌≤◌, [], unwrap_or, IsTrue};
 
 mod reading;
@@ -12,6 +12,15 @@ pub const MAX_BYTES: u32 = 16_777_216;
 pub const MAX_READS: u32 = 1_048_576;
 
 /// A reader with the reads and the bytes that are left for it.
+///
+/// ```
+/// let count = self.source.read(self.chunk.as_mut_slice())?;
+/// self.is_ascii = stay_ascii(self.is_ascii, &self.held, &self.chunk[..count]);
+/// match self.held.bytes(&self.chunk[..count]) {
+///     Ok(()) => Ok(count > 0),
+///     Err(refusal) => Err(ShellFault::of_memory(refusal)),
+/// }
+/// ```
 #[derive(Drop)]
 pub struct Bounded<R: Read + Drop> {
     /// The reader, which is asked through `read` alone.

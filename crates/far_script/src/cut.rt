@@ -1,9 +1,9 @@
-// A text parted at a byte.
+// A text cut at a byte.
 ghost use Rattle.std.specs.Prelude.{◌≡◌, ◌==◌, ◌<◌, length, MatchOption};
 ghost use Rattle.std.specs.List.{position_or_len, before_first, after_first};
 
-/// What stands before the first such byte of ASCII and what stands behind it, where there is one. It looks at one byte after the
-/// other, which for words and fields is faster than what `split_once` does for long texts.
+/// Returns what stands before the first byte that is `wanted`, and what stands behind it, if there is one. The byte is ASCII.
+/// It looks at one byte after the other. For words and fields that is faster than `split_once`, which is made for long texts.
 pub fn cut(text: &str, wanted: u8) -> Option<(&str, &str)>
     requires { wanted < 128 }
     ensures { MatchOption result (position_or_len (λ b. b == wanted) text.now ≡ length text.now) (λ x. (position_or_len (λ b. b == wanted) text.now < length text.now) × (x.0.now ≡ before_first (λ b. b == wanted) text.now) × (x.1.now ≡ after_first (λ b. b == wanted) text.now)) }
@@ -14,7 +14,7 @@ pub fn cut(text: &str, wanted: u8) -> Option<(&str, &str)>
     }
 }
 
-/// What stands before the first such byte of ASCII, whose place is known, or all where there is none.
+/// Returns what stands before the first such byte of ASCII, whose place is known, or all if there is none.
 #[inline(always)]
 pub(crate) fn before(text: &str, at: usize, wanted: u8) -> &str
     requires ascii { wanted < 128 }
@@ -24,7 +24,7 @@ pub(crate) fn before(text: &str, at: usize, wanted: u8) -> &str
     if at < text.len() { &text[..at] } else { text }
 }
 
-/// What stands behind the first such byte of ASCII, whose place is known, or nothing if there is none.
+/// Returns what stands behind the first such byte of ASCII, whose place is known, or nothing if there is none.
 #[inline(always)]
 pub(crate) fn behind(text: &str, at: usize, wanted: u8) -> &str
     requires ascii { wanted < 128 }

@@ -5,20 +5,27 @@ use far_types::Refusal;
 use std::alloc::{AllocError, AllocFailed};
 use thiserror::Error;
 
-/// What ends a script before its end. What was answered before stands.
+/// What ends a script before its end. Earlier replies stay.
+///
+/// ```
+/// match run_script(&rt, Fallible(rt.reader()), &mut writer) {
+///     Ok(()) => ExitCode::SUCCESS,
+///     Err(fault) => ExitCode::from(fault.status()),
+/// }
+/// ```
 #[derive(Drop, Debug, Clone, Copy, PartialEq, Eq, Error)]
 pub enum ShellFault {
     /// The first command opens no table and asks for no sessions.
     #[error("the first command opens no table and asks for no sessions")]
     BadStart,
-    /// A read failed, the script is too long or needs too many reads, a line or a load is no UTF-8, or the script ends before the bytes of
-    /// a load.
+    /// A read failed, or the script is too long or needs too many reads. Or a line or a load is no UTF-8, or the script ends
+    /// before the bytes of a load.
     #[error("the script could not be read")]
     Input,
     /// A write failed.
     #[error("the replies could not be written")]
     Output,
-    /// The shell itself was refused memory.
+    /// The shell itself ran out of memory.
     #[error("the shell is out of memory")]
     Memory,
     /// An edit of sessions on threads was tried as often as it may be, or was refused for what no other try mends.
@@ -49,8 +56,8 @@ impl<T: Drop> From<AllocFailed<T>> for ShellFault {
 impl ShellFault {
     ghost use Rattle.far_script.specs.Faults.{status_of};
 
-    /// The fault of a script whose shell itself is out of memory. Takes `NoMemory` alone: any other refusal is printed as a reply, and
-    /// only a refused first line ends the script then, by `BadStart`.
+    /// Returns the fault of a script whose shell itself is out of memory. Takes `NoMemory` alone. Any other refusal is printed
+    /// as a reply; only a refused first line then ends the script, by `BadStart`.
     pub fn of_memory(refusal: Refusal) -> ShellFault
         requires { refusal ≡ Refusal.NoMemory }
         ensures { result ≡ ShellFault.Memory }
@@ -61,7 +68,7 @@ impl ShellFault {
         }
     }
 
-    /// The exit status of a program that ends by the fault.
+    /// Returns the exit status of a program that ends by the fault.
     pub fn status(self) -> u8
         ensures { result ≡ status_of self }
     {

@@ -14,15 +14,15 @@ use far_types::{Cell, Kind, Refusal, Row, Text};
 use std::alloc::Global;
 use std::mem;
 
-/// Whether a field stands for no value: it reads `\N`.
+/// Returns whether a field stands for no value: it reads `\N`.
 fn is_missing_mark(field: &str) -> bool
     ensures { result ≡ is_missing_mark field.now }
 {
     field == "\\N"
 }
 
-/// A field as a cell: `\N` is `Missing` in every column, what reads as a number in a column of numbers is that number,
-/// and anything else is a text. Refused with `NoMemory` (1) alone.
+/// Returns a field as a cell. `\N` is `Missing` in every column. In a column of numbers, what reads as a number is that number.
+/// Anything else is a text. Refused with `NoMemory` (1) alone.
 pub fn cell(alloc: Global, column: Option<Kind>, field: &str) -> Result<Cell, Refusal>
     ensures cell { IfOk result (λ cell. cell ≡ cell_of column field.now) }
     ensures memory { IfErr result (λ e. e ≡ Refusal.NoMemory) }
@@ -30,14 +30,14 @@ pub fn cell(alloc: Global, column: Option<Kind>, field: &str) -> Result<Cell, Re
     cell_in(alloc, Cell::Missing, column, field)
 }
 
-/// The kind of a column, where there is such a column.
+/// Returns the kind of a column, if there is such a column.
 pub fn kind_of(kinds: &[Kind], column: usize) -> Option<Kind>
     ensures { result ≡ slice_get kinds.now column }
 {
     kinds.get(column).copied()
 }
 
-/// The first field of a text: what stands before its first comma.
+/// Returns the first field of a text: what stands before its first comma.
 fn first_field(text: &str) -> &str
     ensures { result.now ≡ before_first is_comma text.now }
 {
@@ -47,7 +47,8 @@ fn first_field(text: &str) -> &str
     }
 }
 
-/// An equal string, in the memory of a cell that is needed no more, if it is a text. Refused with `NoMemory` (1) alone.
+/// Returns an equal string, in the memory of a cell that is no longer needed, if it is a text. Refused with `NoMemory` (1)
+/// alone.
 fn string_in(alloc: Global, spare: Cell, field: &str) -> Result<String, Refusal>
     ensures string { IfOk result (λ string. string_bytes string ≡ field.now) }
     ensures memory { IfErr result (λ e. e ≡ Refusal.NoMemory) }
@@ -61,7 +62,7 @@ fn string_in(alloc: Global, spare: Cell, field: &str) -> Result<String, Refusal>
     Ok(string)
 }
 
-/// A field as a cell, as `cell` reads it, in the memory of a cell that is needed no more.
+/// Returns a field as a cell, as `cell` reads it, in the memory of a cell that is no longer needed.
 fn cell_in(alloc: Global, spare: Cell, column: Option<Kind>, field: &str) -> Result<Cell, Refusal>
     ensures cell { IfOk result (λ cell. cell ≡ cell_of column field.now) }
     ensures memory { IfErr result (λ e. e ≡ Refusal.NoMemory) }
@@ -77,8 +78,8 @@ fn cell_in(alloc: Global, spare: Cell, column: Option<Kind>, field: &str) -> Res
     Ok(Cell::Text(Text::new(string_in(alloc, spare, field)?)))
 }
 
-/// Writes the cell of the first field of a text behind the first `at` cells of a list, over one that is needed no more if there
-/// is one, and says how long that field is. Most numbers are read in one go with their comma.
+/// Writes the cell of the first field of a text behind the first `at` cells of a list. It overwrites a cell that is no longer
+/// needed, if there is one. Returns how long that field is. Most numbers are read in one go with their comma.
 #[inline(always)]
 fn write_cell(
     alloc: Global,
@@ -108,8 +109,8 @@ fn write_cell(
     Ok(field.len())
 }
 
-/// The cells of what stands between the commas of a text, in the memory of cells that are needed no more. Refused with
-/// `NoMemory` (1) alone.
+/// Returns the cells of what stands between the commas of a text, in the memory of cells that are no longer needed. Refused
+/// with `NoMemory` (1) alone.
 pub fn cells_in(
     alloc: Global,
     spare: Vec<Cell>,
@@ -134,7 +135,7 @@ pub fn cells_in(
     Ok(cells)
 }
 
-/// The cells of what stands between the commas of a text. Refused with `NoMemory` (1) alone.
+/// Returns the cells of what stands between the commas of a text. Refused with `NoMemory` (1) alone.
 pub fn plain_cells(alloc: Global, kinds: &[Kind], text: &str) -> Result<Vec<Cell>, Refusal>
     ensures cells { IfOk result (λ cells. cells.items ≡ cells_from kinds.now 0 (slice_split is_comma text.now)) }
     ensures memory { IfErr result (λ e. e ≡ Refusal.NoMemory) }
@@ -143,7 +144,7 @@ pub fn plain_cells(alloc: Global, kinds: &[Kind], text: &str) -> Result<Vec<Cell
     cells_in(alloc, cells, kinds, text)
 }
 
-/// The cells of a record's fields.
+/// Returns the cells of a record's fields.
 pub fn record_cells(
     alloc: Global,
     kinds: &[Kind],
@@ -161,7 +162,7 @@ pub fn record_cells(
     Ok(cells)
 }
 
-/// The row of a text that is exactly one record, or `None` if it is not. Refused with `NoMemory` (1) alone.
+/// Returns the row of a text that is exactly one record, or `None` if it is not. Refused with `NoMemory` (1) alone.
 pub fn row(alloc: Global, kinds: &[Kind], text: &str) -> Result<Option<Row>, Refusal>
     ensures row { IfOk result (λ row. row ≡ row_of kinds.now text.now) }
     ensures memory { IfErr result (λ e. e ≡ Refusal.NoMemory) }
@@ -184,7 +185,7 @@ fn has_comma(bytes: &[u8]) -> bool
     bytes.iter().any(|byte| *byte == b',')
 }
 
-/// The cell of a record of one field.
+/// Returns the cell of a record of one field.
 fn lone_record_cell(
     alloc: Global,
     column: Option<Kind>,
@@ -202,8 +203,8 @@ fn lone_record_cell(
     }
 }
 
-/// The cell of a text that is exactly one record of one field, or `None` if it is not. Refused with `NoMemory` (1)
-/// alone. A number is such a record as it stands.
+/// Returns the cell of a text that is exactly one record of one field, or `None` if it is not. A number is such a record.
+/// Refused with `NoMemory` (1) alone.
 pub fn lone_cell(alloc: Global, column: Option<Kind>, text: &str) -> Result<Option<Cell>, Refusal>
     ensures cell { IfOk result (λ cell. cell ≡ lone_cell_of column text.now) }
     ensures memory { IfErr result (λ e. e ≡ Refusal.NoMemory) }

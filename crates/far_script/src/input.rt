@@ -11,6 +11,15 @@ use super::page::Page;
 use std::io::Read;
 
 /// Where a line or a load stands in what was read.
+///
+/// ```
+/// let line = self.take(end, end + 1);
+/// let whole = line_len(&self.held.as_slice()[line.from..line.to]);
+/// Ok(Line::Whole(ByteRange {
+///     from: line.from,
+///     to: line.from + whole,
+/// }))
+/// ```
 #[derive(Clone, Copy, Debug, Drop)]
 pub struct ByteRange {
     /// Where it begins.
@@ -20,16 +29,33 @@ pub struct ByteRange {
 }
 
 /// A line of a script, without its end.
+///
+/// ```
+/// match input.line(output, writer)? {
+///     Line::Whole(line) => answer_line(resources, progress, line, input, output, writer)?,
+///     Line::Last(line) => {
+///         answer_line(resources, progress, line, input, output, writer)?;
+///         return Ok(());
+///     }
+/// }
+/// ```
 #[derive(Clone, Copy, Debug, Drop)]
 pub enum Line {
-    /// One with its end.
+    /// A line with its end.
     Whole(ByteRange),
     /// What stands behind the last end of a line. It may be empty.
     Last(ByteRange),
 }
 
-/// A script that is read as it is answered: at most one line or one load of it is held, and what came with it. It is read
-/// in at most 1,048,576 reads and has at most 16,777,216 bytes.
+/// A script that is read while it is answered. It holds at most one line or one load of it, and what came with that. It makes
+/// at most 1,048,576 reads, and takes at most 16,777,216 bytes.
+///
+/// ```
+/// for _ in 0..3 {
+///     input.line(output, replies)?;
+/// }
+/// Ok((input.reads_left(), input.bytes_left()))
+/// ```
 #[derive(Drop)]
 pub struct Input<R: Read + Drop> {
     /// The reader, and how much of it is left.
@@ -42,7 +68,7 @@ pub struct Input<R: Read + Drop> {
     pub start: usize,
     /// How many bytes from there on are known to have no end of a line.
     plain: usize,
-    /// Whether all that is held is known to be ASCII. Then no line of it need be tested for UTF-8.
+    /// Whether all that is held is known to be ASCII. Then no line of it has to be checked for UTF-8.
     is_ascii: bool,
     ghost known: { start + plain ≤ length held },
     ghost most: { length held + source.bytes ≤ 16777216 + start },

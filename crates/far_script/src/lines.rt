@@ -8,15 +8,15 @@ use super::cut::{before, behind};
 use super::record::may_begin_with_order_mark;
 use memchr::memchr;
 
-/// Whether there is a quote or a carriage return. Each is looked for by itself, which tests many bytes at a time.
+/// Returns whether there is a quote or a carriage return. Each is searched by itself, which tests many bytes at a time.
 fn has_break(bytes: &[u8]) -> bool
     ensures { result ≡ list_any is_break bytes.now }
 {
     bytes.contains(&b'"') || bytes.contains(&b'\r')
 }
 
-/// Whether the records of a text are its lines that are not empty, cut at their commas: it has no quote and no carriage return, and
-/// does not begin with a byte order mark.
+/// Returns whether a text has no quote and no carriage return, and cannot begin with a byte order mark. Then its records are
+/// its lines that are not empty, cut at their commas.
 pub fn are_plain_lines(text: &str) -> bool
     ensures { result ≡ are_plain_lines text.now }
 {
@@ -24,14 +24,14 @@ pub fn are_plain_lines(text: &str) -> bool
     !may_begin_with_order_mark(bytes) && !has_break(bytes)
 }
 
-/// The place of the first end of a line. It is looked for in many bytes at a time.
+/// Returns the place of the first end of a line. The search tests many bytes at a time.
 pub(crate) fn first_feed(bytes: &[u8]) -> Option<usize>
     ensures { MatchOption result (position_or_len is_line_feed bytes.now ≡ length bytes.now) (λ at. (at < length bytes.now) × (at ≡ position_or_len is_line_feed bytes.now)) }
 {
     memchr(b'\n', bytes)
 }
 
-/// The first line of a text, without its end, and what stands behind it.
+/// Returns the first line of a text, without its end, and what stands behind it.
 pub fn next_line(text: &str) -> (&str, &str)
     ensures line { result.0.now ≡ line_of text.now }
     ensures behind { result.1.now ≡ lines_behind text.now }

@@ -5,10 +5,10 @@ ghost use Rattle.std.specs.List.{before_first, position_or_len};
 ghost use Rattle.far_script.specs.OneRecord.{is_comma};
 ghost use Rattle.far_script.specs.Numbers.{below, digits_from, digits_of, number_of, long_number_of, signed_number_of};
 
-/// From here on one digit more could make a number too large.
+/// From here on, one digit more could make a number too large.
 const MANY: u64 = 100_000_000_000_000_000;
 
-/// The number of a text of decimal digits, where it is of 64 bits.
+/// Returns the number of a text of decimal digits, if it is of 64 bits.
 fn digits(text: &[u8]) -> Option<u64>
     ensures { result ≡ below (2 ^ 64) (digits_of text.now) }
 {
@@ -27,14 +27,14 @@ fn digits(text: &[u8]) -> Option<u64>
     Some(number)
 }
 
-/// A number of a script: decimal digits without a sign, below 2^64.
+/// Returns a number of a script: decimal digits without a sign, below 2^64.
 pub fn long_number(word: &str) -> Option<u64>
     ensures { result ≡ long_number_of word.now }
 {
     digits(word.as_bytes())
 }
 
-/// A number of a script: decimal digits without a sign, below 2^32.
+/// Returns a number of a script: decimal digits without a sign, below 2^32.
 pub fn number(word: &str) -> Option<u32>
     ensures { result ≡ number_of word.now }
 {
@@ -42,7 +42,7 @@ pub fn number(word: &str) -> Option<u32>
     u32::try_from(number).ok()
 }
 
-/// The number of a cell: an optional `+` or `-` and one or more decimal digits, in the range of 64 bits, signed.
+/// Returns the number of a cell: an optional `+` or `-` and one or more decimal digits, in the range of 64 bits, signed.
 pub fn signed_number(field: &str) -> Option<i64>
     ensures { result ≡ signed_number_of field.now }
 {
@@ -57,7 +57,8 @@ pub fn signed_number(field: &str) -> Option<i64>
     }
 }
 
-/// The number of the digits that a text begins with, and how many they are: some 18 at most, so that it is never too large.
+/// Returns the number of the digits that a text begins with, and how many they are: about 18 at most, so that it is never too
+/// large.
 #[inline(always)]
 fn first_digits(text: &[u8]) -> (u64, usize)
     ensures within { result.1 ≤ length text.now }
@@ -76,8 +77,8 @@ fn first_digits(text: &[u8]) -> (u64, usize)
     (number, text.len())
 }
 
-/// The number that the first part of a text is, up to this byte or the end, and how long that part is: both are read in one go. It is
-/// `None` too where the number has many digits.
+/// Returns the number that the first part of a text is, up to this byte or the end, and how long that part is. Both are read in
+/// one go. It is `None` too if the number has many digits.
 #[inline(always)]
 pub(crate) fn first_number(text: &[u8], end: u8) -> Option<(u64, usize)>
     requires { is_ascii_digit end ≡ false }
@@ -93,7 +94,7 @@ pub(crate) fn first_number(text: &[u8], end: u8) -> Option<(u64, usize)>
     Some((number, len))
 }
 
-/// The same of a number that may have a minus, as the first field of a text. It is `None` too where it has a plus.
+/// Does the same for a number that may have a minus, as the first field of a text. It is `None` too if it has a plus.
 #[inline(always)]
 pub(crate) fn first_signed(text: &[u8]) -> Option<(i64, usize)>
     ensures { IfSome result (λ x. (x.1 ≡ position_or_len is_comma text.now) × (signed_number_of (before_first is_comma text.now) ≡ Some x.0)) }

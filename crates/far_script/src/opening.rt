@@ -8,8 +8,15 @@ use super::words::Words;
 use far_types::{Kind, Limits, Refusal};
 use std::alloc::Global;
 
-/// What the line `schema GROUP KINDS` or `schema GROUP KINDS PLACES EDITS INT_SEGMENTS INT_SIZE TEXT_SEGMENTS TEXT_SIZE`
-/// asks for.
+/// What the line `schema GROUP KINDS` or `schema GROUP KINDS PLACES EDITS INT_SEGMENTS INT_SIZE TEXT_SEGMENTS TEXT_SIZE` asks
+/// for.
+///
+/// ```
+/// match read_limits(group, words) {
+///     Some(limits) => Ok(Some(Opening { kinds, limits })),
+///     None => Ok(None),
+/// }
+/// ```
 #[derive(Drop, Debug)]
 pub struct Opening {
     /// The kinds of the columns, as many as were named.
@@ -25,6 +32,18 @@ pub const MAX_SESSIONS: u32 = 4;
 pub const MAX_EDITS: u32 = 1_000;
 
 /// What the first line of a script says.
+///
+/// ```
+/// let mut words = Words::new(line);
+/// match words.word() {
+///     Some(word) if word == "schema" => match read_opening(alloc, words)? {
+///         Some(opening) => Ok(Some(FirstLine::Schema(opening))),
+///         None => Ok(None),
+///     },
+///     Some(word) if word == "threads" => Ok(read_threads(words)),
+///     _ => Ok(None),
+/// }
+/// ```
 #[derive(Drop, Debug)]
 pub enum FirstLine {
     /// `schema ..`: a table is opened
@@ -38,7 +57,7 @@ pub enum FirstLine {
     },
 }
 
-/// The kind of a column that a word names: `int` or `text`.
+/// Returns the kind of a column that a word names: `int` or `text`.
 pub fn read_kind(word: &str) -> Option<Kind>
     ensures { result ≡ kind_named word.now }
 {
@@ -124,7 +143,7 @@ fn read_opening(alloc: Global, mut words: Words) -> Result<Option<Opening>, Refu
     }
 }
 
-/// The number, where it is from one to another.
+/// Returns the number, if it is from one to another.
 fn between(least: u32, most: u32, number: Option<u32>) -> Option<u32>
     ensures number { result ≡ between least most number }
     ensures within { IfSome result (λ n. (least ≤ n) × (n ≤ most)) }
@@ -147,7 +166,7 @@ fn read_threads(mut words: Words) -> Option<FirstLine>
     Some(FirstLine::Threads { sessions, edits })
 }
 
-/// What the first line of a script says, or `None` if it is no such line. Refused with `NoMemory` (1) alone.
+/// Returns what the first line of a script says, or `None` if it is no such line. Refused with `NoMemory` (1) alone.
 pub fn first_line(alloc: Global, line: &str) -> Result<Option<FirstLine>, Refusal>
     ensures start { IfOk result (λ found. option_map start_of found ≡ start_in line.now) }
     ensures within { IfOk result (λ found. IfSome found (λ first. IsWithin (start_of first))) }

@@ -1,4 +1,4 @@
-// Replies on their way out.
+// Replies that are gathered and then written.
 ghost use Rattle.std.specs.Prelude.{◌≡◌, ◌≤◌, [], ◌++◌, length, take, true, OnOk, OnErr, IfErr, IsOk};
 ghost use Rattle.std.specs.Io.KnownBytes.{Appends, Keeps};
 ghost use Rattle.far_script.specs.Flow.{Prints, has_failed};
@@ -15,17 +15,24 @@ use std::io::{ErrorKind, Write};
 const FULL: usize = 65_536;
 
 /// The replies that were printed and not written yet.
+///
+/// ```
+/// output.reply.truncate(0);
+/// let printed = outcome(&mut output.reply, &told);
+/// output.add_printed(printed)?;
+/// Ok(())
+/// ```
 #[derive(Drop)]
 pub struct Output {
     /// The replies that were not written yet.
     pub page: Page,
-    /// The reply at hand, which is added when it is whole.
+    /// The current reply, which is added when it is whole.
     pub reply: Page,
-    /// Whether a write failed. Nothing is written after it, and no other file can take it back.
+    /// Whether a write failed. Nothing is written after it. It is private, so that no other file can clear it.
     failed: bool,
 }
 
-/// Writes bytes until they are all taken or a write fails, and says how many were taken.
+/// Writes bytes until they are all taken or a write fails, and returns how many were taken.
 fn write_out<W: Write>(writer: &mut W, bytes: &[u8]) -> usize
     ensures sent { Appends (W.contents writer.old) (W.contents writer.new) (take result bytes.now) }
     ensures within { result ≤ length bytes.now }
@@ -49,7 +56,7 @@ fn write_out<W: Write>(writer: &mut W, bytes: &[u8]) -> usize
 }
 
 impl Output {
-    /// Nothing was printed yet.
+    /// Returns an output to which nothing was printed yet.
     pub fn new(alloc: Global) -> Output
         ensures { result.page ≡ [] }
     {
@@ -60,7 +67,7 @@ impl Output {
         }
     }
 
-    /// Adds the reply at hand. If memory is refused, the fault is `Memory`, and nothing is added.
+    /// Adds the current reply. If memory runs out, the fault is `Memory`, and nothing is added.
     pub fn add(&mut self) -> Result<(), ShellFault>
         ensures ok { OnOk result (self.new.page ≡ self.old.page ++ self.old.reply) }
         ensures err { OnErr result (self.new.page ≡ self.old.page) }
@@ -73,8 +80,8 @@ impl Output {
         }
     }
 
-    /// Adds the reply at hand, if it was printed. If it was not, memory was refused: the fault is `Memory`, and nothing is added. It
-    /// is built into its callers, since each step ends with it.
+    /// Adds the current reply, if it was printed. If it was not, memory ran out: the fault is `Memory`, and nothing is added.
+    /// It is inlined into its callers, since each step ends with it.
     #[inline(always)]
     pub fn add_printed(&mut self, printed: Result<(), Refusal>) -> Result<(), ShellFault>
         requires { IfErr printed (λ e. e ≡ Refusal.NoMemory) }
@@ -93,7 +100,7 @@ impl Output {
         }
     }
 
-    /// Adds a text as a reply of its own. If memory is refused, the fault is `Memory`, and nothing is added.
+    /// Adds a text as a reply of its own. If memory runs out, the fault is `Memory`, and nothing is added.
     pub fn add_text(&mut self, text: &str) -> Result<(), ShellFault>
         ensures ok { OnOk result (self.new.page ≡ self.old.page ++ text.now) }
         ensures err { OnErr result (self.new.page ≡ self.old.page) }
@@ -106,7 +113,7 @@ impl Output {
         }
     }
 
-    /// Adds the line of a refusal. If memory is refused, the fault is `Memory`, and nothing is added.
+    /// Adds the line of a refusal. If memory runs out, the fault is `Memory`, and nothing is added.
     pub fn add_refusal(&mut self, refusal: &Refusal) -> Result<(), ShellFault>
         ensures ok { OnOk result (self.new.page ≡ self.old.page ++ refusal_text refusal.now) }
         ensures err { OnErr result (self.new.page ≡ self.old.page) }
@@ -123,8 +130,8 @@ impl Output {
         }
     }
 
-    /// Writes what was gathered, and flushes the writer. Where that fails the fault is `Output`; what the writer took is
-    /// a front of what was gathered, and nothing is written again.
+    /// Writes what was gathered, and flushes the writer. If that fails, the fault is `Output`. What the writer took is a front
+    /// of what was gathered, and nothing is written again.
     pub fn flush<W: Write>(&mut self, writer: &mut W) -> Result<(), ShellFault>
         ensures printed { Prints (W.contents writer.old) self.old.page [] (W.contents writer.new) self.new.page }
         ensures ok { OnOk result (self.new.page ≡ []) }
@@ -148,7 +155,7 @@ impl Output {
         Ok(())
     }
 
-    /// The same where much was gathered.
+    /// Does the same if much was gathered.
     pub fn flush_if_full<W: Write>(&mut self, writer: &mut W) -> Result<(), ShellFault>
         ensures printed { Prints (W.contents writer.old) self.old.page [] (W.contents writer.new) self.new.page }
         ensures going { OnOk result (has_failed self.new ≡ has_failed self.old) }

@@ -11,6 +11,15 @@ use std::alloc::Global;
 use std::marker::Model;
 
 /// Replies that were not written yet. Contracts see their bytes.
+///
+/// ```
+/// page.text("refused ")?;
+/// page.number(u64::from(refusal.number()))?;
+/// page.text(" ")?;
+/// page.text(refusal.name())?;
+/// carried(page, refusal)?;
+/// page.text("\n")
+/// ```
 #[derive(Drop, Debug)]
 pub struct Page {
     bytes: Vec<u8>,
@@ -25,7 +34,7 @@ impl Model for Page {
 }
 
 impl Page {
-    /// An empty page.
+    /// Returns an empty page.
     pub fn new(alloc: Global) -> Page
         ensures { result ≡ [] }
     {
@@ -34,35 +43,35 @@ impl Page {
         }
     }
 
-    /// The bytes, lent in place.
+    /// Returns the bytes, borrowed.
     pub fn as_slice(&self) -> &[u8]
         ensures { result.now ≡ self.now }
     {
         self.bytes.as_slice()
     }
 
-    /// How many bytes there are.
+    /// Returns how many bytes there are.
     pub fn len(&self) -> usize
         ensures { result ≡ length self.now }
     {
         self.bytes.len()
     }
 
-    /// Whether there is no byte.
+    /// Returns whether there is no byte.
     pub fn is_empty(&self) -> bool
         ensures { result ≡ (length self.now == 0) }
     {
         self.bytes.is_empty()
     }
 
-    /// Forgets what stands behind the first `len` bytes.
+    /// Removes what stands behind the first `len` bytes.
     pub fn truncate(&mut self, len: usize)
         ensures { self.new ≡ take len self.old }
     {
         self.bytes.truncate(len);
     }
 
-    /// Forgets the first bytes.
+    /// Removes the first bytes.
     pub fn forget(&mut self, count: usize)
         requires { count ≤ length self.old }
         ensures { self.new ≡ drop count self.old }
@@ -111,7 +120,7 @@ fn needs_quotes(field: &[u8]) -> bool
     field.iter().any(|byte| *byte == b',' || *byte == b'"' || *byte == b'\r' || *byte == b'\n')
 }
 
-/// A record of one field as the csv writer writes it, with its line's end.
+/// Returns a record of one field as the csv writer writes it, with its line's end.
 fn write_record(alloc: Global, field: &[u8]) -> Result<Vec<u8>, Refusal>
     ensures row { IfOk result (λ text. text.items ≡ row_text default_writer (field.now ∷ [])) }
     ensures memory { IfErr result (λ e. e ≡ Refusal.NoMemory) }
@@ -127,8 +136,8 @@ fn write_record(alloc: Global, field: &[u8]) -> Result<Vec<u8>, Refusal>
 }
 
 impl Page {
-    /// Adds a field that the csv writer quotes. It is a function of its own, since the writer has a large frame, which each call would pay
-    /// for.
+    /// Adds a field that the csv writer quotes. It is a function of its own: the writer has a large stack frame, and each call
+    /// would have to make it.
     #[inline(never)]
     fn quoted_field(&mut self, field: &[u8]) -> Result<(), Refusal>
         requires { needs_quotes default_writer field.now ≡ true }
@@ -152,8 +161,7 @@ impl Page {
         }
     }
 
-    /// Adds a record of one field, as the csv writer writes it, without its line's end. Refused with `NoMemory` (1)
-    /// alone.
+    /// Adds a record of one field, as the csv writer writes it, without its line's end. Refused with `NoMemory` (1) alone.
     pub fn lone_field(&mut self, field: &[u8]) -> Result<(), Refusal>
         ensures ok { OnOk result (self.new ≡ self.old ++ record_text (field.now ∷ [])) }
         ensures memory { IfErr result (λ e. e ≡ Refusal.NoMemory) }

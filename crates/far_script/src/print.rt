@@ -6,7 +6,7 @@ ghost use Rattle.far_script.specs.Printing.{answer_text, carried_text, extrema_t
 use super::page::Page;
 use far_types::{Answer, ExtremaLines, Key, Refusal, TotalLines};
 
-/// A word and a number, on a line.
+/// Prints a word and a number, on a line.
 #[inline(always)]
 pub fn numbered(page: &mut Page, word: &str, number: u64) -> Result<(), Refusal>
     ensures ok { OnOk result (page.new ≡ page.old ++ numbered_text word.now number) }
@@ -18,7 +18,7 @@ pub fn numbered(page: &mut Page, word: &str, number: u64) -> Result<(), Refusal>
     page.byte(b'\n')
 }
 
-/// What a refusal carries.
+/// Prints what a refusal carries.
 fn carried(page: &mut Page, refusal: &Refusal) -> Result<(), Refusal>
     ensures ok { OnOk result (page.new ≡ page.old ++ carried_text refusal.now) }
     ensures memory { IfErr result (λ e. e ≡ Refusal.NoMemory) }
@@ -38,7 +38,7 @@ fn carried(page: &mut Page, refusal: &Refusal) -> Result<(), Refusal>
     }
 }
 
-/// `refused NUMBER NAME`, and what the refusal carries.
+/// Prints `refused NUMBER NAME`, and what the refusal carries.
 pub fn refused(page: &mut Page, refusal: &Refusal) -> Result<(), Refusal>
     ensures ok { OnOk result (page.new ≡ page.old ++ refusal_text refusal.now) }
     ensures memory { IfErr result (λ e. e ≡ Refusal.NoMemory) }
@@ -51,7 +51,7 @@ pub fn refused(page: &mut Page, refusal: &Refusal) -> Result<(), Refusal>
     page.text("\n")
 }
 
-/// A key that is a number, and a space. It needs no quotes.
+/// Prints a key that is a number, and a space. It needs no quotes.
 #[inline(always)]
 fn number_key(page: &mut Page, number: i64) -> Result<(), Refusal>
     ensures ok { OnOk result (page.new ≡ page.old ++ (record_text (signed_decimal number ∷ []) ++ space)) }
@@ -61,7 +61,7 @@ fn number_key(page: &mut Page, number: i64) -> Result<(), Refusal>
     page.byte(b' ')
 }
 
-/// The key of a line, and a space.
+/// Prints the key of a line, and a space.
 #[inline(always)]
 fn key(page: &mut Page, key: &Option<Key>) -> Result<(), Refusal>
     ensures ok { OnOk result (page.new ≡ page.old ++ key_text key.now) }
@@ -121,7 +121,7 @@ fn all_extrema(page: &mut Page, lines: &ExtremaLines) -> Result<(), Refusal>
     Ok(())
 }
 
-/// `EDITS COUNT SUM`
+/// Prints `EDITS COUNT SUM`
 fn reading(page: &mut Page, edits: u64, count: u64, sum: i128) -> Result<(), Refusal>
     ensures ok { OnOk result (page.new ≡ page.old ++ reading_text edits count sum) }
     ensures memory { IfErr result (λ e. e ≡ Refusal.NoMemory) }
@@ -134,7 +134,7 @@ fn reading(page: &mut Page, edits: u64, count: u64, sum: i128) -> Result<(), Ref
     page.text("\n")
 }
 
-/// `session SESSION gauge EDITS COUNT SUM`
+/// Prints `session SESSION gauge EDITS COUNT SUM`
 pub fn gauge(
     page: &mut Page,
     session: u64,
@@ -151,7 +151,7 @@ pub fn gauge(
     reading(page, edits, count, sum)
 }
 
-/// The lines of an answer, or `none`.
+/// Prints the lines of an answer, or `none`.
 pub fn answer(page: &mut Page, answer: &Answer) -> Result<(), Refusal>
     ensures ok { OnOk result (page.new ≡ page.old ++ answer_text answer.now) }
     ensures memory { IfErr result (λ e. e ≡ Refusal.NoMemory) }

@@ -8,7 +8,7 @@ use csv::{ReaderBuilder, StringRecord};
 use far_types::Refusal;
 use std::alloc::Global;
 
-/// The fields of a text that is exactly one record, by the csv reader: no header row, no trimming. Refused with
+/// Returns the fields of a text that is exactly one record, by the csv reader: no header row, no trimming. Refused with
 /// `NoMemory` (1) alone: a text in memory has no other way to fail.
 #[inline(never)]
 pub fn read_record(alloc: Global, text: &str) -> Result<Option<StringRecord>, Refusal>
@@ -33,7 +33,7 @@ pub fn read_record(alloc: Global, text: &str) -> Result<Option<StringRecord>, Re
     }
 }
 
-/// Whether a text may begin with a byte order mark.
+/// Returns whether a text may begin with a byte order mark.
 pub(crate) fn may_begin_with_order_mark(bytes: &[u8]) -> bool
     ensures { result ≡ (slice_index bytes.now 0 == 239) }
 {
@@ -51,8 +51,8 @@ fn has_mark(bytes: &[u8]) -> bool
         .any(|byte| *byte == b'"' || *byte == b'\r' || *byte == b'\n')
 }
 
-/// Whether the record of a text is what stands between its commas: it has no quote and no end of a line, and does not
-/// begin with a byte order mark.
+/// Returns whether a text has no quote and no end of a line, and cannot begin with a byte order mark. Then its record is what
+/// stands between its commas.
 pub fn is_plain(text: &str) -> bool
     ensures { result ≡ is_plain text.now }
 {

@@ -6,12 +6,20 @@ ghost use Rattle.std.specs.Io.KnownBytes.{ReadConsumes};
 use std::io;
 use std::io::Read;
 
-/// A reader of which contracts know whether a read may fail. So a script that ends by a failed read shows that readers of its type may
-/// fail.
+/// A reader of which contracts know whether a read may fail. So a script that ends by a failed read shows that readers of its
+/// type may fail.
+///
+/// An implementation reads as `read` does:
+///
+/// ```
+/// fn read_some(&mut self, buffer: &mut [u8]) -> io::Result<usize> {
+///     self.read(buffer)
+/// }
+/// ```
 ///
 /// Bytes at hand never fail. Any other reader goes into [`Fallible`].
 pub trait Source: Read {
-    /// Reads of readers of this type may fail.
+    /// Whether reads of readers of this type may fail.
     ghost may_fail: { Type 0 };
 
     /// Reads once, as `read` does.
@@ -30,6 +38,13 @@ impl Source for &[u8] {
 }
 
 /// A reader each read of which may fail.
+///
+/// ```
+/// match run_script(&rt, Fallible(rt.reader()), &mut writer) {
+///     Ok(()) => ExitCode::SUCCESS,
+///     Err(fault) => ExitCode::from(fault.status()),
+/// }
+/// ```
 #[derive(Drop)]
 pub struct Fallible<R: Read + Drop>(pub R);
 

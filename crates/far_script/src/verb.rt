@@ -2,7 +2,12 @@
 ghost use Rattle.std.specs.Prelude.{◌≡◌};
 ghost use Rattle.far_script.specs.Verbs.{movement_named, verb_of};
 
-/// A first word that is about objects or jobs: the word of the variant's name.
+/// A first word about objects or jobs: the word of the variant's name.
+///
+/// ```
+/// let step = movement_step(verb, words)?;
+/// Some(Command::Step(step))
+/// ```
 #[derive(Clone, Copy, Debug, PartialEq, Eq)]
 pub enum Movement {
     Lend,
@@ -19,7 +24,18 @@ pub enum Movement {
     Merge,
 }
 
-/// The first word of a command: the word of the variant's name, or one that is about objects or jobs.
+/// The first word of a command: the word of the variant's name, or one about objects or jobs.
+///
+/// ```
+/// let mut words = Words::new(line);
+/// let Some(word) = words.word() else {
+///     return Ok(None);
+/// };
+/// match read_verb(word) {
+///     Some(verb) => complete(alloc, kinds, verb, words),
+///     None => Ok(None),
+/// }
+/// ```
 #[derive(Clone, Copy, Debug, PartialEq, Eq)]
 pub enum Verb {
     Insert,
@@ -68,7 +84,7 @@ fn read_movement(word: &str) -> Option<Movement>
     }
 }
 
-/// The verb that a word names, where it names one.
+/// Returns the verb that a word names, if it names one.
 pub fn read_verb(word: &str) -> Option<Verb>
     ensures { result ≡ verb_of word.now }
 {

@@ -10,6 +10,16 @@ use far_types::{Filter, Fold, Kind, Op, Refusal, Spec, Test, Text};
 use std::alloc::Global;
 
 /// The operator of a test.
+///
+/// ```
+/// match operator {
+///     Operator::Compares(op) => compare(alloc, kind, column, op, constant),
+///     Operator::Begins => {
+///         let text = text(alloc, constant)?;
+///         Ok(Some(Test::TextBegins { column, text }))
+///     }
+/// }
+/// ```
 #[derive(Clone, Copy, Debug, PartialEq, Eq)]
 pub enum Operator {
     /// `=`, `!=`, `<`, `<=`, `>`, `>=`
@@ -59,7 +69,7 @@ fn text(alloc: Global, constant: &str) -> Result<Text, Refusal>
     Ok(Text::new(String::from_str(alloc, constant)?))
 }
 
-/// The test of a constant with an operator that numbers have.
+/// Returns the test of a constant with an operator that numbers have.
 fn compare(
     alloc: Global,
     kind: Option<Kind>,
@@ -91,7 +101,7 @@ fn compare(
     }
 }
 
-/// A test, whose kind its column, its operator and its constant say.
+/// Returns a test, whose kind its column, its operator and its constant say.
 fn test(
     alloc: Global,
     kind: Option<Kind>,
@@ -182,7 +192,7 @@ fn read_tests(alloc: Global, kinds: &[Kind], mut words: Words) -> Result<Option<
     Ok(Some(tests))
 }
 
-/// The aggregate with the tests that are left.
+/// Returns the aggregate with the tests that are left.
 fn spec_with_tests(
     alloc: Global,
     kinds: &[Kind],
@@ -205,7 +215,7 @@ fn spec_with_tests(
     }
 }
 
-/// `FOLD COLUMN [by COLUMN] [if COLUMN OPERATOR CONSTANT]..`, or `None` if the words are no aggregate. Refused with
+/// Reads `FOLD COLUMN [by COLUMN] [if COLUMN OPERATOR CONSTANT]..`. Returns `None` if the words are no aggregate. Refused with
 /// `NoMemory` (1) alone.
 pub fn spec(alloc: Global, kinds: &[Kind], mut words: Words) -> Result<Option<Spec>, Refusal>
     ensures spec { IfOk result (λ spec. spec ≡ spec_of kinds.now words.entry) }

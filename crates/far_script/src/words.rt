@@ -7,8 +7,14 @@ use super::cut::{behind, cut};
 use super::number::{first_number, long_number};
 use std::marker::Model;
 
-/// What is left of a line: words with exactly one space between them, from the first on. Contracts see the text that is
-/// left, and nothing once the last word was taken.
+/// What is left of a line: words with exactly one space between them, from the first on. Contracts see the text that is left,
+/// and nothing once the last word was taken.
+///
+/// ```
+/// let sessions = between(1, MAX_SESSIONS, words.number())?;
+/// let edits = between(1, MAX_EDITS, words.last_number())?;
+/// Some(FirstLine::Threads { sessions, edits })
+/// ```
 #[derive(Drop)]
 pub struct Words<'a> {
     left: Option<&'a str>,
@@ -22,7 +28,7 @@ impl<'a> Model for Words<'a> {
     ghost view = { λ words. option_map (λ text. text.now) words.left };
 }
 
-/// What stands behind the first word of a text, which is so long, and its space.
+/// Returns what stands behind the first word of a text, which has `len` bytes, and its space.
 #[inline(always)]
 fn rest_behind(text: &str, len: usize) -> Option<&str>
     requires { len ≡ position_or_len is_space text.now }
@@ -36,28 +42,28 @@ fn rest_behind(text: &str, len: usize) -> Option<&str>
 }
 
 impl<'a> Words<'a> {
-    /// The words of a text.
+    /// Returns the words of a text.
     pub fn new(text: &'a str) -> Words<'a>
         ensures { result ≡ Some text.now }
     {
         Words { left: Some(text) }
     }
 
-    /// What is left, with all its spaces.
+    /// Returns what is left, with all its spaces.
     pub fn rest(self) -> Option<&'a str>
         ensures { option_map (λ text. text.now) result ≡ self.entry }
     {
         self.left
     }
 
-    /// Whether the last word was taken.
+    /// Returns whether the last word was taken.
     pub fn is_empty(&self) -> bool
         ensures { result ≡ is_none self.now }
     {
         self.left.is_none()
     }
 
-    /// Takes the next word, where there is one. It is empty where two spaces stand together, or one at an end.
+    /// Takes the next word, if there is one. It is empty if two spaces are adjacent, or one is at an end.
     pub fn word(&mut self) -> Option<&'a str>
         ensures word { option_map (λ word. word.now) result ≡ word_in self.old }
         ensures left { self.new ≡ after self.old }
@@ -77,7 +83,7 @@ impl<'a> Words<'a> {
         }
     }
 
-    /// Whether the next word is this one.
+    /// Returns whether the next word is this one.
     pub fn next_is(&self, name: &str) -> bool
         ensures { result ≡ is_next self.now name.now }
     {
@@ -114,7 +120,7 @@ impl<'a> Words<'a> {
         }
     }
 
-    /// The last word as a number below 2^32: there is no other word behind it.
+    /// Returns the last word as a number below 2^32: there is no other word behind it.
     pub fn last_number(mut self) -> Option<u32>
         ensures { result ≡ last_number_in self.entry }
     {
@@ -122,7 +128,7 @@ impl<'a> Words<'a> {
         if self.is_empty() { number } else { None }
     }
 
-    /// The last word as a number below 2^64: there is no other word behind it.
+    /// Returns the last word as a number below 2^64: there is no other word behind it.
     pub fn last_long_number(mut self) -> Option<u64>
         ensures { result ≡ last_long_number_in self.entry }
     {

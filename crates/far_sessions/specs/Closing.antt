@@ -18,7 +18,7 @@ pub record IsSeenBy (k : ℕ) (log : List Entry) (s : Known) : Type 0 where
   pub seen : IsPrefix (at s k).seen log
   pub own : by_session (number_of s) log ≡ (at s k).mine
 
--- so it is with each session
+-- that holds of each session
 abbrev pub SeenByAll : ℕ → List Entry → List Known → Type 0
 SeenByAll k log [] = Unit {0}
 SeenByAll k log (s ∷ sessions) = IsSeenBy k log s × SeenByAll k log sessions

@@ -5,7 +5,7 @@ use Rattle.far_history.specs.Histories.{Planned, IsLegal, by_session}
 use Rattle.far_history.specs.Sessions.{Told, newcomer}
 use Rattle.far_sessions.specs.Rooms.{four}
 
--- what it knows of each
+-- what it knows of each history
 pub record Known : Type 0 where
   pub zeroth : Told
   pub first : Told
@@ -28,7 +28,8 @@ abbrev pub newcomers : ℕ → List Known
 newcomers zero = []
 newcomers (suc n) = newcomers n ++ newcomer_at_all n ∷ []
 
--- the session has seen a legal history, which begins with all that it had seen and has just its own entries of it. It made none
+-- the session has seen a legal history, which begins with all that it had seen and has just its own entries of it. It made no
+-- edit
 pub record SeesMore (p : Planned) (before after : Told) : Type 0 where
   pub more : IsPrefix before.seen after.seen
   pub legal : IsLegal p after.seen

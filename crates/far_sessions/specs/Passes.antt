@@ -9,7 +9,7 @@ use Rattle.far_history.specs.Sessions.{IsKeeper}
 use Rattle.far_history.specs.declared.view.Entry.{Entry}
 use Rattle.far_history.specs.declared.view.View.{View}
 
--- a pass that is put away, or that is out
+-- a pass that is held, or that is out
 abbrev pub Holder : Type 0
 Holder = Option (Kept (List ℕ) (Doing (List ℕ) View))
 
@@ -22,7 +22,7 @@ history_in (Some k) = (cell_view k.pass).all
 abbrev pub IsHistory : TableId → Planned → TableId → View → Type 0
 IsHistory id p table v = (table ≡ id) × IsKeeper v × (v.given ≡ p.sessions) × IsLegal p v.all × AllBelow p.sessions v.all
 
--- the pass is there, and keeps the history
+-- the pass is held, and keeps the history
 abbrev pub IsHeld : TableId → Planned → Holder → Type 0
 IsHeld id p None = ⊥
 IsHeld id p (Some k) = IsHistory id p k.pass.table_id (cell_view k.pass)

@@ -9,6 +9,6 @@ four a b c d (suc zero) = b
 four a b c d (suc (suc zero)) = c
 four a b c d (suc (suc (suc k))) = d
 
--- some cell, where none is named
+-- some cell, if none is named
 abbrev pub no_cell : TableId
 no_cell = record { words = 0; slots = 0; views_name = 0; atom = 0; block = 0; offset = 0; slot_names = [] }

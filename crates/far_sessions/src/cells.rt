@@ -10,46 +10,55 @@ use far_history::{Naming, Reading};
 use far_types::Refusal;
 use std::sync::Wait;
 
-// Blocks with nothing in them, which lie between the blocks of the cells.
+// Empty blocks, which lie between the blocks of the cells.
 pub(crate) type Spacers = Vec<Vec<u64>>;
 
-/// The four cells, and no stripe's lock. What holds each is padded, so that no two holders are on one cache line. The words of each lie in
-/// a block of their own, and spacers lie between these blocks. So an edit of one stripe does not slow the readings of another stripe's
-/// gauge.
+/// The four cells, without a stripe's lock.
+///
+/// Each holder is padded, so that no two are on one cache line. The words of each cell lie in a block of their own, with
+/// spacers between these blocks. So an edit of one stripe does not slow the readings of another stripe's gauge.
+///
+/// ```
+/// let mut me = worked.session;
+/// let home = home_of(&me);
+/// let Ok(reading) = cells.gauge(rt, &mut me, home) else {
+///     unreachable!()
+/// };
+/// ```
 #[derive(Drop)]
 pub struct Cells<N: Naming, B: Rooms> {
     pub(crate) zero: CachePadded<Counter<N, B, 0>>,
     pub(crate) one: CachePadded<Counter<N, B, 1>>,
     pub(crate) two: CachePadded<Counter<N, B, 2>>,
     pub(crate) three: CachePadded<Counter<N, B, 3>>,
-    // They stay as long as the cells: else what a thread writes would soon lie in their place.
+    // They stay as long as the cells. Otherwise other data that a thread writes would soon lie in their place.
     pub(crate) spacers: Spacers,
 }
 
 impl<N: Naming, B: Rooms> Cells<N, B> {
-    /// The cell of stripe 0.
+    /// Returns the cell of stripe 0.
     pub fn zero(&self) -> &Counter<N, B, 0> {
         &self.zero
     }
 
-    /// The cell of stripe 1.
+    /// Returns the cell of stripe 1.
     pub fn one(&self) -> &Counter<N, B, 1> {
         &self.one
     }
 
-    /// The cell of stripe 2.
+    /// Returns the cell of stripe 2.
     pub fn two(&self) -> &Counter<N, B, 2> {
         &self.two
     }
 
-    /// The cell of stripe 3.
+    /// Returns the cell of stripe 3.
     pub fn three(&self) -> &Counter<N, B, 3> {
         &self.three
     }
 
-    /// What the history of a stripe so far leaves. Takes no stripe's lock, and reads one cell once.
+    /// Returns what the gauge of a stripe reads after its history so far. Takes no stripe's lock, and reads one cell once.
     ///
-    /// Refused with `OutOfRange` (14) if there is no such stripe; the session is then as it was.
+    /// Refused with `OutOfRange` (14) if there is no such stripe. The session is then the same as before.
     pub fn gauge<R: Wait>(
         &self,
         rt: &R,

@@ -9,7 +9,7 @@ use crate::rooms::Rooms;
 use far_history::Naming;
 use std::sync::Wait;
 
-// Whether a session of this number is there.
+// Returns whether a session of this number is there.
 fn has<B: Rooms>(sessions: &[Session<B>], number: u64) -> bool
     ensures { IsTrue result ↔ Has number sessions.now }
 {
@@ -21,7 +21,7 @@ fn has<B: Rooms>(sessions: &[Session<B>], number: u64) -> bool
     false
 }
 
-/// Whether the sessions below a number are all there.
+/// Returns whether the sessions below a number are all there.
 pub fn are_whole<B: Rooms>(sessions: &[Session<B>], count: u64) -> bool
     ensures { IsTrue result ↔ IsWhole count sessions.now }
 {
@@ -33,8 +33,8 @@ pub fn are_whole<B: Rooms>(sessions: &[Session<B>], count: u64) -> bool
     true
 }
 
-/// Ends these sessions. Each history is as it was, and its entries of each of them are just the session's own. With `are_whole` before
-/// it, they are all the entries that a history has.
+/// Ends these sessions. Each history is the same as before, and its entries of each of them are just the session's own. If
+/// `are_whole` held before, they are all the entries that a history has.
 pub fn settle<N: Naming, B: Rooms, R: Wait>(
     rt: &R,
     cells: &Cells<N, B>,

@@ -21,6 +21,17 @@ use std::sync::Wait;
 /// Keeps the history of stripe I. It lies beside the table, under its lock. No list of edits is stored.
 ///
 /// Contracts see the history. It is legal, and each entry is of a session of the plan.
+///
+/// ```
+/// let before = self.keeper.look(rt, counter, me);
+/// let told = Snapshot::of(&edit);
+/// let changed = change::<N, S>(&mut self.frame, before.edits, edit)?;
+/// self.keeper.add(rt, counter, me, changed.after, told);
+/// Ok(Applied {
+///     number: changed.after.edits,
+///     place: changed.place,
+/// })
+/// ```
 #[derive(Drop)]
 pub struct Keeper<N: Naming, B: Rooms, const I: usize> {
     pub(crate) pass: Option<Kept<[u64; 4], Doing<[u64; 4], View>>>,
@@ -40,6 +51,13 @@ impl<N: Naming, B: Rooms, const I: usize> Model for Keeper<N, B, I> {
 }
 
 /// The keepers of the four histories.
+///
+/// ```
+/// keepers.zero.take_in(rt, cells.zero(), zero);
+/// keepers.one.take_in(rt, cells.one(), one);
+/// keepers.two.take_in(rt, cells.two(), two);
+/// keepers.three.take_in(rt, cells.three(), three);
+/// ```
 #[derive(Drop)]
 pub struct Keepers<N: Naming, B: Rooms> {
     /// The keeper of stripe 0.
@@ -53,7 +71,7 @@ pub struct Keepers<N: Naming, B: Rooms> {
 }
 
 impl<N: Naming, B: Rooms, const I: usize> Keeper<N, B, I> {
-    /// Shows a session the history, and what it leaves.
+    /// Shows a session the history, and returns what the gauge reads after it.
     pub fn look<R: Wait>(
         &mut self,
         rt: &R,
@@ -77,7 +95,8 @@ impl<N: Naming, B: Rooms, const I: usize> Keeper<N, B, I> {
         reading_of(words)
     }
 
-    /// Adds an edit to the history, as this session, which has then seen all of it. `after` is what the longer history leaves.
+    /// Adds an edit to the history, as this session, which has then seen all of it. `after` is what the gauge reads after the
+    /// longer history.
     pub fn add<R: Wait>(
         &mut self,
         rt: &R,
@@ -107,7 +126,7 @@ impl<N: Naming, B: Rooms, const I: usize> Keeper<N, B, I> {
         self.pass = Some(Kept::new(pass));
     }
 
-    /// Ends a session at this stripe. Its own entries are all that the history has of it.
+    /// Ends a session at this stripe. The history's entries of it are exactly its own.
     pub fn take_in<R: Wait>(&mut self, rt: &R, counter: &Counter<N, B, I>, place: Place<B, I>)
         ensures history { self.new ≡ self.old }
         ensures seen { IsPrefix place.seen self.old }

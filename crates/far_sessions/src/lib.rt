@@ -1,8 +1,8 @@
 #![tactic(auto)]
-//! Sessions of four histories that threads share: what each session knows of each, what keeps a history beside its table, and the
-//! gauges that are read without a stripe's lock.
+//! Sessions of four histories that threads share: what each session knows of each history, what keeps a history beside its
+//! table, and the gauges that are read without a stripe's lock.
 //!
-//! The crate knows no table. Who has a table under a lock puts the [`Keeper`] of its history beside it.
+//! The crate knows no table. Whoever has a table under a lock puts the [`Keeper`] of its history beside it.
 
 pub mod cells;
 pub mod closing;

@@ -14,7 +14,7 @@ use far_kept::Kept;
 use std::alloc::{AllocError, Global};
 use std::marker::{Model, PhantomData};
 
-/// A cell that was just made, with the pass that keeps its empty history. Contracts see which cell it is.
+/// A new cell, with the pass that keeps its empty history. Contracts see which cell it is.
 #[derive(Drop)]
 struct Fresh<N: Naming> {
     cell: Cell<N>,
@@ -34,7 +34,7 @@ impl<N: Naming> Model for Fresh<N> {
     ghost invariant = { λ s. (s.pass.table_id ≡ s.cell.table.shared.table_id) × (cell_view s.pass ≡ keeper [] 0) };
 }
 
-/// Gives the sessions of a stripe out. Contracts see how many it gave.
+/// Gives out the sessions of a stripe. Contracts see how many it gave.
 #[derive(Drop)]
 struct Giver<B: Rooms, const I: usize> {
     pass: Pass,
@@ -56,11 +56,11 @@ impl<B: Rooms, const I: usize> Model for Giver<B, I> {
 // How many words a cell has: its four and a version.
 const CELL_WORDS: usize = 5;
 
-// How many spacers lie before a cell. Four have 160 bytes, which is more than two cache lines.
+// How many spacers lie before a cell. Four have 160 bytes, more than two cache lines.
 const SPACERS: u32 = 4;
 
-// Adds spacers. Each is a block of a cell's size, since an allocator hands out blocks of one size side by side: one large block could lie
-// elsewhere, and two cells beside each other.
+// Adds spacers. Each is a block of a cell's size. An allocator places blocks of one size next to each other. One large block
+// could lie elsewhere, and leave two cells adjacent.
 fn add_spacers(alloc: Global, spacers: &mut Spacers) -> Result<(), AllocError> {
     for _ in 0..SPACERS {
         spacers.push(Vec::with_capacity(alloc, CELL_WORDS)?)?;
@@ -69,14 +69,14 @@ fn add_spacers(alloc: Global, spacers: &mut Spacers) -> Result<(), AllocError> {
 }
 
 impl<N: Naming> Fresh<N> {
-    // A cell, after spacers that keep it off the one before.
+    // Makes a cell, after spacers that separate it from the one before.
     fn make(alloc: Global, spacers: &mut Spacers) -> Result<Fresh<N>, AllocError> {
         add_spacers(alloc, spacers)?;
         let (cell, pass) = begin(alloc)?;
         Ok(Fresh { cell, pass })
     }
 
-    // The cell under its name, and what gives its sessions out.
+    // Returns the cell under its name, and what gives out its sessions.
     fn named<B: Rooms, const I: usize>(self) -> (Counter<N, B, I>, Giver<B, I>)
         requires { self ≡ B.cells I }
         ensures { result.1 ≡ 0 }
@@ -96,7 +96,7 @@ impl<N: Naming> Fresh<N> {
 }
 
 impl<B: Rooms, const I: usize> Giver<B, I> {
-    // The next session.
+    // Returns the next session.
     fn give<N: Naming>(&mut self, counter: &Counter<N, B, I>) -> Place<B, I>
         ensures count { self.new ≡ self.old + 1 }
         ensures session { result ≡ newcomer self.old }
@@ -108,7 +108,7 @@ impl<B: Rooms, const I: usize> Giver<B, I> {
         }
     }
 
-    // Keeps the history, once all sessions are out.
+    // Keeps the history, once all sessions are given out.
     fn into_keeper<N: Naming>(self) -> Keeper<N, B, I>
         requires { self ≡ N.plan.sessions }
         ensures { result ≡ [] }
@@ -121,7 +121,14 @@ impl<B: Rooms, const I: usize> Giver<B, I> {
     }
 }
 
-/// Four cells that were just made, of empty histories. Contracts see which cell each stripe has.
+/// Four new cells, of empty histories. Contracts see which cell each stripe has.
+///
+/// ```
+/// match with_other(frames, cells.open::<B>(alloc, sessions)) {
+///     Ok((frames, opened)) => Ok(share(alloc, count, frames, opened)),
+///     Err(refusal) => Err(refusal),
+/// }
+/// ```
 #[derive(Drop)]
 pub struct Made<N: Naming> {
     zero: Fresh<N>,
@@ -132,11 +139,19 @@ pub struct Made<N: Naming> {
 }
 
 /// What four histories begin with.
+///
+/// ```
+/// let Opened {
+///     keepers,
+///     cells,
+///     sessions,
+/// } = opened;
+/// ```
 #[derive(Drop)]
 pub struct Opened<N: Naming, B: Rooms> {
-    /// What goes beside each table, under its lock.
+    /// For each table a keeper, to lie beside it under its lock.
     pub keepers: Keepers<N, B>,
-    /// What stands outside the locks.
+    /// The cells, which lie outside the locks.
     pub cells: Cells<N, B>,
     /// The sessions, in the order of their numbers.
     pub sessions: Vec<Session<B>>,
@@ -155,7 +170,8 @@ impl<N: Naming> Made<N> {
         })
     }
 
-    /// The keepers of the four empty histories, the cells, and as many sessions as the plan has. Refused if memory is out.
+    /// Returns the keepers of the four empty histories, the cells, and the sessions, of which there are `count`. Refused if
+    /// memory is out.
     pub fn open<B: Rooms>(self, alloc: Global, count: u64) -> Result<Opened<N, B>, AllocError>
         requires names { (self.zero ≡ B.cells 0) × (self.one ≡ B.cells 1) × (self.two ≡ B.cells 2) × (self.three ≡ B.cells 3) }
         requires count { count ≡ N.plan.sessions }

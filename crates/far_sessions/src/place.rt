@@ -10,7 +10,21 @@ use far_history::{Naming, Pass, Reading};
 use std::marker::{Model, PhantomData};
 use std::sync::Wait;
 
-/// A session at stripe I. Contracts see its number, the history that it has seen and its own entries in it.
+/// A session at stripe I. Contracts see its number, the history that it has seen, and its own entries in it.
+///
+/// ```
+/// let Session {
+///     number: _,
+///     zero,
+///     one,
+///     two,
+///     three,
+/// } = session;
+/// keepers.zero.take_in(rt, cells.zero(), zero);
+/// keepers.one.take_in(rt, cells.one(), one);
+/// keepers.two.take_in(rt, cells.two(), two);
+/// keepers.three.take_in(rt, cells.three(), three);
+/// ```
 #[derive(Drop)]
 pub struct Place<B: Rooms, const I: usize> {
     pub(crate) pass: Pass,
@@ -63,7 +77,7 @@ impl<B: Rooms> Model for Session<B> {
 }
 
 impl<B: Rooms> Session<B> {
-    /// The session's number, counted from 0.
+    /// Returns the session's number, counted from 0.
     pub fn number(&self) -> u64
         ensures { (k : ℕ) → (at self.now k).by ≡ result }
     {
@@ -72,7 +86,7 @@ impl<B: Rooms> Session<B> {
 }
 
 impl<N: Naming, B: Rooms, const I: usize> Counter<N, B, I> {
-    /// What the history so far leaves. Takes no stripe's lock.
+    /// Returns what the gauge reads after the history so far. Takes no stripe's lock.
     pub fn gauge<R: Wait>(&self, rt: &R, me: &mut Place<B, I>) -> Reading
         ensures reading { result ≡ gauge_of N.plan me.new.seen }
         ensures seen { SeesMore N.plan me.old me.new }

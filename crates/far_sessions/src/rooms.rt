@@ -4,7 +4,11 @@ ghost use Rattle.std.specs.Prelude.{◌≡◌};
 use far_history::{Cell, Naming};
 use std::marker::{Brand, PhantomData};
 
-/// Names the four cells.
+/// Names the four cells. It has no functions: a caller picks a type, as `Brand`.
+///
+/// ```
+/// opened::<N, Brand, S, R>(rt, alloc, made, store, edits)
+/// ```
 pub trait Rooms {
     ghost use Rattle.std.specs.Prelude.{ℕ};
     ghost use Rattle.atomic_table.specs.Seated.{TableId};
@@ -18,7 +22,17 @@ impl Rooms for Brand {
     ghost cells = { λ _. no_cell };
 }
 
-/// The cell of stripe I, which stands outside any lock.
+/// The cell of stripe I, outside any lock.
+///
+/// ```
+/// match stripe {
+///     0 => Ok(self.zero().gauge(rt, &mut me.zero)),
+///     1 => Ok(self.one().gauge(rt, &mut me.one)),
+///     2 => Ok(self.two().gauge(rt, &mut me.two)),
+///     3 => Ok(self.three().gauge(rt, &mut me.three)),
+///     _ => Err(Refusal::OutOfRange),
+/// }
+/// ```
 #[derive(Drop)]
 pub struct Counter<N: Naming, B: Rooms, const I: usize> {
     pub(crate) cell: Cell<N>,

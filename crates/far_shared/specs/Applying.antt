@@ -33,24 +33,24 @@ places_cells schema (edit.Insert row) = true
 places_cells schema (edit.Set p c cell) = is_text (slice_get schema c)
 places_cells schema (edit.Remove p) = false
 
--- a refusal that the plain table does not know, since none of its objects is ever away and it has space for all: an object of a column
--- of the schema is away, in the row group that the edit writes; or there is no space for what the edit places, where no text object
--- would be too long
+-- a refusal that the plain table does not know, since none of its objects is ever away and it has space for all. An object of a
+-- column of the schema is away, in the row group that the edit writes; or there is no space for what the edit places, although
+-- no text object would be too long
 abbrev pub IsOfObjects : (columns group : ℕ) (places_some is_too_long : Bool) → Refusal → Type 0
 IsOfObjects columns group places_some is_too_long (refusal.Absent c g) = (c < columns) × (g ≡ group)
 IsOfObjects columns group places_some is_too_long refusal.RegionFull = (places_some ≡ true) × (is_too_long ≡ false)
 IsOfObjects columns group places_some is_too_long _ = ⊥
 
--- why an edit of a table over objects is refused: the plain table refuses it so; or it has no fault of its own, and objects stand in
--- its way; or the plain table accepts it, and memory is wanted
+-- why an edit of a table over objects is refused: the plain table refuses it for that reason; or it has no fault of its own,
+-- and its objects prevent it; or the plain table accepts it, and memory ran out
 abbrev pub WhyNot : Table → Edit → Refusal → Type 0
 WhyNot table e given = (edit_refusal table e ≡ Some given)
     ⊎ (((first_of (edit_faults table.schema table.limits table.places e) ≡ None) × IsOfObjects (length table.schema) (place_of table e / table.limits.group) (places_cells table.schema e) (overfills table.schema table.limits e table.places) given)
     ⊎ ((edit_refusal table e ≡ None) × (given ≡ refusal.NoMemory)))
 
 module _ (p : Planned) (before : Told) (e : Edit) (after : Told) where
-  -- the edit was accepted. The session has then seen a legal history which begins with all that it had seen, and ends with this edit
-  -- at the number that was told. It is one more of the session's own
+  -- the edit was accepted. The session has then seen a legal history. It begins with all that the session had seen, and ends
+  -- with this edit at the number that was returned. The edit is one more of the session's own
   pub record Extends (applied : Applied) : Type 0 where
     pub log : List Entry
     pub more : IsPrefix before.seen log
@@ -62,7 +62,7 @@ module _ (p : Planned) (before : Told) (e : Edit) (after : Told) where
     pub number : applied.number ≡ length after.seen
     pub place : applied.place ≡ place_of (replay p log) e
 
-  -- the edit was refused, as over the replay of the history that the session has then seen. It made none
+  -- the edit was refused, as over the replay of the history that the session has then seen. The session made no edit
   pub record IsRefused (given : Refusal) : Type 0 where
     pub sees : SeesMore p before after
     pub why : WhyNot (replay p after.seen) e given

@@ -28,13 +28,13 @@ pub record IsLeft (p : Planned) (table : Table) : Type 0 where
   pub legal : IsLegal p log
   pub stripe : IsStripe p log table
 
--- why four stripes do not answer: their aggregates differ, or they are alike and row groups or memory are wanted
+-- why four stripes do not answer: their aggregates differ, or they are alike and row groups are pending or memory ran out
 abbrev pub AskRefusal : ℕ → Table → Table → Table → Table → Refusal → Type 0
 AskRefusal a zero one two three given = ((given ≡ refusal.NoAggregate) × ¬ (AreAlike a zero one two three))
     ⊎ (AreAlike a zero one two three × LeftRefusal (pending_in_all a zero one two three) given)
 
--- what four tables that legal histories leave answer under a number: all of them have the same aggregate there with nothing left, and it
--- is answered over the rows of the four, one table after the other; or that is refused as it is for these four
+-- the answer of four tables that legal histories leave, under a number: all of them have the same aggregate there with nothing
+-- pending. The answer is over the rows of the four, one table after the other. Or it is refused as for these four
 pub record IsAsked (p : Planned) (a : ℕ) (result : Result Answer Refusal) : Type 0 where
   pub zero : Table
   pub one : Table

@@ -20,7 +20,7 @@ spec_at table a = option_map (λ aggregate. aggregate.spec) (aggregate_at table 
 abbrev pub AreLike : ℕ → Table → Table → Type 0
 AreLike a one other = (spec : Spec) × (spec_at one a ≡ Some spec) × (spec_at other a ≡ Some spec) × (one.schema ≡ other.schema)
 
--- so have four
+-- four tables have one schema, and the same aggregate under a number
 pub record AreAlike (a : ℕ) (one two three four : Table) : Type 0 where
   pub second : AreLike a one two
   pub third : AreLike a one three
@@ -45,15 +45,17 @@ IsOf fold.Totals (answer.Extrema lines) = ⊥
 IsOf fold.Extrema (answer.Totals lines) = ⊥
 IsOf fold.Extrema (answer.Extrema lines) = Unit {0}
 
--- why tables with so many row groups left do not answer: some are pending, or memory is wanted
+-- why tables with this many pending row groups do not answer: some are pending, or memory ran out
 abbrev pub LeftRefusal : ℕ → Refusal → Type 0
 LeftRefusal some given = ((some ≢ 0) × (given ≡ refusal.Building some)) ⊎ ((some ≡ 0) × (given ≡ refusal.NoMemory))
 
--- the same of any tables: where no number of 32 bits tells how many are left, memory is wanted. Four stripes never leave so many
+-- the same of any tables: also `NoMemory` if the number of pending row groups is not one of 32 bits. Four stripes never leave
+-- that many
 abbrev pub AnyRefusal : ℕ → Refusal → Type 0
 AnyRefusal some given = LeftRefusal some given ⊎ ((2 ^ 32 ≤ some) × (given ≡ refusal.NoMemory))
 
--- why any four tables do not answer: their schemas or their aggregates differ, or they are alike and row groups or memory are wanted
+-- why any four tables do not answer: their schemas or their aggregates differ, or they are alike and row groups are pending or
+-- memory ran out
 abbrev pub FourRefusal : ℕ → Table → Table → Table → Table → Refusal → Type 0
 FourRefusal a one two three four given = ((given ≡ refusal.NoAggregate) × ¬ (AreAlike a one two three four))
     ⊎ (AreAlike a one two three four × AnyRefusal (pending_in_all a one two three four) given)

@@ -20,20 +20,20 @@ pub record Held (K : Type 0) : Type 0 where
 abbrev pub first_registered : Spec → Registered
 first_registered spec = record { spec = spec; registration = 0; pending = [] }
 
--- the rows of a table with this schema have an index for each column, and their objects bear the number of their stripe
+-- the rows of a table with this schema have an index for each column, and their objects have the number of their stripe
 pub record AreRowsOf {K : Type 0} (schema : List Kind) (n : ℕ) (r : Rows K) : Type 0 where
   pub column_indexes : length r.column_indexes ≡ length schema
   pub numbers : r.number_objects.number ≡ n
   pub texts : r.text_objects.number ≡ n
 
--- a call keeps these
+-- a call keeps the indexes of the columns and the number
 pub record KeepsColumns {K : Type 0} (old new : Rows K) : Type 0 where
   pub column_indexes : new.column_indexes ≡ old.column_indexes
   pub numbers : new.number_objects.number ≡ old.number_objects.number
   pub texts : new.text_objects.number ≡ old.text_objects.number
 
--- the table is the replay of the history, and its aggregate 0 is the gauge of the plan, with nothing missing. Others may be registered
--- beside it, of which no more row groups are left than a table may have places
+-- the table is the replay of the history, and its aggregate 0 is the gauge of the plan, with nothing pending. Others may be
+-- registered too. In none of them are more row groups pending than a table may have places
 pub record IsStripe (p : Planned) (log : List Entry) (table : Table) : Type 0 where
   pub plan : IsPlan p
   pub schema : table.schema ≡ p.schema

@@ -8,7 +8,7 @@ use Rattle.far_types.specs.Bounds.{spec_refusal}
 use Rattle.far_table.specs.Watching.{registered_at, with_aggregate}
 use Rattle.far_shared.specs.Stripes.{Held}
 
--- it cannot be had over the schema; or there are too many, or they have not the same number in all four, or memory is wanted
+-- it cannot be had over the schema; or there are too many, or they have not the same number in all four, or memory ran out
 abbrev pub WatchRefusal : List Kind → Spec → Refusal → Type 0
 WatchRefusal schema spec given = (spec_refusal schema spec ≡ Some given)
     ⊎ ((spec_refusal schema spec ≡ None) × ((given ≡ refusal.TooManyAggregates) ⊎ (given ≡ refusal.NoMemory)))

@@ -44,13 +44,13 @@ end_refusals kind.Evac = 20 ∷ 19 ∷ []
 end_refusals kind.Fetch = 20 ∷ 17 ∷ 1 ∷ []
 end_refusals kind.Offload = 12 ∷ 20 ∷ 1 ∷ []
 
--- the numbers of those that a job may meet from its beginning to its end
+-- the numbers of those that a job may be refused with from its beginning to its end
 abbrev pub job_refusals : JobKind → List ℕ
 job_refusals kind.Evac = 21 ∷ 22 ∷ 20 ∷ 19 ∷ 1 ∷ []
 job_refusals kind.Fetch = 21 ∷ 20 ∷ 17 ∷ 1 ∷ []
 job_refusals kind.Offload = 21 ∷ 12 ∷ 20 ∷ 1 ∷ []
 
--- the numbers of those that a work may meet as a whole
+-- the numbers of those that a work may be refused with as a whole
 abbrev pub work_refusals : Work → List ℕ
 work_refusals (work.Evacuate stripe) = 21 ∷ 22 ∷ 20 ∷ 19 ∷ 1 ∷ []
 work_refusals (work.Fetch stripe name) = 14 ∷ 20 ∷ 21 ∷ 17 ∷ 1 ∷ []
@@ -65,14 +65,14 @@ pub record RefusedAt {A : Type 0} (stripe : ℕ) (numbers : List ℕ) (result : 
   pub unknown : 4 ≤ stripe → IsErrOf result refusal.OutOfRange
   pub known : stripe < 4 → RefusedBy numbers result
 
--- a call wants a schema of so many columns: where this one has fewer, it is refused with 4, and else as at its stripe
+-- a call needs a schema of this many columns: if this one has fewer, it is refused with 4, and otherwise as at its stripe
 pub record RefusedFor {A : Type 0} (columns wanted stripe : ℕ) (numbers : List ℕ) (result : Result A Refusal) : Type 0 where
   pub column : columns < wanted → IsErrOf result refusal.NoColumn
   pub unknown : wanted ≤ columns → 4 ≤ stripe → IsErrOf result refusal.OutOfRange
   pub known : wanted ≤ columns → stripe < 4 → RefusedBy numbers result
 
--- the rows of a table are as before, with its schema, its limits, its edits and how many aggregates it has space for, and so is each
--- aggregate of which nothing is left. Of none more is left
+-- the rows of a table are as before, with its schema, its limits, its edits and how many aggregates it has space for. So is
+-- each aggregate of which nothing is pending. Of no aggregate is more pending than before
 pub record KeepsRows (old new : Table) : Type 0 where
   pub schema : new.schema ≡ old.schema
   pub limits : new.limits ≡ old.limits
@@ -83,16 +83,16 @@ pub record KeepsRows (old new : Table) : Type 0 where
   pub fewer : (a : ℕ) → pending_in (aggregate_at new a) ≤ pending_in (aggregate_at old a)
 
 module _ {K : Type 0} (s : State K) where
-  -- no row group of any aggregate is left
+  -- no row group of any aggregate is pending
   abbrev pub IsAllScanned : Type 0
   IsAllScanned = (a g : ℕ) → is_pending_in (aggregate_at s.table a) g ≡ false
 
-  -- a row group that is left is built by a job, or none is left
+  -- a pending row group is built by a job, or none is pending
   abbrev pub IsBuildJob : Option (JobRecord K) → Type 0
   IsBuildJob None = IsAllScanned
   IsBuildJob (Some job) = (a : ℕ) × (g : ℕ) × (is_pending_in (aggregate_at s.table a) g ≡ true) × IsOffloadJob s a g job
 
-  -- why a row group that is left is not built by a job: the far store does not have what it needs, or memory is wanted
+  -- why a pending row group is not built by a job: the far store does not have what it needs, or memory ran out
   abbrev pub BuildRefusal : Refusal → Type 0
   BuildRefusal given = (a : ℕ) × (g : ℕ) × (is_pending_in (aggregate_at s.table a) g ≡ true) × MayRefuse (offload_refusal (live s) (aggregate_at s.table a) g) true given
 
@@ -108,7 +108,7 @@ module _ {K : Type 0} (s : State K) where
   BeginRefusal (work.Fetch stripe name) given = fetch_refusal s.rows name.column name.group ≡ Some given
   BeginRefusal (work.Build stripe) given = BuildRefusal given
 
-  -- a row group that is left is built by a scan where it can be, else by a job
+  -- a pending row group is built by a scan if it can be, otherwise by a job
   abbrev pub BeginsBuild : Building (JobRecord K) → Type 0
   BeginsBuild building.Nothing = IsAllScanned
   BeginsBuild (building.Scan a g) = (is_pending_in (aggregate_at s.table a) g ≡ true) × (scan_refusal (live s) (aggregate_at s.table a) g ≡ None)
@@ -142,7 +142,8 @@ module _ {K : Type 0} where
   begun_kind (work_of.Offload build) = Some kind.Offload
   begun_kind _ = None
 
-  -- a job is begun for a work, told without its table. There may be nothing to send away or to build in. An evacuation tells its object
+  -- a job is begun for a work, described without its table. There may be nothing to send away or to build. An evacuation names
+  -- its object
   abbrev pub IsJobOf : Work → Option (JobRecord K) → Type 0
   IsJobOf (work.Evacuate stripe) job = IfSome job (λ begun. (begun_kind begun.work ≡ Some kind.Evac) × IsSome begun.name)
   IsJobOf (work.Fetch stripe name) job = IsSomeAnd job (λ begun. (begun_kind begun.work ≡ Some kind.Fetch) × (begun.name ≡ Some name))

@@ -12,7 +12,14 @@ use far_types::{Answer, Refusal};
 use std::alloc::Global;
 use std::sync::{RwLock, RwLockReadGuard, Wait};
 
-/// A stripe under its read lock. No edit, and no movement of an object, is made there while it is held.
+/// A stripe under its read lock. While it is held, no edit is made there and no object moves.
+///
+/// ```
+/// match shared.scope(rt, stripe) {
+///     Ok(scope) => first_number(&scope.view()),
+///     Err(refusal) => Err(refusal),
+/// }
+/// ```
 #[derive(Drop)]
 pub enum Scope<'a, N: Naming, B: Site, S: FarTickets> {
     /// Stripe 0.
@@ -26,7 +33,7 @@ pub enum Scope<'a, N: Naming, B: Site, S: FarTickets> {
 }
 
 impl<N: Naming, B: Site, S: FarTickets, const I: usize> Stripe<N, B, S, I> {
-    /// The rows, lent in place. They are what a legal history leaves.
+    /// Returns a view of the rows. They are what a legal history leaves.
     fn view(&self) -> View<'_, S>
         ensures { IsLeft N.plan result.table }
     {
@@ -36,7 +43,7 @@ impl<N: Naming, B: Site, S: FarTickets, const I: usize> Stripe<N, B, S, I> {
 }
 
 impl<'a, N: Naming, B: Site, S: FarTickets> Scope<'a, N, B, S> {
-    /// The rows of the stripe, lent in place. They are what a legal history leaves.
+    /// Returns a view of the rows of the stripe. They are what a legal history leaves.
     pub fn view(&self) -> View<'_, S>
         ensures { IsLeft N.plan result.table }
     {
@@ -49,7 +56,7 @@ impl<'a, N: Naming, B: Site, S: FarTickets> Scope<'a, N, B, S> {
     }
 }
 
-/// What an aggregate answers over the rows of four stripes.
+/// Returns the answer of an aggregate over the rows of four stripes.
 fn answer_stripes<N: Naming, B: Site, S: FarTickets>(
     alloc: Global,
     zero: &Stripe<N, B, S, 0>,
@@ -69,7 +76,7 @@ fn answer_stripes<N: Naming, B: Site, S: FarTickets>(
     answer_four(alloc, &zero.frame, &one.frame, &two.frame, &three.frame, a)
 }
 
-/// The stripe of this number under its read lock.
+/// Returns the stripe of this number under its read lock.
 fn read_under<'a, N: Naming, B: Site, S: FarTickets, const I: usize, R: Wait>(
     rt: &R,
     lock: &'a RwLock<Stripe<N, B, S, I>>,
@@ -77,13 +84,14 @@ fn read_under<'a, N: Naming, B: Site, S: FarTickets, const I: usize, R: Wait>(
 ) -> RwLockReadGuard<'a, Stripe<N, B, S, I>>
     requires own { stripe ≡ I }
 {
-    // For the proof: it says of which stripe the lock is.
+    // For the proof: which stripe the lock is of.
     let _own = stripe;
     lock.read(rt)
 }
 
 impl<N: Naming, B: Site, S: FarTickets> Shared<N, B, S> {
-    /// The stripe of this number under its read lock. Refused with `OutOfRange` (14) exactly if there is no such stripe.
+    /// Returns the stripe of this number under its read lock. Refused with `OutOfRange` (14) exactly if there is no such
+    /// stripe.
     pub fn scope<R: Wait>(&self, rt: &R, stripe: u32) -> Result<Scope<'_, N, B, S>, Refusal>
         ensures ok { OnOk result (stripe < 4) }
         ensures refused { IfErr result (λ e. (e ≡ Refusal.OutOfRange) × (4 ≤ stripe)) }
@@ -97,13 +105,17 @@ impl<N: Naming, B: Site, S: FarTickets> Shared<N, B, S> {
         }
     }
 
-    /// What an aggregate that the four stripes have under one number answers over the rows of the four, one stripe after the other.
-    /// Holds all four read locks.
+    /// Returns the answer of an aggregate that the four stripes have under one number, over the rows of the four, one stripe
+    /// after the other. Holds all four read locks.
     ///
-    /// Refused as `answer_four` is, over the four tables as they stand under their locks: with `NoAggregate` (12) exactly if one of them
-    /// lacks the aggregate or it is not the same in all, so always for a number from 32 on; else with `Building` (15) and how many row
-    /// groups are left exactly if some are; else with `NoMemory` (1) alone. The gauge, whose number is 0, is refused with `NoMemory`
-    /// alone.
+    /// Refused as `answer_four` is, over the four tables as they are under their locks, with the first of these that applies:
+    ///
+    /// - `NoAggregate` (12): one of them lacks the aggregate, or it is not the same in all. That is always so for a number from
+    ///   32 on.
+    /// - `Building` (15): row groups are pending. It says how many.
+    /// - `NoMemory` (1): an allocation fails.
+    ///
+    /// The gauge, whose number is 0, is refused with `NoMemory` alone.
     pub fn ask_all<R: Wait>(&self, rt: &R, a: u32) -> Result<Answer, Refusal>
         ensures answer { IfOk result (IsAnswer N.plan a) }
         ensures asked { IsAsked N.plan a result }

@@ -67,7 +67,7 @@ fn serve_all<N: Naming, B: Site, S: FarStore, R: Wait>(
     report
 }
 
-// How many works a thread is given where at most so many threads do them all.
+// Returns how many works a thread gets if at most `workers` threads do them all.
 fn chunk_for(count: usize, workers: u32) -> usize
     requires { 0 < workers }
     ensures some { 0 < result }
@@ -76,7 +76,7 @@ fn chunk_for(count: usize, workers: u32) -> usize
     count.div_ceil(workers as usize).max(1)
 }
 
-// The reports of all threads in one.
+// Returns the sum of the reports of all threads.
 fn sum_of(reports: &[Report]) -> Report
     requires { sum_by works_in reports.now < 2 ^ 64 }
     ensures { works_in result ≡ sum_by works_in reports.now }
@@ -92,7 +92,7 @@ fn sum_of(reports: &[Report]) -> Report
     sum
 }
 
-// Does works on so many threads at most, each of which is given consecutive ones.
+// Does works on at most `workers` threads, each of which gets consecutive ones.
 fn serve_chunks<
     N: Naming + Send + Sync,
     B: Site + Send + Sync,
@@ -120,7 +120,7 @@ fn serve_chunks<
 
 /// Threads that do work in the background.
 ///
-/// A list of works is done by so many threads, without a lock while one waits for the store:
+/// Several threads do a list of works. No lock is held while one waits for the store:
 ///
 /// ```
 /// match list_of(alloc, works_in(works)) {
@@ -132,11 +132,13 @@ fn serve_chunks<
 pub struct Background {}
 
 impl Background {
-    /// Does works on at most so many threads, each of which is given consecutive ones. The report counts each of them, as done or as
-    /// refused; a work for which there was nothing to do is done. No row changes.
+    /// Does works on at most `workers` threads, each of which gets consecutive ones. The report counts each work, as done or as
+    /// refused. A work for which there was nothing to do is done. No row changes.
     ///
-    /// Refused with `OutOfRange` (14) unless there are 1 to 8 workers, before any work, and with `NoMemory` (1) if the threads or
-    /// their reports find none: some works may be done then, or all.
+    /// Refused with:
+    ///
+    /// - `OutOfRange` (14), before any work, unless there are 1 to 8 workers;
+    /// - `NoMemory` (1), if the threads or their reports find no memory. Some works may be done then, or all.
     pub fn run<
         N: Naming + Send + Sync,
         B: Site + Send + Sync,

@@ -38,7 +38,7 @@ fn end<N: Naming, B: Site, R: Wait>(
 }
 
 impl<N: Naming, B: Site, S: FarTickets, const I: usize> Stripe<N, B, S, I> {
-    /// The table as it is, and what keeps its history.
+    /// Returns the table as it is, and what keeps its history.
     fn into_parts(self) -> (Frame<S>, Keeper<N, B, I>)
         ensures table { result.0 ≡ self.state }
         ensures history { result.1 ≡ self.log }
@@ -50,7 +50,7 @@ impl<N: Naming, B: Site, S: FarTickets, const I: usize> Stripe<N, B, S, I> {
     }
 }
 
-/// Ends these sessions, and gives the tables of the four stripes. Each is as it was, with its objects and its aggregates.
+/// Ends these sessions, and returns the tables of the four stripes. Each is as it was, with its objects and its aggregates.
 fn end_stripes<N: Naming, B: Site, S: FarTickets, R: Wait>(
     rt: &R,
     cells: Cells<N, B>,
@@ -86,7 +86,7 @@ fn end_stripes<N: Naming, B: Site, S: FarTickets, R: Wait>(
     }
 }
 
-/// What lay under a stripe's lock.
+/// Returns what lay under a stripe's lock.
 fn unlocked<N: Naming, B: Site, S: FarTickets, const I: usize>(
     lock: CachePadded<RwLock<Stripe<N, B, S, I>>>,
 ) -> Stripe<N, B, S, I> {
@@ -94,10 +94,10 @@ fn unlocked<N: Naming, B: Site, S: FarTickets, const I: usize>(
 }
 
 impl<N: Naming, B: Site, S: FarTickets> Shared<N, B, S> {
-    /// Ends all sessions, and gives the four tables. The entries of each table's history are just those that its sessions know as
-    /// their own.
+    /// Ends all sessions, and returns the four tables. The entries of each table's history are just those that its sessions
+    /// know as their own.
     ///
-    /// Refused with `OutOfRange` (14) exactly if a session is missing; the shared table and the sessions are then given back.
+    /// Refused with `OutOfRange` (14) exactly if a session is missing. The shared table and the sessions are then returned.
     pub fn close<R: Wait>(
         self,
         rt: &R,
@@ -118,7 +118,7 @@ impl<N: Naming, B: Site, S: FarTickets> Shared<N, B, S> {
         Ok(self.settled(rt, sessions))
     }
 
-    /// Ends these sessions, and gives the four tables.
+    /// Ends these sessions, and returns the four tables.
     fn settled<R: Wait>(self, rt: &R, sessions: Vec<Session<B>>) -> Four<Frame<S>>
         ensures zero { IsClosed N.plan 0 sessions.items result.zero.table }
         ensures one { IsClosed N.plan 1 sessions.items result.one.table }

@@ -1,4 +1,4 @@
-// Edits of the table of a stripe, and what its gauge reads then.
+// Edits of the table of a stripe, and what its gauge reads afterwards.
 ghost use Rattle.std.specs.Prelude.{◌≡◌, ◌+◌, ◌<◌, ◌^◌, ℕ, List, length, Some, None, IfOk, IfErr, OnOk, OnErr};
 ghost use Rattle.far_types.specs.Edits.{edited, edit_refusal};
 ghost use Rattle.far_rows.specs.Jobs.{AreAt};
@@ -15,14 +15,15 @@ use far_history::{Naming, Reading};
 use far_store::FarTickets;
 use far_types::{Edit, Refusal};
 
-/// What an accepted edit leaves: the place of the row that it appended, or the one that it names, and what the gauge reads then.
+/// What an accepted edit leaves: the place of the row that it appended, or the one that it names, and what the gauge reads
+/// afterwards.
 #[derive(Drop)]
 pub(crate) struct Changed {
     pub(crate) place: u32,
     pub(crate) after: Reading,
 }
 
-/// Makes an edit. Gives the place of the row that it appends, or the one that it names.
+/// Makes an edit. Returns the place of the row that it appends, or the one that it names.
 fn make<S: FarTickets>(frame: &mut Frame<S>, edit: Edit) -> Result<u32, Refusal>
     requires column_indexes { length frame.old.rows.column_indexes ≡ length frame.old.table.schema }
     ensures may { OnOk result (edit_refusal frame.old.table edit ≡ None) }
@@ -51,7 +52,7 @@ fn make<S: FarTickets>(frame: &mut Frame<S>, edit: Edit) -> Result<u32, Refusal>
     }
 }
 
-/// What the gauge of a table reads after so many edits.
+/// Returns what the gauge of a table reads after `edits` edits.
 fn gauged<N: Naming, S: FarTickets>(frame: &Frame<S>, edits: u64) -> Reading
     requires plan { IsPlan N.plan }
     requires gauge { aggregate_at frame.now.table 0 ≡ Some (first_registered N.plan.gauge) }
@@ -63,7 +64,7 @@ fn gauged<N: Naming, S: FarTickets>(frame: &Frame<S>, edits: u64) -> Reading
     Reading { edits, count, sum }
 }
 
-/// Makes an edit after so many others.
+/// Makes an edit after `edits` others.
 pub(crate) fn change<N: Naming, S: FarTickets>(
     frame: &mut Frame<S>,
     edits: u64,

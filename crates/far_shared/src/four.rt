@@ -1,4 +1,4 @@
-// What an aggregate of four tables answers.
+// The answer of an aggregate of four tables.
 ghost use Rattle.std.specs.Prelude.{◌≡◌, ◌+◌, ◌≤◌, ◌^◌, ◌++◌, ◌↔◌, List, Some, IsTrue, IfOk, IfErr, IfSome, IfNone, OnOk};
 ghost use Rattle.far_types.specs.declared.cell.Cell.{Cell};
 ghost use Rattle.far_types.specs.declared.spec.Fold.TheVariants as fold;
@@ -13,7 +13,7 @@ use far_store::FarTickets;
 use far_types::{Answer, ExtremaLines, Fold, Refusal, Schema, Spec, TotalLines};
 use std::alloc::Global;
 
-/// Whether two schemas are the same.
+/// Returns whether two schemas are the same.
 fn have_same_kinds(one: &Schema, other: &Schema) -> bool
     ensures { IsTrue result ↔ (one.now ≡ other.now) }
 {
@@ -30,7 +30,7 @@ fn have_same_kinds(one: &Schema, other: &Schema) -> bool
     true
 }
 
-/// Whether two tables have one schema, and the same aggregate under a number.
+/// Returns whether two tables have one schema, and the same aggregate under a number.
 fn are_like<S: FarTickets>(one: &Frame<S>, other: &Frame<S>, a: u32) -> bool
     ensures { IsTrue result ↔ AreLike a one.now.table other.now.table }
 {
@@ -43,7 +43,7 @@ fn are_like<S: FarTickets>(one: &Frame<S>, other: &Frame<S>, a: u32) -> bool
     spec.is_same(same) && have_same_kinds(one.schema(), other.schema())
 }
 
-/// Whether four tables have.
+/// Returns whether four tables have one schema, and the same aggregate under a number.
 fn are_alike<S: FarTickets>(
     one: &Frame<S>,
     two: &Frame<S>,
@@ -56,14 +56,14 @@ fn are_alike<S: FarTickets>(
     are_like(one, two, a) && are_like(one, three, a) && are_like(one, four, a)
 }
 
-/// How many row groups are still pending in an aggregate of a number, and what it answers; `None` if it cannot.
+/// Returns how many row groups are still pending in an aggregate of a number, and its answer; `None` if it cannot answer.
 fn asked<S: FarTickets>(frame: &Frame<S>, spec: &Spec, a: u32) -> (u32, Option<Answer>)
     requires { spec_at frame.now.table a ≡ Some spec.now }
     ensures left { result.0 ≡ pending_in (aggregate_at frame.now.table a) }
     ensures answer { IfSome result.1 (λ answer. answer ≡ answer_over spec.now (rows_of frame.now.table.places)) }
     ensures kind { IfSome result.1 (IsOf spec.now.fold) }
 {
-    // For the proof: it says what the answer is of.
+    // For the proof: what the answer is of.
     let _spec = spec;
     match frame.ask(a) {
         Ok(answer) => (0, Some(answer)),
@@ -72,7 +72,7 @@ fn asked<S: FarTickets>(frame: &Frame<S>, spec: &Spec, a: u32) -> (u32, Option<A
     }
 }
 
-/// The sum of four numbers; `None` if it is no number of 32 bits. Allocates nothing.
+/// Returns the sum of four numbers; `None` if it is no number of 32 bits. Allocates nothing.
 fn sum_of(one: u32, two: u32, three: u32, four: u32) -> Option<u32>
     ensures fits { IfSome result (λ n. n ≡ one + two + three + four) }
     ensures past { IfNone result (2 ^ 32 ≤ one + two + three + four) }
@@ -84,7 +84,7 @@ fn sum_of(one: u32, two: u32, three: u32, four: u32) -> Option<u32>
     Some(sum as u32)
 }
 
-/// The lines of an answer of totals.
+/// Returns the lines of an answer of totals.
 fn total_lines(answer: Answer) -> TotalLines
     requires { IsOf fold.Totals answer }
     ensures { answer ≡ Answer.Totals result }
@@ -95,7 +95,7 @@ fn total_lines(answer: Answer) -> TotalLines
     }
 }
 
-/// The lines of an answer of extrema.
+/// Returns the lines of an answer of extrema.
 fn extrema_lines(answer: Answer) -> ExtremaLines
     requires { IsOf fold.Extrema answer }
     ensures { answer ≡ Answer.Extrema result }
@@ -106,7 +106,7 @@ fn extrema_lines(answer: Answer) -> ExtremaLines
     }
 }
 
-/// The answer over all rows, from the answers over four parts of them. Refused with `NoMemory` (1) alone.
+/// Merges the answers over four parts of the rows into the answer over all of them. Refused with `NoMemory` (1) alone.
 fn merge(
     alloc: Global,
     spec: &Spec,
@@ -141,8 +141,12 @@ fn merge(
     }
 }
 
-/// What an aggregate that four tables have under one number answers over the rows of the four. Refused with `Building` (15) and how many
-/// row groups are left exactly if that is not 0 and a number of 32 bits, else with `NoMemory` (1) alone.
+/// Returns the answer of an aggregate that four tables have under one number, over the rows of the four.
+///
+/// Refused with the first of these that applies:
+///
+/// - `Building` (15): row groups are pending, and their number is one of 32 bits. It says how many.
+/// - `NoMemory` (1): an allocation fails.
 fn answer_alike<S: FarTickets>(
     alloc: Global,
     spec: &Spec,
@@ -178,11 +182,14 @@ fn answer_alike<S: FarTickets>(
     }
 }
 
-/// What an aggregate that four tables have under one number answers over the rows of the four, one table after the other.
+/// Returns the answer of an aggregate that four tables have under one number, over the rows of the four, one table after the
+/// other.
 ///
-/// Refused with `NoAggregate` (12) exactly if one of them lacks the aggregate, or the four schemas or the four aggregates differ;
-/// else with `Building` (15) and how many row groups are left in all four exactly if that is not 0 and below 2^32, as it always is in four
-/// stripes; else with `NoMemory` (1) alone.
+/// Refused with the first of these that applies:
+///
+/// - `NoAggregate` (12): one of them lacks the aggregate, or the four schemas or the four aggregates differ.
+/// - `Building` (15): row groups are pending, fewer than 2^32 in all four, as always in four stripes. It says how many.
+/// - `NoMemory` (1): an allocation fails.
 pub fn answer_four<S: FarTickets>(
     alloc: Global,
     one: &Frame<S>,

@@ -1,6 +1,6 @@
 #![tactic(auto)]
-//! Tables that threads share: four of them, each under a lock with what keeps its history, and a cell beside each. Beside their edits and
-//! what they are asked, work is done in the background under their locks.
+//! Tables that threads share: four of them, each under a lock with what keeps its history, and a cell for each. Besides edits
+//! and questions, they serve work in the background under their locks.
 
 pub mod asking;
 pub mod background;

@@ -1,4 +1,4 @@
-// Work in the background, under the lock of one stripe. A carry is under none.
+// Work in the background, under the lock of one stripe. A carry holds no lock.
 ghost use Rattle.std.specs.Prelude.{◌≡◌, ◌+◌, ◌<◌, ◌≤◌, ◌^◌, [], ◌∷◌, None, length, IfOk, IfErr, IfSome, IsErrOf, OnOk};
 ghost use Rattle.far_store.specs.Faults.{RefusedBy, faults_in};
 ghost use Rattle.far_frame.specs.Jobs.{IsJobAt, kind_of};
@@ -47,7 +47,7 @@ pub(crate) fn finish_under<N: Naming, B: Site, S: FarTickets, const I: usize, R:
     lock.write(rt).finish(store, job)
 }
 
-/// Begins to build a row group that is left, under the read lock.
+/// Begins to build a pending row group, under the read lock.
 fn building_under<N: Naming, B: Site, S: FarTickets, const I: usize, R: Wait>(
     rt: &R,
     lock: &RwLock<Stripe<N, B, S, I>>,
@@ -73,9 +73,10 @@ fn scan_under<N: Naming, B: Site, S: FarTickets, const I: usize, R: Wait>(
     lock.write(rt).scan(aggregate, group)
 }
 
-/// Ends a job that was carried, or tells why it was not.
+/// Ends a job that was carried, or returns why it was not.
 ///
-/// It knows nothing of what the job is: to take a job out of a result costs the proof of a function minutes, and here it costs none.
+/// It takes a job of any type. For the proof: taking a job out of a result costs the proof of a function minutes, and here it
+/// costs none.
 fn once_carried<J: Drop, F: FnOnce(J) -> Result<(), Refusal> + Drop>(
     carried: Result<J, (Refusal, J)>,
     finish: F,
@@ -118,7 +119,7 @@ fn complete_under<N: Naming, B: Site, S: FarStore, const I: usize, R: Wait>(
     )
 }
 
-/// Sends the coldest object of a stripe away, and tells which; `None` if there is none that may go.
+/// Sends the coldest object of a stripe away, and returns which; `None` if there is none that may go.
 pub(crate) fn evacuate_under<N: Naming, B: Site, S: FarStore, const I: usize, R: Wait>(
     rt: &R,
     alloc: Global,
@@ -164,7 +165,7 @@ pub(crate) fn fetch_under<N: Naming, B: Site, S: FarStore, const I: usize, R: Wa
     complete_under(rt, alloc, lock, stripe, store, meter, job)
 }
 
-/// Builds a row group of a stripe that is left into its aggregate; false where none is left.
+/// Builds a pending row group of a stripe into its aggregate; false if none is pending.
 pub(crate) fn build_under<N: Naming, B: Site, S: FarStore, const I: usize, R: Wait>(
     rt: &R,
     alloc: Global,

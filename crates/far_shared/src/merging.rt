@@ -1,4 +1,4 @@
-// Answers of several tables, put together key by key.
+// Answers of several tables, merged key by key.
 ghost use Rattle.std.specs.Prelude.{◌≡◌, ◌++◌, ℕ, ℤ, List, Option, map, true, IfOk, IfErr, IfSome, OnOk};
 ghost use Rattle.std.specs.BTreeMap.{IsOrdered};
 ghost use Rattle.std.specs.FinMap as fin;
@@ -16,14 +16,14 @@ use far_types::{Answer, ExtremaLines, Key, Refusal, TotalLines, clone_key};
 use std::alloc::Global;
 use std::collections::BTreeMap;
 
-/// How many values stand under a key, and their sum.
+/// How many values belong to a key, and their sum.
 type CountSum = (u64, i128);
 
-/// What stands by key.
+/// A count and a sum for each key.
 type CountSums = BTreeMap<Option<Key>, CountSum>;
 
-/// What stands under a key with a count and a sum more. Refused with `NoMemory` (1) if one of them does not fit, which takes far
-/// more rows than tables have.
+/// Returns the count and the sum of a key with another count and sum added. Refused with `NoMemory` (1) if one of them does not
+/// fit, which takes far more rows than tables have.
 fn with_more(before: Option<CountSum>, more: CountSum) -> Result<CountSum, Refusal>
     ensures ok { IfOk result (λ count_sum. count_sum ≡ option_map_or (λ there. add_count_sums there more) before more) }
     ensures memory { IfErr result (λ e. e ≡ Refusal.NoMemory) }
@@ -40,7 +40,7 @@ fn with_more(before: Option<CountSum>, more: CountSum) -> Result<CountSum, Refus
     Ok((count, sum))
 }
 
-/// A count and a sum more under a key. Refused with `NoMemory` (1) alone.
+/// Adds a count and a sum to a key. Refused with `NoMemory` (1) alone.
 fn add(count_sums: &mut CountSums, key: Option<Key>, more: CountSum) -> Result<(), Refusal>
     ensures ok { OnOk result (totals_of count_sums.new.entries ≡ fin.insert (totals_of count_sums.old.entries) key (option_map_or (λ there. add_count_sums there more) (fin.get (totals_of count_sums.old.entries) key) more)) }
     ensures memory { IfErr result (λ e. e ≡ Refusal.NoMemory) }
@@ -50,13 +50,13 @@ fn add(count_sums: &mut CountSums, key: Option<Key>, more: CountSum) -> Result<(
     Ok(())
 }
 
-/// The rows of one answer more. Refused with `NoMemory` (1) alone.
+/// Adds the rows of one answer. Refused with `NoMemory` (1) alone.
 fn add_totals(count_sums: &mut CountSums, lines: TotalLines) -> Result<(), Refusal>
     ensures ok { OnOk result ((key : Option ℕ) → (some : List Pair) → (others : List Pair) → totals_of count_sums.old.entries ≡ totals some → lines ≡ or_zero key (total_lines (totals others)) → totals_of count_sums.new.entries ≡ totals (some ++ others)) }
     ensures memory { IfErr result (λ e. e ≡ Refusal.NoMemory) }
 {
     for (key, count, sum) in lines.into_lines() {
-        // The line of an answer over no rows stands for none.
+        // The line of an answer over no rows has no rows to add.
         if count != 0 {
             add(count_sums, key, (count, sum))?;
         }
@@ -64,7 +64,7 @@ fn add_totals(count_sums: &mut CountSums, lines: TotalLines) -> Result<(), Refus
     Ok(())
 }
 
-/// The lines of the counts and sums, by their keys. Refused with `NoMemory` (1) alone.
+/// Returns the lines of the counts and sums, by their keys. Refused with `NoMemory` (1) alone.
 fn lines_of(alloc: Global, count_sums: &CountSums) -> Result<TotalLines, Refusal>
     ensures ok { IfOk result (λ lines. lines ≡ map (λ (entry : Option Key × (ℕ × ℤ)). (entry.0, entry.1.0, entry.1.1)) count_sums.now.entries) }
     ensures ordered { IsOrdered line_cmp count_sums.now }
@@ -77,7 +77,7 @@ fn lines_of(alloc: Global, count_sums: &CountSums) -> Result<TotalLines, Refusal
     Ok(TotalLines::new(lines))
 }
 
-/// The totals of all rows, from the totals of four parts of them. Refused with `NoMemory` (1) alone.
+/// Merges the totals of four parts of the rows into those of all rows. Refused with `NoMemory` (1) alone.
 pub(crate) fn merge_totals(
     alloc: Global,
     key: Option<u32>,
@@ -98,7 +98,7 @@ pub(crate) fn merge_totals(
     Ok(Answer::Totals(lines))
 }
 
-/// A least and a greatest value more under a key. Refused with `NoMemory` (1) alone.
+/// Takes a least and a greatest value into a key. Refused with `NoMemory` (1) alone.
 fn observe(
     min_maxes: &mut GroupExtrema,
     key: Option<Key>,
@@ -111,7 +111,7 @@ fn observe(
     min_maxes.observe_rows(key, least, greatest)
 }
 
-/// The rows of one answer more. Refused with `NoMemory` (1) alone.
+/// Takes in the rows of one answer. Refused with `NoMemory` (1) alone.
 fn add_extrema(min_maxes: &mut GroupExtrema, lines: ExtremaLines) -> Result<(), Refusal>
     ensures ok { OnOk result ((some : List Pair) → (others : List Pair) → min_maxes.old ≡ extrema some → lines ≡ extrema_lines (extrema others) → min_maxes.new ≡ extrema (some ++ others)) }
     ensures memory { IfErr result (λ e. e ≡ Refusal.NoMemory) }
@@ -122,7 +122,7 @@ fn add_extrema(min_maxes: &mut GroupExtrema, lines: ExtremaLines) -> Result<(), 
     Ok(())
 }
 
-/// The extrema of all rows, from the extrema of four parts of them. Refused with `NoMemory` (1) alone.
+/// Merges the extrema of four parts of the rows into those of all rows. Refused with `NoMemory` (1) alone.
 pub(crate) fn merge_extrema(
     alloc: Global,
     one: ExtremaLines,

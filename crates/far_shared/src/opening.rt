@@ -17,6 +17,17 @@ use std::marker::{Model, PhantomData};
 use std::sync::RwLock;
 
 /// One of each of the four stripes.
+///
+/// ```
+/// let answer = answer_four(
+///     alloc,
+///     &frames.zero,
+///     &frames.one,
+///     &frames.two,
+///     &frames.three,
+///     0,
+/// );
+/// ```
 #[derive(Drop)]
 pub struct Four<T> {
     /// That of stripe 0.
@@ -29,9 +40,10 @@ pub struct Four<T> {
     pub three: T,
 }
 
-/// All four, or the first refusal.
+/// Returns all four, or the first refusal.
 ///
-/// It knows nothing of what they are: to take a table out of a result costs the proof of a function minutes, and here it costs none.
+/// It takes values of any type. For the proof: taking a table out of a result costs the proof of a function minutes, and here
+/// it costs none.
 fn all_four<T: Drop>(
     zero: Result<T, Refusal>,
     one: Result<T, Refusal>,
@@ -52,9 +64,9 @@ fn all_four<T: Drop>(
     })
 }
 
-/// What is made of two things. Refused as the first was, else with `NoMemory` (1) if the second found no memory, and else not.
+/// Returns what `make` makes of two values. Refused as the first was; else with `NoMemory` (1) if the second found no memory.
 ///
-/// It knows nothing of what they are, as `all_four` does not.
+/// It takes values of any type, for the same reason as `all_four`.
 fn both<A: Drop, B: Drop, T, F: FnOnce(A, B) -> T + Drop>(
     one: Result<A, Refusal>,
     other: Result<B, AllocError>,
@@ -72,7 +84,7 @@ fn both<A: Drop, B: Drop, T, F: FnOnce(A, B) -> T + Drop>(
     }
 }
 
-/// One thing with another. Refused with `NoMemory` (1) exactly if the other found no memory.
+/// Returns one value with another. Refused with `NoMemory` (1) exactly if the other found no memory.
 fn with_other<A: Drop, B: Drop>(one: A, other: Result<B, AllocError>) -> Result<(A, B), Refusal>
     ensures one { IfOk result (λ both. both.0 ≡ one) }
     ensures other { IfOk result (λ both. IsOkAnd other (λ y. y ≡ both.1)) }
@@ -86,6 +98,13 @@ fn with_other<A: Drop, B: Drop>(one: A, other: Result<B, AllocError>) -> Result<
 }
 
 /// Four empty tables with their gauges, and four cells that have no name yet. Contracts see which cell each stripe has.
+///
+/// ```
+/// let Ok(made) = plan.make::<N, S>(alloc) else {
+///     return Err(Stop::Memory);
+/// };
+/// named(rt, alloc, made, store, edits)
+/// ```
 #[derive(Drop)]
 pub struct Made<N: Naming, S: FarTickets> {
     sessions: u64,
@@ -105,7 +124,7 @@ impl<N: Naming, S: FarTickets> Model for Made<N, S> {
     ghost invariant = { λ m. (m.sessions ≡ N.plan.sessions) × (m.columns ≡ length N.plan.schema) × IsEmpty S.is_of N.plan 0 m.frames.zero × IsEmpty S.is_of N.plan 1 m.frames.one × IsEmpty S.is_of N.plan 2 m.frames.two × IsEmpty S.is_of N.plan 3 m.frames.three };
 }
 
-/// An empty table of this number, whose aggregate 0 is the gauge. Refused with `NoMemory` (1) alone.
+/// Opens an empty table of this number, whose aggregate 0 is the gauge. Refused with `NoMemory` (1) alone.
 fn open_frame<S: FarTickets>(alloc: Global, plan: &Plan, number: u32) -> Result<Frame<S>, Refusal>
     ensures ok { IfOk result (IsEmpty S.is_of plan.now number) }
     ensures memory { IfErr result (λ e. e ≡ Refusal.NoMemory) }
@@ -115,7 +134,7 @@ fn open_frame<S: FarTickets>(alloc: Global, plan: &Plan, number: u32) -> Result<
     Ok(frame)
 }
 
-/// Four such tables. Refused with `NoMemory` (1) alone.
+/// Opens four such tables. Refused with `NoMemory` (1) alone.
 fn open_frames<S: FarTickets>(alloc: Global, plan: &Plan) -> Result<Four<Frame<S>>, Refusal>
     ensures zero { IfOk result (λ frames. IsEmpty S.is_of plan.now 0 frames.zero) }
     ensures one { IfOk result (λ frames. IsEmpty S.is_of plan.now 1 frames.one) }
@@ -132,8 +151,9 @@ fn open_frames<S: FarTickets>(alloc: Global, plan: &Plan) -> Result<Four<Frame<S
 }
 
 impl Plan {
-    /// Makes the four tables, each with the gauge as its aggregate 0, and the four cells. Refused with `NoMemory` (1) alone; what was
-    /// made is then dropped.
+    /// Makes the four tables, each with the gauge as its aggregate 0, and the four cells.
+    ///
+    /// Refused with `NoMemory` (1) alone. What was made is then dropped.
     pub fn make<N: Naming, S: FarTickets>(self, alloc: Global) -> Result<Made<N, S>, Refusal>
         requires { self ≡ N.plan }
         ensures memory { IfErr result (λ e. e ≡ Refusal.NoMemory) }
@@ -162,7 +182,7 @@ impl Plan {
     }
 }
 
-/// A table under its lock, beside what keeps its history: both are of an empty history.
+/// Puts a table under its lock, beside what keeps its history: both have an empty history.
 fn under_lock<N: Naming, B: Site, S: FarTickets, const I: usize>(
     frame: Frame<S>,
     keeper: Keeper<N, B, I>,
@@ -204,10 +224,10 @@ fn share<N: Naming, B: Site, S: FarTickets>(
 }
 
 impl<N: Naming, S: FarTickets> Made<N, S> {
-    /// Puts each table under a lock, beside what keeps its history, and makes the sessions. All histories are empty. The caller names
-    /// the four cells, and the store to which objects will go.
+    /// Puts each table under a lock, beside what keeps its history, and makes the sessions. All histories are empty. The caller
+    /// names the four cells, and the store to which objects will go.
     ///
-    /// Refused with `NoMemory` (1) alone; what was made is then dropped.
+    /// Refused with `NoMemory` (1) alone. What was made is then dropped.
     pub fn open<B: Site>(self, alloc: Global) -> Result<(Shared<N, B, S>, Vec<Session<B>>), Refusal>
         requires names { AreNamed self B.cells }
         ensures sessions { IfOk result (λ opened. opened.1.items ≡ newcomers N.plan.sessions) }

@@ -6,10 +6,10 @@ ghost use Rattle.far_shared.specs.Plans.{is_plain, gauge_refusal, plan_refusal};
 use far_types::{Fold, Limits, Refusal, Schema, Spec};
 use std::marker::Model;
 
-/// What a shared table is made for: the schema and the limits of each stripe, the aggregate that is its gauge, and how many sessions
-/// use it. Contracts see these four.
+/// What a shared table is made for: the schema and the limits of each stripe, the aggregate that is its gauge, and how many
+/// sessions use it. Contracts see these four.
 ///
-/// For a column of numbers whose count and sum are the gauge of each stripe:
+/// Here the count and the sum of a column of numbers are the gauge of each stripe:
 ///
 /// ```
 /// let limits = Limits::in_groups_of(4);
@@ -37,7 +37,7 @@ impl Model for Plan {
     ghost invariant = { λ plan. IsPlan record { schema = plan.schema; limits = plan.limits; gauge = plan.gauge; sessions = plan.sessions } };
 }
 
-/// Whether the aggregate has one count and one sum.
+/// Returns whether the aggregate has one count and one sum.
 fn is_plain(gauge: &Spec) -> bool
     ensures { result ≡ is_plain gauge.now }
 {
@@ -47,8 +47,8 @@ fn is_plain(gauge: &Spec) -> bool
     }
 }
 
-/// Whether the aggregate may be the gauge of tables with this schema. Refused with `BadSpec` (3) if it is not totals without key
-/// column, else as `Spec::check` says.
+/// Checks that the aggregate may be the gauge of tables with this schema. Refused with `BadSpec` (3) if it is not totals
+/// without key column, else as `Spec::check` says.
 fn check_gauge(schema: &Schema, gauge: &Spec) -> Result<(), Refusal>
     ensures ok { OnOk result (gauge_refusal schema.now gauge.now ≡ None) }
     ensures refused { IfErr result (λ e. gauge_refusal schema.now gauge.now ≡ Some e) }
@@ -60,11 +60,14 @@ fn check_gauge(schema: &Schema, gauge: &Spec) -> Result<(), Refusal>
 }
 
 impl Plan {
-    /// The plan of a shared table. Allocates nothing.
+    /// Returns the plan of a shared table. Allocates nothing.
     ///
-    /// Refused with `BadSchema` (2) if a table may not have the limits; `BadSpec` (3) if the gauge is not totals without key
-    /// column, has more than 4 tests or too long a constant; `NoColumn` (4) or `WrongKind` (5) if the gauge cannot be had over
-    /// the schema; `OutOfRange` (14) unless there are 1 to 64 sessions: the first that applies.
+    /// Refused with the first of these that applies:
+    ///
+    /// - `BadSchema` (2): a table may not have the limits.
+    /// - `BadSpec` (3): the gauge is not totals without key column, has more than 4 tests, or too long a constant.
+    /// - `NoColumn` (4) or `WrongKind` (5): the gauge cannot be had over the schema.
+    /// - `OutOfRange` (14): there are not 1 to 64 sessions.
     pub fn new(schema: Schema, limits: Limits, gauge: Spec, sessions: u64) -> Result<Plan, Refusal>
         ensures plan { IfOk result (λ plan. plan ≡ record { schema = schema; limits = limits; gauge = gauge; sessions = sessions }) }
         ensures limits { OnOk result (AreLimits limits) }

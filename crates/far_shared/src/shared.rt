@@ -13,7 +13,7 @@ use std::alloc::Global;
 use std::marker::PhantomData;
 use std::sync::{RwLock, Wait};
 
-/// How many sessions a shared table has, and how many columns. They never change, so no lock is over them.
+/// How many sessions a shared table has, and how many columns. They never change, so no lock protects them.
 #[derive(Drop)]
 pub(crate) struct Count<N: Naming> {
     pub(crate) sessions: u64,
@@ -23,10 +23,10 @@ pub(crate) struct Count<N: Naming> {
     ghost wide: { columns ≡ length N.plan.schema },
 }
 
-/// Four stripes, each a table under its lock, and the cells beside them. Session s has the home stripe s mod 4, and may use all.
+/// Four stripes, each a table under its lock, and a cell for each. Session s has the home stripe s mod 4, and may use all.
 ///
-/// A session is used with the shared table that made it: its type says which. No two stripes are on one cache line, so that who writes
-/// in one does not slow the next.
+/// A session is used with the shared table that made it: its type says which. No two stripes are on one cache line, so that a
+/// writer of one does not slow the next.
 ///
 /// What a plan made is opened:
 ///
@@ -36,7 +36,7 @@ pub(crate) struct Count<N: Naming> {
 /// };
 /// ```
 ///
-/// A session makes an edit; a refusal may be one that a fetch or an eviction mends:
+/// A session makes an edit. A fetch or an eviction may mend a refusal:
 ///
 /// ```
 /// let edit = Edit::Insert(row_of_one(alloc)?);
@@ -80,16 +80,18 @@ fn apply_under<N: Naming, B: Site, S: FarTickets, const I: usize, R: Wait>(
 }
 
 impl<N: Naming, B: Site, S: FarTickets> Shared<N, B, S> {
-    /// The four cells, and no stripe's lock.
+    /// Returns the four cells. Takes no stripe's lock.
     pub fn cells(&self) -> &Cells<N, B> {
         &self.cells
     }
 
-    /// Makes an edit on a stripe, as this session, under the stripe's write lock. The session has then seen the stripe's history
-    /// up to the edit; at the other stripes it stays as it was.
+    /// Makes an edit on a stripe, as this session, under the stripe's write lock. The session has then seen the stripe's
+    /// history up to the edit. At the other stripes it stays the same.
     ///
-    /// Refused with `OutOfRange` (14) if there is no such stripe; the session is then as it was. Else refused as `Frame`'s call of
-    /// the edit is, and the session has then seen the history so far.
+    /// Refused with:
+    ///
+    /// - `OutOfRange` (14), if there is no such stripe. The session is then the same as before.
+    /// - Otherwise as `Frame`'s call of the edit is. The session has then seen the history so far.
     pub fn apply<R: Wait>(
         &self,
         rt: &R,

@@ -17,8 +17,11 @@ use std::sync::Wait;
 impl<N: Naming, B: Site, S: FarTickets> Shared<N, B, S> {
     /// Begins a work under the read lock of its stripe; `None` if there is nothing to do.
     ///
-    /// Refused with `NoColumn` (4) if a fetch names no column of the schema; else with `OutOfRange` (14) if there is no such stripe;
-    /// else as `Stripe::begin` is.
+    /// Refused with the first of these that applies:
+    ///
+    /// - `NoColumn` (4): a fetch names no column of the schema.
+    /// - `OutOfRange` (14): there is no such stripe.
+    /// - What `Stripe::begin` is refused with.
     pub fn begin<R: Wait>(&self, rt: &R, store: &S, work: &Work) -> Result<Option<Job<S>>, Refusal>
         requires store { S.store_id store.now ≡ B.store }
         ensures begun { IfOk result (IsJobOf work.now) }
@@ -63,10 +66,15 @@ impl<N: Naming, B: Site, S: FarTickets> Shared<N, B, S> {
 }
 
 impl<N: Naming, B: Site, S: FarStore> Shared<N, B, S> {
-    /// Sends the coldest object of a stripe away, and tells which; `None` if there was none that may go.
+    /// Sends the coldest object of a stripe away, and returns which; `None` if there was none that may go.
     ///
-    /// Refused with `OutOfRange` (14) if there is no such stripe; else with `NoMemory` (1), `FarFault` (21) exactly if the meter
-    /// rises, by one, `FarFull` (22), `StaleJob` (20) if the object was written or away meanwhile, and `Pinned` (19).
+    /// Refused with `OutOfRange` (14) if there is no such stripe, else with one of these:
+    ///
+    /// - `NoMemory` (1): an allocation fails.
+    /// - `FarFault` (21): the store failed, exactly if the meter rises, by one.
+    /// - `FarFull` (22): the number drawn from the store is not below its capacity.
+    /// - `StaleJob` (20): the object was written or away meanwhile.
+    /// - `Pinned` (19): the object has a pin.
     pub fn evacuate_once<R: Wait>(
         &self,
         rt: &R,
@@ -91,9 +99,14 @@ impl<N: Naming, B: Site, S: FarStore> Shared<N, B, S> {
 
     /// Brings the object of a column and a row group of a stripe back.
     ///
-    /// Refused with `NoColumn` (4) if the schema has no such column; else with `OutOfRange` (14) if there is no such stripe; else
-    /// with `OutOfRange` (14) if no place of the row group is used, `StaleJob` (20) if the object is local or was away again
-    /// meanwhile, `FarFault` (21) exactly if the meter rises, by one, `RegionFull` (17) and `NoMemory` (1).
+    /// Refused with `NoColumn` (4) if the schema has no such column; else with `OutOfRange` (14) if there is no such stripe;
+    /// else with one of these:
+    ///
+    /// - `OutOfRange` (14): no place of the row group is used.
+    /// - `StaleJob` (20): the object is local, or was away again meanwhile.
+    /// - `FarFault` (21): the store failed, exactly if the meter rises, by one.
+    /// - `RegionFull` (17): the object does not fit.
+    /// - `NoMemory` (1): an allocation fails.
     pub fn fetch<R: Wait>(
         &self,
         rt: &R,
@@ -122,11 +135,14 @@ impl<N: Naming, B: Site, S: FarStore> Shared<N, B, S> {
         }
     }
 
-    /// Builds a row group of a stripe that is left into its aggregate: by a scan where all that the aggregate needs was local at the
-    /// beginning, else from the far store's copies. False where nothing was left.
+    /// Builds a pending row group of a stripe into its aggregate. It scans it, if all that the aggregate needs was local at the
+    /// beginning; otherwise it reads the far store's copies. False if nothing was pending.
     ///
-    /// Refused with `OutOfRange` (14) if there is no such stripe; else with `NoAggregate` (12), `StaleJob` (20), `Absent` (16),
-    /// `FarFault` (21) exactly if the meter rises, by one, and `NoMemory` (1).
+    /// Refused with `OutOfRange` (14) if there is no such stripe, else with one of these:
+    ///
+    /// - `NoAggregate` (12), `StaleJob` (20), `Absent` (16)
+    /// - `FarFault` (21): the store failed, exactly if the meter rises, by one.
+    /// - `NoMemory` (1): an allocation fails.
     pub fn build_once<R: Wait>(
         &self,
         rt: &R,

@@ -17,7 +17,12 @@ use std::marker::{Brand, Model};
 use std::snapshot::Snapshot;
 use std::sync::Wait;
 
-/// Names the store to which the objects of four tables go, beside their cells.
+/// Names the store to which the objects of four tables go, in addition to their cells. It has no functions: a caller picks a
+/// type, as `Brand`.
+///
+/// ```
+/// opened::<N, Brand, S, R>(rt, alloc, made, store, edits)
+/// ```
 pub trait Site: Rooms {
     ghost use Rattle.std.specs.Prelude.{ℕ, List};
 
@@ -30,10 +35,17 @@ impl Site for Brand {
     ghost store = { [] };
 }
 
-/// What an accepted edit tells.
+/// What an accepted edit returns.
+///
+/// ```
+/// match applied {
+///     Ok(applied) => Ok(Reply::Applied(applied.number, applied.place)),
+///     Err(refusal) => Err(refusal),
+/// }
+/// ```
 #[derive(Clone, Copy, Debug, PartialEq, Eq)]
 pub struct Applied {
-    /// How many edits the stripe has accepted then, this one included.
+    /// How many edits the stripe has accepted by then, this one included.
     pub number: u64,
     /// The place of the row that was appended, or the one that the edit names.
     pub place: u32,
@@ -41,8 +53,12 @@ pub struct Applied {
 
 /// A table and what keeps its history. It lies under the lock of stripe I.
 ///
-/// Contracts see the history and the table's state. The table is the replay of the history, the gauge is its aggregate 0, its objects
-/// bear the number I, and all its tickets are of the store.
+/// Contracts see the history and the table's state. The table is the replay of the history, and the gauge is its aggregate 0.
+/// Its objects have the number I, and all its tickets are of the store.
+///
+/// ```
+/// lock.write(rt).apply(rt, counter, me, edit)
+/// ```
 #[derive(Drop)]
 pub struct Stripe<N: Naming, B: Site, S: FarTickets, const I: usize> {
     pub(crate) frame: Frame<S>,
@@ -61,8 +77,8 @@ impl<N: Naming, B: Site, S: FarTickets, const I: usize> Model for Stripe<N, B, S
 }
 
 impl<N: Naming, B: Site, S: FarTickets, const I: usize> Stripe<N, B, S, I> {
-    /// Makes an edit, as the session of this place, as `Frame`'s call of that edit does. Refused as that call is; the table, its objects
-    /// and its aggregates are then as before.
+    /// Makes an edit, as the session of this place, as `Frame`'s call of that edit does. Refused as that call is. The table,
+    /// its objects and its aggregates are then as before.
     pub fn apply<R: Wait>(
         &mut self,
         rt: &R,

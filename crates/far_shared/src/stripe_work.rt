@@ -16,11 +16,12 @@ use far_store::FarTickets;
 use far_types::Refusal;
 
 impl<N: Naming, B: Site, S: FarTickets, const I: usize> Stripe<N, B, S, I> {
-    /// Begins a work; `None` if there is nothing to do. Nothing is changed.
+    /// Begins a work; `None` if there is nothing to do. Changes nothing.
     ///
-    /// An evacuation is refused with `NoMemory` (1) alone; a fetch with `NoColumn` (4), `OutOfRange` (14) if no place of the row
-    /// group is used, `StaleJob` (20) if the object is local: the first that applies; a build with `StaleJob` (20) if an object
-    /// that its aggregate needs is dirty, and with `NoMemory` (1).
+    /// - An evacuation is refused with `NoMemory` (1) alone.
+    /// - A fetch is refused with the first of these that applies: `NoColumn` (4), `OutOfRange` (14) if no place of the row
+    ///   group is used, `StaleJob` (20) if the object is local.
+    /// - A build is refused with `StaleJob` (20) if an object that its aggregate needs is dirty, and with `NoMemory` (1).
     pub fn begin(&self, store: &S, work: &Work) -> Result<Option<Job<S>>, Refusal>
         requires store { S.store_id store.now ≡ B.store }
         ensures begins { IfOk result (Begins self.now.state work.now) }
@@ -33,10 +34,10 @@ impl<N: Naming, B: Site, S: FarTickets, const I: usize> Stripe<N, B, S, I> {
         begin_on(&self.frame, store, work)
     }
 
-    /// Ends a job by its kind: commits, installs or merges it. The history stays, and so does each row. Only a job that was carried is
+    /// Ends a job by its kind: commits, installs or merges it. The history stays, and so does each row. Only a carried job is
     /// accepted.
     ///
-    /// Refused as `Frame::commit`, `Frame::install` and `Frame::merge` are. Then nothing is changed.
+    /// Refused as `Frame::commit`, `Frame::install` and `Frame::merge` are. A refused call changes nothing.
     pub fn finish(&mut self, store: &S, job: &Job<S>) -> Result<(), Refusal>
         requires store { S.store_id store.now ≡ B.store }
         requires here { IsJobAt S.is_of B.store job.now }
@@ -50,10 +51,10 @@ impl<N: Naming, B: Site, S: FarTickets, const I: usize> Stripe<N, B, S, I> {
         finish_on(&mut self.frame, store, job)
     }
 
-    /// Begins to build a row group that is left, by a scan where all that its aggregate needs is local, else by a job. Nothing is
-    /// changed.
+    /// Begins to build a pending row group: by a scan, if all that its aggregate needs is local, otherwise by a job. Changes
+    /// nothing.
     ///
-    /// Refused as a build is in `begin`, where no scan is possible.
+    /// Refused as a build is in `begin`, if no scan is possible.
     pub fn building(&self, store: &S) -> Result<Building<Job<S>>, Refusal>
         requires store { S.store_id store.now ≡ B.store }
         ensures begins { IfOk result (BeginsBuild self.now.state) }
@@ -65,9 +66,9 @@ impl<N: Naming, B: Site, S: FarTickets, const I: usize> Stripe<N, B, S, I> {
         building_on(&self.frame, store)
     }
 
-    /// Builds a row group into an aggregate by a scan. The history stays, and so does each row.
+    /// Scans a row group into an aggregate. The history stays, and so does each row.
     ///
-    /// Refused as `Frame::scan_group` is. Then nothing is changed.
+    /// Refused as `Frame::scan_group` is. A refused call changes nothing.
     pub fn scan(&mut self, aggregate: u32, group: u32) -> Result<(), Refusal>
         ensures same { self.new.log ≡ self.old.log }
         ensures scanned { OnOk result (Accepts S.content self.old.state (step.ScanGroup aggregate group) reply.Done self.new.state) }

@@ -12,14 +12,14 @@ use far_store::FarTickets;
 use far_types::{Refusal, Spec};
 use std::sync::Wait;
 
-/// Whether a table has no aggregate under a number. Allocates nothing.
+/// Returns whether a table has no aggregate under a number. Allocates nothing.
 fn is_free<S: FarTickets>(frame: &Frame<S>, a: u32) -> bool
     ensures { result ≡ is_none (aggregate_at frame.now.table a) }
 {
     frame.spec(a).is_none()
 }
 
-/// The lowest number under which a table has no aggregate. Allocates nothing.
+/// Returns the lowest number under which a table has no aggregate. Allocates nothing.
 fn free_number<S: FarTickets>(frame: &Frame<S>) -> Option<u32>
     requires all { length frame.now.table.aggregates ≡ 32 }
     ensures { result ≡ lowest_free frame.now.table }
@@ -33,7 +33,7 @@ fn free_number<S: FarTickets>(frame: &Frame<S>) -> Option<u32>
 }
 
 impl<N: Naming, B: Site, S: FarTickets, const I: usize> Stripe<N, B, S, I> {
-    /// The number under which the next aggregate is registered, which is not the gauge's. Allocates nothing.
+    /// Returns the number under which the next aggregate is registered, which is not the gauge's. Allocates nothing.
     fn next_number(&self) -> Option<u32>
         ensures free { result ≡ lowest_free self.now.state.table }
         ensures number { IfSome result (λ a. (a ≢ 0) × (a < 32)) }
@@ -41,7 +41,7 @@ impl<N: Naming, B: Site, S: FarTickets, const I: usize> Stripe<N, B, S, I> {
         free_number(&self.frame)
     }
 
-    /// Whether the next aggregate is registered under this number. Allocates nothing.
+    /// Returns whether the next aggregate is registered under this number. Allocates nothing.
     fn is_next(&self, a: u32) -> bool
         ensures { IsTrue result → lowest_free self.now.state.table ≡ Some a }
     {
@@ -51,7 +51,7 @@ impl<N: Naming, B: Site, S: FarTickets, const I: usize> Stripe<N, B, S, I> {
         }
     }
 
-    /// Whether an aggregate may be had over the schema. Allocates nothing.
+    /// Checks that an aggregate may be had over the schema. Allocates nothing.
     fn check(&self, spec: &Spec) -> Result<(), Refusal>
         ensures allowed { OnOk result (spec_refusal N.plan.schema spec.now ≡ None) }
         ensures refused { IfErr result (λ e. spec_refusal N.plan.schema spec.now ≡ Some e) }
@@ -59,13 +59,13 @@ impl<N: Naming, B: Site, S: FarTickets, const I: usize> Stripe<N, B, S, I> {
         spec.check(self.frame.schema())
     }
 
-    /// Registers an aggregate under the next number. Where that is refused, nothing is changed.
+    /// Registers an aggregate under the next number. A refused call changes nothing.
     fn watch(&mut self, spec: Spec) -> Result<u32, Refusal>
         ensures ok { IfOk result (λ a. (lowest_free self.old.state.table ≡ Some a) × (self.new ≡ registered a spec self.old)) }
         ensures err { OnErr result (self.new ≡ self.old) }
         ensures refused { IfErr result (WatchRefusal N.plan.schema spec) }
     {
-        // For the proof: a legal history leaves few places, so few row groups are left.
+        // For the proof: a legal history leaves few places, so few row groups are pending.
         self.keeper.known();
         self.frame.watch(spec)
     }
@@ -106,8 +106,8 @@ fn watch_two<N: Naming, B: Site, S: FarTickets, const I: usize, const J: usize>(
     }
 }
 
-/// The number under which the next aggregate is registered in all four stripes; `None` if there is none, or it is not the same in
-/// all. Allocates nothing.
+/// Returns the number under which the next aggregate is registered in all four stripes. `None` if there is none, or it is not
+/// the same in all. Allocates nothing.
 fn common_number<N: Naming, B: Site, S: FarTickets>(
     zero: &Stripe<N, B, S, 0>,
     one: &Stripe<N, B, S, 1>,
@@ -129,8 +129,8 @@ fn common_number<N: Naming, B: Site, S: FarTickets>(
     None
 }
 
-/// Registers an aggregate in four stripes under one number, or in none. Where it is refused, the four are as before, but for how many
-/// registrations were made.
+/// Registers an aggregate in four stripes under one number, or in none. If it is refused, the four are as before, but for how
+/// many registrations were made.
 fn watch_four<N: Naming, B: Site, S: FarTickets>(
     zero: &mut Stripe<N, B, S, 0>,
     one: &mut Stripe<N, B, S, 1>,
@@ -144,7 +144,7 @@ fn watch_four<N: Naming, B: Site, S: FarTickets>(
     ensures none { OnErr result ((uncounted zero.new ≡ uncounted zero.old) × (uncounted one.new ≡ uncounted one.old) × (uncounted two.new ≡ uncounted two.old) × (uncounted three.new ≡ uncounted three.old)) }
     ensures refused { IfErr result (WatchRefusal N.plan.schema spec.now) }
 {
-    // Both before memory is asked for, so that lack of memory hides neither.
+    // Both come before any allocation, so that a failed one hides neither.
     zero.check(spec)?;
     let Some(a) = common_number(zero, one, two, three) else {
         return Err(Refusal::TooManyAggregates);
@@ -161,12 +161,16 @@ fn watch_four<N: Naming, B: Site, S: FarTickets>(
 }
 
 impl<N: Naming, B: Site, S: FarTickets> Shared<N, B, S> {
-    /// Registers an aggregate in all four stripes under one number, which is below 32, or in none. Holds all four write locks. All row
-    /// groups that hold a place are still pending.
+    /// Registers an aggregate in all four stripes under one number, which is below 32, or in none. Holds all four write locks.
+    /// All row groups that hold a place are pending in it.
     ///
-    /// Refused with `BadSpec` (3), `NoColumn` (4) or `WrongKind` (5) exactly as `Spec::check` says; else with `TooManyAggregates` (13)
-    /// where a stripe has 32, or the lowest free numbers differ; else with `NoMemory` (1), and with `TooManyAggregates` (13) if a stripe
-    /// registered 2^32. The four stripes then have the rows, objects and aggregates that they had.
+    /// Refused with the first of these that applies:
+    ///
+    /// - `BadSpec` (3), `NoColumn` (4) or `WrongKind` (5), exactly as `Spec::check` says.
+    /// - `TooManyAggregates` (13): a stripe has 32, or the lowest free numbers differ.
+    /// - `NoMemory` (1) if an allocation fails, or `TooManyAggregates` (13) if a stripe registered 2^32.
+    ///
+    /// The four stripes then keep the rows, objects and aggregates that they had.
     pub fn watch_all<R: Wait>(&self, rt: &R, spec: Spec) -> Result<u32, Refusal>
         ensures number { IfOk result (λ a. (a ≢ 0) × (a < 32)) }
         ensures allowed { OnOk result (spec_refusal N.plan.schema spec ≡ None) }

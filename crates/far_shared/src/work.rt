@@ -5,18 +5,26 @@ ghost use Rattle.far_shared.specs.Works.{columns_for, stripe_of};
 use far_types::Name;
 
 /// One thing that is done to a stripe in the background. It changes no row. Each variant begins with the number of its stripe.
+///
+/// ```
+/// match work {
+///     Work::Evacuate(_) => frame.begin_coldest(store),
+///     Work::Fetch(_, name) => Ok(Some(fetch_on(frame, store, *name)?)),
+///     Work::Build(_) => build_on(frame, store),
+/// }
+/// ```
 #[derive(Clone, Copy, Debug, PartialEq, Eq)]
 pub enum Work {
     /// Sends the coldest object away.
     Evacuate(u32),
     /// Brings the object of a column and a row group back.
     Fetch(u32, Name),
-    /// Builds a row group that is left into its aggregate.
+    /// Builds a pending row group into its aggregate.
     Build(u32),
 }
 
 impl Work {
-    /// The number of its stripe. Allocates nothing.
+    /// Returns the number of its stripe. Allocates nothing.
     pub fn stripe(&self) -> u32
         ensures { result ≡ stripe_of self.now }
     {
@@ -27,7 +35,7 @@ impl Work {
         }
     }
 
-    /// How many columns the schema must have for what it names. Allocates nothing.
+    /// Returns how many columns the schema must have for what it names. Allocates nothing.
     pub fn columns(&self) -> u64
         ensures { result ≡ columns_for self.now }
     {
@@ -39,18 +47,46 @@ impl Work {
 }
 
 /// How a list of works came out.
+///
+/// ```
+/// let mut report = Report {
+///     done: 0,
+///     refused: 0,
+/// };
+/// for work in works {
+///     match serve(rt, shared, store, work) {
+///         Ok(()) => report.done += 1,
+///         Err(_) => report.refused += 1,
+///     }
+/// }
+/// report
+/// ```
 #[derive(Clone, Copy, Debug, PartialEq, Eq)]
 pub struct Report {
-    /// How many works were done, those among them for which there was nothing to do.
+    /// How many works were done, also those for which there was nothing to do.
     pub done: u64,
     /// How many were refused.
     pub refused: u64,
 }
 
-/// How a row group that is left is built into its aggregate. The parameter is a job.
+/// How a pending row group is built into its aggregate. The parameter is a job.
+///
+/// ```
+/// match building_under(rt, lock, store)? {
+///     Building::Nothing => Ok(false),
+///     Building::Scan { aggregate, group } => {
+///         scan_under(rt, lock, aggregate, group)?;
+///         Ok(true)
+///     }
+///     Building::Offload(job) => {
+///         complete_under(rt, alloc, lock, stripe, store, meter, job)?;
+///         Ok(true)
+///     }
+/// }
+/// ```
 #[derive(Drop)]
 pub enum Building<J> {
-    /// No row group of any aggregate is left.
+    /// No row group of any aggregate is pending.
     Nothing,
     /// By a scan: all that the aggregate needs is local.
     Scan {

@@ -14,7 +14,7 @@ use far_frame::{Frame, Job, JobKind};
 use far_store::FarTickets;
 use far_types::{Name, Refusal};
 
-/// Begins to build a row group that is left from the far store's copies; `None` exactly if none is left. Nothing is changed.
+/// Begins to build a pending row group from the far store's copies; `None` exactly if none is pending. Changes nothing.
 ///
 /// Refused with `StaleJob` (20) if an object that its aggregate needs is dirty, and with `NoMemory` (1).
 pub(crate) fn build_on<S: FarTickets>(
@@ -33,10 +33,13 @@ pub(crate) fn build_on<S: FarTickets>(
     Ok(Some(frame.begin_offload(store, aggregate, group)?))
 }
 
-/// Begins to bring an object back. Nothing is changed.
+/// Begins to bring an object back. Changes nothing.
 ///
-/// Refused with `NoColumn` (4) exactly if there is no such column; else with `OutOfRange` (14) if no place of the row group is used,
-/// `StaleJob` (20) if the object is local: the first that applies.
+/// Refused with the first of these that applies:
+///
+/// - `NoColumn` (4): there is no such column.
+/// - `OutOfRange` (14): no place of the row group is used.
+/// - `StaleJob` (20): the object is local.
 fn fetch_on<S: FarTickets>(frame: &Frame<S>, store: &S, name: Name) -> Result<Job<S>, Refusal>
     requires here { AreAt S.is_of (S.store_id store.now) frame.now.rows }
     ensures begun { IfOk result (IsFetchJob frame.now.rows name.column name.group) }
@@ -48,10 +51,12 @@ fn fetch_on<S: FarTickets>(frame: &Frame<S>, store: &S, name: Name) -> Result<Jo
     frame.begin_fetch(store, name.column, name.group)
 }
 
-/// Begins a work; `None` if there is nothing to do. Nothing is changed.
+/// Begins a work; `None` if there is nothing to do. Changes nothing.
 ///
-/// An evacuation is refused with `NoMemory` (1) alone; a fetch with `NoColumn` (4), `OutOfRange` (14) if no place of the row group
-/// is used, `StaleJob` (20) if the object is local: the first that applies; a build as `build_on` says.
+/// - An evacuation is refused with `NoMemory` (1) alone.
+/// - A fetch is refused with the first of these that applies: `NoColumn` (4), `OutOfRange` (14) if no place of the row group is
+///   used, `StaleJob` (20) if the object is local.
+/// - A build is refused as `build_on` says.
 pub(crate) fn begin_on<S: FarTickets>(
     frame: &Frame<S>,
     store: &S,
@@ -71,10 +76,13 @@ pub(crate) fn begin_on<S: FarTickets>(
     }
 }
 
-/// Ends a job by its kind: commits, installs or merges it. Each row stays. Only a job that was carried is accepted.
+/// Ends a job by its kind: commits, installs or merges it. Each row stays. Only a carried job is accepted.
 ///
-/// Refused as `Frame::commit`, `Frame::install` and `Frame::merge` are: with `StaleJob` (20) and `Pinned` (19); with `StaleJob` (20),
-/// `RegionFull` (17) and `NoMemory` (1); with `NoAggregate` (12), `StaleJob` (20) and `NoMemory` (1). Then nothing is changed.
+/// A refused call changes nothing. It is refused:
+///
+/// - as `Frame::commit`, with `StaleJob` (20) and `Pinned` (19);
+/// - as `Frame::install`, with `StaleJob` (20), `RegionFull` (17) and `NoMemory` (1);
+/// - as `Frame::merge`, with `NoAggregate` (12), `StaleJob` (20) and `NoMemory` (1).
 pub(crate) fn finish_on<S: FarTickets>(
     frame: &mut Frame<S>,
     store: &S,
@@ -98,9 +106,10 @@ pub(crate) fn finish_on<S: FarTickets>(
     }
 }
 
-/// Begins to build a row group that is left, by a scan where all that its aggregate needs is local, else by a job. Nothing is changed.
+/// Begins to build a pending row group: by a scan, if all that its aggregate needs is local, otherwise by a job. Changes
+/// nothing.
 ///
-/// Refused as `build_on` is, where no scan is possible.
+/// Refused as `build_on` is, if no scan is possible.
 pub(crate) fn building_on<S: FarTickets>(
     frame: &Frame<S>,
     store: &S,
@@ -120,10 +129,10 @@ pub(crate) fn building_on<S: FarTickets>(
     Ok(Building::Offload(frame.begin_offload(store, aggregate, group)?))
 }
 
-/// Builds a row group into an aggregate by a scan. Each row and object stays.
+/// Scans a row group into an aggregate. Each row and object stays.
 ///
-/// Refused with `NoAggregate` (12), `OutOfRange` (14), `StaleJob` (20), `Absent` (16) and `NoMemory` (1), as `Frame::scan_group` is.
-/// Then nothing is changed.
+/// Refused with `NoAggregate` (12), `OutOfRange` (14), `StaleJob` (20), `Absent` (16) and `NoMemory` (1), as
+/// `Frame::scan_group` is. A refused call changes nothing.
 pub(crate) fn scan_on<S: FarTickets>(
     frame: &mut Frame<S>,
     aggregate: u32,

@@ -15,11 +15,11 @@ use Rattle.far_script.proofs.FlowLaws.{prints, prints-nothing-then}
 use Rattle.far_script.proofs.StopLaws.{coming, spent-rest, starts}
 use Rattle.far_threads.specs.declared.outcome.Outcome.{Outcome}
 use Rattle.far_threads.specs.Runs.{IsOutcome}
-use Rattle.far_shell.specs.Scripts.{Begins}
+use Rattle.far_scripts.specs.Scripts.{Begins}
 use Rattle.far_shell.specs.Sessions.{CutOutcome, IsAnswered, IsThreads, TellsOutcome, gauges_text, line_of, outcome_text}
 use Rattle.far_shell.proofs.BreakLaws.{Breaking}
 use Rattle.far_commands.proofs.RowLaws.{drop-past}
-use Rattle.far_shell.proofs.ScriptLaws.{begins-then, either}
+use Rattle.far_scripts.proofs.ScriptLaws.{begins-then, either}
 
 -- a gauge line more
 pub gauges-more : (readings : List Reading) (i : ℕ) (told : Reading) (page after whole : List ℕ) → i < length readings → after ≡ page ++ line_of i (get_or readings i told)

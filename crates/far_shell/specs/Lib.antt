@@ -1,3 +1,2 @@
-pub mod Scripts
 pub mod Sessions
 pub mod Breaks

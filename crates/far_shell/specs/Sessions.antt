@@ -10,7 +10,7 @@ use Rattle.far_script.specs.declared.fault.ShellFault.{ShellFault}
 use Rattle.far_script.specs.declared.fault.ShellFault.TheVariants as fault
 use Rattle.far_script.specs.Openings.{Threads, start_in}
 use Rattle.far_script.specs.Printing.{answer_text, gauge_text}
-use Rattle.far_shell.specs.Scripts.{Begins, IsScript}
+use Rattle.far_scripts.specs.Scripts.{Begins, IsScript}
 
 -- the gauge line of a session
 abbrev pub line_of : ℕ → Reading → List ℕ

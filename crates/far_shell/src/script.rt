@@ -1,138 +1,21 @@
 // Scripts, read as they are answered.
-ghost use Rattle.std.specs.Prelude.{◌≡◌, ◌≢◌, ℕ, List, [], ◌++◌, ◌≤◌, true, codes, IfOk, IfErr, IfSome, OnOk, Some};
+ghost use Rattle.std.specs.Prelude.{◌≡◌, ℕ, List, [], ◌++◌, ◌≤◌, true, IfErr, IfSome, OnOk};
 ghost use Rattle.std.specs.Io.KnownBytes.{Appends, Keeps};
-ghost use Rattle.far_shell.specs.Breaks.{Breaks, BreaksOff, HasNotBegun, IsBroken, IsRefused, IsUnfinished, IsUnknown, Rejection};
 ghost use Rattle.far_script.specs.Flow.{Gives, IsFrontOf, IsOver, IsSpent, IsUnseen, Prints, Reads, has_failed};
-ghost use Rattle.far_script.specs.Openings.{IsWithin, start_in, start_of};
-ghost use Rattle.far_shell.specs.Scripts.{Begins, Ends, IsNew};
+ghost use Rattle.far_shell.specs.Breaks.{Breaks, IsBroken, IsUnfinished};
 ghost use Rattle.far_shell.specs.Sessions.{IsAnswered};
 
 use super::threads::print_sessions;
-use far_commands::{Agents, Progress, Resources, answer_line, open_table};
-use far_script::bounded::MAX_BYTES;
-use far_script::opening::first_line;
-use far_script::{FirstLine, Input, Line, Opening, Output, ShellFault, Source};
+use far_commands::{Agents, Resources};
+use far_script::{FirstLine, Input, Output, ShellFault, Source};
+use far_scripts::{first_command, serve_table};
 use far_store::{AgentStore, FarStore, FarTickets};
-use far_types::Refusal;
-use std::alloc::Global;
 use std::io::Write;
 use std::sync::Wait;
 use std::thread::Threads;
 
-/// More lines than a script can have: each takes a byte.
-const MAX_LINES: u32 = MAX_BYTES + 1;
-
-/// The most contents that the store of a script takes.
-const STORE_CAPACITY: u64 = 1_048_576;
-
-/// Answers the lines that follow the first command, up to the end of the script.
-fn serve_lines<S: FarStore, A: Resources<S>, R: Source + Drop, W: Write>(
-    resources: &A,
-    progress: &mut Progress<S>,
-    input: &mut Input<R>,
-    output: &mut Output,
-    writer: &mut W,
-) -> Result<(), ShellFault>
-    requires first { progress.old.number ≡ 1 }
-    ensures ok { OnOk result ((bytes : List ℕ) × (text : List ℕ) × Reads R.Read input.old bytes input.new × Prints (W.contents writer.old) output.old.page text (W.contents writer.new) output.new.page × Ends S.FarTickets progress.old bytes text × IsSpent R.Read input.new) }
-    ensures err { IfErr result (λ fault. (bytes : List ℕ) × (rest : List ℕ) × (text : List ℕ) × Gives R.Read fault input.old input.new bytes rest × Prints (W.contents writer.old) output.old.page text (W.contents writer.new) output.new.page × BreaksOff S.FarTickets (IsUnseen R.Read R.may_fail input.old input.new) (IsOver R.Read input.new rest) progress.old fault bytes text) }
-    ensures failed { IfErr result (λ fault. fault ≡ ShellFault.Output → has_failed output.new ≡ true) }
-    ensures asked { input.new.source.reads ≤ input.old.source.reads }
-{
-    for turn in 0..MAX_LINES {
-        match input.line(output, writer)? {
-            Line::Whole(line) => answer_line(resources, progress, line, input, output, writer)?,
-            Line::Last(line) => {
-                answer_line(resources, progress, line, input, output, writer)?;
-                return Ok(());
-            }
-        }
-        output.flush_if_full(writer)?;
-    }
-    Err(ShellFault::Input)
-}
-
-/// What a first line says, where it is one. Else that is printed, and the fault is `BadStart`.
-fn read_first(alloc: Global, line: &str, output: &mut Output) -> Result<FirstLine, ShellFault>
-    ensures first { IfOk result (λ first. start_in line.now ≡ Some (start_of first)) }
-    ensures within { IfOk result (λ first. IsWithin (start_of first)) }
-    ensures quiet { OnOk result (output.new.page ≡ output.old.page) }
-    ensures err { IfErr result (λ fault. (text : List ℕ) × (output.new.page ≡ output.old.page ++ text) × Rejection fault (IsUnknown line.now) text) }
-    ensures unwritten { IfErr result (λ fault. fault ≢ ShellFault.Output) }
-{
-    match first_line(alloc, line) {
-        Ok(Some(first)) => Ok(first),
-        Ok(None) => {
-            output.add_text("syntax command 1\n")?;
-            Err(ShellFault::BadStart)
-        }
-        Err(refusal) => Err(ShellFault::of_memory(refusal)),
-    }
-}
-
-/// The first command of a script. Where there is none, or it is no first line, the fault is `BadStart`.
-fn first_command<R: Source + Drop, W: Write>(
-    alloc: Global,
-    input: &mut Input<R>,
-    output: &mut Output,
-    writer: &mut W,
-) -> Result<FirstLine, ShellFault>
-    ensures ok { IfOk result (λ first. (bytes : List ℕ) × (line : List ℕ) × Reads R.Read input.old bytes input.new × Begins bytes (IsSpent R.Read input.new) line × (start_in line ≡ Some (start_of first))) }
-    ensures within { IfOk result (λ first. IsWithin (start_of first)) }
-    ensures printed { OnOk result (Prints (W.contents writer.old) output.old.page [] (W.contents writer.new) output.new.page) }
-    ensures err { IfErr result (λ fault. (bytes : List ℕ) × (rest : List ℕ) × (text : List ℕ) × Gives R.Read fault input.old input.new bytes rest × Prints (W.contents writer.old) output.old.page text (W.contents writer.new) output.new.page × HasNotBegun (IsUnseen R.Read R.may_fail input.old input.new) (IsOver R.Read input.new rest) fault bytes rest text) }
-    ensures failed { IfErr result (λ fault. fault ≡ ShellFault.Output → has_failed output.new ≡ true) }
-    ensures asked { input.new.source.reads ≤ input.old.source.reads }
-{
-    for turn in 0..MAX_LINES {
-        match input.line(output, writer)? {
-            Line::Whole(line) => {
-                if !line.is_empty() {
-                    let first = read_first(alloc, input.text(line)?, output)?;
-                    return Ok(first);
-                }
-            }
-            Line::Last(line) => {
-                if line.is_empty() {
-                    return Err(ShellFault::BadStart);
-                }
-                let last = read_first(alloc, input.text(line)?, output)?;
-                return Ok(last);
-            }
-        }
-    }
-    Err(ShellFault::Input)
-}
-
-/// The table that a first line asks for, over a store. Where it is refused with `BadSchema` (2), that is printed, and the fault is
-/// `BadStart`.
-fn open<S: FarStore>(
-    alloc: Global,
-    store: S,
-    opening: Opening,
-    output: &mut Output,
-) -> Result<Progress<S>, ShellFault>
-    ensures ok { IfOk result (λ progress. IsNew (opening.kinds.items, opening.limits) progress) }
-    ensures said { OnOk result (output.new.page ≡ output.old.page ++ codes "ok\n") }
-    ensures err { IfErr result (λ fault. (text : List ℕ) × (output.new.page ≡ output.old.page ++ text) × Rejection fault (IsRefused (opening.kinds.items, opening.limits)) text) }
-    ensures unwritten { IfErr result (λ fault. fault ≢ ShellFault.Output) }
-{
-    match open_table(alloc, store, opening) {
-        Ok(world) => {
-            output.add_text("ok\n")?;
-            Ok(Progress::new(world))
-        }
-        Err(Refusal::NoMemory) => Err(ShellFault::Memory),
-        Err(refusal) => {
-            output.add_refusal(&refusal)?;
-            Err(ShellFault::BadStart)
-        }
-    }
-}
-
 /// Answers a script by what its first command says: a table is opened and the lines behind it are answered, or sessions share a
-/// table, and nothing behind the command is read. It knows the store of a table as a type parameter alone, since a proof that drops a
-/// table goes through the whole type of its store.
+/// table, and nothing behind the command is read. It knows no table, and the store of one as a type parameter alone.
 fn serve<
     S: FarStore,
     A: Resources<S>,
@@ -155,12 +38,7 @@ fn serve<
     let first = first_command(rt.alloc(), input, output, writer)?;
     match first {
         FirstLine::Schema(opening) => {
-            let store = match resources.store(STORE_CAPACITY) {
-                Ok(store) => store,
-                Err(refusal) => return Err(ShellFault::of_memory(refusal)),
-            };
-            let mut progress = open(rt.alloc(), store, opening, output)?;
-            serve_lines(resources, &mut progress, input, output, writer)?;
+            serve_table(resources, opening, input, output, writer)?;
             Ok(())
         }
         FirstLine::Threads { sessions, edits } => {

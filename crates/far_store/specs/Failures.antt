@@ -4,7 +4,7 @@ use Rattle.std.specs.Fmt.{◌++?◌}
 use Rattle.far_store.specs.declared.engine.Failure.{Failure}
 use Rattle.far_store.specs.declared.engine.Failure.TheVariants.{NoMemory, Engine}
 
--- what a failure prints, by what its engine's own reason prints
+-- what a failure prints, given what the engine's own reason prints
 abbrev pub failure_text : {E : Type 0} → (E → Option (List ℕ)) → Failure E → Option (List ℕ)
 failure_text text NoMemory = Some (codes "memory ran out")
 failure_text text (Engine error) = Some (codes "the engine failed: ") ++? text error

@@ -1,4 +1,4 @@
--- How a call to a far store may be refused, and what the refusal does to the caller's meter.
+-- How a call to a far store may be refused, and what the refusal adds to the caller's meter.
 use Rattle.std.specs.Prelude.{ℕ, ◌==◌, if◌then◌else◌, List, IsTrue, Result, IfErr}
 use Rattle.std.specs.List.{list_any}
 use Rattle.std.specs.declared.result.Result.TheVariants.{Ok, Err}
@@ -9,11 +9,11 @@ use Rattle.far_types.specs.Refusals.{number_of}
 abbrev pub faults_of : Refusal → ℕ
 faults_of refusal = if number_of refusal == 21 then 1 else 0
 
--- how many faults a call answered: 1 where it was refused with FarFault, else 0
+-- how many faults a call returned: 1 if it was refused with FarFault, else 0
 abbrev pub faults_in : {A : Type 0} → Result A Refusal → ℕ
 faults_in (Ok x) = 0
 faults_in (Err refusal) = faults_of refusal
 
--- where the call was refused, the refusal has one of these numbers
+-- if the call was refused, the refusal has one of these numbers
 abbrev pub RefusedBy : {A : Type 0} → List ℕ → Result A Refusal → Type 0
 RefusedBy numbers result = IfErr result (λ refusal. IsTrue (list_any (λ number. number == number_of refusal) numbers))

@@ -1,4 +1,4 @@
--- What contracts see of a store that keeps what it gave out in a vector that only grows, and what ties a ticket to it.
+-- What contracts see of a store that keeps its contents or keys in a vector that only grows, and what ties a ticket to it.
 use Rattle.std.specs.Prelude.{◌≡◌, ℕ, List, map, slice_index_or}
 use base.Stored.{Coded, coded×, coded_ℕ, coded_list, coded_via}
 use Rattle.boxcar.specs.Table.{Shelves, Where}
@@ -11,10 +11,10 @@ pub record StoreState : Type 0 where
 abbrev pub store_coded : Coded StoreState
 store_coded = coded_via (coded× (coded_list coded_ℕ) coded_ℕ) (λ (s : StoreState). (s.id, s.capacity)) (λ x y e i. record { id = (e i).0; capacity = (e i).1 })
 
--- a vector that only grows is told from others by the names of its buckets, which are there from the beginning
+-- the id of a vector that only grows: the ids of its buckets. They are there from the beginning, and no other vector has them
 abbrev pub bucket_ids : Shelves → List ℕ
 bucket_ids shelves = map (λ bucket. bucket.id) shelves.buckets
 
--- the place lies in the bucket of this id
+-- the location lies in the bucket of this id
 abbrev pub IsOf : {T : Type 0} → Where T → List ℕ → Type 0
 IsOf place id = place.row ≡ slice_index_or id place.bucket 0

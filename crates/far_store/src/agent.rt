@@ -12,11 +12,10 @@ use std::alloc::Global;
 use std::marker::Model;
 use std::sync::Wait;
 
-/// A far store in this process, over a vector that only grows and that threads share with no lock. It never
-/// fails. Contracts see its id and its capacity.
+/// A far store in this process, over a vector that only grows and that threads share without a lock. It never fails. Contracts see its
+/// id and its capacity.
 ///
-/// Reading never waits. A `put` may: where another thread is just making the space for the next contents, it waits
-/// until that space is there.
+/// Reading never waits. A `put` may wait while another thread allocates the space for the next contents.
 ///
 /// ```
 /// let Ok(store) = AgentStore::new(rt, alloc, STORE_CAPACITY) else {
@@ -24,7 +23,7 @@ use std::sync::Wait;
 /// };
 /// ```
 ///
-/// What is put in any store is read back:
+/// Bytes that are put into any store are read back:
 ///
 /// ```
 /// let mut meter = Meter::new();
@@ -51,8 +50,8 @@ impl<R> Model for AgentStore<R> {
 }
 
 impl<R: Drop> AgentStore<R> {
-    /// An empty store that gives out the numbers below `capacity`. It keeps `rt`, by which a put may wait. Refused
-    /// with `NoMemory` (1) alone.
+    /// Makes an empty store that gives out the numbers below `capacity`. It keeps `rt`, by which a put may wait. Refused with `NoMemory`
+    /// (1) alone.
     pub fn new(rt: R, alloc: Global, capacity: u64) -> Result<AgentStore<R>, Refusal>
         ensures capacity { IfOk result (λ s. s.capacity ≡ capacity) }
         ensures memory { IfErr result (λ e. e ≡ Refusal.NoMemory) }
@@ -90,7 +89,7 @@ impl<R: Sync + Drop> FarTickets for AgentStore<R> {
         if a.index() != b.index() {
             return false;
         }
-        // At run time nothing happens here: the vector tells the proof that one number has one content.
+        // For the proof: gives that one number has one content. At run time nothing happens here.
         self.contents.agrees(a, b);
         true
     }
@@ -129,7 +128,7 @@ impl<R: Sync + Drop + Wait> FarStore for AgentStore<R> {
         ensures faultless { meter.new ≡ meter.old }
         ensures refused { RefusedBy (22 ∷ 1 ∷ []) result }
     {
-        // A vector that is full takes nothing more, so a put that is refused again and again allocates nothing.
+        // A full vector takes no more, so a put that is refused again and again allocates nothing.
         if self.contents.count() as u64 >= self.capacity {
             return Err(Refusal::FarFull);
         }

@@ -5,8 +5,8 @@ use boxcar::{Keeps, Pushed};
 use far_types::Refusal;
 use std::alloc::Global;
 
-/// The ticket, if its number is below the capacity. Another thread may have drawn a number since the count was read, so the
-/// number that was drawn decides.
+/// Returns the ticket, if its number is below the capacity. Another thread may have drawn a number since the count was read, so only the
+/// drawn number decides.
 pub(crate) fn below<T: Drop, P: Keeps<T>>(
     capacity: u64,
     ticket: Pushed<T, Global, P>,

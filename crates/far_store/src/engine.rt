@@ -1,4 +1,4 @@
-// What keeps bytes for a far store.
+// Engines: storage drivers that keep bytes for a far store.
 ghost use Rattle.std.specs.Prelude.{◌≡◌, ℕ, List, [], IfOk, OnOk};
 
 use std::alloc::{AllocError, AllocFailed, Global};
@@ -6,9 +6,18 @@ use std::error::Error;
 use std::fmt;
 
 /// Why an engine did not serve a call.
+///
+/// An engine over another one passes its failures on as its own:
+///
+/// ```
+/// match failure {
+///     Failure::NoMemory => Failure::NoMemory,
+///     Failure::Engine(_) => Failure::Engine(Failed),
+/// }
+/// ```
 #[derive(Drop, Debug)]
 pub enum Failure<E> {
-    /// Local memory was refused.
+    /// A local allocation failed: out of memory.
     NoMemory,
     /// The engine failed, for a reason of its own.
     Engine(E),
@@ -42,12 +51,13 @@ impl<T: Drop, E> From<AllocFailed<T>> for Failure<E> {
     }
 }
 
-/// Something that keeps bytes: a file, a server, memory of another machine. [`EngineStore`](crate::EngineStore) makes a
-/// far store of it.
+/// A storage driver: a file, a server, memory of another machine. [`EngineStore`](crate::EngineStore) makes a far store of it.
 ///
-/// An engine may be written in any repository, and either call may wait: put the bound that this asks for on the `impl`.
-/// It knows nothing of tickets, meters and refusals. All that is believed of an engine beyond this process is the one
-/// clause of [`read`](Engine::read). The split of a table from what moves its bytes is AIFM's device (OSDI 2020).
+/// An engine may be written in any repository. Either call may wait: put the bound that this asks for on the `impl`. An engine knows
+/// nothing of tickets, meters and refusals. All that is believed of an engine beyond this process is the one clause of
+/// [`read`](Engine::read).
+///
+/// The split of a table from what moves its bytes is AIFM's device (OSDI 2020).
 ///
 /// A log of bytes in memory (far_byte_log) begins so:
 ///
@@ -77,27 +87,27 @@ impl<T: Drop, E> From<AllocFailed<T>> for Failure<E> {
 ///     }
 /// ```
 pub trait Engine: Sync + Drop {
-    /// By what the engine finds bytes again. It borrows nothing and goes from thread to thread.
+    /// The key under which the engine finds bytes again. It borrows nothing and goes from thread to thread.
     type Key: Send + Sync + Drop;
 
     /// Why the engine fails.
     type Error: Drop;
 
-    /// The bytes that were written under a key. A key of an engine beyond this process has them as a ghost field.
+    /// The bytes that were written under a key. If the engine is beyond this process, its key has them as a ghost field.
     ghost written: { Self.Key → List ℕ };
 
-    /// Numbers that tell the engine from others. They are the same as long as it lasts.
+    /// The engine's id: numbers that no other engine has. They never change.
     ghost engine_id: { Self → List ℕ };
 
     /// The key is of the engine with this id.
     ghost is_of: { Self.Key → List ℕ → Type 0 };
 
-    /// Writes these bytes, for good, and gives the key under which they lie.
+    /// Writes these bytes, for good, and returns the key under which they lie.
     fn write(&self, alloc: Global, bytes: &[u8]) -> Result<Self::Key, Failure<Self::Error>>
         ensures here { IfOk result (λ key. is_of key (engine_id self.now)) }
         ensures written { IfOk result (λ key. written key ≡ bytes.now) };
 
-    /// Reads the bytes under a key into the buffer, which is empty. What the buffer holds after a failure is thrown away.
+    /// Reads the bytes under a key into the buffer, which is empty. After a failure, the caller discards what the buffer holds.
     fn read(
         &self,
         alloc: Global,

@@ -19,8 +19,8 @@ use std::sync::Wait;
 /// A far store that keeps its contents in an engine: a server, a file, memory of another machine. Contracts see its id and its
 /// capacity.
 ///
-/// The store keeps the engine's keys, one for each number. It answers `FarFault` (21) wherever the engine fails, and
-/// counts it. Reading waits only if the engine does; a put may wait for other threads, as an agent's.
+/// The store keeps the engine's keys, one for each number. If the engine fails for a reason of its own, the store returns `FarFault` (21)
+/// and counts the fault. Reading waits only if the engine does; a put may wait for other threads, as an agent's.
 ///
 /// Over a log of five bytes, with space for eight contents:
 ///
@@ -35,10 +35,10 @@ pub struct EngineStore<E: Engine, R> {
     capacity: u64,
 }
 
-/// A ticket of an `EngineStore`: the place of its key.
+/// A ticket of an `EngineStore`: the index of its key.
 pub type Kept<E> = Pushed<<E as Engine>::Key, Global, OfEngine<E>>;
 
-/// What holds of the keys of a store: they are of its engine.
+/// The rule of the keys of a store: they are of its engine.
 pub struct OfEngine<E> {
     engine: PhantomData<E>,
 }
@@ -65,8 +65,8 @@ impl<E: Engine, R> Model for EngineStore<E, R> {
 }
 
 impl<E: Engine, R: Drop> EngineStore<E, R> {
-    /// A store over this engine that gives out the numbers below `capacity`. It keeps `rt`, by which a put may wait.
-    /// Refused with `NoMemory` (1) alone.
+    /// Makes a store over this engine that gives out the numbers below `capacity`. It keeps `rt`, by which a put may wait. Refused with
+    /// `NoMemory` (1) alone.
     pub fn new(rt: R, alloc: Global, engine: E, capacity: u64) -> Result<EngineStore<E, R>, Refusal>
         ensures capacity { IfOk result (λ s. s.capacity ≡ capacity) }
         ensures memory { IfErr result (λ e. e ≡ Refusal.NoMemory) }
@@ -80,7 +80,7 @@ impl<E: Engine, R: Drop> EngineStore<E, R> {
         })
     }
 
-    /// The engine, as for its own figures. Allocates nothing.
+    /// Borrows the engine, to read its own figures. Allocates nothing.
     pub fn engine(&self) -> &E {
         &self.engine
     }
@@ -111,7 +111,7 @@ impl<E: Engine, R: Sync + Drop> FarTickets for EngineStore<E, R> {
         if a.index() != b.index() {
             return false;
         }
-        // At run time nothing happens here: the vector tells the proof that one number has one key.
+        // For the proof: gives that one number has one key. At run time nothing happens here.
         self.keys.agrees(a, b);
         true
     }
@@ -148,7 +148,7 @@ impl<E: Engine, R: Sync + Drop + Wait> FarStore for EngineStore<E, R> {
         ensures faults { meter.new ≡ meter.old + faults_in result }
         ensures refused { RefusedBy (21 ∷ 22 ∷ 1 ∷ []) result }
     {
-        // A store that is full asks its engine for nothing.
+        // A full store asks its engine for nothing.
         if self.keys.count() as u64 >= self.capacity {
             return Err(Refusal::FarFull);
         }
@@ -163,7 +163,7 @@ impl<E: Engine, R: Sync + Drop + Wait> FarStore for EngineStore<E, R> {
     }
 }
 
-// The refusal for a failure of the engine. A failure that is not a failed local allocation is a fault, and is counted.
+// The refusal for a failure of the engine. Each failure but a failed local allocation is a fault, and is counted.
 fn counted<F: Drop>(meter: &mut Meter, failure: Failure<F>) -> Refusal
     requires { meter.old < 2 ^ 63 }
     ensures faults { meter.new ≡ meter.old + faults_of result }

@@ -1,4 +1,4 @@
-// A far store that fails if it is told to.
+// A far store that fails as planned.
 ghost use Rattle.std.specs.Prelude.{◌≡◌, ◌<◌, IsTrue};
 
 use crate::Meter;
@@ -11,8 +11,17 @@ use std::sync::atomic::{AtomicBool, AtomicU64, Ordering};
 /// A far store that fails one `put` and one `get`, each once, and otherwise does what the store under it does.
 /// Contracts see the store under it.
 ///
-/// It is there to try what a caller does about a fault: the call answers `FarFault` (21) without asking the store
-/// under it, and the same call made again is served.
+/// It is there to try how a caller handles a fault: the failing call returns `FarFault` (21) without asking the store under it. The same
+/// call made again is served.
+///
+/// The faults are planned over a store, if that was made:
+///
+/// ```
+/// match made {
+///     Ok(store) => Ok(FaultyStore::new(store, plan.failing_put, plan.failing_get)),
+///     Err(refusal) => Err(refusal),
+/// }
+/// ```
 #[derive(Drop)]
 pub struct FaultyStore<S> {
     store: S,
@@ -27,9 +36,10 @@ impl<S> Model for FaultyStore<S> {
 }
 
 impl<S> FaultyStore<S> {
-    /// A store over `store` whose put number `failing_put` and whose get number `failing_get` are answered with
-    /// `FarFault` (21). Calls are counted from 1, and 0 stands for none. A call that is refused for lack of
-    /// memory is not counted. Allocates nothing.
+    /// Makes a store over `store` whose put number `failing_put` and whose get number `failing_get` return `FarFault` (21).
+    /// Allocates nothing.
+    ///
+    /// Calls are counted from 1, and 0 stands for none. A call that is refused with `NoMemory` (1) is not counted.
     pub fn new(store: S, failing_put: u64, failing_get: u64) -> FaultyStore<S>
         ensures { result ≡ store }
     {
@@ -102,7 +112,7 @@ impl<S: FarStore> FarStore for FaultyStore<S> {
     }
 }
 
-// The fault that is planned for one kind of call, and the count of these calls.
+// The planned fault of one kind of call, and the count of these calls.
 #[derive(Drop)]
 struct PlannedFault {
     number: u64,
@@ -121,8 +131,8 @@ impl PlannedFault {
         }
     }
 
-    // Counts a call as it begins, and says whether it is the one that fails. A call counts before it is served, so
-    // that threads draw different numbers; a number that was taken back is drawn again, and fails no second time.
+    // Counts a call as it begins. Returns whether it is the one that fails. A call counts before it is served, so that threads draw
+    // different numbers. A number that was taken back is drawn again, and does not fail a second time.
     fn is_due(&self) -> bool
         ensures { IsTrue result → 0 < self.now.number }
     {
@@ -130,7 +140,7 @@ impl PlannedFault {
         self.number > 0 && earlier == self.number - 1 && !self.met.swap(true, Ordering::SeqCst)
     }
 
-    // The call that was counted found no memory, so it does not count.
+    // Takes back the count of a call that ran out of memory.
     fn take_back(&self) {
         self.counted.fetch_sub(1, Ordering::SeqCst);
     }

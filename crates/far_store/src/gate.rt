@@ -9,7 +9,7 @@ use std::marker::Model;
 use std::sync::atomic::{AtomicBool, AtomicU64, Ordering};
 use std::{hint, thread};
 
-// For how many turns a put is held at most.
+// How many turns a put is held at most.
 const TURNS: u32 = 10_000_000;
 
 // After how many turns a held put leaves the processor to others.
@@ -18,8 +18,21 @@ const YIELDING: u32 = 10_000;
 /// A far store that holds its first `put` at a gate, and otherwise does what the store under it does. Contracts
 /// see the store under it.
 ///
-/// It is there to see what else a table can do while a put is under way. The put is held for at most 10,000,000
-/// turns of a loop, and is then answered with `FarFault` (21), so no call waits for ever.
+/// It is there to see what else a table can do while a put is under way. A put is held for at most 10,000,000 turns of a loop, and then
+/// returns `FarFault` (21). So no call waits for ever.
+///
+/// Another thread waits until a put is held, and then opens the gate:
+///
+/// ```
+/// for _ in 0..1_000_000 {
+///     if gate.held() {
+///         gate.release();
+///         return true;
+///     }
+///     thread::yield_now();
+/// }
+/// false
+/// ```
 #[derive(Drop)]
 pub struct GateStore<S> {
     store: S,
@@ -28,7 +41,7 @@ pub struct GateStore<S> {
     open: AtomicBool,
 }
 
-// What is to open a gate.
+// What opens a gate.
 #[derive(Clone, Copy, PartialEq, Eq)]
 enum Opener {
     Release,
@@ -42,14 +55,14 @@ impl<S> Model for GateStore<S> {
 }
 
 impl<S> GateStore<S> {
-    /// A store over `store` that holds its first put until `release`. Allocates nothing.
+    /// Makes a store over `store` that holds its first put until `release`. Allocates nothing.
     pub fn new(store: S) -> GateStore<S>
         ensures { result ≡ store }
     {
         GateStore::shut(store, Opener::Release)
     }
 
-    /// A store over `store` that holds its first put until a second put begins. Allocates nothing.
+    /// Makes a store over `store` that holds its first put until a second put begins. Allocates nothing.
     pub fn two(store: S) -> GateStore<S>
         ensures { result ≡ store }
     {
@@ -77,7 +90,7 @@ impl<S> GateStore<S> {
         self.begun.load(Ordering::SeqCst) > 0
     }
 
-    // Waits for the gate to open, and says whether it did.
+    // Waits for the gate to open. Returns whether it did.
     fn waits(&self) -> bool {
         for turn in 0..TURNS {
             if self.open.load(Ordering::SeqCst) {
@@ -88,7 +101,7 @@ impl<S> GateStore<S> {
         false
     }
 
-    // Counts a put as it begins, and says whether it may go on to the store.
+    // Counts a put as it begins. Returns whether it may go on to the store.
     fn admits(&self) -> bool {
         let earlier = self.begun.fetch_add(1, Ordering::SeqCst);
         if self.opened_by == Opener::SecondPut && earlier == 1 {
@@ -98,7 +111,7 @@ impl<S> GateStore<S> {
     }
 }
 
-// Mostly a short pause, so that the turns take a fraction of a second. The other thread may need this processor.
+// Pauses, mostly shortly, so that all turns take a fraction of a second. The other thread may need this processor.
 fn rest(turn: u32) {
     if turn % YIELDING == 0 {
         thread::yield_now();

@@ -1,11 +1,13 @@
 #![tactic(auto)]
-//! The far store: where the contents of objects lie that are not in local memory.
+//! The far store: it keeps the contents of objects that are not in local memory.
 //!
-//! A content is a list of bytes. [`FarStore::put`] gives a ticket for it, and [`FarRead::get`] gives the ticket's
-//! content back, as often as one likes; [`FarTickets`] tells one ticket from another without asking the store. The table
-//! above knows no more of a store than these three traits say, so it runs over any store: [`AgentStore`] in this
-//! process, [`EngineStore`] over an [`Engine`] of your own (docs/FAR_STORE.md), [`FaultyStore`] and [`GateStore`] to try
-//! what happens when a call fails or takes long.
+//! A content is a list of bytes. [`FarStore::put`] returns a ticket for it. [`FarRead::get`] reads the ticket's content, as often as one
+//! likes. [`FarTickets`] compares tickets without asking the store.
+//!
+//! The table above knows no more of a store than these three traits say. So it runs over any store:
+//! - [`AgentStore`] in this process;
+//! - [`EngineStore`] over an [`Engine`] of your own (docs/FAR_STORE.md);
+//! - [`FaultyStore`] and [`GateStore`], to try what happens when a call fails or takes long.
 //!
 //! Stores are shared by threads, and nothing is ever removed from one.
 

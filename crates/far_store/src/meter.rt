@@ -5,9 +5,16 @@ use std::marker::Model;
 
 /// How many faults a caller has met. Contracts see the number.
 ///
-/// A far store is shared by threads, so the count stands with the caller and not with the store: each call that
-/// may fault takes the caller's meter, and raises it by one exactly if it answers `FarFault` (21). Nothing
-/// but a store of this crate counts a fault.
+/// Threads share a far store, so the caller keeps the count. Each call that may fault takes the caller's meter, and adds one to it exactly
+/// if it returns `FarFault` (21). Only a store of this crate counts a fault.
+///
+/// Numbers are put into a store:
+///
+/// ```
+/// let mut meter = Meter::new();
+/// let form = encode_ints(alloc, numbers)?;
+/// store.put(alloc, &mut meter, &form)
+/// ```
 #[derive(Drop, Debug)]
 pub struct Meter {
     faults: u64,
@@ -22,7 +29,7 @@ impl Model for Meter {
 }
 
 impl Meter {
-    /// A meter of a caller that has met no fault yet. Allocates nothing.
+    /// Makes the meter of a caller that has met no fault yet. Allocates nothing.
     pub fn new() -> Meter
         ensures { result ≡ 0 }
     {
@@ -36,7 +43,7 @@ impl Meter {
         self.faults
     }
 
-    /// Adds the faults that another meter has counted, as that of a thread that has ended. Allocates nothing.
+    /// Adds the faults that another meter has counted, like that of a thread that has ended. Allocates nothing.
     pub fn join(&mut self, other: Meter)
         requires { self.old + other < 2 ^ 64 }
         ensures { self.new ≡ self.old + other }
@@ -44,7 +51,7 @@ impl Meter {
         self.faults += other.faults;
     }
 
-    /// Counts one fault more. Only a store may, and only if it answers `FarFault`.
+    /// Counts one fault more. Only a store may, and only if it returns `FarFault`.
     pub(crate) fn rise(&mut self)
         requires { self.old < 2 ^ 63 }
         ensures { self.new ≡ self.old + 1 }

@@ -1,4 +1,4 @@
-// The far side as the table sees it.
+// The far store as the table sees it.
 ghost use Rattle.std.specs.Prelude.{◌≡◌, ℕ, ◌+◌, ◌<◌, ◌^◌, ◌↔◌, List, [], ◌∷◌, IfOk, OnOk, OnErr, IsTrue};
 ghost use Rattle.far_store.specs.Faults.{faults_in, RefusedBy};
 
@@ -8,12 +8,22 @@ use std::alloc::Global;
 
 /// What a table knows of a far store's tickets, without talking to the store.
 ///
-/// It is apart from [`FarRead`] and [`FarStore`] since each of these may wait: a store behind a network waits in every
-/// read. What stands under a lock asks for `FarTickets` alone, and is known to return. A far side behind a small
-/// interface is AIFM's remote device (OSDI 2020); tickets that name one content for good are this project's own.
+/// [`FarRead`] and [`FarStore`] are traits of their own since each of these may wait: a store behind a network waits in every read. Code
+/// under a lock asks for `FarTickets` alone, and is known to return.
+///
+/// Whether one object's content was put before another's:
+///
+/// ```
+/// match (objects.ticket(o), objects.ticket(p)) {
+///     (Some(one), Some(other)) => store.number(one) < store.number(other),
+///     _ => false,
+/// }
+/// ```
+///
+/// A far store behind a small interface is AIFM's remote device (OSDI 2020). Tickets that name one content for good are this project's own.
 pub trait FarTickets: Sync + Drop {
-    /// What stands for one content that was put. It is kept by value, outlives every borrow of the store, and goes
-    /// from thread to thread.
+    /// The ticket of one content that was put: its handle. It is kept by value, outlives every borrow of the store, and goes from thread to
+    /// thread.
     type Ticket: Send + Sync + Drop;
 
     /// The bytes that were put for a ticket.
@@ -22,7 +32,7 @@ pub trait FarTickets: Sync + Drop {
     /// A ticket's number.
     ghost number_of: { Self.Ticket → ℕ };
 
-    /// A store's id, which ties its tickets to it. It is the same as long as the store lasts.
+    /// A store's id, which ties its tickets to it. It never changes.
     ghost store_id: { Self → List ℕ };
 
     /// The ticket is of the store with this id.
@@ -31,7 +41,7 @@ pub trait FarTickets: Sync + Drop {
     /// How many numbers a store may give out.
     ghost capacity_of: { Self → ℕ };
 
-    /// The same ticket once more: its number, its content and its store are the same. Allocates nothing.
+    /// Copies a ticket: its number, its content and its store are the same. Allocates nothing.
     fn again(&self, ticket: &Self::Ticket) -> Self::Ticket
         requires { is_of ticket.now (store_id self.now) }
         ensures { result ≡ ticket.now };
@@ -41,7 +51,7 @@ pub trait FarTickets: Sync + Drop {
         requires { is_of ticket.now (store_id self.now) }
         ensures { result ≡ number_of ticket.now };
 
-    /// Whether two tickets have one number. They then have one content too. Allocates nothing.
+    /// Whether two tickets have the same number. Then they have the same content too. Allocates nothing.
     fn same(&self, a: &Self::Ticket, b: &Self::Ticket) -> bool
         requires a_here { is_of a.now (store_id self.now) }
         requires b_here { is_of b.now (store_id self.now) }
@@ -49,10 +59,22 @@ pub trait FarTickets: Sync + Drop {
         ensures content { IsTrue result → content a.now ≡ content b.now };
 }
 
-/// What can be read of a far store.
+/// A far store whose contents can be read.
+///
+/// An object comes back from the content of its ticket:
+///
+/// ```
+/// let mut bytes = Vec::new(alloc);
+/// store.get(alloc, &mut Meter::new(), ticket, &mut bytes)?;
+/// let Some(list) = T::unspell(alloc, &bytes)? else {
+///     return Err(Refusal::StaleJob);
+/// };
+/// objects.arrive(o, &list)
+/// ```
 pub trait FarRead: FarTickets {
-    /// Writes the ticket's content into the buffer, in place of what the buffer has. Refused with `FarFault` (21)
-    /// where the store fails in this call, and with `NoMemory` (1); the buffer is then empty.
+    /// Writes the ticket's content into the buffer, in place of what the buffer has. If it is refused, the buffer is empty. Refused with:
+    /// - `FarFault` (21) if the store fails in this call;
+    /// - `NoMemory` (1).
     fn get(
         &self,
         alloc: Global,
@@ -68,11 +90,21 @@ pub trait FarRead: FarTickets {
         ensures refused { RefusedBy (21 ∷ 1 ∷ []) result };
 }
 
-/// A far store: contents are put into it, and read by the tickets that it gives for them.
+/// A far store: contents are put into it, and read by the tickets that it returns for them.
+///
+/// Bytes are put, a second time if the first call runs out of memory:
+///
+/// ```
+/// match store.put(alloc, &mut Meter::new(), &bytes) {
+///     Err(Refusal::NoMemory) => store.put(alloc, &mut Meter::new(), &bytes),
+///     reply => reply,
+/// }
+/// ```
 pub trait FarStore: FarRead {
-    /// Puts these bytes, and gives a ticket for them. Refused with `FarFault` (21) if the store fails in this
-    /// call, with `FarFull` (22) if the number drawn is not below the capacity, and with `NoMemory` (1). A
-    /// refused put may have used up a number.
+    /// Puts these bytes, and returns a ticket for them. A refused put may have used up a number. Refused with:
+    /// - `FarFault` (21) if the store fails in this call;
+    /// - `FarFull` (22) if the number drawn is not below the capacity;
+    /// - `NoMemory` (1).
     fn put(&self, alloc: Global, meter: &mut Meter, bytes: &[u8]) -> Result<Self::Ticket, Refusal>
         requires { meter.old < 2 ^ 63 }
         ensures here { IfOk result (λ ticket. Self.is_of ticket (Self.store_id self.now)) }

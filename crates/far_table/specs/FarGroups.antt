@@ -43,7 +43,7 @@ module _ {K : Type 0} where
     pub tickets : (column : ℕ) → needs g.build.job.spec column ≡ true → IsSomeAnd (ticket_for g.build.job.tickets column) (IsCopy content g.rows g.build.group column)
     pub alive : g.build.job.alive ≡ in_group g.rows.size g.build.group g.rows.alive
 
-  -- they are lent so: the specification, the flags and the contents are those of the build
+  -- what is lent: the specification, the flags and the contents are those of the build
   pub record AreLentFrom (content : K → List ℕ) (g : FarRows K) (spec : Spec) (flags : List Bool) (contents : List (ℕ × List ℕ)) : Type 0 where
     pub copies : AreCopies content g
     pub same_spec : spec ≡ g.build.job.spec

@@ -22,7 +22,7 @@ module _ {K : Type 0} where
   has_column g column = is_none (evac_refusal g.rows column g.group)
 
   module _ (content : K → List ℕ) (g : GroupRows K) where
-    -- this is lent of a column: its cells in the row group, wherever its object is there and local
+    -- this is lent of a column: its cells in the row group, if its object is there and local
     pub record IsLentOf (column : ℕ) (found : Option LentColumn) : Type 0 where
       pub there : has_column g column ≡ true → IsSome found
       pub form : IfSome found IsLent

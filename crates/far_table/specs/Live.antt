@@ -23,18 +23,18 @@ module _ {K : Type 0} where
     rows = t.held;
   }
 
-  -- what always holds of a table's parts: what is kept is that of its places as they are now
+  -- what always holds of a table's parts: the aggregates are those of its places as they are now
   pub record IsLive (t : TableRows K) (registrations : ℕ) (registry : List RegistryEntry) : Type 0 where
     pub registrations_few : registrations ≤ 2 ^ 32
     pub kept : Keeps t.limits.group t.places registry
     pub checked : AreChecked t.schema (registered_of registry)
 
-  -- a call is refused: nothing changes, and this was due, or memory was wanted
+  -- a call is refused: nothing changes, and this was due, or an allocation failed
   abbrev pub Refuses : Option Refusal → Bool → State K → Refusal → State K → Type 0
   Refuses due grows old given new = (new ≡ old) × MayRefuse due grows given
 
-  -- how the rows change by an edit. What is set is a value of its column's kind, also where it is missing: so the column's object is
-  -- written, whatever the cell was
+  -- how the rows change by an edit. What is set is a value of its column's kind, even if it is missing: so the column's object
+  -- is written, whatever the cell was
   abbrev pub Moves : (K → List ℕ) → Rows K → Edit → Rows K → Type 0
   Moves content old (edit.Insert row) new = (values : Values) × (row_of old.column_indexes values ≡ row) × IsPushed content old values new
   Moves content old (edit.Set p c cell) new = (value : NewCell) × (cell_of value ≡ cell) × (option_map kind_of (slice_get old.column_indexes c) ≡ Some (kind_in value)) × IsSet content old c p value new

@@ -1,4 +1,4 @@
--- Calls that move objects: the table stays as it is, and with it each row, aggregate and answer.
+-- Calls that move objects: the table stays the same, and with it each row, aggregate and answer.
 use Rattle.std.specs.Prelude.{◌≡◌, ℕ, List, length, IsSomeAnd}
 use Rattle.far_types.specs.declared.cell.Kind.{Kind}
 use Rattle.far_types.specs.declared.cell.Kind.TheVariants as kind
@@ -53,12 +53,12 @@ module _ {K : Type 0} where
   HasNoOther kind.Text segment r = HasNoEmptyOther r.text_objects.memory.state segment
 
   module _ (moves : Rows K → Rows K → Type 0) where
-    -- the objects in which the places lie move so, and nothing else changes
+    -- the objects that hold the places move like this, and nothing else changes
     pub record AreMoved (old new : TableRows K) : Type 0 where
       pub stays : new ≡ record old { held = new.held }
       pub held : moves old.held new.held
 
-    -- the objects of a table move so, and its rows, aggregates and edits stay
+    -- the objects of a table move like this, and its rows, aggregates and edits stay
     pub record IsMoved (old new : State K) : Type 0 where
       pub table : new.table ≡ old.table
       pub rows : moves old.rows new.rows

@@ -44,7 +44,7 @@ module _ {K : Type 0} where
   dirty_from r spec g n [] = []
   dirty_from r spec g n (s ∷ column_indexes) = (needs spec n && is_none (copy_of r n g), refusal.StaleJob) ∷ dirty_from r spec g (n + 1) column_indexes
 
-  -- a build is begun where the row group has a place, is still pending, and the columns that the aggregate needs are clean
+  -- a build is begun if the row group has a place, is still pending, and the columns that the aggregate needs are clean
   abbrev pub offload_refusal : State K → Option Registered → ℕ → Option Refusal
   offload_refusal s None g = Some refusal.NoAggregate
   offload_refusal s (Some aggregate) g = first_of (
@@ -67,7 +67,7 @@ module _ {K : Type 0} where
     pub alive : build.job.alive ≡ in_group s.rows.size g s.rows.alive
 
   module _ (number_of : K → ℕ) (s : State K) (build : Build K) where
-    -- what a build rests on holds still, of the aggregate under its number
+    -- what a build rests on still holds, of the aggregate under its number
     pub record HoldsStill (aggregate : Registered) : Type 0 where
       pub number : build.number ≡ s.rows.number_objects.number
       pub registered : IsBuildOf build aggregate

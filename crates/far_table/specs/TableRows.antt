@@ -28,7 +28,7 @@ module _ {K : Type 0} where
   abbrev pub rows_in : (K → List ℕ) → List Kind → Limits → Rows K → Values → ℕ → TableRows K
   rows_in content schema limits held new_row edits = record { schema = schema; limits = limits; places = places_in content held; edits = edits; new_row = new_row; held = held }
 
-  -- a table of which only what an edit's refusal looks at is told
+  -- a table of which only what an edit's refusal looks at is known
   abbrev pub asked : TableRows K → State K
   asked t = record { table = record { schema = t.schema; limits = t.limits; places = t.places; edits = t.edits; registrations = 0; aggregates = [] }; rows = t.held }
 

@@ -43,7 +43,7 @@ module _ {K : Type 0} where
   needed_from r spec g n [] = []
   needed_from r spec g n (s ∷ column_indexes) = (needs spec n && (told_at r g s).0, refusal.Absent n g) ∷ needed_from r spec g (n + 1) column_indexes
 
-  -- a row group is scanned where it has a place, is still pending, and the columns that the aggregate needs are local
+  -- a row group is scanned if it has a place, is still pending, and the columns that the aggregate needs are local
   abbrev pub scan_refusal : State K → Option Registered → ℕ → Option Refusal
   scan_refusal s None g = Some refusal.NoAggregate
   scan_refusal s (Some aggregate) g = first_of (
@@ -51,7 +51,7 @@ module _ {K : Type 0} where
       ∷ (not (is_pending aggregate.pending g), refusal.StaleJob)
       ∷ needed_from s.rows aggregate.spec g 0 s.rows.column_indexes)
 
--- something stands under a number, or nothing
+-- a table with an aggregate under a number, or with none
 abbrev pub with_aggregate : ℕ → Option Registered → Table → Table
 with_aggregate a aggregate table = record table { aggregates = slice_set table.aggregates a aggregate }
 

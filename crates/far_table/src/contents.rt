@@ -29,7 +29,7 @@ impl Model for Content {
     ghost view = { λ content. (content.column, content.form.items) };
 }
 
-/// The content of a column, among these. Allocates nothing.
+/// Returns the content of a column, among these. Allocates nothing.
 pub(crate) fn content_for(contents: &[Content], column: u32) -> Option<&[u8]>
     ensures { option_map (λ form. form.now) result ≡ option_map (λ content. content.1) (find (λ content. content.0 == column) contents.now) }
 {
@@ -39,7 +39,7 @@ pub(crate) fn content_for(contents: &[Content], column: u32) -> Option<&[u8]>
     }
 }
 
-// The content under the ticket of a column.
+// Reads the content under the ticket of a column.
 fn content_of<S: FarRead>(
     alloc: Global,
     store: &S,
@@ -58,9 +58,12 @@ fn content_of<S: FarRead>(
     Ok(Content { column, form })
 }
 
-/// The contents under some tickets, one buffer for each.
+/// Reads the contents under some tickets, one buffer for each.
 ///
-/// Refused with `FarFault` (21) if the store fails in this call, exactly when the meter rises, by one; and with `NoMemory` (1).
+/// Refused with one of these:
+///
+/// - `FarFault` (21): the store fails in this call, exactly if the meter rises, by one.
+/// - `NoMemory` (1): an allocation fails.
 pub(crate) fn contents_of<S: FarRead>(
     alloc: Global,
     store: &S,
@@ -80,9 +83,12 @@ pub(crate) fn contents_of<S: FarRead>(
     Ok(contents)
 }
 
-/// The contents of the columns of a row group that an aggregate needs and that are away, one buffer for each.
+/// Reads the contents of the columns of a row group that an aggregate needs and that are away, one buffer for each.
 ///
-/// Refused with `FarFault` (21) if the store fails in this call, exactly when the meter rises, by one; and with `NoMemory` (1).
+/// Refused with one of these:
+///
+/// - `FarFault` (21): the store fails in this call, exactly if the meter rises, by one.
+/// - `NoMemory` (1): an allocation fails.
 pub(crate) fn contents_away<S: FarRead>(
     alloc: Global,
     rows: &Rows<S>,

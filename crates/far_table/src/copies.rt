@@ -19,8 +19,8 @@ use far_store::FarTickets;
 use far_types::{Refusal, Spec};
 use std::alloc::Global;
 
-/// The ticket under which the far store has a row group of a column as it is now; `None` if the object is dirty, or there is none.
-/// Allocates nothing.
+/// Returns the ticket under which the far store has a row group of a column as it is now. `None` if the object is dirty, or
+/// there is none. Allocates nothing.
 pub(crate) fn copy_of<S: FarTickets>(rows: &Rows<S>, column: u32, group: u32) -> Option<&S::Ticket>
     ensures ticket { option_map (λ ticket. ticket.now) result ≡ copy_of rows.now column group }
     ensures copy { IfSome result (λ ticket. IsCopy S.content rows.now group column ticket.now) }
@@ -32,7 +32,7 @@ pub(crate) fn copy_of<S: FarTickets>(rows: &Rows<S>, column: u32, group: u32) ->
     rows.copy(column as usize, group)
 }
 
-/// The ticket of a column of a row group, if an aggregate needs the column and its object is away. Allocates nothing.
+/// Returns the ticket of a column of a row group, if an aggregate needs the column and its object is away. Allocates nothing.
 pub(crate) fn away_copy<'a, S: FarTickets>(
     rows: &'a Rows<S>,
     spec: &Spec,
@@ -53,7 +53,7 @@ pub(crate) fn away_copy<'a, S: FarTickets>(
     copy_of(rows, column, group)
 }
 
-/// Whether the far store has the columns of a row group that an aggregate needs, as they are now. Allocates nothing.
+/// Checks that the far store has the columns of a row group that an aggregate needs, as they are now. Allocates nothing.
 ///
 /// Refused with `StaleJob` (20) exactly if it lacks one.
 pub(crate) fn are_copied<S: FarTickets>(
@@ -73,14 +73,14 @@ pub(crate) fn are_copied<S: FarTickets>(
     Ok(())
 }
 
-// Whether the far store lacks a column that the aggregate needs.
+// Returns whether the far store lacks a column that the aggregate needs.
 fn lacks<S: FarTickets>(rows: &Rows<S>, spec: &Spec, column: u32, group: u32) -> bool
     ensures { result ≡ (needs spec.now column && is_none (copy_of rows.now column group)) }
 {
     spec.needs(column) && copy_of(rows, column, group).is_none()
 }
 
-/// The tickets of those columns, each with the index of its column.
+/// Returns the tickets of those columns, each with the index of its column.
 ///
 /// Refused with `NoMemory` (1) alone.
 pub(crate) fn copies_of<S: FarTickets>(
@@ -106,7 +106,7 @@ pub(crate) fn copies_of<S: FarTickets>(
     Ok(tickets)
 }
 
-// The ticket of a column, if an aggregate needs it.
+// Returns the ticket of a column, if an aggregate needs it.
 fn needed_copy<'a, S: FarTickets>(
     rows: &'a Rows<S>,
     spec: &Spec,
@@ -140,7 +140,7 @@ fn add<S: FarTickets>(
     Ok(())
 }
 
-// The ticket of a column, among these.
+// Returns the ticket of a column, among these.
 fn ticket_for<S: FarTickets>(tickets: &[(u32, S::Ticket)], column: u32) -> Option<&S::Ticket>
     ensures { option_map (λ ticket. ticket.now) result ≡ ticket_for tickets.now column }
 {
@@ -148,7 +148,7 @@ fn ticket_for<S: FarTickets>(tickets: &[(u32, S::Ticket)], column: u32) -> Optio
     Some(&ticket.1)
 }
 
-// Whether the column's ticket, among these, has the number under which the far store has the row group as it is now.
+// Returns whether the column's ticket, among these, has the number under which the far store has the row group as it is now.
 fn is_still<S: FarTickets>(
     rows: &Rows<S>,
     store: &S,
@@ -170,7 +170,7 @@ fn is_still<S: FarTickets>(
     store.same(own, ticket)
 }
 
-/// Whether `is_still` holds of each column that an aggregate needs. Allocates nothing.
+/// Returns whether `is_still` holds of each column that an aggregate needs. Allocates nothing.
 pub(crate) fn are_still<S: FarTickets>(
     rows: &Rows<S>,
     store: &S,

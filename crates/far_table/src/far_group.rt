@@ -14,7 +14,7 @@ use std::marker::Model;
 /// the build.
 #[derive(Drop)]
 pub(crate) struct FarGroup<'a, S: FarTickets> {
-    // Contracts alone read the rows and the build. What is lent was looked up when the row group was made.
+    // For the proof: contracts alone read the rows and the build. What is lent was looked up when the row group was made.
     rows: &'a Rows<S>,
     build: &'a OffloadBuild<S>,
     spec: &'a Spec,
@@ -35,7 +35,7 @@ impl<'a, S: FarTickets> Model for FarGroup<'a, S> {
 impl<'a, S: FarTickets> FarGroup<'a, S> {
     ghost use Rattle.far_table.specs.FarGroups.{AreCopies};
 
-    /// The row group of a build that holds still. Allocates nothing.
+    /// Returns the row group of a build that is still valid. Allocates nothing.
     pub(crate) fn new(rows: &'a Rows<S>, carried: &'a OffloadCarried<S>) -> FarGroup<'a, S>
         requires { AreCopies S.content record { rows = rows.now; build = carried.now } }
         ensures { result ≡ record { rows = rows.now; build = carried.now } }

@@ -12,7 +12,7 @@ ghost use Rattle.far_scopes.specs.Refusing.{refusal_in};
 
 use far_types::{Cell, Kind, Limits, Refusal, Row, Schema};
 
-/// Whether a cell may stand in a column of this kind.
+/// Returns whether a cell may stand in a column of this kind.
 fn is_of_kind(kind: Kind, cell: &Cell) -> bool
     ensures { result ≡ is_of_kind kind cell.now }
 {
@@ -23,7 +23,7 @@ fn is_of_kind(kind: Kind, cell: &Cell) -> bool
     }
 }
 
-/// Whether a cell is a text of more than 4,096 bytes.
+/// Returns whether a cell is a text of more than 4,096 bytes.
 fn is_too_long(cell: &Cell) -> bool
     ensures { result ≡ is_too_long cell.now }
 {
@@ -33,7 +33,7 @@ fn is_too_long(cell: &Cell) -> bool
     }
 }
 
-/// Whether the kinds are right at the columns that schema and row both have.
+/// Returns whether the kinds are right at the columns that schema and row both have.
 fn kinds_fit(schema: &Schema, row: &Row) -> bool
     ensures { result ≡ kinds_fit schema.now row.now }
 {
@@ -50,8 +50,8 @@ fn has_too_long(row: &Row) -> bool
     row.as_slice().iter().any(|cell| is_too_long(cell))
 }
 
-/// What is wrong with a row that is to be the next of so many: `WrongKind` (5), `RowWidth` (6), `TextTooLong` (7) or
-/// `TableFull` (10).
+/// Checks a new row behind `len` places. Refused with the first of these that applies: `WrongKind` (5), `RowWidth` (6),
+/// `TextTooLong` (7), `TableFull` (10).
 pub(crate) fn row_faults(
     schema: &Schema,
     limits: &Limits,
@@ -75,8 +75,8 @@ pub(crate) fn row_faults(
     Ok(())
 }
 
-/// What is wrong with a cell that is to stand in a column, at a place that is alive, dead or not there: `NoColumn` (4),
-/// `WrongKind` (5), `TextTooLong` (7), `NoRow` (8) or `RemovedRow` (9).
+/// Checks a new cell of a column, at a place that is alive, dead or not there. Refused with the first of these that applies:
+/// `NoColumn` (4), `WrongKind` (5), `TextTooLong` (7), `NoRow` (8), `RemovedRow` (9).
 pub(crate) fn cell_faults(
     schema: &Schema,
     column: u32,
@@ -97,7 +97,7 @@ pub(crate) fn cell_faults(
     living(alive)
 }
 
-/// What is wrong with a place that is alive, dead or not there: `NoRow` (8) or `RemovedRow` (9).
+/// Checks a place that is alive, dead or not there. Refused with `NoRow` (8) or `RemovedRow` (9).
 pub(crate) fn living(alive: Option<bool>) -> Result<(), Refusal>
     ensures { (at : Option Place) → option_map (λ p. p.alive) at ≡ alive → refusal_in result ≡ first_of ((is_none at, Refusal.NoRow) ∷ (is_dead at, Refusal.RemovedRow) ∷ []) }
 {

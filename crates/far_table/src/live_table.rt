@@ -27,6 +27,17 @@ use std::marker::Model;
 
 /// A table whose rows lie in objects that are local or away, and whose aggregates are kept up to date under every edit.
 /// Contracts see the plain table and the rows that hold its places.
+///
+/// ```
+/// let columns = schema.len();
+/// let table = LiveTable::open(alloc, schema, limits, number)?;
+/// let prefetcher = Prefetcher::new(alloc, columns as u32)?;
+/// Ok(Frame {
+///     alloc,
+///     table,
+///     prefetcher,
+/// })
+/// ```
 #[derive(Drop)]
 pub struct LiveTable<S: FarTickets> {
     alloc: Global,
@@ -47,9 +58,12 @@ impl<S: FarTickets> Model for LiveTable<S> {
 }
 
 impl<S: FarTickets> LiveTable<S> {
-    /// An empty table. The number tells the jobs of its objects from those of other tables.
+    /// Returns an empty table. The number distinguishes the jobs of its objects from those of other tables.
     ///
-    /// Refused with `BadSchema` (2) exactly if the limits are not what a table may have, else with `NoMemory` (1) alone.
+    /// Refused with the first of these that applies:
+    ///
+    /// - `BadSchema` (2): the limits are not what a table may have.
+    /// - `NoMemory` (1): an allocation fails.
     pub fn open(
         alloc: Global,
         schema: Schema,
@@ -71,7 +85,7 @@ impl<S: FarTickets> LiveTable<S> {
         })
     }
 
-    /// The rows, and the limits that they are under. Allocates nothing.
+    /// Returns the rows, with their limits. Allocates nothing.
     pub fn rows(&self) -> &TableRows<S>
         ensures schema { result.now.schema ≡ self.now.table.schema }
         ensures limits { result.now.limits ≡ self.now.table.limits }
@@ -81,15 +95,15 @@ impl<S: FarTickets> LiveTable<S> {
         &self.rows
     }
 
-    /// Cells that are needed no more: a row to come may be made in their memory. Allocates nothing.
+    /// Returns cells that are no longer needed: a later row may be made in their memory. Allocates nothing.
     pub fn spare_cells(&mut self) -> Vec<Cell>
         ensures { self.new ≡ self.old }
     {
         self.rows.spare_cells()
     }
 
-    /// Appends a row and gives its place. Refused as `TableRows::may_insert` says, else with `NoMemory` (1) alone; then nothing
-    /// is changed.
+    /// Appends a row and returns its place. Refused as `TableRows::may_insert` says, else with `NoMemory` (1) alone. A refused
+    /// call changes nothing.
     pub fn insert(&mut self, row: Row) -> Result<u32, Refusal>
         ensures ok { OnOk result (IsEdited S.content self.old (edit.Insert row) self.new) }
         ensures place { IfOk result (λ place. place ≡ length self.old.table.places) }
@@ -108,7 +122,7 @@ impl<S: FarTickets> LiveTable<S> {
             .aggregates
             .apply_deltas(self.alloc, &self.rows.new_row_ref(), group, place)?;
         if let Err(refusal) = self.rows.push(self.alloc) {
-            // the rows are as they were, and so is again what is kept
+            // The rows are as before, and now the aggregates are too.
             self.aggregates.undo(pending);
             return Err(refusal);
         }
@@ -117,7 +131,7 @@ impl<S: FarTickets> LiveTable<S> {
     }
 
     /// Puts a cell in a place's column; the same cell again counts as an edit too. Refused as `TableRows::may_set` says, else
-    /// with `NoMemory` (1) alone; then nothing is changed.
+    /// with `NoMemory` (1) alone. A refused call changes nothing.
     pub fn set(&mut self, column: u32, place: u32, cell: Cell) -> Result<(), Refusal>
         ensures ok { OnOk result (IsEdited S.content self.old (edit.Set place column cell) self.new) }
         ensures err { IfErr result (λ e. Refuses (edit_due self.old (edit.Set place column cell)) true self.old e self.new) }
@@ -140,7 +154,7 @@ impl<S: FarTickets> LiveTable<S> {
             place as usize,
         )?;
         if let Err(refusal) = self.rows.set(self.alloc, column, place, &value) {
-            // the rows are as they were, and so is again what is kept
+            // The rows are as before, and now the aggregates are too.
             self.aggregates.undo(pending);
             return Err(refusal);
         }
@@ -150,8 +164,8 @@ impl<S: FarTickets> LiveTable<S> {
         Ok(())
     }
 
-    /// Marks a place dead; its cells stay. Refused as `TableRows::may_remove` says, else with `NoMemory` (1) alone; then nothing
-    /// is changed.
+    /// Marks a place dead; its cells stay. Refused as `TableRows::may_remove` says, else with `NoMemory` (1) alone. A refused
+    /// call changes nothing.
     pub fn remove(&mut self, place: u32) -> Result<(), Refusal>
         ensures ok { OnOk result (IsEdited S.content self.old (edit.Remove place) self.new) }
         ensures err { IfErr result (λ e. Refuses (edit_due self.old (edit.Remove place)) true self.old e self.new) }
@@ -184,7 +198,7 @@ fn retract_row<S: FarTickets>(
     ensures kept { Keeps rows.now.limits.group rows.now.places aggregates.new }
     ensures registered { registered_of aggregates.new ≡ registered_of aggregates.old }
 {
-    // A row group is lent only if rows may have to be looked at.
+    // A row group is lent only if rows may have to be read.
     if !aggregates.needs_rows(&pending) {
         aggregates.retract_totals(pending);
         return;

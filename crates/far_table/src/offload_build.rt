@@ -12,11 +12,19 @@ use far_types::Refusal;
 use std::alloc::Global;
 use std::marker::Model;
 
-/// An offloaded build that was begun: the table and the registration that it is for, and the tickets and alive flags that it rests
-/// on. It borrows nothing, so any thread can carry it.
+/// A begun offloaded build: the table and the registration that it is for, and the tickets and alive flags that it rests on. It
+/// borrows nothing, so any thread can carry it.
 ///
-/// `carry` reads the contents into buffers, and `merge` folds them. Computing an aggregate from far data without fetching its objects
-/// is AIFM's offloading (OSDI 2020, section 4.4); there the fold runs beside the far data.
+/// `carry` reads the contents into buffers, and `merge` folds them. Computing an aggregate from far data without fetching its
+/// objects is AIFM's offloading (OSDI 2020, section 4.4). There the fold runs beside the far data.
+///
+/// ```
+/// let build = self.table.begin_offload(store, a, group)?;
+/// Ok(Job {
+///     name: None,
+///     work: Work::Offload(build),
+/// })
+/// ```
 #[derive(Drop)]
 pub struct OffloadBuild<S: FarTickets> {
     pub(crate) number: u32,
@@ -34,7 +42,19 @@ impl<S: FarTickets> Model for OffloadBuild<S> {
     ghost view = { λ build. record { number = build.number; aggregate = build.aggregate; registration = build.registration; group = build.group; job = build.job } };
 }
 
-/// An offloaded build whose contents were read. Contracts see the build: that the contents are those of its tickets is the invariant.
+/// An offloaded build whose contents were read. Contracts see the build. That the contents are those of its tickets is the
+/// invariant.
+///
+/// ```
+/// match &job.work {
+///     Work::Offloaded(carried) => self.table.merge(store, carried),
+///     Work::Offload(_) => Err(Refusal::StaleJob),
+///     Work::Evac(_) => Err(Refusal::StaleJob),
+///     Work::Carried(_) => Err(Refusal::StaleJob),
+///     Work::Fetch(_) => Err(Refusal::StaleJob),
+///     Work::Fetched(_) => Err(Refusal::StaleJob),
+/// }
+/// ```
 #[derive(Drop)]
 pub struct OffloadCarried<S: FarTickets> {
     pub(crate) build: OffloadBuild<S>,
@@ -54,14 +74,14 @@ impl<S: FarTickets> Model for OffloadCarried<S> {
 }
 
 impl<S: FarTickets> OffloadBuild<S> {
-    /// The number of the aggregate. Allocates nothing.
+    /// Returns the number of the aggregate. Allocates nothing.
     pub fn aggregate(&self) -> u32
         ensures { result ≡ self.now.aggregate }
     {
         self.aggregate
     }
 
-    /// The index of the row group. Allocates nothing.
+    /// Returns the index of the row group. Allocates nothing.
     pub fn group(&self) -> u32
         ensures { result ≡ self.now.group }
     {
@@ -72,8 +92,10 @@ impl<S: FarTickets> OffloadBuild<S> {
 impl<S: FarRead> OffloadBuild<S> {
     /// Reads the content of each ticket into a buffer of its own. Nothing enters the local region.
     ///
-    /// Refused with `FarFault` (21) if the store fails in this call, exactly when the meter rises, by one; and with `NoMemory` (1).
-    /// The build then comes back whole.
+    /// Refused with one of these; the build then comes back whole:
+    ///
+    /// - `FarFault` (21): the store fails in this call, exactly if the meter rises, by one.
+    /// - `NoMemory` (1): an allocation fails.
     pub fn carry(
         self,
         alloc: Global,
@@ -98,7 +120,7 @@ impl<S: FarRead> OffloadBuild<S> {
 }
 
 impl<S: FarTickets> OffloadCarried<S> {
-    /// What was read. Allocates nothing.
+    /// Returns what was read. Allocates nothing.
     pub(crate) fn contents(&self) -> &[Content]
         ensures { result.now ≡ contents_under S.content self.now.job.tickets }
     {

@@ -16,14 +16,14 @@ use far_store::{FarRead, Meter};
 use far_types::{Refusal, Spec};
 use std::alloc::Global;
 
-/// What the row groups of a piece come to, in order, and the faults that were met.
+/// The partial aggregates of a piece's row groups, in order, and how many faults occurred.
 #[derive(Drop)]
 pub(crate) struct Piece {
     pub(crate) partials: Result<Vec<PartialDone>, Refusal>,
     pub(crate) meter: Meter,
 }
 
-// What a row group comes to: a local column is read in place, another through its ticket.
+// Folds a row group: a local column is read in place, any other through its ticket.
 fn fold_at<S: FarRead>(
     alloc: Global,
     rows: &Rows<S>,
@@ -46,7 +46,7 @@ fn fold_at<S: FarRead>(
     fold_group(alloc, spec, &MixedGroup::new(rows, group, spec, &contents))
 }
 
-// What the row groups from one up to another come to.
+// Folds the row groups from one up to another.
 fn fold_run<S: FarRead>(
     alloc: Global,
     rows: &Rows<S>,

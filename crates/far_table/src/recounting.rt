@@ -14,14 +14,14 @@ use far_types::{Refusal, Spec};
 use std::alloc::{AllocError, Global};
 use std::thread::{self, Threads};
 
-/// How row groups are cut into consecutive pieces: so many row groups each, of which the last may have fewer.
+/// How row groups are cut into consecutive pieces of one length, of which the last may have fewer.
 #[derive(Clone, Copy)]
 pub(crate) struct Cut {
     pub(crate) long: u32,
     pub(crate) pieces: usize,
 }
 
-/// Cuts so many row groups into at most as many pieces as there are workers.
+/// Cuts `count` row groups into at most as many pieces as there are workers.
 pub(crate) fn cut_for(count: u32, workers: u32) -> Cut
     requires some { 0 < workers }
     ensures few { result.pieces ≤ workers }
@@ -36,7 +36,7 @@ pub(crate) fn cut_for(count: u32, workers: u32) -> Cut
     }
 }
 
-/// Where a piece begins, and the one before it ends.
+/// Returns where a piece begins, and the one before it ends.
 pub(crate) fn begin_of(count: u32, long: u32, piece: usize) -> u32
     requires { piece ≤ 64 }
     ensures { result ≡ begin_of count long piece }
@@ -44,7 +44,7 @@ pub(crate) fn begin_of(count: u32, long: u32, piece: usize) -> u32
     (piece * long as usize).min(count as usize) as u32
 }
 
-/// Folds at most 64 pieces of so many row groups, each in a thread of its own where one can be made.
+/// Folds at most 64 pieces, each in a thread of its own if one can be made.
 ///
 /// Refused if memory runs out.
 pub(crate) fn fold_pieces<R: Threads + Sync, S: FarRead>(
@@ -92,7 +92,7 @@ fn fold_from<S: FarRead>(
     fold_piece(alloc, rows, store, spec, from, to)
 }
 
-/// What the row groups of all pieces come to, in order. The faults that the pieces met are the caller's from now on.
+/// Gathers the partial aggregates of all pieces' row groups, in order. Adds the faults of the pieces to the caller's.
 ///
 /// Refused with `FarFault` (21) exactly if the meter rises, else with `NoMemory` (1).
 pub(crate) fn gather(
@@ -125,7 +125,7 @@ pub(crate) fn gather(
     Ok(partials)
 }
 
-// Appends what the row groups of a piece come to, if it was not refused.
+// Appends the partial aggregates of a piece, if it was not refused.
 fn append(
     partials: &mut Vec<PartialDone>,
     piece: Result<Vec<PartialDone>, Refusal>,

@@ -8,11 +8,15 @@ use far_rows::{LentColumn, Rows};
 use far_store::FarTickets;
 use std::marker::Model;
 
-/// A row group of a table: its columns are read where they lie, and one whose object is away is not at hand. Contracts see the
-/// rows and the number of the row group. A table has at most 16 columns.
+/// A row group of a table. Its columns are read in place, and one whose object is away is not at hand. Contracts see the rows
+/// and the number of the row group. A table has at most 16 columns.
+///
+/// ```
+/// aggregates.retract(&rows.group(pending.row_group()), pending);
+/// ```
 #[derive(Drop)]
 pub struct RowGroup<'a, S: FarTickets> {
-    // Contracts alone look at the rows and the number: what is lent was looked up when the row group was made.
+    // For the proof: contracts alone read the rows and the number. What is lent was looked up when the row group was made.
     rows: &'a Rows<S>,
     group: u32,
     columns: [Option<LentColumn<'a>>; 16],
@@ -30,7 +34,7 @@ impl<'a, S: FarTickets> Model for RowGroup<'a, S> {
 }
 
 impl<'a, S: FarTickets> RowGroup<'a, S> {
-    /// The row group of a number. All its columns are looked at once, here. Allocates nothing.
+    /// Returns the row group of a number. It looks up all columns once, here. Allocates nothing.
     pub(crate) fn new(rows: &'a Rows<S>, group: u32) -> RowGroup<'a, S>
         ensures { result ≡ record { rows = rows.now; group = group } }
     {
@@ -63,7 +67,7 @@ impl<'a, S: FarTickets> LendGroup for RowGroup<'a, S> {
     }
 }
 
-// What is lent of each column of a row group; `None` of one whose object is away, and past the columns.
+// Returns what is lent of each column of a row group; `None` of one whose object is away, and past the columns.
 fn columns_of<'a, S: FarTickets>(rows: &'a Rows<S>, group: u32) -> [Option<LentColumn<'a>>; 16]
     ensures count { length result ≡ 16 }
     ensures lent { (column : ℕ) → IsLentOf S.content record { rows = rows.now; group = group } column (slice_index_or result column None) }

@@ -26,8 +26,19 @@ use std::marker::Model;
 
 /// The rows of a table under its limits, over objects that are local or away, and how many edits were accepted.
 ///
-/// An insert takes its row first, into values that are made once, when the table is opened; `new_row_ref` lends it until it
+/// An insert first takes its row, into values that are made once, when the table is opened. `new_row_ref` borrows it until it
 /// is appended. Contracts see the places as the plain table has them (`specs/TableRows.antt`), and the rows that hold them.
+///
+/// ```
+/// limits.check()?;
+/// let rows = TableRows::new(alloc, schema, limits, number)?;
+/// Ok(LiveTable {
+///     alloc,
+///     rows,
+///     registrations: 0,
+///     aggregates: Aggregates::new(alloc),
+/// })
+/// ```
 #[derive(Drop)]
 pub struct TableRows<S: FarTickets> {
     schema: Schema,
@@ -48,8 +59,8 @@ impl<S: FarTickets> Model for TableRows<S> {
 }
 
 impl<S: FarTickets> TableRows<S> {
-    /// No rows, of a table with this schema and these limits. The number tells the jobs of its objects from those of other
-    /// tables. All memory for elements is taken here.
+    /// Returns the rows of a table with this schema and these limits, without a row. The number distinguishes the jobs of its
+    /// objects from those of other tables. Allocates all memory for elements.
     ///
     /// Refused with `NoMemory` (1) alone.
     pub fn new(
@@ -73,14 +84,14 @@ impl<S: FarTickets> TableRows<S> {
         })
     }
 
-    /// The kinds of the columns. Allocates nothing.
+    /// Returns the kinds of the columns. Allocates nothing.
     pub fn schema(&self) -> &Schema
         ensures { result.now ≡ self.now.schema }
     {
         &self.schema
     }
 
-    /// The limits of the table. Allocates nothing.
+    /// Returns the limits of the table. Allocates nothing.
     pub fn limits(&self) -> &Limits
         ensures same { result.now ≡ self.now.limits }
         ensures bounds { AreLimits self.now.limits }
@@ -88,14 +99,14 @@ impl<S: FarTickets> TableRows<S> {
         &self.limits
     }
 
-    /// How many edits were accepted. Allocates nothing.
+    /// Returns how many edits were accepted. Allocates nothing.
     pub fn edits(&self) -> u64
         ensures { result ≡ self.now.edits }
     {
         self.edits
     }
 
-    /// How many places there are, dead ones too. Allocates nothing.
+    /// Returns how many places there are, dead ones too. Allocates nothing.
     pub fn len(&self) -> usize
         ensures len { result ≡ length self.now.places }
         ensures few { length self.now.places ≤ self.now.limits.places }
@@ -104,7 +115,7 @@ impl<S: FarTickets> TableRows<S> {
         self.rows.len()
     }
 
-    /// How many row groups have a place. Allocates nothing.
+    /// Returns how many row groups have a place. Allocates nothing.
     pub fn groups(&self) -> usize
         ensures { result ≡ groups self.now.limits.group (length self.now.places) }
     {
@@ -112,17 +123,17 @@ impl<S: FarTickets> TableRows<S> {
         (self.rows.len() + size - 1) / size
     }
 
-    /// Whether a place is alive; `None` if there is no such place. Allocates nothing.
+    /// Returns whether a place is alive; `None` if there is no such place. Allocates nothing.
     pub fn is_alive(&self, place: usize) -> Option<bool>
         ensures { result ≡ option_map (λ p. p.alive) (slice_get self.now.places place) }
     {
         self.rows.is_alive(place)
     }
 
-    /// The row of a place, each cell lent in place. Allocates nothing.
+    /// Returns the row of a place, with each cell borrowed. Allocates nothing.
     ///
-    /// Refused with `Absent` (16) exactly if an object of the place's row group is away, naming the first in the order of
-    /// the columns.
+    /// Refused with `Absent` (16) exactly if an object of the place's row group is away. It names the first in the order of the
+    /// columns.
     #[inline(always)]
     pub fn row(&self, place: usize) -> Result<LentRow<'_>, Refusal>
         requires { place < length self.now.places }
@@ -132,7 +143,7 @@ impl<S: FarTickets> TableRows<S> {
         self.rows.row(place)
     }
 
-    /// The row of a place, each cell lent in place once it is asked for. Allocates nothing.
+    /// Returns the row of a place. It borrows each cell when it is asked for. Allocates nothing.
     ///
     /// Refused as `row` is, with `Absent` (16) alone.
     pub fn row_ref(&self, place: usize) -> Result<RowRef<'_, S>, Refusal>
@@ -143,14 +154,14 @@ impl<S: FarTickets> TableRows<S> {
         self.rows.row_ref(place)
     }
 
-    /// A row group, as it is lent to aggregates. Allocates nothing.
+    /// Returns a row group, as it is lent to aggregates. Allocates nothing.
     pub fn group(&self, number: u32) -> RowGroup<'_, S>
         ensures { result ≡ record { rows = self.now.held; group = number } }
     {
         RowGroup::new(&self.rows, number)
     }
 
-    /// The rows over objects that hold the places. Allocates nothing.
+    /// Returns the rows over objects that hold the places. Allocates nothing.
     pub fn held(&self) -> &Rows<S>
         ensures held { result.now ≡ self.now.held }
         ensures rows { AreRows S.content self.now.held }
@@ -163,12 +174,12 @@ impl<S: FarTickets> TableRows<S> {
         &self.rows
     }
 
-    /// The new row, each cell lent in place once it is asked for. Allocates nothing.
+    /// Returns the new row. It borrows each cell when it is asked for. Allocates nothing.
     #[inline(always)]
     pub(crate) fn new_row_ref(&self) -> NewRowRef<'_>
         ensures { result ≡ row_of self.now.held.column_indexes self.now.new_row }
     {
-        // For the proof: that each index is that of a column.
+        // For the proof: each index is that of a column.
         let _len = self.rows.len();
         self.new_row.row_ref(self.rows.column_indexes())
     }
@@ -181,7 +192,7 @@ struct Widths {
     texts: usize,
 }
 
-// How many columns of each kind a schema has.
+// Counts the columns of each kind of a schema.
 fn widths_of(schema: &Schema) -> Widths
     ensures numbers { (size : ℕ) → result.numbers ≡ length (numbers_from size 0 schema.now) }
     ensures texts { (size limit : ℕ) → result.texts ≡ length (texts_from size limit 0 schema.now) }

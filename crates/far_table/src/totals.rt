@@ -1,4 +1,4 @@
-// Totals of pieces of a table, each folded by one worker into one partial, as if it were a row group.
+// Totals of pieces of a table. One worker folds a piece into one partial aggregate, as if it were a row group.
 ghost use Rattle.std.specs.Prelude.{◌≡◌, ◌≢◌, ◌+◌, ◌-◌, ◌*◌, ◌<◌, ◌≤◌, ◌^◌, ℕ, [], ◌∷◌, length, IfOk, IfErr, OnOk, slice_index_or};
 ghost use Rattle.far_types.specs.declared.spec.Fold.TheVariants as folds;
 ghost use Rattle.far_types.specs.Answers.{totals, answer_over};
@@ -27,7 +27,7 @@ use far_types::{Answer, Refusal, Spec};
 use std::alloc::{AllocError, Global};
 use std::thread::{self, Threads};
 
-/// How a table is cut into pieces of so many row groups each, of which the last may have fewer: as if it had wider row groups.
+/// How a table is cut into pieces of equally many row groups, of which the last may have fewer: as if it had wider row groups.
 #[derive(Clone, Copy)]
 struct Wide {
     long: u32,
@@ -35,7 +35,7 @@ struct Wide {
     pieces: usize,
 }
 
-/// Cuts row groups of so many places into at most as many pieces as there are workers.
+/// Cuts row groups into at most as many pieces as there are workers.
 fn wide_for(size: u32, places: usize, count: u32, workers: u32) -> Wide
     requires size { 0 < size }
     requires small { size ≤ 2 ^ 16 }
@@ -56,7 +56,7 @@ fn wide_for(size: u32, places: usize, count: u32, workers: u32) -> Wide
     }
 }
 
-// The rows of a row group come into totals: a local column is read in place, another through its ticket.
+// Adds the rows of a row group to totals: a local column is read in place, any other through its ticket.
 fn total_at<S: FarRead>(
     alloc: Global,
     live: &mut LiveTotals,
@@ -88,7 +88,7 @@ fn total_at<S: FarRead>(
     )
 }
 
-// What the row groups from one up to another come to together.
+// Folds the row groups from one up to another together.
 fn total_run<S: FarRead>(
     alloc: Global,
     rows: &Rows<S>,
@@ -119,7 +119,7 @@ fn total_run<S: FarRead>(
     Ok(partials)
 }
 
-// Folds a piece of so many row groups, the last of which may have fewer, with a meter of its own.
+// Folds a piece of row groups, the last of which may have fewer, with a meter of its own.
 fn total_from<S: FarRead>(
     alloc: Global,
     rows: &Rows<S>,
@@ -144,7 +144,7 @@ fn total_from<S: FarRead>(
     Piece { partials, meter }
 }
 
-// Folds at most 64 pieces, each in a thread of its own where one can be made.
+// Folds at most 64 pieces, each in a thread of its own if one can be made.
 fn total_pieces<R: Threads + Sync, S: FarRead>(
     rt: &R,
     alloc: Global,
@@ -171,8 +171,8 @@ fn total_pieces<R: Threads + Sync, S: FarRead>(
     thread::map_indices(rt, alloc, pieces, &fold)
 }
 
-/// What totals answer over the rows, whichever objects are away. At most `workers` threads fold the row groups, in consecutive
-/// pieces.
+/// Returns the answer of totals over the rows, whichever objects are away. At most `workers` threads fold the row groups, in
+/// consecutive pieces.
 ///
 /// Refused with `FarFault` (21) exactly if the meter rises, else with `NoMemory` (1).
 pub(crate) fn total_answer<R: Threads + Sync, S: FarRead>(

@@ -7,7 +7,7 @@ pub record AreTextColumns (lists : Lists) (columns : List Texts) : Type 0 where
   pub each : All (IsTextColumn lists) columns
   pub disjoint : AllPairs AreDisjoint columns
 
--- a call on c leaves c' of it, and every column that had no object in common with it as it was, and disjoint from it
+-- a call on c leaves c' of it; every column disjoint from c stays the same, and is disjoint from c'
 pub record ChangesColumn (old new : Lists) (c c' : Texts) : Type 0 where
   pub is : IsTextColumn new c'
   pub others : KeepsOthers old new c

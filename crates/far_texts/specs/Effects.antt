@@ -21,12 +21,12 @@ group_with lists c place text = slice_set (texts_at lists (object_at c place)) (
 abbrev pub group_with_next : Lists → Texts → Option (List ℕ) → List (Option (List ℕ))
 group_with_next lists c text = (if begins_group c then [] else texts_at lists (last_object c)) ++ text ∷ []
 
--- a column with a text more; o is the number of a new object, which is made where a row group begins
+-- a column with a text more; o is the number of a new object, which is made if a row group begins
 abbrev pub pushed : Texts → ℕ → Texts
 pushed c o = record c { objects = if begins_group c then c.objects ++ o ∷ [] else c.objects; len = c.len + 1 }
 
 module _ {K : Type 0} (content : K → List ℕ) (m : Movement ℕ K) (c : Texts) where
-  -- the object of the next place: the next that is made, where the place begins a row group
+  -- the object of the next place: the next that is made, if the place begins a row group
   abbrev pub next_object : ℕ
   next_object = if begins_group c then length m.records else last_object c
 

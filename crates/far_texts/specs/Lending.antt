@@ -9,7 +9,7 @@ use Rattle.far_scopes.specs.Refusing.{first_absent}
 use Rattle.far_texts.specs.Texts.{Texts, Lists, HasGroups, lists_of, IsTextColumn, IsGroupForm}
 use Rattle.far_texts.specs.Refusing.{text_refusal}
 
--- the objects of the row groups that a part touches; an empty part touches none
+-- the objects of the row groups that a part holds places of; an empty part has none
 abbrev pub overlapped_objects : Texts → ℕ → ℕ → List ℕ
 overlapped_objects c from to = if nat_lt from to then slice_range c.objects (from / c.size) ((to - 1) / c.size + 1) else []
 
@@ -17,15 +17,15 @@ abbrev pub texts_refusal : {K : Type 0} → Movement ℕ K → Texts → ℕ →
 texts_refusal m c from to =
     option_or (first_of ((nat_lt c.len to || nat_lt to from, refusal.OutOfRange) ∷ [])) (first_absent m (overlapped_objects c from to))
 
--- the texts of so many places from this one on are there and can be lent
+-- the texts of `count` places from this one on are there and can be lent
 pub record AreLent {K : Type 0} (content : K → List ℕ) (m : Movement ℕ K) (c : Texts) (place count : ℕ) : Type 0 where
   pub is : IsTextColumn (lists_of content m) c
   pub groups : HasGroups c
   pub within : place + count ≤ c.len
   pub here : (p : ℕ) → place ≤ p → p < place + count → text_refusal content m c p ≡ None
 
--- internal: a place that is gone to, the row group that it lies in or that ends before it, where it stands from that one's
--- beginning, and the form of that row group
+-- internal: a visited place, and the row group that holds it or ends before it, with its form. The index counts from that row
+-- group's beginning
 pub record IsCursor (lists : Lists) (c : Texts) (place group index : ℕ) (form : List ℕ) : Type 0 where
   pub begun : group < length c.objects
   pub at : place ≡ group * c.size + index

@@ -13,7 +13,7 @@ pub record Texts : Type 0 where
   pub objects : List ℕ
   pub len : ℕ
 
--- a list for each object by its number, where it has one
+-- a list for each object that has one, by its number
 abbrev pub Lists : Type 0
 Lists = ℕ → Option (List ℕ)
 
@@ -21,7 +21,7 @@ Lists = ℕ → Option (List ℕ)
 abbrev pub lists_of : {K : Type 0} → (K → List ℕ) → Movement ℕ K → Lists
 lists_of content m = list_of (λ bytes. bytes) content m
 
--- there are as many objects as row groups are begun, and few enough
+-- there are as many objects as begun row groups, and few enough
 pub record HasGroups (c : Texts) : Type 0 where
   pub some : 0 < c.size
   pub small : c.size ≤ 2 ^ 16

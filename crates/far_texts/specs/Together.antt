@@ -9,7 +9,7 @@ use Rattle.far_texts.specs.Texts.{Texts, Lists, IsTextColumn, AreDisjoint, texts
 use Rattle.far_texts.specs.Columns.{AreTextColumns}
 use Rattle.far_texts.specs.Effects.{begins_group, last_object, group_with_next, pushed}
 
--- columns of one table: columns of texts that lie in these lists, of one length and one size of row groups
+-- columns of one table: they lie in these lists, and have one length and one size of row groups
 pub record AreColumns (lists : Lists) (columns : List Texts) : Type 0 where
   pub all_disjoint : AreTextColumns lists columns
   pub same_length : AllPairs (λ c d. (c.size ≡ d.size) × (c.len ≡ d.len)) columns
@@ -35,7 +35,7 @@ pub record IsNextForm (lists : Lists) (c : Texts) (text : Option (List ℕ)) : T
   pub short : length (texts_form (group_with_next lists c text)) ≤ c.limit
   pub some : 0 < length (texts_form (group_with_next lists c text))
 
--- so does that of each column
+-- each column's form is such a next form
 abbrev pub AreNextForms : Lists → List Texts → List (Option (List ℕ)) → Type 0
 AreNextForms lists columns texts = (k : ℕ) (c : Texts) (text : Option (List ℕ)) → slice_get columns k ≡ Some c → slice_get texts k ≡ Some text → IsNextForm lists c text
 
@@ -50,7 +50,7 @@ all_texts_with lists [] texts = []
 all_texts_with lists (c ∷ columns) [] = []
 all_texts_with lists (c ∷ columns) (text ∷ texts) = (texts_in lists c ++ text ∷ []) ∷ all_texts_with lists columns texts
 
--- each of these objects gets the list beside it, and no other list changes
+-- each of these objects gets the list paired with it, and no other list changes
 pub record ChangesTo (old new : Lists) (forms : List (ℕ × List ℕ)) : Type 0 where
   pub here : All (λ form. new form.0 ≡ Some form.1) forms
   pub others : (p : ℕ) → All (λ form. p ≢ form.0) forms → new p ≡ old p
@@ -65,7 +65,7 @@ abbrev pub given_forms : List (Replacement ℕ) → List (ℕ × List ℕ)
 given_forms lists = map (λ r. (r.object, r.list.items)) lists
 
 module _ {K : Type 0} where
-  -- the objects once one is made for each column, of the form beside it
+  -- the objects once one is made for each column, of the form paired with it
   abbrev pub after_create_all : Movement ℕ K → List Texts → List (ℕ × List ℕ) → Movement ℕ K
   after_create_all m [] forms = m
   after_create_all m (c ∷ columns) [] = m

@@ -16,17 +16,27 @@ use std::alloc::Global;
 use std::marker::Model;
 pub use together::{fill_texts, may_push_texts, push_texts};
 
-/// A column of texts, each of which may be missing. The texts of a row group lie together as one far form, which is the
+/// A column of texts, each of which may be missing. The texts of a row group lie together as one far form. That form is the
 /// list of one object of the `Objects<u8, S>` that each call names.
 ///
 /// Contracts see the column as the record of its fields, and its texts by the lists of its objects.
+///
+/// ```
+/// let due = column.may_set(objects, place, text);
+/// let reply = column.set(alloc, objects, place, text);
+/// if reply == due || reply == Err(Refusal::NoMemory) {
+///     reply
+/// } else {
+///     Err(WRONG)
+/// }
+/// ```
 #[derive(Drop)]
 pub struct TextColumn {
     // The column's number, by which its objects are named.
     column: u32,
     // How many places a row group has.
     size: usize,
-    // A hint for divisions by it.
+    // A hint for divisions by `size`.
     reciprocal: Reciprocal,
     // How many bytes the form of a row group may have.
     limit: usize,
@@ -47,8 +57,9 @@ impl Model for TextColumn {
 }
 
 impl TextColumn {
-    /// A column without a text: its number, how many places a row group has (1 to 65,536), and how many bytes the far form
-    /// of one may have (at most 16,777,216), which is what a segment of local memory holds. Allocates nothing.
+    /// Returns a column without a text. `column` is its number, `size` how many places a row group has (1 to 65,536). `limit`
+    /// is how many bytes the far form of a row group may have (at most 16,777,216): what a segment of local memory holds.
+    /// Allocates nothing.
     pub fn new(alloc: Global, column: u32, size: usize, limit: usize) -> TextColumn
         requires some { 0 < size }
         requires small { size ≤ 2 ^ 16 }
@@ -67,7 +78,7 @@ impl TextColumn {
         }
     }
 
-    /// How many texts there are. Allocates nothing.
+    /// Returns how many texts there are. Allocates nothing.
     pub fn len(&self) -> usize
         ensures len { result ≡ self.now.len }
         ensures groups { HasGroups self.now }
@@ -75,14 +86,14 @@ impl TextColumn {
         self.len
     }
 
-    /// The object of a row group; `None` exactly if no place of it is used. Allocates nothing.
+    /// Returns the object of a row group; `None` exactly if no place of it is used. Allocates nothing.
     pub fn object(&self, group: usize) -> Option<u32>
         ensures { result ≡ slice_get self.now.objects group }
     {
         self.objects.get(group).copied()
     }
 
-    // The row group of a place.
+    // Returns the row group of a place.
     #[inline(always)]
     fn group_of(&self, place: usize) -> usize
         ensures { result ≡ place / self.now.size }
@@ -90,7 +101,7 @@ impl TextColumn {
         self.reciprocal.quotient(place, self.size)
     }
 
-    // Where a place stands in its row group.
+    // Returns the index of a place in its row group.
     #[inline(always)]
     fn index_in(&self, group: usize, place: usize) -> usize
         requires { group ≡ place / self.now.size }

@@ -30,25 +30,25 @@ stripe_limits = usual_limits 4
 abbrev pub sum_of_rows : Spec
 sum_of_rows = record { fold = fold.Totals; value = 0; key = None; filter = [] }
 
--- a table of one column of numbers, for so many sessions
+-- a table of one column of numbers, for this many sessions
 abbrev pub plan_for : ℕ → Planned
 plan_for n = record { schema = kind.Int ∷ []; limits = stripe_limits; gauge = sum_of_rows; sessions = n }
 
--- so many inserts of session s
+-- this many inserts of session s
 abbrev pub inserts : ℕ → ℕ → List Entry
 inserts s zero = []
 inserts s (suc n) = inserts s n ++ entry s (edit.Insert row_of_one) ∷ []
 
--- what a gauge reads of so many inserts of the number 1, and no other edit
+-- what a gauge reads after this many inserts of the number 1, and no other edit
 abbrev pub all_of : ℕ → Reading
 all_of n = record { edits = n; count = n; sum = pos n }
 
--- the answer over so many rows of the number 1: one line, without a key
+-- the answer over this many rows of the number 1: one line, without a key
 abbrev pub total_of : ℕ → Answer
 total_of n = answer.Totals ((None, n, pos n) ∷ [])
 
--- the history of stripe k when all sessions of a plan have ended: it is legal, each session has so many inserts in it if the stripe is
--- its home, and else no entry, and no one else has an entry
+-- the history of stripe k when all sessions of a plan have ended: it is legal. Each session has `edits` inserts in it if the
+-- stripe is its home, and otherwise no entry. No one else has an entry
 pub record IsHistory (p : Planned) (edits k : ℕ) (log : List Entry) : Type 0 where
   pub legal : IsLegal p log
   pub home : (s : ℕ) → s < p.sessions → s % 4 ≡ k → by_session s log ≡ inserts s edits
@@ -64,13 +64,13 @@ pub record IsOverAll (p : Planned) (edits : ℕ) (answer : Answer) : Type 0 wher
   pub histories : IsHistory p edits 0 zeroth × IsHistory p edits 1 first × IsHistory p edits 2 second × IsHistory p edits 3 third
   pub is : answer ≡ answer_over p.gauge (all_rows (replay p zeroth) (replay p first) (replay p second) (replay p third))
 
--- all sessions of a plan have ended, each with so many inserts on its home stripe. Its gauge there reads just these. The answer is over
--- the rows of all sessions and no other row: it counts and sums so many for each session
+-- all sessions of a plan have ended, each with `edits` inserts on its home stripe. Its gauge there reads just these. The answer
+-- is over the rows of all sessions and no other row: it counts and sums `edits` of each session
 pub record IsRun (p : Planned) (edits : ℕ) (o : Outcome) : Type 0 where
   pub gauges : o.gauges.items ≡ replicate p.sessions (all_of edits)
   pub answer : IsOverAll p edits o.answer
   pub total : o.answer ≡ total_of (p.sessions * edits)
 
--- so many sessions have ended, each with so many inserts
+-- this many sessions have ended, each with this many inserts
 abbrev pub IsOutcome : ℕ → ℕ → Outcome → Type 0
 IsOutcome sessions edits = IsRun (plan_for sessions) edits

@@ -11,12 +11,12 @@ use Rattle.far_threads.specs.declared.outcome.Outcome.{Outcome}
 use Rattle.far_threads.specs.declared.outcome.Stop.{Stop}
 use Rattle.far_threads.specs.Runs.{inserts, sum_of_rows}
 
--- a plan for so few sessions that each has a home stripe of its own, with the count and the sum of its rows as gauge
+-- a plan for few enough sessions that each has a home stripe of its own. The gauge is the count and the sum of its rows
 pub record HasHomes (p : Planned) : Type 0 where
   pub few : p.sessions ≤ 4
   pub gauge : p.gauge ≡ sum_of_rows
 
--- a session has made so many inserts more at stripe k, and is at the others as it was
+-- a session has made n inserts more at stripe k, and is at the others as it was
 pub record Makes (k n : ℕ) (before after : Known) : Type 0 where
   pub by : (at after k).by ≡ (at before k).by
   pub mine : (at after k).mine ≡ (at before k).mine ++ inserts (at before k).by n
@@ -27,11 +27,11 @@ pub record Ended : Type 0 where
   pub session : Known
   pub outcome : Result (Unit {0}) Stop
 
--- a session made so many inserts on its home stripe and nothing elsewhere, unless it was stopped
+-- a session made n inserts on its home stripe and nothing elsewhere, unless it was stopped
 abbrev pub IsWorked : ℕ → Known → Ended → Type 0
 IsWorked n me ended = OnOk ended.outcome (Makes (number_of me % 4) n me ended.session)
 
--- so did all, in order
+-- all sessions did, in order
 pub record AreWorked (n : ℕ) (sessions : List Known) (worked : List Ended) : Type 0 where
   pub count : length worked ≡ length sessions
   pub each : (i : ℕ) (me : Known) (ended : Ended) → slice_get sessions i ≡ Some me → slice_get worked i ≡ Some ended → IsWorked n me ended
@@ -47,8 +47,8 @@ pub record Looked (p : Planned) (k : ℕ) (ended : Ended) (me : Known) (reading 
 abbrev pub IsRead : Planned → Ended → Known → Reading → Type 0
 IsRead p ended me reading = Looked p (number_of ended.session % 4) ended me reading
 
--- session s has made so many inserts on its home stripe and nothing elsewhere. A reading is of what it has seen at home, where just these
--- are its own
+-- session s has made n inserts on its home stripe and nothing elsewhere. A reading is of what it has seen at home, where just
+-- these are its own
 pub record IsGauged (p : Planned) (s n : ℕ) (me : Known) (reading : Reading) : Type 0 where
   pub number : number_of me ≡ s
   pub none : (k : ℕ) → k < 4 → k ≢ s % 4 → (at me k).mine ≡ []
@@ -56,13 +56,13 @@ pub record IsGauged (p : Planned) (s n : ℕ) (me : Known) (reading : Reading) :
   pub own : by_session s (at me (s % 4)).seen ≡ inserts s n
   pub is : reading ≡ gauge_of p (at me (s % 4)).seen
 
--- so it is with all sessions of a plan, in order
+-- that holds of all sessions of a plan, in order
 pub record AreGauged (p : Planned) (n : ℕ) (sessions : List Known) (readings : List Reading) : Type 0 where
   pub count : length sessions ≡ p.sessions
   pub told : length readings ≡ p.sessions
   pub each : (s : ℕ) (me : Known) (reading : Reading) → slice_get sessions s ≡ Some me → slice_get readings s ≡ Some reading → IsGauged p s n me reading
 
--- what is read when all sessions of a plan have ended. Nothing tells yet whose rows the answer is over
+-- what is read when all sessions of a plan have ended. Whose rows the answer is over is not yet known
 pub record AreLeft (p : Planned) (n : ℕ) (sessions : List Known) (o : Outcome) : Type 0 where
   pub gauged : AreGauged p n sessions o.gauges.items
   pub answer : IsAnswer p 0 o.answer

@@ -1,4 +1,4 @@
-// What a session does about an edit that was refused.
+// What a session does after a refused edit.
 ghost use Rattle.std.specs.Prelude.{◌≡◌};
 
 use crate::outcome::Stop;
@@ -8,10 +8,13 @@ use far_store::{FarStore, Meter};
 use far_types::Refusal;
 use std::sync::Wait;
 
-/// Clears the way for another try of an edit of a stripe that was refused: an object that is away is fetched, and one is sent away
-/// where there is no space. Where that is refused but for memory, the next try may still go through.
+/// Prepares another try of a refused edit of a stripe. If an object is away, it is fetched. If there is no space, an object is
+/// sent away. If that is refused for another reason than memory, the next try may still succeed.
 ///
-/// Ends with `Memory` where a call is refused memory, and with `Turns` where no other try mends what the edit was refused for.
+/// Ends with:
+///
+/// - `Memory`, if a call runs out of memory;
+/// - `Turns`, if the edit was refused for a reason that no other try mends.
 pub(crate) fn clear_way<N: Naming, B: Site, S: FarStore, R: Wait>(
     rt: &R,
     shared: &Shared<N, B, S>,

@@ -1,5 +1,5 @@
-// How a run ends. A closed table tells whose entries its histories have: so no session saw those of another, and the rows that are counted
-// are those of the sessions.
+// How a run ends. A closed table tells whose entries its histories have. So no session saw those of another, and the rows that
+// are counted are those of the sessions.
 ghost use Rattle.std.specs.Prelude.{◌≡◌, ◌↔◌, ℕ, ℤ, IfOk, IfNone, IfSome, IsOk, IsOkAnd, IsTrue};
 ghost use Rattle.far_types.specs.declared.answer.Answer.{Answer};
 ghost use Rattle.far_types.specs.Answers.{answer_over};
@@ -19,10 +19,11 @@ use far_types::Answer;
 use std::alloc::Global;
 use std::sync::Wait;
 
-/// Lets go of a value. It knows nothing of what it is: to drop four tables costs the proof of a function minutes, and here it costs none.
+/// Drops a value of any type. For the proof: dropping four tables costs the proof of a function minutes, and here it costs
+/// none.
 fn let_go<T: Drop>(_value: T) {}
 
-/// What a call returned that cannot be refused. It knows nothing of what it is, as `let_go` does not.
+/// Returns what a call returned that cannot be refused. It takes any type, for the same reason as `let_go`.
 fn accepted<T, E: Drop>(given: Result<T, E>) -> T
     requires { IsOk given }
     ensures { IsOkAnd given (λ it. it ≡ result) }
@@ -33,7 +34,7 @@ fn accepted<T, E: Drop>(given: Result<T, E>) -> T
     }
 }
 
-/// Closes a table with all its sessions. What it is refused with without one of them cannot come.
+/// Closes a table with all its sessions. So it cannot be refused for a missing one.
 fn close_all<N: Naming, B: Site, S: FarTickets, R: Wait>(
     rt: &R,
     shared: Shared<N, B, S>,
@@ -48,7 +49,8 @@ fn close_all<N: Naming, B: Site, S: FarTickets, R: Wait>(
     accepted(shared.close(rt, sessions))
 }
 
-/// What the aggregate 0 of four tables, which is their gauge, answers over all their rows. Drops the tables. Ends with `Memory` alone.
+/// Returns the answer of aggregate 0 of four tables, their gauge, over all their rows. Drops the tables. Ends with `Memory`
+/// alone.
 fn answer_closed<S: FarTickets>(alloc: Global, frames: Four<Frame<S>>) -> Result<Answer, Stop>
     ensures { IfOk result (λ answer. IfSome (spec_at frames.zero.table 0) (λ spec. answer ≡ answer_over spec (all_rows frames.zero.table frames.one.table frames.two.table frames.three.table))) }
 {
@@ -67,7 +69,7 @@ fn answer_closed<S: FarTickets>(alloc: Global, frames: Four<Frame<S>>) -> Result
     }
 }
 
-/// The count and the sum of an answer that has one line, without a key; `None` of any other.
+/// Returns the count and the sum of an answer that has one line, without a key; `None` of any other.
 fn only_line(answer: &Answer) -> Option<(u64, i128)>
     ensures line { IfSome result (λ line. IsLineOf line.0 line.1 answer.now) }
     ensures none { IfNone result ((count : ℕ) → (sum : ℤ) → ¬ (IsLineOf count sum answer.now)) }
@@ -86,7 +88,7 @@ fn only_line(answer: &Answer) -> Option<(u64, i128)>
     Some((*count, *sum))
 }
 
-/// Whether two answers have one line, without a key, and it is the same.
+/// Returns whether two answers have one line, without a key, and it is the same.
 fn have_same_line(one: &Answer, other: &Answer) -> bool
     ensures { IsTrue result ↔ ((count : ℕ) × (sum : ℤ) × IsLineOf count sum one.now × IsLineOf count sum other.now) }
 {
@@ -98,10 +100,13 @@ fn have_same_line(one: &Answer, other: &Answer) -> bool
     }
 }
 
-/// Closes a table if its sessions left something, and returns what that is. The answer of the shared table is returned only if its closed
-/// stripes answer the same, since no clause of `ask_all` says whose rows it counts.
+/// Closes a table, if its sessions left an outcome, and returns that outcome. Returns the answer of the shared table only if
+/// its closed stripes answer the same, since no clause of `ask_all` says whose rows it counts.
 ///
-/// Ends with `Memory` if a call is refused memory, and with `Turns` if the two answers differ.
+/// Ends with:
+///
+/// - `Memory`, if a call runs out of memory;
+/// - `Turns`, if the two answers differ.
 pub(crate) fn end<N: Naming, B: Site, S: FarTickets, R: Wait>(
     rt: &R,
     alloc: Global,

@@ -8,9 +8,9 @@ use far_store::{FarStore, Meter};
 use far_types::Refusal;
 use std::sync::Wait;
 
-/// Tries so many evacuations, one stripe after the other. One that is refused is passed over.
+/// Makes `tries` evacuations, one stripe after the other. It skips one that is refused.
 ///
-/// Ends with `Memory` where one is refused memory.
+/// Ends with `Memory` if one runs out of memory.
 pub(crate) fn evacuate_all<N: Naming, B: Site, S: FarStore, R: Wait>(
     rt: &R,
     shared: &Shared<N, B, S>,

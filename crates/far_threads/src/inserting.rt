@@ -25,7 +25,7 @@ fn row_of_one(alloc: Global) -> Result<Row, Stop>
     Ok(Row::new(cells))
 }
 
-/// Inserts a row on a stripe, with as many tries as it may take. At the others the session stays as it was.
+/// Inserts a row on a stripe, with as many tries as allowed. At the other stripes the session stays the same.
 fn insert_one<N: Naming, B: Site, S: FarStore, R: Wait>(
     rt: &R,
     alloc: Global,
@@ -48,7 +48,7 @@ fn insert_one<N: Naming, B: Site, S: FarStore, R: Wait>(
     Err(Stop::Turns)
 }
 
-/// Inserts so many rows on a stripe, and none elsewhere.
+/// Inserts `edits` rows on a stripe, and none elsewhere.
 pub(crate) fn insert_all<N: Naming, B: Site, S: FarStore, R: Wait>(
     rt: &R,
     alloc: Global,

@@ -1,4 +1,4 @@
-// How a run begins: the names of its plan, of its cells and of its store are picked, each by a call.
+// How a run begins: one call each picks the names of its plan, of its cells and of its store.
 ghost use Rattle.std.specs.Prelude.{◌≡◌, ◌≤◌, IfOk};
 ghost use Rattle.far_shared.specs.Opening.{AreNamed};
 ghost use Rattle.far_threads.specs.Runs.{IsOutcome, IsRun};
@@ -15,7 +15,7 @@ use std::marker::Brand;
 use std::sync::Wait;
 use std::thread::Threads;
 
-/// The most contents that the store of a run takes.
+/// The most contents that the store of a run holds.
 const STORE_CAPACITY: u64 = 1_048_576;
 
 /// Opens a table whose cells and store have these names, and runs its sessions.
@@ -86,14 +86,21 @@ fn planned<N: Naming + Send + Sync, R: Threads + Wait + Sync>(
     made_over::<N, AgentStore<&R>, R>(rt, alloc, plan, &store, edits)
 }
 
-/// Runs sessions on threads over one shared table: each inserts so many rows of the number 1 on its home stripe, while a worker in the
-/// background tries as many evacuations, one stripe after the other. When all have ended, the gauge of each session's home stripe is
-/// read, and the gauge is asked over all stripes. Then the table is closed. Each gauge has read just the rows that its session inserted,
-/// and the answer counts the rows of all sessions.
+/// Runs sessions on threads over one shared table:
 ///
-/// A session whose edit meets an object that is away fetches it and tries again; where there is no space it sends an object away and
-/// tries again. Ends with `Memory` where a call is refused memory, and with `Turns` where an edit was tried 10,000 times or is refused
-/// for another reason, or if the closed stripes answer otherwise than they did before.
+/// 1. Each session inserts `edits` rows of the number 1 on its home stripe. A worker in the background tries as many
+///    evacuations, one stripe after the other.
+/// 2. When all have ended, the gauge of each session's home stripe is read, and the gauge is asked over all stripes.
+/// 3. The table is closed.
+///
+/// Each gauge reads just the rows that its session inserted, and the answer counts the rows of all sessions.
+///
+/// A session whose edit meets an object that is away fetches it and tries again. If there is no space, it sends an object away
+/// and tries again. Ends with:
+///
+/// - `Memory`, if a call runs out of memory;
+/// - `Turns`, if an edit was tried 10,000 times or is refused for another reason, or if the closed stripes answer otherwise
+///   than before.
 pub fn run_sessions<R: Threads + Wait + Sync>(
     rt: &R,
     alloc: Global,

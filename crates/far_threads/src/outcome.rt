@@ -7,21 +7,38 @@ use std::alloc::{AllocError, AllocFailed};
 use std::fmt;
 
 /// What a run of sessions leaves, as it is read when all sessions have ended.
+///
+/// ```
+/// let (sessions, outcome) = left?;
+/// let frames = close_all(rt, shared, sessions);
+/// let closed = answer_closed(alloc, frames)?;
+/// if !have_same_line(&outcome.answer, &closed) {
+///     return Err(Stop::Turns);
+/// }
+/// Ok(outcome)
+/// ```
 #[derive(Drop, Debug)]
 pub struct Outcome {
     /// The gauge of each session's home stripe, in the order of the sessions.
     pub gauges: Vec<Reading>,
-    /// What the gauge answers over all stripes: the count and the sum of the rows of all sessions.
+    /// The answer of the gauge over all stripes: the count and the sum of the rows of all sessions.
     pub answer: Answer,
 }
 
 /// What ends a run of sessions early.
+///
+/// ```
+/// match cleared {
+///     Err(Refusal::NoMemory) => Err(Stop::Memory),
+///     _ => Ok(()),
+/// }
+/// ```
 #[derive(Clone, Copy, Debug, PartialEq, Eq)]
 pub enum Stop {
-    /// A call was refused memory.
+    /// A call ran out of memory.
     Memory,
-    /// An edit was tried 10,000 times, or was refused for what no other try mends. Or the closed stripes answer otherwise than the shared
-    /// table did: no run has met it, and no clause rules it out.
+    /// An edit was tried 10,000 times, or was refused for what no other try mends. Or the closed stripes answer otherwise than
+    /// the shared table did: no run has met it, and no clause rules it out.
     Turns,
 }
 

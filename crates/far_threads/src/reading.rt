@@ -12,7 +12,7 @@ use far_store::FarStore;
 use std::alloc::Global;
 use std::sync::Wait;
 
-/// What the gauge of a session's home stripe reads when its edits are made, beside the session. Ends as the session did.
+/// Returns a session that has made its edits, and what the gauge of its home stripe reads. Ends as the session did.
 fn read_gauge<N: Naming, B: Site, R: Wait>(
     rt: &R,
     cells: &Cells<N, B>,
@@ -29,7 +29,7 @@ fn read_gauge<N: Naming, B: Site, R: Wait>(
     Ok((me, reading))
 }
 
-/// What the gauges of the sessions' home stripes read, beside the sessions, both in order.
+/// Returns the sessions and what the gauges of their home stripes read, both in order.
 fn read_gauges<N: Naming, B: Site, R: Wait>(
     rt: &R,
     alloc: Global,
@@ -50,7 +50,7 @@ fn read_gauges<N: Naming, B: Site, R: Wait>(
     Ok((sessions, readings))
 }
 
-/// What sessions leave that have made their edits, beside the sessions.
+/// Returns the sessions that have made their edits, and what they leave.
 pub(crate) fn read_all<N: Naming, B: Site, S: FarStore, R: Wait>(
     rt: &R,
     alloc: Global,

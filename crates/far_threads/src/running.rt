@@ -1,4 +1,4 @@
-// Sessions on threads, and a worker beside them.
+// Sessions on threads, and a worker in the background.
 ghost use Rattle.std.specs.Prelude.{◌≡◌, IfOk, OnOk};
 ghost use Rattle.far_sessions.specs.Known.{newcomers};
 ghost use Rattle.far_threads.specs.Runs.{IsRun};
@@ -38,7 +38,7 @@ fn work<N: Naming, B: Site, S: FarStore, R: Wait>(
     }
 }
 
-/// Makes the edits of all sessions, each in a thread of its own where one can be made.
+/// Makes the edits of all sessions, each in a thread of its own if one can be made.
 fn work_all<N: Naming + Send + Sync, B: Site + Send + Sync, S: FarStore, R: Threads + Wait + Sync>(
     rt: &R,
     alloc: Global,
@@ -58,7 +58,7 @@ fn work_all<N: Naming + Send + Sync, B: Site + Send + Sync, S: FarStore, R: Thre
     Ok(worked)
 }
 
-/// The second, unless the first ended early.
+/// Returns the second result, unless the first ended early.
 fn unless_stopped<T: Drop>(first: Result<(), Stop>, second: Result<T, Stop>) -> Result<T, Stop>
     ensures { OnOk result (result ≡ second) }
 {
@@ -83,7 +83,7 @@ fn work_beside<
     requires store { S.store_id store.now ≡ B.store }
     ensures worked { IfOk result (λ worked. AreWorked edits sessions.items worked.items) }
 {
-    // Only the first goes to another thread, and it holds nothing but references.
+    // Only the first closure goes to another thread, and it holds nothing but references.
     let (evacuated, worked) = thread::join(
         rt,
         || -> Result<(), Stop>
@@ -97,8 +97,8 @@ fn work_beside<
     unless_stopped(evacuated, worked)
 }
 
-/// Lets sessions make their edits while a worker in the background sends objects away, and reads what they leave when all have ended.
-/// The sessions come back beside it.
+/// Lets sessions make their edits while a worker in the background sends objects away. Returns the sessions, and what they
+/// leave when all have ended.
 fn leave<N: Naming + Send + Sync, B: Site + Send + Sync, S: FarStore, R: Threads + Wait + Sync>(
     rt: &R,
     alloc: Global,

@@ -22,7 +22,7 @@ impl<B: Site> Model for Worked<B> {
     ghost view = { λ w. record { session = w.session; outcome = w.outcome } };
 }
 
-/// The home stripe of a session.
+/// Returns the home stripe of a session.
 pub(crate) fn home_of<B: Site>(me: &Session<B>) -> u32
     ensures { result ≡ number_of me.now % 4 }
 {

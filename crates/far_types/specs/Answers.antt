@@ -1,4 +1,4 @@
--- What an aggregate answers over the pairs of the folded rows.
+-- The answers of aggregates over the pairs of the folded rows.
 use Rattle.std.specs.Prelude.{ℕ, ℤ, pos, ◌+ℤ◌, Bool, List, [], ◌∷◌, length, map, filter, Option, None, Some}
 use Rattle.std.specs.Int.{int_min, int_max}
 use Rattle.std.specs.Ordering.{eq_by_cmp}
@@ -17,7 +17,7 @@ use Rattle.far_types.specs.Pairs.{Pair, pairs_of}
 abbrev pub is_under : Option Key → Pair → Bool
 is_under key pair = eq_by_cmp line_cmp key pair.0
 
--- the values that stand under a key, in order
+-- the values under a key, in order
 abbrev pub values_of : Option Key → List Pair → List ℤ
 values_of key pairs = map (λ pair. pair.1) (filter (λ pair. is_under key pair) pairs)
 
@@ -26,13 +26,13 @@ abbrev pub int_sum : List ℤ → ℤ
 int_sum [] = pos 0
 int_sum (value ∷ values) = value +ℤ int_sum values
 
--- what is left of some values where of each two one is picked. Of none it is 0, which no answer shows: a key has a value
+-- the value that is left of a list if a function picks one of each two. Of no values it is 0, which no answer shows: a key has a value
 abbrev pub picked : (ℤ → ℤ → ℤ) → List ℤ → ℤ
 picked pick [] = pos 0
 picked pick (value ∷ []) = value
 picked pick (value ∷ next ∷ values) = pick value (picked pick (next ∷ values))
 
--- the least of some values, of which there is one at least
+-- the least of some values, of which there is at least one
 abbrev pub least : List ℤ → ℤ
 least values = picked int_min values
 
@@ -40,11 +40,11 @@ least values = picked int_min values
 abbrev pub greatest : List ℤ → ℤ
 greatest values = picked int_max values
 
--- by key, ascending: only keys that occur, none twice
+-- values by key, ascending: only keys that occur, none twice
 abbrev pub ByKey : Type 0 → Type 0
 ByKey V = fin.FinMap line_cmp V
 
--- the keys that occur, each with what its values come to
+-- the keys that occur, each with the result over its values
 abbrev pub grouped : {V : Type 0} → (List ℤ → V) → List Pair → ByKey V
 grouped fold pairs = fin.from_entries (map (λ (pair : Pair). (pair.0, fold (values_of pair.0 pairs))) pairs)
 
@@ -56,7 +56,7 @@ count_sum values = (length values, int_sum values)
 abbrev pub min_max : List ℤ → ℤ × ℤ
 min_max values = (least values, greatest values)
 
--- by key, how many values there are and their sum
+-- the count and the sum of the values, by key
 abbrev pub Totals : Type 0
 Totals = ByKey (ℕ × ℤ)
 
@@ -64,7 +64,7 @@ Totals = ByKey (ℕ × ℤ)
 abbrev pub totals : List Pair → Totals
 totals pairs = grouped count_sum pairs
 
--- by key, the least value and the greatest
+-- the least value and the greatest, by key
 abbrev pub Extrema : Type 0
 Extrema = ByKey (ℤ × ℤ)
 

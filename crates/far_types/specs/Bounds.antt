@@ -37,13 +37,13 @@ pub record AreLimits (limits : Limits) : Type 0 where
 abbrev pub usual_limits : ℕ → Limits
 usual_limits g = record { group = g; places = 16777216; edits = 1099511627776; int_segments = 64; int_size = max g 4096; text_segments = 64; text_size = 65536 }
 
--- the column that a test looks at
+-- the column that a test reads
 abbrev pub column_of : Test → ℕ
 column_of (test.Int column op value) = column
 column_of (test.TextIs column constant) = column
 column_of (test.TextBegins column constant) = column
 
--- a text constant has at most 4,096 bytes
+-- whether a test's constant is a text of more than 4,096 bytes
 abbrev pub has_long_constant : Test → Bool
 has_long_constant (test.Int column op value) = false
 has_long_constant (test.TextIs column constant) = nat_lt 4096 (length constant)
@@ -61,7 +61,7 @@ is_text (Some kind.Int) = false
 is_text (Some kind.Text) = true
 is_text None = false
 
--- a test of numbers wants a column of numbers, one of texts a column of texts
+-- whether a test has its column's kind: one of numbers needs a column of numbers, one of texts a column of texts
 abbrev pub has_its_kind : List Kind → Test → Bool
 has_its_kind schema (test.Int column op value) = is_int (slice_get schema column)
 has_its_kind schema (test.TextIs column constant) = is_text (slice_get schema column)
@@ -75,7 +75,7 @@ needs spec column = list_any (λ test. column_of test == column) spec.filter || 
 abbrev pub is_within : ℕ → Spec → Bool
 is_within columns spec = list_all (λ test. nat_lt (column_of test) columns) spec.filter && option_map_or (λ key. nat_lt key columns) spec.key true && nat_lt spec.value columns
 
--- why an aggregate cannot be had over a schema
+-- why a table with this schema refuses an aggregate: the first refusal that applies
 abbrev pub spec_refusal : List Kind → Spec → Option Refusal
 spec_refusal schema spec = first_of (
     (nat_lt 4 (length spec.filter) || list_any has_long_constant spec.filter, refusal.BadSpec)

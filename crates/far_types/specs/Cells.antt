@@ -9,7 +9,7 @@ use Rattle.far_types.specs.declared.cell.Kind.TheVariants as kind
 use Rattle.far_types.specs.declared.key.Key.{Key}
 use Rattle.far_types.specs.declared.key.Key.TheVariants as key
 
--- a cell without a value is of either kind
+-- whether a cell is of a kind: a cell without a value is of either
 abbrev pub is_of_kind : Kind → Cell → Bool
 is_of_kind kind.Int (cell.Int number) = true
 is_of_kind kind.Int (cell.Text text) = false
@@ -17,7 +17,7 @@ is_of_kind kind.Text (cell.Int number) = false
 is_of_kind kind.Text (cell.Text text) = true
 is_of_kind k cell.Missing = true
 
--- a text cell has at most 4,096 bytes
+-- whether a cell is a text of more than 4,096 bytes, which no cell may have
 abbrev pub is_too_long : Cell → Bool
 is_too_long (cell.Int number) = false
 is_too_long (cell.Text text) = nat_lt 4096 (length text)
@@ -43,12 +43,11 @@ key_in (Some (cell.Text text)) = Some (key.Text text)
 key_in (Some cell.Missing) = None
 key_in None = None
 
--- what a row has in its columns, by the number of the column: nothing if there is no such column.
--- Whoever holds only some columns of a row speaks of it in the same words
+-- the cells of a row by column number: nothing if there is no such column. What has only some columns of a row has such cells too
 abbrev pub Cells : Type 0
 Cells = ℕ → Option Cell
 
--- a whole row so seen
+-- the cells of a whole row, by column number
 abbrev pub cells_of : List Cell → Cells
 cells_of row = slice_get row
 
@@ -56,12 +55,12 @@ cells_of row = slice_get row
 abbrev pub cell_at : ℕ → List Cell → Cell
 cell_at column row = unwrap_or (slice_get row column) cell.Missing
 
--- the numbers of cells are those of 64 bits
+-- the number of a cell has 64 bits
 abbrev pub CellFits : Cell → Type 0
 CellFits (cell.Int number) = FitsSigned w64 number
 CellFits (cell.Text text) = Unit {0}
 CellFits cell.Missing = Unit {0}
 
--- and so are those of a row
+-- the numbers of a row's cells have 64 bits
 abbrev pub RowFits : List Cell → Type 0
 RowFits row = AllByRecursion CellFits row

@@ -1,4 +1,4 @@
--- Codes for what stands by key, by which a model's values are told apart.
+-- Codes of keys, totals and extrema, which tell one value of a model from another.
 use Rattle.std.specs.Prelude.{◌≡◌, ℕ, ℤ, List, refl, ◌⊎◌}
 use Rattle.std.proofs.Common.{inl, inr}
 use Rattle.std.specs.Coded.{Coded, code_by, coded×, coded⊎, coded_ℕ, coded_ℤ, coded_option, coded_list}
@@ -20,7 +20,7 @@ pub back_to_key : (k : Key) → to_key (of_key k) ≡ k
 back_to_key (key.Int number) = refl
 back_to_key (key.Text text) = refl
 
--- so keys have codes, and what stands by key has
+-- so keys have codes, and so have totals and extrema
 abbrev pub coded_key : Coded Key
 coded_key = code_by (ℤ ⊎ List ℕ) (coded⊎ coded_ℤ (coded_list coded_ℕ)) of_key to_key back_to_key
 

@@ -10,7 +10,7 @@ use Rattle.far_types.specs.Table.{Table, empty_table, rows_of, part, in_group, g
 use Rattle.far_types.specs.Edits.{edited, edit_refusal}
 use Rattle.far_types.specs.Examples.{row, a, b}
 
--- numbers beside texts, in row groups of 4 places or of another size; a text object may have 64 bytes
+-- a column of numbers and one of texts, in row groups of 4 places or of another size; a text object may have 64 bytes
 abbrev pub in_groups_of : ℕ → Table
 in_groups_of size = empty_table (kind.Int ∷ kind.Text ∷ []) (record { group = size; places = 9; edits = 9; int_segments = 1; int_size = 4; text_segments = 2; text_size = 64 })
 
@@ -34,7 +34,7 @@ WhatEditsDo =
 abbrev pub one_text : Table
 one_text = edited (letters (pos 1) 54) (in_groups_of 4)
 
--- b in place of the 54 letters, and then a row more: 44 letters beside them fit, and 45 do not
+-- b in place of the 54 letters, and then a row of c. In a third row 44 letters fit, and 45 do not
 abbrev pub two_texts : Table
 two_texts = edited (edit.Insert (row (pos 2) (codes "c"))) (edited (edit.Set 0 1 (cell.Text b)) one_text)
 
@@ -42,8 +42,8 @@ two_texts = edited (edit.Insert (row (pos 2) (codes "c"))) (edited (edit.Set 0 1
 abbrev pub one_alone : Table
 one_alone = edited (letters (pos 1) 54) (in_groups_of 1)
 
--- a set may make an object too long, in a column of texts alone; a removed text keeps its bytes; a row group's text
--- object is its own; and a text may be too long for any object
+-- a set may make an object too long, in a column of texts alone. A removed text keeps its bytes. Each row group has its own text object.
+-- A text may be too long for any object
 abbrev pub SpaceForTexts : Type 0
 SpaceForTexts =
     (edit_refusal two_texts (letters (pos 3) 45) ≡ Some refusal.ChunkFull)
@@ -61,7 +61,7 @@ SpaceForTexts =
 abbrev pub with_edits : ℕ → Table
 with_edits edits = edited (letters (pos 1) 54) (empty_table (kind.Int ∷ kind.Text ∷ []) (record { group = 4; places = 1; edits = edits; int_segments = 1; int_size = 4; text_segments = 2; text_size = 64 }))
 
--- the row is removed, and then no place is left and no edit: everything is wrong with an edit
+-- the row is removed, and no place and no edit are left: so every refusal applies to an edit
 abbrev pub used_up : Table
 used_up = edited (edit.Remove 0) (with_edits 2)
 
@@ -69,7 +69,7 @@ used_up = edited (edit.Remove 0) (with_edits 2)
 abbrev pub long : Cell
 long = cell.Text (replicate 4097 97)
 
--- of all that is wrong with an edit, the answer is the first in the order of the numbers
+-- of all refusals that apply to an edit, it gets the first in the order of the numbers
 abbrev pub OrderOfRefusals : Type 0
 OrderOfRefusals =
     (edit_refusal used_up (edit.Insert (long ∷ long ∷ long ∷ [])) ≡ Some refusal.WrongKind)
@@ -87,7 +87,7 @@ OrderOfRefusals =
     × (edit_refusal (with_edits 1) (edit.Set 0 1 (cell.Text b)) ≡ Some refusal.EditsUsedUp)
     × (edit_refusal (with_edits 1) (edit.Remove 0) ≡ Some refusal.EditsUsedUp)
 
--- five places in row groups of 4: the second group has the fifth place, and a third group is none
+-- five places in row groups of 4: the second group has the fifth place, and there is no third group
 abbrev pub RowGroups : Type 0
 RowGroups =
     (map (groups 4) (0 ∷ 1 ∷ 4 ∷ 5 ∷ []) ≡ 0 ∷ 1 ∷ 1 ∷ 2 ∷ [])

@@ -14,11 +14,11 @@ use Rattle.far_types.specs.Bounds.{is_text}
 use Rattle.far_types.specs.FormLengths.{texts_length}
 use Rattle.far_types.specs.Table.{Place, Table, column, in_group}
 
--- the kinds are compared at the columns that both the schema and the row have
+-- whether the cells of a row have their columns' kinds: they are compared at the columns that both the schema and the row have
 abbrev pub kinds_fit : List Kind → List Cell → Bool
 kinds_fit schema row = list_all (λ (at : Kind × Cell). is_of_kind at.0 at.1) (zip schema row)
 
--- whether a cell may not stand in a column. Where there is no such column, that is another refusal
+-- whether a cell may not stand in a column. If there is no such column, another refusal says so
 abbrev pub is_of_other_kind : Option Kind → Cell → Bool
 is_of_other_kind None cell = false
 is_of_other_kind (Some kind) cell = not (is_of_kind kind cell)
@@ -68,8 +68,8 @@ overfills schema limits (edit.Set p c cell) places =
     is_text (slice_get schema c) && is_over limits c (p / limits.group) (places_after (edit.Set p c cell) places)
 overfills schema limits (edit.Remove p) places = false
 
--- what is wrong with the edit itself, whichever objects are local: refusals 4 to 10. Between them and the others, a
--- table whose objects move looks whether they are local
+-- the refusals of the edit itself, whichever objects are local: 4 to 10. A table whose objects move checks after these, and before the
+-- others, that its objects are local
 abbrev pub edit_faults : List Kind → Limits → List Place → Edit → List (Bool × Refusal)
 edit_faults schema limits places (edit.Insert row) =
     (not (kinds_fit schema row), refusal.WrongKind)
@@ -89,7 +89,7 @@ edit_faults schema limits places (edit.Remove p) =
     ∷ (is_dead (slice_get places p), refusal.RemovedRow)
     ∷ []
 
--- why the plain table, of which nothing is ever away, refuses an edit: the first that applies
+-- why the plain table refuses an edit: the first refusal that applies. Nothing of it is ever away
 abbrev pub edit_refusal : Table → Edit → Option Refusal
 edit_refusal table e = first_of (edit_faults table.schema table.limits table.places e
     ++ (overfills table.schema table.limits e table.places, refusal.ChunkFull)

@@ -1,4 +1,4 @@
--- How what stands by key changes with one pair more, with one pair less, and when two are joined.
+-- How totals and extrema change: with one pair more, with one pair less, and when two are joined.
 use Rattle.std.specs.Prelude.{ℕ, ◌+◌, ◌-◌, ◌==◌, ℤ, ◌+ℤ◌, ◌-ℤ◌, cond, ◌++◌, Option, None, Some, option_map}
 use Rattle.std.specs.Int.{int_min, int_max}
 use Rattle.std.specs.List.{filter_map}
@@ -12,7 +12,7 @@ abbrev pub added : ℤ → Option (ℕ × ℤ) → ℕ × ℤ
 added value None = (1, value)
 added value (Some count_sum) = (count_sum.0 + 1, count_sum.1 +ℤ value)
 
--- the count and the sum with one value less, of which there is one at least
+-- the count and the sum with one value less; the count is at least 1
 abbrev pub subtracted : ℤ → ℕ × ℤ → ℕ × ℤ
 subtracted value count_sum = (count_sum.0 - 1, count_sum.1 -ℤ value)
 
@@ -25,7 +25,7 @@ widened value (Some min_max) = (int_min value min_max.0, int_max value min_max.1
 abbrev pub with_pair : Totals → Pair → Totals
 with_pair totals pair = fin.insert totals pair.0 (added pair.1 (fin.get totals pair.0))
 
--- totals with one value less under a key, where this stands there. A key whose last value goes is listed no more
+-- totals with one value less under a key that has this count and this sum. A key whose last value goes is listed no more
 abbrev pub without_value : Totals → Option Key → ℤ → Option (ℕ × ℤ) → Totals
 without_value totals key value None = totals
 without_value totals key value (Some count_sum) = cond (count_sum.0 == 1) (fin.remove totals key) (fin.insert totals key (subtracted value count_sum))
@@ -38,13 +38,13 @@ without_pair totals pair = without_value totals pair.0 pair.1 (fin.get totals pa
 abbrev pub with_observed : Extrema → Pair → Extrema
 with_observed extrema pair = fin.insert extrema pair.0 (widened pair.1 (fin.get extrema pair.0))
 
--- what two may give together: both where both give something
+-- two values merged, if both are there; else the one that is there
 abbrev pub merge_two : {V : Type 0} → (V → V → V) → Option V → Option V → Option V
 merge_two join None other = other
 merge_two join (Some value) None = Some value
 merge_two join (Some value) (Some other) = Some (join value other)
 
--- the keys of either, each with what both have there together
+-- the keys of either, each with its values merged
 abbrev pub joined : {V : Type 0} → (V → V → V) → ByKey V → ByKey V → ByKey V
 joined join one other =
     fin.from_entries (filter_map (λ key. option_map (λ value. (key, value)) (merge_two join (fin.get one key) (fin.get other key))) (fin.keys one ++ fin.keys other))
@@ -65,7 +65,7 @@ joined_totals one other = joined add_count_sums one other
 abbrev pub joined_extrema : Extrema → Extrema → Extrema
 joined_extrema one other = joined join_min_maxes one other
 
--- how many pairs stand under a key
+-- how many values a key has
 abbrev pub count_in : Option (ℕ × ℤ) → ℕ
 count_in None = 0
 count_in (Some count_sum) = count_sum.0

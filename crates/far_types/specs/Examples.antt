@@ -1,4 +1,4 @@
--- Worked examples: what aggregates answer over a few rows. Each is computed, so a wrong definition fails.
+-- Worked examples: the answers of aggregates over a few rows. Each is computed, so a wrong definition fails.
 use Rattle.std.specs.Prelude.{◌≡◌, ℕ, ℤ, pos, negsuc, List, [], ◌∷◌, Option, None, Some, codes}
 use Rattle.far_types.specs.declared.cell.Cell.{Cell}
 use Rattle.far_types.specs.declared.cell.Cell.TheVariants as cell
@@ -26,7 +26,7 @@ a = codes "a"
 abbrev pub b : List ℕ
 b = codes "b"
 
--- over no rows: totals without key have the line of zeros, with key none, extrema none
+-- over no rows: totals have the line of zeros without a key and no line with one; extrema have no line
 abbrev pub OverNoRows : Type 0
 OverNoRows =
     (answer_over (of_column fold.Totals None []) [] ≡ answer.Totals ((None, 0, pos 0) ∷ []))

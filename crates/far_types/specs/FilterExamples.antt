@@ -23,14 +23,14 @@ Comparisons =
 abbrev pub holds_of_ab : Test → Bool
 holds_of_ab t = passes t (cells_of (row (pos 5) (codes "ab")))
 
--- ab is ab and not a; it begins with nothing and with a, and not with abc; other kinds and other columns have no test
+-- ab is ab and not a. It begins with the empty text and with a, and not with abc. Tests of the other kind and of no column fail
 abbrev pub TestsOfTexts : Type 0
 TestsOfTexts =
     (map (λ text. holds_of_ab (test.TextIs 1 text)) (codes "ab" ∷ a ∷ []) ≡ true ∷ false ∷ [])
     × (map (λ text. holds_of_ab (test.TextBegins 1 text)) ([] ∷ a ∷ codes "abc" ∷ []) ≡ true ∷ true ∷ false ∷ [])
     × (map holds_of_ab (test.TextBegins 0 [] ∷ test.Int 1 op.Ne (pos 9) ∷ test.Int 2 op.Ne (pos 9) ∷ []) ≡ false ∷ false ∷ false ∷ [])
 
--- why a table of numbers beside texts refuses an aggregate
+-- why a table of a column of numbers and one of texts refuses an aggregate
 abbrev pub refusal_of : Spec → Option Refusal
 refusal_of spec = spec_refusal (kind.Int ∷ kind.Text ∷ []) spec
 
@@ -38,8 +38,8 @@ refusal_of spec = spec_refusal (kind.Int ∷ kind.Text ∷ []) spec
 abbrev pub of_numbers : ℕ → Test → Spec
 of_numbers key t = of_column fold.Totals (Some key) (t ∷ [])
 
--- four tests may be and five not, a constant of 4,096 bytes and none of 4,097; then each column must exist, the key's
--- too; then a test must be of its column's kind, and the values must be numbers
+-- four tests are allowed and five are not; a constant of 4,096 bytes is allowed and one of 4,097 is not. Then each column must exist, the
+-- key's too. Then a test must be of its column's kind, and the values must be numbers
 abbrev pub AllowedAggregates : Type 0
 AllowedAggregates =
     (refusal_of (of_column fold.Extrema (Some 0) (replicate 4 (test.TextIs 1 a))) ≡ None)

@@ -20,7 +20,7 @@ compares op.Le number constant = int_le number constant
 compares op.Gt number constant = int_lt constant number
 compares op.Ge number constant = int_le constant number
 
--- a test of numbers holds of no other cell, and of no missing one, `!=` too
+-- a test of numbers holds of no text and of no missing cell, also one with `!=`
 abbrev pub number_passes : (ℤ → Bool) → Option Cell → Bool
 number_passes holds (Some (cell.Int number)) = holds number
 number_passes holds (Some (cell.Text text)) = false
@@ -40,6 +40,6 @@ passes (test.Int column op value) cells = number_passes (λ number. compares op 
 passes (test.TextIs column constant) cells = text_passes (λ text. pointwise ◌==◌ text constant) (cells column)
 passes (test.TextBegins column constant) cells = text_passes (λ text. starts_with ◌==◌ text constant) (cells column)
 
--- a filter keeps a row of which all its tests hold
+-- a filter keeps a row that passes all its tests
 abbrev pub keeps : List Test → Cells → Bool
 keeps tests cells = list_all (λ test. passes test cells) tests

@@ -1,13 +1,13 @@
--- How many bytes a far form has: the form in which the values of one column and row group lie in the far store.
+-- How many bytes a far form has: the encoding of the values of one column and row group in the far store.
 use Rattle.std.specs.Prelude.{ℕ, ◌+◌, ◌*◌, ◌/◌, ℤ, cond, List, length, sum_by, Option, is_none}
 use Rattle.std.specs.List.{list_any}
 use Rattle.std.specs.Option.{option_map_or}
 
--- where a value is missing, one bit for each value, in whole bytes; else no byte
+-- one bit for each value, in whole bytes, if a value is missing; else no byte
 abbrev pub mask_length : {A : Type 0} → List (Option A) → ℕ
 mask_length values = cond (list_any is_none values) ((length values + 7) / 8) 0
 
--- the bytes of all texts, of which a missing one has none
+-- how many bytes all texts have; a missing text has none
 abbrev pub text_bytes : List (Option (List ℕ)) → ℕ
 text_bytes texts = sum_by (λ text. option_map_or length text 0) texts
 

@@ -1,4 +1,4 @@
--- What is lent in place, as cells and pairs of the plain table.
+-- Values borrowed in place, as cells and pairs of the plain table.
 use Rattle.std.specs.Prelude.{ℤ, ℕ, List, Option, None, Some}
 use Rattle.far_types.specs.declared.cell.Cell.{Cell}
 use Rattle.far_types.specs.declared.cell.Cell.TheVariants as cell
@@ -10,28 +10,28 @@ use Rattle.far_types.specs.declared.pair_ref.PairRef.{PairRef}
 use Rattle.far_types.specs.declared.pair_ref.PairRef.TheVariants as pairs
 use Rattle.far_types.specs.Pairs.{Pair}
 
--- the cell that is lent in place
+-- the cell that is borrowed in place
 abbrev pub lent_cell : CellRef → Cell
 lent_cell (lent.Int number) = cell.Int number
 lent_cell (lent.Text text) = cell.Text text.now
 lent_cell lent.Missing = cell.Missing
 
--- a number that may be missing, as a cell
+-- the cell of a number that may be missing
 abbrev pub int_cell : Option ℤ → Cell
 int_cell (Some number) = cell.Int number
 int_cell None = cell.Missing
 
--- likewise a text
+-- the cell of a text that may be missing
 abbrev pub text_cell : Option (List ℕ) → Cell
 text_cell (Some text) = cell.Text text
 text_cell None = cell.Missing
 
--- the key that a number is
+-- the key of a number
 abbrev pub key_by : Option ℤ → Option Key
 key_by None = None
 key_by (Some number) = Some (key.Int number)
 
--- the pair that is lent in place
+-- the pair that is borrowed in place
 abbrev pub lent_pair : PairRef → Option Pair
 lent_pair pairs.Nothing = None
 lent_pair (pairs.Under number value) = Some (key_by number, value)

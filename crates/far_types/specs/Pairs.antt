@@ -13,25 +13,25 @@ use Rattle.far_types.specs.Filters.{keeps}
 abbrev pub Pair : Type 0
 Pair = Option Key × ℤ
 
--- the text under which a pair stands, if its key is one
+-- the key of a pair, if it is a text
 abbrev pub text_under : Option Pair → Option (List ℕ)
 text_under (Some (Some (key.Text text), value)) = Some text
 text_under (Some (Some (key.Int number), value)) = None
 text_under (Some (None, value)) = None
 text_under None = None
 
--- the key under which a row stands: nothing if the key column has no value
+-- the key of a row: nothing if its cell in the key column has no value
 abbrev pub key_under : Option ℕ → Cells → Option (Option Key)
 key_under None cells = Some None
 key_under (Some column) cells = option_map Some (key_in (cells column))
 
--- a pair where there are both a key and a value
+-- a pair, if there are both a key and a value
 abbrev pub paired : Option (Option Key) → Option ℤ → Option Pair
 paired (Some key) (Some value) = Some (key, value)
 paired (Some key) None = None
 paired None value = None
 
--- a kept row is folded where its value and, with a key column, its key have values
+-- a kept row is folded if its value is there and, with a key column, its key too
 abbrev pub pair_in : Spec → Cells → Option Pair
 pair_in spec cells = paired (key_under spec.key cells) (number_in (cells spec.value))
 

@@ -29,7 +29,7 @@ UsedUp =
     × (edit_refusal (edited (edit.Set 0 0 (cell.Int (pos 1))) full) (edit.Set 0 0 (cell.Int (pos 1))) ≡ Some refusal.EditsUsedUp)
     × (rows_of (edited (edit.Remove 1) full).places ≡ (cell.Int (pos 1) ∷ []) ∷ [])
 
--- the first refusal that applies: kinds before the width, the column before the place, the place before its flag
+-- the order of refusals: kinds before the width, the column before the place, the place before its flag
 abbrev pub FirstRefusal : Type 0
 FirstRefusal =
     (edit_refusal small (edit.Insert (cell.Text a ∷ cell.Int (pos 2) ∷ [])) ≡ Some refusal.WrongKind)
@@ -46,7 +46,7 @@ texts = empty_table (kind.Text ∷ []) (record { group = 4; places = 100; edits 
 abbrev pub text_of : ℕ → Edit
 text_of n = edit.Insert (cell.Text (replicate n 97) ∷ [])
 
--- one text of 54 bytes fits and one of 55 does not, nor an empty one beside it; a missing one costs a byte of mask more
+-- one text of 54 bytes fits, and one of 55 does not. Behind one of 54 bytes no empty text fits. A missing text needs a byte of mask more
 abbrev pub OverLength : Type 0
 OverLength =
     (edit_refusal texts (text_of 54) ≡ None)

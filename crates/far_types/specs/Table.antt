@@ -1,4 +1,4 @@
--- The plain table, which the code never forms: a list of rows, and every answer computed anew from all of them.
+-- The plain table: a list of rows, and every answer computed anew from all of them. The code never forms it.
 use Rattle.std.specs.Prelude.{ℕ, ◌+◌, ◌-◌, ◌*◌, ◌/◌, Bool, true, false, cond, List, [], map, filter, length, replicate, take, drop, slice_range, slice_index_or, count_by, Option, None}
 use Rattle.far_types.specs.declared.cell.Cell.{Cell}
 use Rattle.far_types.specs.declared.cell.Kind.{Kind}
@@ -9,13 +9,13 @@ use Rattle.far_types.specs.Cells.{cell_at, cells_of}
 use Rattle.far_types.specs.Pairs.{Pair, pair_of}
 use Rattle.far_types.specs.Answers.{answer_over}
 
--- a row of cells, of which a removal clears the flag and leaves the cells
+-- a row of cells, and whether it is alive: a removal clears the flag and leaves the cells
 pub record Place : Type 0 where
   pub cells : List Cell
   pub alive : Bool
 
--- an aggregate: how many registrations were made before it, and which row groups are still pending in it,
--- a flag for each row group that held a place when it was registered
+-- an aggregate: its specification, how many registrations were made before it, and whether each row group is still pending in it. The flags
+-- are those of the row groups that held a place when it was registered
 pub record Registered : Type 0 where
   pub spec : Spec
   pub registration : ℕ
@@ -38,7 +38,7 @@ empty_table schema limits = record { schema = schema; limits = limits; places = 
 abbrev pub rows_of : List Place → List (List Cell)
 rows_of places = map (λ place. place.cells) (filter (λ place. place.alive) places)
 
--- what a place gives to an aggregate: the pair of a row that is alive, kept and folded
+-- the pair that a place gives to an aggregate, if its row is alive, kept and folded
 abbrev pub place_pair : Spec → Place → Option Pair
 place_pair spec place = cond place.alive (pair_of spec (cells_of place.cells)) None
 
@@ -46,7 +46,7 @@ place_pair spec place = cond place.alive (pair_of spec (cells_of place.cells)) N
 abbrev pub column : ℕ → List Place → List Cell
 column c places = map (λ place. cell_at c place.cells) places
 
--- the places from one up to another of a column
+-- the cells of a column from one place up to another
 abbrev pub part : ℕ → ℕ → ℕ → List Place → List Cell
 part c from to places = slice_range (column c places) from to
 
@@ -58,8 +58,8 @@ in_group size g places = take size (drop (g * size) places)
 abbrev pub groups : ℕ → ℕ → ℕ
 groups size places = (places + size - 1) / size
 
--- all row groups that hold a place are still pending in an aggregate that is registered now. A row group that
--- gets its first place later never is, and one that gets a place more stays as it is
+-- all row groups that hold a place are pending in an aggregate that is registered now. A row group that gets its first place later is never
+-- pending, and one that gets a place more stays as it is
 abbrev pub all_pending : ℕ → List Place → List Bool
 all_pending size places = replicate (groups size (length places)) true
 
@@ -71,6 +71,6 @@ is_pending pending g = slice_index_or pending g false
 abbrev pub left : List Bool → ℕ
 left pending = count_by (λ flag. flag) pending
 
--- what an aggregate answers over the table's rows as they are now
+-- the answer of an aggregate over the table's rows as they are now
 abbrev pub answer_now : Spec → Table → Answer
 answer_now spec table = answer_over spec (rows_of table.places)

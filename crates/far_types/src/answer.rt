@@ -1,4 +1,4 @@
-// What an aggregate answers.
+// The answers of aggregates.
 ghost use Rattle.std.specs.Prelude.{◌≡◌, IfOk, IfErr, OnErr, [], None};
 ghost use Rattle.std.specs.Slice.Iter.{iter_rest};
 
@@ -7,7 +7,15 @@ use super::refusal::Refusal;
 use std::marker::Model;
 use std::slice;
 
-/// Keys, ascending, each with a count and a sum. Contracts see their list.
+/// The lines of totals: keys in ascending order, each with a count and a sum. Contracts see their list.
+///
+/// Two lines:
+///
+/// ```
+/// let one = (Some(Key::from(1i64)), 1, 5);
+/// let other = (Some(Key::from(2i64)), 1, -5);
+/// let lines = TotalLines::new(Vec::from_array(alloc, [one, other])?);
+/// ```
 #[derive(Drop, Debug)]
 pub struct TotalLines {
     lines: Vec<(Option<Key>, u64, i128)>,
@@ -25,35 +33,36 @@ impl Model for TotalLines {
 impl TotalLines {
     ghost use Rattle.far_types.specs.Answers.{or_zero};
 
-    /// These lines. Allocates nothing.
+    /// Makes an answer's lines of this list. Allocates nothing.
     pub fn new(lines: Vec<(Option<Key>, u64, i128)>) -> TotalLines
         ensures { result ≡ lines.items }
     {
         TotalLines { lines }
     }
 
-    /// The lines, lent in place.
+    /// Borrows the lines in place.
     pub fn as_slice(&self) -> &[(Option<Key>, u64, i128)]
         ensures { result.now ≡ self.now }
     {
         self.lines.as_slice()
     }
 
-    /// The lines in the order of their keys, lent in place. Allocates nothing.
+    /// Borrows the lines in the order of their keys, in place. Allocates nothing.
     pub fn iter(&self) -> slice::Iter<'_, (Option<Key>, u64, i128)>
         ensures { iter_rest result ≡ self.now }
     {
         self.lines.iter()
     }
 
-    /// The lines that these were made of. Allocates nothing.
+    /// Returns the list of the lines. Allocates nothing.
     pub fn into_lines(self) -> Vec<(Option<Key>, u64, i128)>
         ensures { result.items ≡ self }
     {
         self.lines
     }
 
-    /// The same lines, or the line of count 0 and sum 0 if there is none and the aggregate has no key column.
+    /// Returns the same lines. If there are none and the aggregate has no key column, it adds the line of count 0 and sum 0.
+    ///
     /// Refused with `NoMemory` (1) alone, and only if that line is added.
     pub fn or_zero(self, key: Option<u32>) -> Result<TotalLines, Refusal>
         ensures lines { IfOk result (λ lines. lines ≡ or_zero key self) }
@@ -83,7 +92,15 @@ impl<'a> IntoIterator for &'a TotalLines {
     }
 }
 
-/// Keys, ascending, each with a least and a greatest value. Contracts see their list.
+/// The lines of extrema: keys in ascending order, each with a least and a greatest value. Contracts see their list.
+///
+/// A loop over the lines:
+///
+/// ```
+/// for (key, least, greatest) in lines.into_lines() {
+///     observe(min_maxes, key, least, greatest)?;
+/// }
+/// ```
 #[derive(Drop, Debug)]
 pub struct ExtremaLines {
     lines: Vec<(Option<Key>, i64, i64)>,
@@ -99,28 +116,28 @@ impl Model for ExtremaLines {
 }
 
 impl ExtremaLines {
-    /// These lines. Allocates nothing.
+    /// Makes an answer's lines of this list. Allocates nothing.
     pub fn new(lines: Vec<(Option<Key>, i64, i64)>) -> ExtremaLines
         ensures { result ≡ lines.items }
     {
         ExtremaLines { lines }
     }
 
-    /// The lines, lent in place.
+    /// Borrows the lines in place.
     pub fn as_slice(&self) -> &[(Option<Key>, i64, i64)]
         ensures { result.now ≡ self.now }
     {
         self.lines.as_slice()
     }
 
-    /// The lines in the order of their keys, lent in place. Allocates nothing.
+    /// Borrows the lines in the order of their keys, in place. Allocates nothing.
     pub fn iter(&self) -> slice::Iter<'_, (Option<Key>, i64, i64)>
         ensures { iter_rest result ≡ self.now }
     {
         self.lines.iter()
     }
 
-    /// The lines that these were made of. Allocates nothing.
+    /// Returns the list of the lines. Allocates nothing.
     pub fn into_lines(self) -> Vec<(Option<Key>, i64, i64)>
         ensures { result.items ≡ self }
     {
@@ -143,8 +160,10 @@ impl<'a> IntoIterator for &'a ExtremaLines {
     }
 }
 
-/// What an aggregate answers: its keys, ascending (numbers by value, texts by bytes), each with what its values come
-/// to. Totals without key column have one line always, extrema have none if no row is folded.
+/// The answer of an aggregate: a line for each key, with the result over the key's values. Keys ascend: numbers by value, texts by
+/// bytes.
+///
+/// Without a key column, totals always have one line, and extrema have none if no row is folded.
 ///
 /// How many keys have a sum, or a least value, above 0:
 ///

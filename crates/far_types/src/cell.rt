@@ -5,7 +5,16 @@ use super::refusal::Refusal;
 use super::text::Text;
 use std::alloc::Global;
 
-/// What the cells of a column are, where they have a value.
+/// The kind of a column: what its cells hold, if they have a value.
+///
+/// Columns of numbers lie in other segments than columns of texts:
+///
+/// ```
+/// match kind {
+///     Kind::Int => self.rows.compact_numbers(alloc, segment),
+///     Kind::Text => self.rows.compact_texts(alloc, segment),
+/// }
+/// ```
 #[derive(Clone, Copy, Debug, PartialEq, Eq)]
 pub enum Kind {
     /// Whole numbers of 64 bits, signed.
@@ -14,7 +23,7 @@ pub enum Kind {
     Text,
 }
 
-/// One cell of a row: a number, a text, or no value. A cell without a value is of either kind.
+/// One cell of a row: a number, a text, or no value. A cell without a value fits a column of either kind.
 ///
 /// ```
 /// let bread = Cell::of_text(alloc, "bread")?;
@@ -30,7 +39,7 @@ pub enum Cell {
 }
 
 impl Cell {
-    /// A text of its own with these characters. Refused with `NoMemory` (1) alone.
+    /// Copies these characters into a cell. Refused with `NoMemory` (1) alone.
     pub fn of_text(alloc: Global, text: &str) -> Result<Cell, Refusal>
         ensures text { IfOk result (λ cell. cell ≡ Cell.Text text.now) }
         ensures memory { IfErr result (λ e. e ≡ Refusal.NoMemory) }

@@ -1,4 +1,4 @@
-// Cells lent in place.
+// Cells borrowed in place.
 ghost use Rattle.std.specs.Prelude.{◌≡◌, ◌↔◌, IsTrue, Some, IfOk, IfErr, IfSome, IsSome, OnErr, FitsSigned};
 ghost use Rattle.std.specs.Int.{w64};
 ghost use Rattle.std.specs.Option.{option_copied};
@@ -12,7 +12,17 @@ use super::refusal::Refusal;
 use super::text::Text;
 use std::alloc::Global;
 
-/// A cell that is lent where it lies. `specs/Lent.antt` has the cell that it stands for (`lent_cell`).
+/// A cell that is borrowed in place. `lent_cell` in `specs/Lent.antt` is the cell that it stands for.
+///
+/// The cell of a key, which may be missing:
+///
+/// ```
+/// match key {
+///     Some(Key::Int(number)) => CellRef::Int(*number),
+///     Some(Key::Text(text)) => CellRef::Text(text.as_str()),
+///     None => CellRef::Missing,
+/// }
+/// ```
 #[derive(Clone, Copy, Debug)]
 pub enum CellRef<'a> {
     /// A number.
@@ -24,7 +34,7 @@ pub enum CellRef<'a> {
 }
 
 impl Cell {
-    /// The cell, lent in place. Allocates nothing.
+    /// Borrows the cell in place. Allocates nothing.
     #[inline(always)]
     pub fn lend(&self) -> CellRef<'_>
         ensures { lent_cell result ≡ self.now }
@@ -38,7 +48,7 @@ impl Cell {
 }
 
 impl<'a> CellRef<'a> {
-    /// The cell of a number that may be missing. Allocates nothing.
+    /// Makes the cell of a number that may be missing. Allocates nothing.
     #[inline(always)]
     pub fn of_int(number: Option<i64>) -> CellRef<'a>
         ensures { lent_cell result ≡ int_cell number }
@@ -49,7 +59,7 @@ impl<'a> CellRef<'a> {
         }
     }
 
-    /// The cell of a text that may be missing, lent in place. Allocates nothing.
+    /// Makes the cell of a text that may be missing, borrowed in place. Allocates nothing.
     #[inline(always)]
     pub fn of_text(text: Option<&'a str>) -> CellRef<'a>
         ensures { lent_cell result ≡ text_cell (option_copied text.entry) }
@@ -72,7 +82,7 @@ impl<'a> CellRef<'a> {
         }
     }
 
-    /// Whether the key that the cell gives is this one. Allocates nothing.
+    /// Whether the cell, as a key, is this one. Allocates nothing.
     #[inline(always)]
     pub fn is_key(self, key: &Key) -> bool
         ensures { IsTrue result ↔ (key_in (Some (lent_cell self.entry)) ≡ Some key.now) }
@@ -84,9 +94,12 @@ impl<'a> CellRef<'a> {
         }
     }
 
-    /// The key that the cell gives, or `None` if it has no value. A text is copied into the memory of an earlier text key, or
-    /// into new memory. Refused with `NoMemory` (1) alone, and only if the cell is a text. A number is told apart where the
-    /// caller's loop is: only a text costs a call.
+    /// Returns the key that the cell gives, or `None` if it has no value.
+    ///
+    /// It copies a text into the memory of `earlier`, if that is a text key, and else into new memory. Refused with `NoMemory` (1) alone,
+    /// and only if the cell is a text.
+    ///
+    /// The branch for a number is inlined into the caller's loop, so only a text costs a call.
     #[inline(always)]
     pub fn key(self, alloc: Global, earlier: Option<Key>) -> Result<Option<Key>, Refusal>
         ensures key { IfOk result (λ key. key ≡ key_in (Some (lent_cell self.entry))) }
@@ -101,7 +114,7 @@ impl<'a> CellRef<'a> {
     }
 }
 
-/// The key of a text. The memory of an earlier key is used again.
+/// Returns the key of a text. Reuses the memory of an earlier text key.
 #[inline(never)]
 fn text_key(alloc: Global, earlier: Option<Key>, text: &str) -> Result<Key, Refusal>
     ensures key { IfOk result (λ key. key ≡ keys.Text text.now) }

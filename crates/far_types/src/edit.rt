@@ -6,11 +6,24 @@ use super::refusal::Refusal;
 use super::row::Row;
 
 /// A change of the table's rows.
+///
+/// Sets a number, in a table that threads share:
+///
+/// ```
+/// let edit = Edit::Set {
+///     place: k % PLACES,
+///     column: 0,
+///     cell: Cell::Int(i64::from(k)),
+/// };
+/// let Ok(_) = shared.apply(rt, me, stripe, edit) else {
+///     return false;
+/// };
+/// ```
 #[derive(Drop, Debug)]
 pub enum Edit {
     /// Appends a row, which gets the next place.
     Insert(Row),
-    /// Replaces one cell of a place. It counts as an edit where the cell is equal to the old one, too.
+    /// Replaces one cell of a place. It counts as an edit even if the cell is equal to the old one.
     Set { place: u32, column: u32, cell: Cell },
     /// Marks a place dead. Its cells stay, and the place is never used again.
     Remove(u32),

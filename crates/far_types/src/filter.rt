@@ -12,6 +12,16 @@ use std::marker::Model;
 use std::slice;
 
 /// How a number is compared with a constant.
+///
+/// The test that the number of column 0 is above 0:
+///
+/// ```
+/// Test::Int {
+///     column: 0,
+///     op: Op::Gt,
+///     value: 0,
+/// }
+/// ```
 #[derive(Clone, Copy, Debug, PartialEq, Eq)]
 pub enum Op {
     Eq,
@@ -25,7 +35,7 @@ pub enum Op {
 impl Op {
     ghost use Rattle.far_types.specs.Filters.{compares};
 
-    /// Whether a number stands so to the constant.
+    /// Whether the comparison holds of a number and the constant.
     pub fn holds(self, number: i64, constant: i64) -> bool
         ensures { result ≡ compares self number constant }
     {
@@ -40,8 +50,10 @@ impl Op {
     }
 }
 
-/// A test of one column. It is false where the row has no such column, where the cell is of the other kind, and
-/// where it has no value, `Ne` too.
+/// A test of one column. A row fails a test, one with `Ne` too, if:
+/// - the row has no such column;
+/// - the cell is of the other kind;
+/// - the cell has no value.
 ///
 /// ```
 /// let is_rye = Test::text_is(alloc, 0, "rye")?;
@@ -53,7 +65,7 @@ impl Op {
 /// ```
 #[derive(Drop, Debug)]
 pub enum Test {
-    /// The number stands so to the constant.
+    /// The number compares with the constant as `op` says.
     Int { column: u32, op: Op, value: i64 },
     /// The text is the constant, byte by byte.
     TextIs { column: u32, text: Text },
@@ -65,7 +77,7 @@ impl Test {
     ghost use Rattle.far_types.specs.Filters.{passes};
     ghost use Rattle.far_types.specs.Bounds.{column_of, has_long_constant};
 
-    /// The test that a column's text is this one. Refused with `NoMemory` (1) alone.
+    /// Makes the test that a column's text is this one. Refused with `NoMemory` (1) alone.
     pub fn text_is(alloc: Global, column: u32, text: &str) -> Result<Test, Refusal>
         ensures test { IfOk result (λ test. test ≡ Test.TextIs column text.now) }
         ensures memory { IfErr result (λ e. e ≡ Refusal.NoMemory) }
@@ -74,7 +86,7 @@ impl Test {
         Ok(Test::TextIs { column, text })
     }
 
-    /// The test that a column's text begins with this one. Refused with `NoMemory` (1) alone.
+    /// Makes the test that a column's text begins with this one. Refused with `NoMemory` (1) alone.
     pub fn text_begins(alloc: Global, column: u32, text: &str) -> Result<Test, Refusal>
         ensures test { IfOk result (λ test. test ≡ Test.TextBegins column text.now) }
         ensures memory { IfErr result (λ e. e ≡ Refusal.NoMemory) }
@@ -83,7 +95,7 @@ impl Test {
         Ok(Test::TextBegins { column, text })
     }
 
-    /// The column that the test looks at.
+    /// The column that the test reads.
     pub fn column(&self) -> u32
         ensures { result ≡ column_of self.now }
     {
@@ -105,7 +117,7 @@ impl Test {
         }
     }
 
-    /// Whether the test holds of a row. Texts are compared where they lie. Allocates nothing.
+    /// Whether a row passes the test. Compares texts in place. Allocates nothing.
     #[inline(always)]
     pub fn holds<R: LendCells>(&self, row: &R) -> bool
         ensures { result ≡ passes self.now (R.cells row.now) }
@@ -211,47 +223,47 @@ impl Filter {
     ghost use Rattle.far_types.specs.Filters.{keeps};
     ghost use Rattle.far_types.specs.Cells.{cells_of};
 
-    /// The filter of these tests; none keeps every row. Allocates nothing.
+    /// Makes the filter of these tests. A filter without tests keeps every row. Allocates nothing.
     pub fn new(tests: Vec<Test>) -> Filter
         ensures { result ≡ tests.items }
     {
         Filter { tests }
     }
 
-    /// The tests that the filter was made of. Allocates nothing.
+    /// Returns the tests that the filter was made of. Allocates nothing.
     pub fn into_tests(self) -> Vec<Test>
         ensures { result.items ≡ self }
     {
         self.tests
     }
 
-    /// The tests, lent in place.
+    /// Borrows the tests in place.
     pub fn as_slice(&self) -> &[Test]
         ensures { result.now ≡ self.now }
     {
         self.tests.as_slice()
     }
 
-    /// The tests in order, lent in place. Allocates nothing.
+    /// Borrows the tests in order, in place. Allocates nothing.
     pub fn iter(&self) -> slice::Iter<'_, Test>
         ensures { iter_rest result ≡ self.now }
     {
         self.tests.iter()
     }
 
-    /// Whether every test holds of the row. Allocates nothing.
+    /// Whether the row passes every test. Allocates nothing.
     pub fn keeps(&self, row: &Row) -> bool
         ensures { result ≡ keeps self.now (cells_of row.now) }
     {
         self.keeps_cells(row)
     }
 
-    /// Whether every test holds of a row whose cells are lent by column. Allocates nothing.
+    /// Whether a row whose cells are lent by column passes every test. Allocates nothing.
     #[inline(always)]
     pub fn keeps_cells<R: LendCells>(&self, row: &R) -> bool
         ensures { result ≡ keeps self.now (R.cells row.now) }
     {
-        // The look at an empty list is worth its own line: it is what a fold over numbers alone does at each place.
+        // The check for an empty list is worth a line of its own: a fold over numbers alone makes it at each place.
         if self.tests.is_empty() {
             return true;
         }

@@ -6,9 +6,9 @@ use super::text::Text;
 use std::alloc::Global;
 use std::cmp::Ordering;
 
-/// A key of an aggregate: the value of a row's cell in the key column. Numbers are in the order of their
-/// values, texts in that of their bytes; one column has one kind, so the order between the two kinds (numbers
-/// first) is never seen.
+/// A key of an aggregate: the value of a row's cell in the key column.
+///
+/// Numbers are ordered by value, texts by bytes. Numbers come before texts. No answer shows that, since one column has one kind.
 ///
 /// ```
 /// let bread = Key::of_text(alloc, "bread")?;
@@ -22,7 +22,7 @@ pub enum Key {
 }
 
 impl Key {
-    /// A text of its own with these characters. Refused with `NoMemory` (1) alone.
+    /// Copies these characters into a key. Refused with `NoMemory` (1) alone.
     pub fn of_text(alloc: Global, text: &str) -> Result<Key, Refusal>
         ensures text { IfOk result (λ key. key ≡ Key.Text text.now) }
         ensures memory { IfErr result (λ e. e ≡ Refusal.NoMemory) }
@@ -42,7 +42,7 @@ impl Key {
     }
 }
 
-/// A clone of a key, where there is one. Refused with `NoMemory` (1) alone.
+/// Clones a key, if there is one. Refused with `NoMemory` (1) alone.
 pub fn clone_key(key: &Option<Key>) -> Result<Option<Key>, Refusal>
     ensures equal { IfOk result (λ clone. clone ≡ key.now) }
     ensures memory { IfErr result (λ e. e ≡ Refusal.NoMemory) }

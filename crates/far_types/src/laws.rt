@@ -15,13 +15,16 @@ ghost use Rattle.far_types.specs.RefusalExamples.{UsedUp, FirstRefusal, OverLeng
 ghost use Rattle.far_types.specs.FilterExamples.{Comparisons, TestsOfTexts, AllowedAggregates};
 ghost use Rattle.far_types.specs.EditExamples.{WhatEditsDo, SpaceForTexts, OrderOfRefusals, RowGroups};
 
-/// What the rows of a table give to an aggregate is what its places give, in order.
+/// The rows of a table give an aggregate the same pairs, in the same order, as the table's places.
 pub fn pairs_follow_the_places()
     ensures { (spec : Spec) → (places : List Place) → pairs_of spec (rows_of places) ≡ filter_map (place_pair spec) places }
 {}
 
-/// How totals change with the folded rows: by one pair more, by one less, not by the order, and when two lists are
-/// joined.
+/// How totals follow the folded rows:
+/// - with one pair more;
+/// - with one pair less;
+/// - in another order, which changes nothing;
+/// - when two lists are joined.
 pub fn totals_follow_the_pairs()
     ensures more { (pair : Pair) → (pairs : List Pair) → totals (pair ∷ pairs) ≡ with_pair (totals pairs) pair }
     ensures less { (pair : Pair) → (pairs : List Pair) → without_pair (totals (pair ∷ pairs)) pair ≡ totals pairs }
@@ -29,17 +32,22 @@ pub fn totals_follow_the_pairs()
     ensures joined { (some : List Pair) → (others : List Pair) → totals (some ++ others) ≡ joined_totals (totals some) (totals others) }
 {}
 
-/// How extrema change with the folded rows: by one pair more, not by the order, and when two lists are joined. One
-/// pair less has no such law, since only the extremes are kept: the row group is looked at again.
+/// How extrema follow the folded rows:
+/// - with one pair more;
+/// - in another order, which changes nothing;
+/// - when two lists are joined.
+///
+/// One pair less has no such law, since only the extremes are kept: the row group is read again.
 pub fn extrema_follow_the_pairs()
     ensures more { (pair : Pair) → (pairs : List Pair) → extrema (pair ∷ pairs) ≡ with_observed (extrema pairs) pair }
     ensures anywhere { (before : List Pair) → (pair : Pair) → (after : List Pair) → extrema (before ++ pair ∷ after) ≡ extrema (pair ∷ (before ++ after)) }
     ensures joined { (some : List Pair) → (others : List Pair) → extrema (some ++ others) ≡ joined_extrema (extrema some) (extrema others) }
 {}
 
-/// What the lines of totals are: their keys ascend, and none stands twice; a key is there exactly if a folded row
-/// has it, with how many have it and the sum of their values, at least one; and the sum of at most 2^26 values is at
-/// most 2^89 in absolute value.
+/// What the lines of totals are:
+/// - Their keys ascend, and none stands twice.
+/// - A key is there exactly if a folded row has it. Its line has the count of these rows, at least one, and the sum of their values.
+/// - The sum of at most 2^26 values is at most 2^89 in absolute value.
 pub fn total_lines_are_by_key()
     ensures ascending { (pairs : List Pair) → IsStrictlySortedBy line_cmp (map (λ line. line.0) (total_lines (totals pairs))) }
     ensures occurring { (pairs : List Pair) → (key : Option Key) → list_any (eq_by_cmp line_cmp key) (map (λ line. line.0) (total_lines (totals pairs))) ≡ list_any (is_under key) pairs }
@@ -49,8 +57,9 @@ pub fn total_lines_are_by_key()
     ensures bounded { (pairs : List Pair) → PairsFit pairs → length pairs ≤ 2 ^ 26 → All (λ line. (neg_ℤ (pos (2 ^ 89)) ≤ℤ line.2) × (line.2 ≤ℤ pos (2 ^ 89))) (total_lines (totals pairs)) }
 {}
 
-/// What the lines of extrema are: their keys ascend, and none stands twice; a key is there exactly if a folded row
-/// has it, with the least and the greatest of their values.
+/// What the lines of extrema are:
+/// - Their keys ascend, and none stands twice.
+/// - A key is there exactly if a folded row has it. Its line has the least and the greatest value of these rows.
 pub fn extrema_lines_are_by_key()
     ensures ascending { (pairs : List Pair) → IsStrictlySortedBy line_cmp (map (λ line. line.0) (extrema_lines (extrema pairs))) }
     ensures occurring { (pairs : List Pair) → (key : Option Key) → list_any (eq_by_cmp line_cmp key) (map (λ line. line.0) (extrema_lines (extrema pairs))) ≡ list_any (is_under key) pairs }
@@ -58,7 +67,7 @@ pub fn extrema_lines_are_by_key()
     ensures maxima { (pairs : List Pair) → All (λ line. line.2 ≡ greatest (values_of line.0 pairs)) (extrema_lines (extrema pairs)) }
 {}
 
-/// Small tables and what the definitions say of them: a wrong definition fails here.
+/// Small tables, and what the definitions say of them. A wrong definition fails here.
 pub fn worked_examples()
     ensures over_no_rows { OverNoRows }
     ensures totals_by_key { TotalsByKey }

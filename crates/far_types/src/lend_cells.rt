@@ -1,4 +1,4 @@
-// What has cells by column.
+// Cells by column.
 ghost use Rattle.std.specs.Prelude.{◌≡◌, option_map};
 ghost use Rattle.far_types.specs.Cells.{Cells, cells_of};
 ghost use Rattle.far_types.specs.Lent.{lent_cell};
@@ -6,13 +6,25 @@ ghost use Rattle.far_types.specs.Lent.{lent_cell};
 use super::cell_ref::CellRef;
 use super::row::Row;
 
-/// What lends the cells of a row by the number of the column: a row, or whoever has at hand the columns that a reader
-/// needs. Filters and aggregates read any of them.
+/// Something that lends the cells of a row by column number: a row, or a value that has just the columns that a reader needs.
+/// Filters and aggregates read rows through it.
+///
+/// A row of a name and of the price 5:
+///
+/// ```
+/// fn cell(&self, column: u32) -> Option<CellRef<'_>> {
+///     match column {
+///         0 => Some(CellRef::Text(self.name)),
+///         1 => Some(CellRef::Int(5)),
+///         _ => None,
+///     }
+/// }
+/// ```
 pub trait LendCells {
-    /// The cells, by the number of the column: nothing if there is no such column.
+    /// The cells by column number: nothing if there is no such column.
     ghost cells: { Self → Cells };
 
-    /// The cell of a column, lent in place, or `None` if there is no such column. Allocates nothing.
+    /// Borrows the cell of a column in place. Returns `None` if there is no such column. Allocates nothing.
     fn cell(&self, column: u32) -> Option<CellRef<'_>>
         ensures { option_map lent_cell result ≡ cells self.now column };
 }

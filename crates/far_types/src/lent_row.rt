@@ -1,4 +1,4 @@
-// A row that is read once: its cells, lent where they lie.
+// A row that is read once: its cells, borrowed in place.
 ghost use Rattle.std.specs.Prelude.{◌≡◌, ◌<◌, ◌≤◌, [], ◌∷◌, ◌++◌, length, slice_get, slice_set, option_map};
 ghost use Rattle.far_types.specs.Cells.{cells_of};
 ghost use Rattle.far_types.specs.Lent.{lent_cell};
@@ -8,8 +8,17 @@ use super::lend_cells::LendCells;
 use super::row::Row;
 use std::marker::Model;
 
-/// The cells of a row, each lent where it lies, so that all who look at the row find its columns once. A table has at
-/// most 16 columns. Nothing here allocates. Contracts see the list of the cells.
+/// The cells of a row, each borrowed in place. So the columns of the row are found once for all its readers.
+///
+/// It has at most 16 cells, as a table has at most 16 columns. Nothing here allocates. Contracts see the list of the cells.
+///
+/// A row of a number and a text:
+///
+/// ```
+/// let mut row = LentRow::new();
+/// row.push(CellRef::Int(1));
+/// row.push(CellRef::Text("a"));
+/// ```
 #[derive(Drop)]
 pub struct LentRow<'a> {
     cells: [CellRef<'a>; 16],
@@ -40,7 +49,7 @@ impl<'a> LentRow<'a> {
         }
     }
 
-    /// The cells of a row of at most 16 columns, lent in place.
+    /// Borrows the cells of a row of at most 16 columns in place.
     pub fn of_row(row: &'a Row) -> LentRow<'a>
         requires { length row.now ≤ 16 }
         ensures { result ≡ row.now }
@@ -83,7 +92,7 @@ impl<'a> LentRow<'a> {
         self.width += 1;
     }
 
-    /// The row with another cell in a column. Where there is no such column it stays as it is.
+    /// Returns the row with another cell in a column. If there is no such column, the row stays as it is.
     #[inline(always)]
     pub fn with(self, column: usize, cell: CellRef<'a>) -> LentRow<'a>
         ensures { result ≡ slice_set self.entry column (lent_cell cell.entry) }

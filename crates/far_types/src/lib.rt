@@ -1,6 +1,7 @@
 #![tactic(auto)]
-//! The words that every crate of the table shares: cells, rows, schemas, edits, aggregates, answers and refusals, and
-//! in `specs` the plain table that every contract above speaks of.
+//! The types that every crate of the table shares: cells, rows, schemas, edits, aggregates, answers and refusals.
+//!
+//! `specs` has the plain table, which the contracts of all crates above speak of.
 
 pub mod answer;
 pub mod cell;

@@ -3,7 +3,7 @@ ghost use Rattle.std.specs.Prelude.{◌≡◌, OnOk, IfErr};
 
 use super::refusal::Refusal;
 
-/// What a table is opened for.
+/// The limits of a table, which it is opened with.
 ///
 /// The usual limits, for at most 1,000 rows:
 ///
@@ -35,8 +35,10 @@ pub struct Limits {
 impl Limits {
     ghost use Rattle.far_types.specs.Bounds.{AreLimits, usual_limits};
 
-    /// The usual limits, in row groups of so many places: as many rows as a table may have, 64 segments of 4,096 numbers, or of a row
-    /// group where that is more, and 64 segments of 65,536 bytes of texts.
+    /// Returns the usual limits, in row groups of `group` places:
+    /// - as many rows as a table may have;
+    /// - 64 segments of 4,096 numbers, or of the numbers of one row group if these are more;
+    /// - 64 segments of 65,536 bytes of texts.
     pub fn in_groups_of(group: u32) -> Limits
         ensures { result ≡ usual_limits group }
     {
@@ -51,7 +53,7 @@ impl Limits {
         }
     }
 
-    /// Whether a table may have these limits. Refused with `BadSchema` (2) exactly if one is out of its bounds.
+    /// Checks that a table may have these limits. Refused with `BadSchema` (2) exactly if one is out of its bounds.
     /// Allocates nothing.
     pub fn check(&self) -> Result<(), Refusal>
         ensures ok { OnOk result (AreLimits self.now) }

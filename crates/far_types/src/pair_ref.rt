@@ -1,4 +1,4 @@
-// What a row gives to an aggregate, lent in place.
+// What a row gives to an aggregate, borrowed in place.
 ghost use Rattle.std.specs.Prelude.{◌≡◌, IfOk, IfErr, IsSome, OnErr};
 ghost use Rattle.far_types.specs.Lent.{key_by, lent_pair};
 ghost use Rattle.far_types.specs.Pairs.{text_under};
@@ -8,8 +8,18 @@ use super::key::Key;
 use super::refusal::Refusal;
 use std::alloc::Global;
 
-/// What a row gives to an aggregate: its pair, of which a text is lent where it lies, or nothing if the row is not kept or
-/// not folded. `specs/Lent.antt` has the pair that it stands for (`lent_pair`).
+/// What a row gives to an aggregate: its pair, or nothing if the row is not kept or not folded. A text key is borrowed in place.
+/// `lent_pair` in `specs/Lent.antt` is the pair that it stands for.
+///
+/// The value 7 under the key that a cell gives:
+///
+/// ```
+/// let mut row = LentRow::new();
+/// row.push(CellRef::Int(7));
+/// row.push(cell);
+/// let spec = Spec::totals(alloc, 0).by(1);
+/// spec.lend_pair(&row).pair(alloc, earlier)
+/// ```
 #[derive(Clone, Copy, Debug)]
 pub enum PairRef<'a> {
     /// No pair.
@@ -20,7 +30,7 @@ pub enum PairRef<'a> {
     UnderText { text: &'a str, value: i64 },
 }
 
-/// The key that a number is, and no key where there is no number. Allocates nothing.
+/// Returns the key of a number, or `None` if there is no number. Allocates nothing.
 #[inline(always)]
 pub fn number_key(number: Option<i64>) -> Option<Key>
     ensures { result ≡ key_by number }
@@ -32,8 +42,10 @@ pub fn number_key(number: Option<i64>) -> Option<Key>
 }
 
 impl<'a> PairRef<'a> {
-    /// The pair with a key of its own, or `None` if there is none. A text is copied into the memory of an earlier text key, or
-    /// into new memory. Refused with `NoMemory` (1) alone, and only if the key is a text.
+    /// Returns the pair with a key of its own, or `None` if there is no pair.
+    ///
+    /// It copies a text into the memory of an earlier text key, or into new memory. Refused with `NoMemory` (1) alone, and only if the key
+    /// is a text.
     pub fn pair(
         self,
         alloc: Global,

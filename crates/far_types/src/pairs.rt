@@ -26,8 +26,9 @@ impl Spec {
         }
     }
 
-    /// What a row gives: its pair, where it is kept and folded. A text is lent where it lies. Allocates nothing, and calls
-    /// nothing but the row, so that an edit tells it for each aggregate in registers.
+    /// Returns the pair that a row gives, if it is kept and folded. A text is borrowed in place. Allocates nothing.
+    ///
+    /// It calls nothing but the row, so an edit has the pair of each aggregate in registers.
     #[inline(always)]
     pub fn lend_pair<'a, R: LendCells>(&self, row: &'a R) -> PairRef<'a>
         ensures pair { lent_pair result ≡ pair_of self.now (R.cells row.now) }
@@ -55,8 +56,9 @@ impl Spec {
         }
     }
 
-    /// The pair of a row, its key and its value, if the row is kept and folded. Only the key is cloned. Refused with
-    /// `NoMemory` (1) alone, and only if the key is a text.
+    /// Returns the pair of a row, its key and its value, if the row is kept and folded. Clones the key alone.
+    ///
+    /// Refused with `NoMemory` (1) alone, and only if the key is a text.
     pub fn pair_of<R: LendCells>(
         &self,
         alloc: Global,

@@ -8,10 +8,10 @@ use thiserror::Error;
 
 /// Why a call was refused. A refused call leaves rows, columns and answers as they were.
 ///
-/// Where several refusals apply, a call answers the first in the order of their numbers, but that 20 stands
-/// directly before 16, 11 directly after 16, and 1 last. An edit, and the calls under it that place several text
-/// objects, may answer 1 before they look at 17 or 24; and an edit of a stripe answers 14 for the stripe before it
-/// looks at the edit. There is no number 23.
+/// If several refusals apply, a call returns the first in this order: 2 to 10, 12 to 15, 20, 16, 11, 17 to 19, 21, 22, 24, 1. There is
+/// no number 23. Two kinds of calls may return another:
+/// - An edit, and a call under it that places several text objects, may return 1 before it checks for 17 or 24.
+/// - An edit of a stripe returns 14 for the stripe before it checks the edit.
 ///
 /// It prints a sentence. Here that is `2: a table may not have this schema or these limits`:
 ///
@@ -23,7 +23,7 @@ use thiserror::Error;
 /// ```
 #[derive(Debug, Drop, Clone, Copy, PartialEq, Eq, Error)]
 pub enum Refusal {
-    /// 1: an allocation failed for lack of memory.
+    /// 1: an allocation failed: out of memory.
     NoMemory,
     /// 2: the schema or the limits are outside what a table may have.
     BadSchema,
@@ -51,11 +51,11 @@ pub enum Refusal {
     TooManyAggregates,
     /// 14: a range, a group, a segment, a stripe, a count of workers or a set of sessions is not as asked.
     OutOfRange,
-    /// 15: so many row groups are still pending in the aggregate.
+    /// 15: row groups are still pending in the aggregate, as many as it says.
     Building(u32),
     /// 16: the object of this column and row group is not local.
     Absent { column: u32, group: u32 },
-    /// 17: what must be placed fits in no segment of the local region; of a compaction, no other segment is empty.
+    /// 17: no segment of the local region has the space for what must be placed; for a compaction: no other segment is empty.
     RegionFull,
     /// 18: the object has no pin.
     NotPinned,

@@ -16,7 +16,7 @@ use std::slice;
 /// Ok(Row::from(Vec::from_array(alloc, cells)?))
 /// ```
 ///
-/// A row is gone through cell by cell:
+/// A loop over the cells of a row, which ends at the first without a value:
 ///
 /// ```
 /// for cell in row {
@@ -43,7 +43,7 @@ impl Model for Row {
     ghost invariant = { λ row. RowFits row.cells.items };
 }
 
-/// The number of a cell is one of 64 bits, which nobody knows of a cell behind a reference before it is read.
+/// For the proof: reading an `i64` through a reference is what tells the prover its range.
 fn read_number(cell: &Cell)
     ensures { CellFits cell.now }
 {
@@ -61,7 +61,7 @@ fn read_numbers(cells: &[Cell])
 }
 
 impl Row {
-    /// The row of these cells. Allocates nothing.
+    /// Makes a row of these cells. Allocates nothing.
     pub fn new(cells: Vec<Cell>) -> Row
         ensures { result ≡ cells.items }
     {
@@ -69,7 +69,7 @@ impl Row {
         Row { cells }
     }
 
-    /// The cells that the row was made of. Allocates nothing.
+    /// Returns the cells that the row was made of. Allocates nothing.
     pub fn into_cells(self) -> Vec<Cell>
         ensures cells { result.items ≡ self }
         ensures fit { RowFits self }
@@ -98,7 +98,7 @@ impl Row {
         self.cells.get(column)
     }
 
-    /// The cells, lent in place. Each number is one of 64 bits.
+    /// Borrows the cells in place. Each number has 64 bits.
     pub fn as_slice(&self) -> &[Cell]
         ensures cells { result.now ≡ self.now }
         ensures fit { RowFits self.now }
@@ -106,7 +106,7 @@ impl Row {
         self.cells.as_slice()
     }
 
-    /// The cells in the order of the columns, lent in place. Allocates nothing.
+    /// Borrows the cells in the order of the columns, in place. Allocates nothing.
     pub fn iter(&self) -> slice::Iter<'_, Cell>
         ensures { iter_rest result ≡ self.now }
     {

@@ -32,8 +32,7 @@ impl Model for Schema {
 }
 
 impl Schema {
-    /// The schema with these columns. Refused with `BadSchema` (2) exactly if there are not 1 to 16. Takes no
-    /// memory.
+    /// Makes a schema of these columns. Refused with `BadSchema` (2) exactly if there are not 1 to 16. Allocates nothing.
     pub fn new(kinds: Vec<Kind>) -> Result<Schema, Refusal>
         ensures ok { IfOk result (λ schema. (schema ≡ kinds.items) × IsSchema kinds.items) }
         ensures bad { IfErr result (λ e. (e ≡ Refusal.BadSchema) × ¬ (IsSchema kinds.items)) }
@@ -59,14 +58,14 @@ impl Schema {
         self.kinds.get(column).copied()
     }
 
-    /// The kinds, lent in place.
+    /// Borrows the kinds in place.
     pub fn as_slice(&self) -> &[Kind]
         ensures { result.now ≡ self.now }
     {
         self.kinds.as_slice()
     }
 
-    /// The kinds in the order of the columns, lent in place. Allocates nothing.
+    /// Borrows the kinds in the order of the columns, in place. Allocates nothing.
     pub fn iter(&self) -> slice::Iter<'_, Kind>
         ensures { iter_rest result ≡ self.now }
     {

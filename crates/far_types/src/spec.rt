@@ -1,4 +1,4 @@
-// What an aggregate computes.
+// The specifications of aggregates.
 ghost use Rattle.std.specs.Prelude.{◌≡◌, ◌↔◌, IsTrue, ◌==◌, IfOk, IfErr, OnOk, nat_lt, length, slice_get, Some, None, [], ◌∷◌, ◌++◌};
 ghost use Rattle.std.specs.List.{list_any, list_all};
 ghost use Rattle.far_types.specs.Bounds.{has_its_kind, has_long_constant, column_of};
@@ -9,7 +9,16 @@ use super::refusal::Refusal;
 use super::schema::Schema;
 use std::alloc::Global;
 
-/// What an aggregate makes of the values under each key.
+/// The aggregate function: what an aggregate computes of the values under each key.
+///
+/// What an aggregate begins with, by its fold:
+///
+/// ```
+/// match fold {
+///     Fold::Totals => Accumulator::Totals(LiveTotals::new(alloc, left)),
+///     Fold::Extrema => Accumulator::Extrema(KnownExtrema::new(alloc, left)),
+/// }
+/// ```
 #[derive(Clone, Copy, Debug, PartialEq, Eq)]
 pub enum Fold {
     /// How many there are, and their sum.
@@ -18,7 +27,7 @@ pub enum Fold {
     Extrema,
 }
 
-/// An aggregate: what it makes of the values of which rows, by which key.
+/// The specification of an aggregate: its fold, the column of its values, its key column and its filter.
 ///
 /// The totals of column 1 by column 0, over the rows whose text in column 0 begins with an r:
 ///
@@ -31,7 +40,7 @@ pub struct Spec {
     pub fold: Fold,
     /// The column of the values, of whole numbers.
     pub value: u32,
-    /// The column of the keys, of either kind. Without one all rows stand under the one key "none".
+    /// The column of the keys, of either kind. Without one, all rows stand under the one key "none".
     pub key: Option<u32>,
     /// Which rows are kept.
     pub filter: Filter,
@@ -69,14 +78,14 @@ fn is_one_too_long(tests: &[Test]) -> bool
     tests.iter().any(|test| test.is_too_long())
 }
 
-/// Whether some test looks at a column.
+/// Whether some test reads a column.
 fn one_looks_at(tests: &[Test], column: u32) -> bool
     ensures { result ≡ list_any (λ test. column_of test == column) tests.now }
 {
     tests.iter().any(|test| test.column() == column)
 }
 
-/// Whether all tests look at the first `columns` columns alone.
+/// Whether all tests read the first `columns` columns alone.
 fn are_within(tests: &[Test], columns: usize) -> bool
     ensures { result ≡ list_all (λ test. nat_lt (column_of test) columns) tests.now }
 {
@@ -86,7 +95,7 @@ fn are_within(tests: &[Test], columns: usize) -> bool
 impl Spec {
     ghost use Rattle.far_types.specs.Bounds.{needs, is_within, spec_refusal};
 
-    /// How many values a column of numbers has, and their sum, over all rows. Allocates nothing.
+    /// Makes the aggregate of the count and the sum of the values of a column of numbers, over all rows. Allocates nothing.
     ///
     /// `Spec::totals(alloc, 1).by(0)` is the same under each key of column 0.
     pub fn totals(alloc: Global, value: u32) -> Spec
@@ -95,7 +104,7 @@ impl Spec {
         Spec::of_all(alloc, Fold::Totals, value)
     }
 
-    /// The least and the greatest value of a column of numbers, over all rows. Allocates nothing.
+    /// Makes the aggregate of the least and the greatest value of a column of numbers, over all rows. Allocates nothing.
     pub fn extrema(alloc: Global, value: u32) -> Spec
         ensures { result ≡ record { fold = Fold.Extrema; value = value; key = None; filter = [] } }
     {
@@ -131,7 +140,7 @@ impl Spec {
         }
     }
 
-    /// The same over the rows alone that pass this test too. Refused with `NoMemory` (1) alone.
+    /// The same over only those rows that also pass this test. Refused with `NoMemory` (1) alone.
     pub fn only(self, test: Test) -> Result<Spec, Refusal>
         ensures test { IfOk result (λ spec. spec ≡ record self { filter = self.filter ++ test ∷ [] }) }
         ensures memory { IfErr result (λ e. e ≡ Refusal.NoMemory) }
@@ -178,10 +187,10 @@ impl Spec {
         }
     }
 
-    /// Whether a table with this schema may register the aggregate. Refused with `BadSpec` (3) exactly if it has
-    /// more than 4 tests or a text constant of more than 4,096 bytes; else with `NoColumn` (4) exactly if a
-    /// column that it needs does not exist; else with `WrongKind` (5) exactly if the value's column is not of
-    /// numbers or a test is of another kind than its column. Allocates nothing.
+    /// Checks that a table with this schema may register the aggregate. Allocates nothing. Refused with:
+    /// - `BadSpec` (3) exactly if it has more than 4 tests or a text constant of more than 4,096 bytes;
+    /// - else `NoColumn` (4) exactly if a column that it needs does not exist;
+    /// - else `WrongKind` (5) exactly if the value's column is not of numbers, or a test is of another kind than its column.
     pub fn check(&self, schema: &Schema) -> Result<(), Refusal>
         ensures ok { OnOk result (spec_refusal schema.now self.now ≡ None) }
         ensures refused { IfErr result (λ e. spec_refusal schema.now self.now ≡ Some e) }
@@ -199,8 +208,7 @@ impl Spec {
         Ok(())
     }
 
-    /// Whether it is the same aggregate: the same fold of the same columns over the same tests in the same order. Takes
-    /// no memory.
+    /// Whether it is the same aggregate: the same fold of the same columns over the same tests in the same order. Allocates nothing.
     pub fn is_same(&self, other: &Spec) -> bool
         ensures { IsTrue result ↔ (self.now ≡ other.now) }
     {

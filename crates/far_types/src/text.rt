@@ -13,6 +13,15 @@ use std::cmp::Ordering;
 use std::marker::Model;
 
 /// A text of a cell, a key or a test: valid UTF-8, compared by bytes. Contracts see the list of its bytes.
+///
+/// The memory of an earlier text is used again for another one:
+///
+/// ```
+/// let mut string = earlier.into_string();
+/// string.clear();
+/// string.push_str(text)?;
+/// Ok(Key::Text(Text::new(string)))
+/// ```
 #[derive(Drop, Debug)]
 pub struct Text {
     string: String,
@@ -28,14 +37,14 @@ impl Model for Text {
 }
 
 impl Text {
-    /// The text of a string. Allocates nothing.
+    /// Makes a text of a string. Allocates nothing.
     pub fn new(string: String) -> Text
         ensures { result ≡ string_bytes string }
     {
         Text { string }
     }
 
-    /// A text of its own with these characters. Refused with `NoMemory` (1) alone.
+    /// Copies these characters into a text. Refused with `NoMemory` (1) alone.
     pub fn from_str(alloc: Global, text: &str) -> Result<Text, Refusal>
         ensures equal { IfOk result (λ made. made ≡ text.now) }
         ensures memory { IfErr result (λ e. e ≡ Refusal.NoMemory) }
@@ -45,21 +54,21 @@ impl Text {
         })
     }
 
-    /// The text, lent in place.
+    /// Borrows the text in place.
     pub fn as_str(&self) -> &str
         ensures { result.now ≡ self.now }
     {
         self.string.as_str()
     }
 
-    /// The bytes of the text, lent in place.
+    /// Borrows the bytes of the text in place.
     pub fn as_bytes(&self) -> &[u8]
         ensures { result.now ≡ self.now }
     {
         self.string.as_str().as_bytes()
     }
 
-    /// The string that the text was made of. Allocates nothing.
+    /// Returns the string that the text was made of. Allocates nothing.
     pub fn into_string(self) -> String
         ensures { string_bytes result ≡ self }
     {

@@ -2,7 +2,7 @@
 use Rattle.std.specs.Prelude.{ℕ, ◌+◌, ◌-◌, ◌*◌, ◌/◌, if◌then◌else◌, nat_lt, min, max, List, map, slice_range}
 use Rattle.std.specs.List.{range_with_len}
 
--- the row groups of some size that hold places `from` up to `to`: the first, and how many
+-- the row groups of one size that hold places `from` up to `to`: the first, and how many there are
 abbrev pub first_overlapped : ℕ → ℕ → ℕ
 first_overlapped size from = from / size
 

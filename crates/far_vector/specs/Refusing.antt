@@ -14,7 +14,7 @@ use Rattle.far_vector.specs.Pieces.{first_overlapped, overlapped_count}
 abbrev pub is_empty : ℕ → ℕ → Bool
 is_empty from to = not (nat_lt from to)
 
--- the same refusal, where there is such a place
+-- the same refusal, if there is such a place
 abbrev pub unless_empty : ℕ → ℕ → Bool × Refusal → Bool × Refusal
 unless_empty from to case = (not (is_empty from to) && case.0, case.1)
 
@@ -45,12 +45,12 @@ module _ {X K : Type 0} (m : Movement X K) (v : Vector X) where
   write_part_refusal from to =
       first_of (no_range v from to ∷ crosses v from to ∷ unless_empty from to (absent m (object_at v from)) ∷ unless_empty from to (written_out m (object_at v from)) ∷ [])
 
-  -- the refusal that names the first touched row group whose object is away
+  -- the refusal that names the first of the range's row groups whose object is away
   abbrev pub pieces_refusal : ℕ → ℕ → Option Refusal
   pieces_refusal from to =
       option_or (first_of (no_range v from to ∷ [])) (first_absent m (take (overlapped_count v.size from to) (drop (first_overlapped v.size from) v.objects)))
 
-  -- an element that begins a row group needs space, another a row group that may be written
+  -- an element that begins a row group needs space, any other a row group that may be written
   abbrev pub push_refusal : Option Refusal
   push_refusal = if is_full v then first_of (no_space m (length m.records) v.size ∷ []) else write_refusal m (object_at v v.len)
 

@@ -3,8 +3,8 @@ use Rattle.std.specs.Prelude.{◌≡◌, ◌≢◌, ℕ, ◌+◌, ◌-◌, ◌*�
 use Rattle.std.specs.List.{flat_map}
 use Rattle.far_types.specs.Table.{in_group}
 
--- the column that names the objects, how many elements a row group has, the numbers of the objects of row groups 0, 1, 2
--- and so on, how many elements there are, and what stands in a place that is not yet used
+-- the column that names the objects, how many elements a row group has, the objects of row groups 0, 1, 2 and so on, how many
+-- elements there are, and the default value of a place that is not yet used
 pub record Vector (X : Type 0) : Type 0 where
   pub column : ℕ
   pub size : ℕ
@@ -22,7 +22,7 @@ module _ {X : Type 0} where
     pub enough : v.len ≤ length v.objects * v.size
     pub needed : length v.objects * v.size < v.len + v.size
 
-  -- the list in which the next row group is laid out is as long, and all but its first element have the default value
+  -- the list in which the next row group is laid out has the same length, and all but its first element have the default value
   pub record IsLayout (v : Vector X) (next : List X) : Type 0 where
     pub shaped : IsShaped v
     pub long : length next ≡ v.size
@@ -60,12 +60,12 @@ module _ {X : Type 0} where
       pub whole : All (λ o. IsSomeAnd (lists o) (λ list. length list ≡ v.size)) v.objects
       pub unused : drop v.len (places v.objects) ≡ replicate (length v.objects * v.size - v.len) v.default_value
 
-  -- a range is written over the places of a vector from the i-th on, and every object's list is as long as it was
+  -- a range is written over the places of a vector from the i-th on, and every object's list keeps its length
   pub record WritesPlaces (old new : ℕ → Option (List X)) (v : Vector X) (i : ℕ) (range : List X) : Type 0 where
     pub whole : All (λ o. IsSomeAnd (new o) (λ list. length list ≡ v.size)) v.objects
     pub places : places new v.objects ≡ take i (places old v.objects) ++ (range ++ drop (i + length range) (places old v.objects))
 
-  -- the vector w, which was one and shared no object with another, stays what it was once that other is v
+  -- the vector w, disjoint from another, stays what it was when that other becomes v
   pub record IsUntouched (old new : ℕ → Option (List X)) (v w : Vector X) : Type 0 where
     pub is : IsVector new w
     pub elements : elements new w ≡ elements old w

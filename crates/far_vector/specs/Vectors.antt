@@ -8,7 +8,7 @@ module _ {X : Type 0} where
     pub each : All (IsVector lists) vectors
     pub disjoint : AllPairs AreDisjoint vectors
 
-  -- a call on v leaves v' of it, and every vector that shared no object with it as it was
+  -- a call on v leaves v' of it, and every vector disjoint from v stays the same
   pub record ChangesVector (old new : ℕ → Option (List X)) (v v' : Vector X) : Type 0 where
     pub is : IsVector new v'
     pub others : (w : Vector X) → IsVector old w → AreDisjoint v w → IsUntouched old new v' w

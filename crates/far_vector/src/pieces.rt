@@ -1,4 +1,4 @@
-// Parts of a vector, lent by several objects.
+// Parts of a vector, borrowed from several objects.
 ghost use Rattle.std.specs.Prelude.{◌≡◌, [], ◌∷◌, length, None, IfSome, IfNone};
 ghost use Rattle.far_scopes.specs.Movement.{list_of};
 ghost use Rattle.far_vector.specs.Vector.{IsVector, elements};
@@ -11,8 +11,19 @@ use far_scopes::Objects;
 use far_store::FarTickets;
 use std::marker::Model;
 
-/// A part of a vector, piece by piece: a slice of each row group that has some of it, lent in place by its object. None is
+/// A part of a vector, piece by piece: a slice of each row group that has some of it, borrowed from its object. No piece is
 /// empty.
+///
+/// ```
+/// let mut pieces = vector.pieces(objects, from, to)?;
+/// let mut right = pieces.len() == lens.len();
+/// for len in lens {
+///     right &= match pieces.next() {
+///         Some(piece) => piece.len() == *len,
+///         None => false,
+///     };
+/// }
+/// ```
 #[derive(Drop)]
 pub struct Pieces<'a, T: Elem, S: FarTickets> {
     vector: &'a FarVector<T>,
@@ -40,7 +51,7 @@ impl<'a, T: Elem, S: FarTickets> Model for Pieces<'a, T, S> {
 }
 
 impl<'a, T: Elem, S: FarTickets> Pieces<'a, T, S> {
-    // The pieces of a part that may be lent.
+    // Returns the pieces of a part that may be lent.
     pub(crate) fn new(
         vector: &'a FarVector<T>,
         objects: &'a Objects<T, S>,
@@ -59,10 +70,10 @@ impl<'a, T: Elem, S: FarTickets> Pieces<'a, T, S> {
         }
     }
 
-    /// The next piece, and `None` if there is none left. Allocates nothing.
+    /// Returns the next piece, and `None` if there is none left. Allocates nothing.
     ///
-    /// It is no `Iterator`'s: a trait's own method gets no proof where it calls what asks for elements that may be shared by
-    /// threads.
+    /// This is no `Iterator`: the prover cannot prove such a method of a trait, if it calls what needs elements that threads
+    /// may share.
     pub fn next(&mut self) -> Option<&'a [T]>
         ensures first { IfSome result (λ piece. self.old ≡ piece.now ∷ self.new) }
         ensures none { IfNone result ((self.old ≡ []) × (self.new ≡ [])) }
@@ -79,7 +90,7 @@ impl<'a, T: Elem, S: FarTickets> Pieces<'a, T, S> {
         Some(piece)
     }
 
-    /// How many pieces are left. Allocates nothing.
+    /// Returns how many pieces are left. Allocates nothing.
     pub fn len(&self) -> usize
         ensures { result ≡ length self.now }
     {

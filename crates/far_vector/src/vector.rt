@@ -16,7 +16,7 @@ use far_types::Refusal;
 use std::alloc::Global;
 use std::marker::Model;
 
-// A place of a list, by the number of its row group's object, and by where it stands in that object's list.
+// A place of a list: its row group's object, and its index in that object's list.
 #[derive(Clone, Copy, Debug)]
 struct Position {
     place: usize,
@@ -24,10 +24,17 @@ struct Position {
     index: usize,
 }
 
-/// A list of elements that lies in objects, one object a row group, which many vectors share: each call names them.
+/// A list of elements that lies in objects, one object a row group. Many vectors share the objects: each call names them.
 ///
-/// Each object has as many elements as a row group; those of places that are not yet used have the default value. The objects are named
-/// by one column and the row groups.
+/// Each object has as many elements as a row group. Places that are not yet used have the default value. The vector's column
+/// and the row groups name the objects.
+///
+/// ```
+/// match vector.push(objects, x) {
+///     Err(Refusal::NoMemory) => vector.push(objects, x),
+///     reply => reply,
+/// }
+/// ```
 #[derive(Drop)]
 pub struct FarVector<T: Elem> {
     column: u32,
@@ -36,7 +43,7 @@ pub struct FarVector<T: Elem> {
     objects: Vec<u32>,
     len: usize,
     default_value: T,
-    // The list of the next row group: of the default value but for its first element.
+    // The list of the next row group: all but its first element have the default value.
     next: Vec<T>,
 }
 
@@ -53,9 +60,10 @@ impl<T: Elem> Model for FarVector<T> {
 }
 
 impl<T: Elem> FarVector<T> {
-    /// The empty list of a column, in row groups of `size` elements; `default_value` stands in places that are not yet used.
+    /// Returns the empty list of a column, in row groups of `size` elements; `default_value` stands in places that are not yet
+    /// used.
     ///
-    /// All memory for elements beside the objects is taken here. Refused with `NoMemory` (1) alone.
+    /// Allocates all memory for elements outside the objects. Refused with `NoMemory` (1) alone.
     pub fn new(
         alloc: Global,
         column: u32,
@@ -80,7 +88,7 @@ impl<T: Elem> FarVector<T> {
         })
     }
 
-    /// How many elements there are. Allocates nothing.
+    /// Returns how many elements there are. Allocates nothing.
     pub fn len(&self) -> usize
         ensures len { result ≡ self.now.len }
         ensures shaped { IsShaped self.now }
@@ -88,21 +96,21 @@ impl<T: Elem> FarVector<T> {
         self.len
     }
 
-    /// How many places a row group has. Allocates nothing.
+    /// Returns how many places a row group has. Allocates nothing.
     pub fn size(&self) -> usize
         ensures { result ≡ self.now.size }
     {
         self.size
     }
 
-    /// The number of a row group's object, and `None` exactly if there is no such row group. Allocates nothing.
+    /// Returns the number of a row group's object, and `None` exactly if there is no such row group. Allocates nothing.
     pub fn object(&self, group: u32) -> Option<u32>
         ensures { result ≡ slice_get self.now.objects group }
     {
         self.objects.get(group as usize).copied()
     }
 
-    // The row group of a place.
+    // Returns the row group of a place.
     #[inline(always)]
     fn group_of(&self, i: usize) -> usize
         ensures { result ≡ i / self.now.size }
@@ -110,7 +118,7 @@ impl<T: Elem> FarVector<T> {
         self.reciprocal.quotient(i, self.size)
     }
 
-    // A place that some row group has.
+    // Returns the position of a place that some row group has.
     #[inline(always)]
     fn position<S: FarTickets>(&self, objects: &Objects<T, S>, i: usize) -> Position
         requires is { IsVector (list_of T.meaning S.content objects.now) self.now }
@@ -127,7 +135,7 @@ impl<T: Elem> FarVector<T> {
         self.position_in(objects, group, i)
     }
 
-    // The place of the next element, whose row group is begun: that is the last one.
+    // Returns the position of the next element. Its row group must be begun, so it is the last one.
     #[inline(always)]
     fn next_position<S: FarTickets>(&self, objects: &Objects<T, S>) -> Position
         requires is { IsVector (list_of T.meaning S.content objects.now) self.now }
@@ -142,7 +150,7 @@ impl<T: Elem> FarVector<T> {
         self.position_in(objects, self.objects.len() - 1, self.len)
     }
 
-    // A place of a row group. Its object is one of the objects: that is known of them by the contract of `number`.
+    // Returns the position of a place of a row group. For the proof: by the contract of `number`, its object is in use.
     #[inline(always)]
     fn position_in<S: FarTickets>(
         &self,
@@ -170,7 +178,7 @@ impl<T: Elem> FarVector<T> {
     }
 }
 
-// So many elements of the default value.
+// Returns a list of `count` elements, all of the default value.
 fn default_values<T: Elem>(alloc: Global, count: usize, default_value: T) -> Result<Vec<T>, Refusal>
     ensures default_value { IfOk result (λ list. list.items ≡ replicate count default_value) }
     ensures memory { IfErr result (λ e. e ≡ Refusal.NoMemory) }

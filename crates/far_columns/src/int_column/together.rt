@@ -20,13 +20,17 @@ use far_types::Refusal;
 use filling::fill_places;
 use groups::{begin_groups, unbegin_groups};
 
-/// Whether the next places of at most 16 columns may get a number each. Allocates nothing. After `Ok` a `push_numbers` can be
-/// refused for memory alone.
+/// Checks that the next places of at most 16 columns may get a number each. Allocates nothing. After `Ok` a `push_numbers` can
+/// be refused with `NoMemory` (1) alone.
 ///
-/// Refused as `push_numbers` is: where row groups begin with `RegionFull` (17) exactly if the new objects, placed one after
-/// the other, do not fit beside all that is there; elsewhere with `Absent` (16) exactly if some column's last object is
-/// away, naming the first such, else with `EditsUsedUp` (24) exactly if some last object was written as often as objects
-/// may be.
+/// If row groups begin, refused with:
+///
+/// - `RegionFull` (17) exactly if the new objects, placed one after the other, do not fit into the free space.
+///
+/// Otherwise refused with the first of these that applies:
+///
+/// - `Absent` (16): some column's last object is away. It names the first such.
+/// - `EditsUsedUp` (24): some last object was written as often as objects may be.
 pub fn may_push_numbers<S: FarTickets>(
     objects: &Objects<Option<i64>, S>,
     columns: &[IntColumn],
@@ -43,17 +47,23 @@ pub fn may_push_numbers<S: FarTickets>(
     all_writable(objects, columns)
 }
 
-/// Appends a number to each of several columns, to all or to none. Where the next places begin row groups an object is made
-/// for each column; else the last object of each is written in place.
+/// Appends a number to each of several columns, to all or to none. If the next places begin row groups, it makes an object for
+/// each column. Otherwise it writes the last object of each in place.
 ///
-/// Refused, where row groups begin, with `RegionFull` (17) if the new objects, placed one after the other, do not find
-/// space beside all that is there, and with `NoMemory` (1) if an allocation failed, which may come before it is seen that
-/// 17 applies. Elsewhere refused with `Absent` (16) exactly if some column's last object is away, naming the first such,
-/// else with `EditsUsedUp` (24) exactly if some last object was written as often as objects may be, and allocates nothing.
-/// Then nothing is changed.
+/// If row groups begin, refused with one of these:
 ///
-/// `may_push_numbers` tells before what is refused, but for memory; `unpush_numbers` takes a call back that began row groups
-/// (`last`, `undone`).
+/// - `RegionFull` (17): the new objects, placed one after the other, do not fit into the free space.
+/// - `NoMemory` (1): an allocation fails, which may come before it is known that 17 applies.
+///
+/// Otherwise it allocates nothing, and is refused with the first of these that applies:
+///
+/// - `Absent` (16): some column's last object is away. It names the first such.
+/// - `EditsUsedUp` (24): some last object was written as often as objects may be.
+///
+/// A refused call changes nothing.
+///
+/// `may_push_numbers` returns the same refusals beforehand, but for memory. `unpush_numbers` undoes a call that began row
+/// groups (`last`, `undone`).
 pub fn push_numbers<S: FarTickets>(
     objects: &mut Objects<Option<i64>, S>,
     columns: &mut [IntColumn],
@@ -86,8 +96,8 @@ pub fn push_numbers<S: FarTickets>(
     Ok(())
 }
 
-/// Appends a number to each of several columns whose last row groups are begun, as `push_numbers` does, once `may_push_numbers` told
-/// that none is refused. So no object is asked again. Allocates nothing.
+/// Appends a number to each of several columns whose last row groups are begun, as `push_numbers` does, after
+/// `may_push_numbers` accepted it. It repeats no check. Allocates nothing.
 pub fn fill_numbers<S: FarTickets>(
     objects: &mut Objects<Option<i64>, S>,
     columns: &mut [IntColumn],
@@ -110,8 +120,8 @@ pub fn fill_numbers<S: FarTickets>(
     fill_places(objects, columns, numbers);
 }
 
-/// Takes back a `push_numbers` that began row groups: the number of each column, the only one of its last row group, and
-/// that row group's object; the object that was made last goes first. Allocates nothing.
+/// Undoes a `push_numbers` that began row groups. It removes the number of each column, the only one of its last row group, and
+/// that row group's object. The object that was made last goes first. Allocates nothing.
 pub fn unpush_numbers<S: FarTickets>(
     objects: &mut Objects<Option<i64>, S>,
     columns: &mut [IntColumn],

@@ -15,11 +15,15 @@ use far_store::FarTickets;
 use far_types::{Kind, Refusal};
 
 impl<S: FarTickets> Frame<S> {
-    /// Records an access to a row group of a column, and marks its object as recently used (AIFM's hot bit), if it is local. Allocates
-    /// nothing.
+    /// Records an access to a row group of a column, and marks its object as recently used (AIFM's hot bit), if it is local.
+    /// Allocates nothing.
     ///
-    /// Refused with `NoColumn` (4), or `OutOfRange` (14) if the row group has no place: the first that applies. Then nothing is
-    /// changed.
+    /// Refused with the first of these that applies:
+    ///
+    /// - `NoColumn` (4): there is no such column.
+    /// - `OutOfRange` (14): the row group has no place.
+    ///
+    /// A refused call changes nothing.
     pub fn saw(&mut self, column: u32, group: u32) -> Result<(), Refusal>
         ensures accesses { OnOk result (AreObserved column (group ∷ []) self.old self.new) }
         ensures here { (id : List ℕ) → AreAt S.is_of id self.old.rows → AreAt S.is_of id self.new.rows }
@@ -55,13 +59,13 @@ impl<S: FarTickets> Frame<S> {
         }
     }
 
-    /// Whether a part of a column can be lent: then there is a reply that gives it. Allocates nothing.
+    /// Checks that a part of a column can be lent: then there is a reply with it. Allocates nothing.
     fn may_lend(&self, column: u32, from: u32, to: u32) -> Result<(), Refusal>
         ensures given { OnOk result ((given : Reply) × Gives (slice_get self.now.table.schema column) (lent_part self.now.table column from to) given) }
         ensures refused { refusal_in result ≡ lend_refusal self.now.rows column from to }
     {
         let view = self.scope();
-        // For the proof: that a row group has a place.
+        // For the proof: a row group has a place.
         let _size = view.size();
         match view.kind(column) {
             Some(Kind::Int) => {
@@ -76,12 +80,17 @@ impl<S: FarTickets> Frame<S> {
         }
     }
 
-    /// Records that a part of a column was lent, as the step `Lend` records it: an access to each row group that has some of it, in
-    /// order, and their objects are marked as recently used. This is for those who read the part in a view, where no value is copied.
+    /// Records that a part of a column was lent, as the step `Lend` records it. Each row group that has some of it is accessed,
+    /// in order, and its object marked as recently used. Use it after reading the part in a view, where no value is copied.
     /// Allocates nothing.
     ///
-    /// Refused with `NoColumn` (4), `OutOfRange` (14) if `from` is above `to` or `to` is past the places, `Absent` (16) if the
-    /// object of a row group that has some of them is away, naming the first: the first that applies. Then nothing is changed.
+    /// Refused with the first of these that applies:
+    ///
+    /// - `NoColumn` (4): there is no such column.
+    /// - `OutOfRange` (14): `from` is above `to`, or `to` is past the places.
+    /// - `Absent` (16): the object of a row group with some of them is away. It names the first such.
+    ///
+    /// A refused call changes nothing.
     pub fn record_lending(&mut self, column: u32, from: u32, to: u32) -> Result<(), Refusal>
         ensures ok { OnOk result ((given : Reply) × Gives (slice_get self.old.table.schema column) (lent_part self.old.table column from to) given × Accepts S.content self.old (step.Lend column from to) given self.new) }
         ensures refused { refusal_in result ≡ lend_refusal self.old.rows column from to }
@@ -93,10 +102,13 @@ impl<S: FarTickets> Frame<S> {
         Ok(())
     }
 
-    /// The row groups of a column to fetch next: where the last three differences of the row groups in its history are equal
-    /// and not 0, the next two of that stride that exist, and else none.
+    /// Returns the row groups of a column to fetch next. If the last three differences in its history are equal and not 0,
+    /// those are the next two of that stride that exist. Otherwise there are none.
     ///
-    /// Refused with `NoColumn` (4) exactly if there is no such column, else with `NoMemory` (1) alone.
+    /// Refused with the first of these that applies:
+    ///
+    /// - `NoColumn` (4): there is no such column.
+    /// - `NoMemory` (1): an allocation fails.
     pub fn proposals(&self, column: u32) -> Result<Vec<u32>, Refusal>
         ensures found { IfOk result (λ found. found.items ≡ next_groups self.now.table self.now.accesses column) }
         ensures column { OnOk result (prefetch_refusal self.now.table column ≡ None) }
@@ -106,7 +118,7 @@ impl<S: FarTickets> Frame<S> {
         if column as usize >= rows.schema().len() {
             return Err(Refusal::NoColumn);
         }
-        // For the proof: that a table has at most 16,777,216 places.
+        // For the proof: a table has at most 16,777,216 places.
         let _limits = rows.limits();
         let _len = rows.len();
         self.prefetcher

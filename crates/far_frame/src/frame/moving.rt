@@ -1,4 +1,4 @@
-// Objects of a table that are pinned, go away, come back and are compacted.
+// Objects of a table that are pinned, evacuated, fetched and compacted.
 ghost use Rattle.std.specs.Prelude.{◌≡◌, ◌<◌, ◌≤◌, ◌↔◌, ◌⊎◌, ℕ, List, true, OnOk, OnErr, IfOk, IfErr, IfSome, IsErrOf};
 ghost use Rattle.far_types.specs.MayRefuse.{MayRefuse};
 ghost use Rattle.far_scopes.specs.Refusing.{refusal_in};
@@ -14,10 +14,16 @@ use far_store::FarTickets;
 use far_types::{Kind, Name, Refusal};
 
 impl<S: FarTickets> Frame<S> {
-    /// Keeps the object of a row group of a column from going away, once more. Allocates nothing.
+    /// Pins the object of a row group of a column once more, so that it does not go away. Allocates nothing.
     ///
-    /// Refused with `NoColumn` (4), `OutOfRange` (14) if no place of the row group is used, `Absent` (16) if the object is
-    /// away, `EditsUsedUp` (24) if it has 65,535 pins: the first that applies. Then nothing is changed.
+    /// Refused with the first of these that applies:
+    ///
+    /// - `NoColumn` (4): there is no such column.
+    /// - `OutOfRange` (14): no place of the row group is used.
+    /// - `Absent` (16): the object is away.
+    /// - `EditsUsedUp` (24): it has 65,535 pins.
+    ///
+    /// A refused call changes nothing.
     pub fn pin(&mut self, column: u32, group: u32) -> Result<(), Refusal>
         ensures pinned { OnOk result (Alters (IsMoved (IsPinned column group)) self.old self.new) }
         ensures here { (id : List ℕ) → AreAt S.is_of id self.old.rows → AreAt S.is_of id self.new.rows }
@@ -27,10 +33,15 @@ impl<S: FarTickets> Frame<S> {
         self.table.pin(column, group)
     }
 
-    /// Takes back one pin of the object of a row group of a column. Allocates nothing.
+    /// Removes one pin of the object of a row group of a column. Allocates nothing.
     ///
-    /// Refused with `NoColumn` (4), `OutOfRange` (14) if no place of the row group is used, `NotPinned` (18) if the object has
-    /// no pin: the first that applies. Then nothing is changed.
+    /// Refused with the first of these that applies:
+    ///
+    /// - `NoColumn` (4): there is no such column.
+    /// - `OutOfRange` (14): no place of the row group is used.
+    /// - `NotPinned` (18): the object has no pin.
+    ///
+    /// A refused call changes nothing.
     pub fn unpin(&mut self, column: u32, group: u32) -> Result<(), Refusal>
         ensures unpinned { OnOk result (Alters (IsMoved (IsUnpinned column group)) self.old self.new) }
         ensures here { (id : List ℕ) → AreAt S.is_of id self.old.rows → AreAt S.is_of id self.new.rows }
@@ -40,10 +51,13 @@ impl<S: FarTickets> Frame<S> {
         self.table.unpin(column, group)
     }
 
-    /// Whether the object of a row group of a column can go away. Allocates nothing.
+    /// Checks that the object of a row group of a column can go away. Allocates nothing.
     ///
-    /// Refused with `NoColumn` (4), `OutOfRange` (14) if no place of the row group is used, `Absent` (16) if the object is
-    /// away: the first that applies.
+    /// Refused with the first of these that applies:
+    ///
+    /// - `NoColumn` (4): there is no such column.
+    /// - `OutOfRange` (14): no place of the row group is used.
+    /// - `Absent` (16): the object is away.
     pub fn may_evac(&self, column: u32, group: u32) -> Result<(), Refusal>
         ensures refused { refusal_in result ≡ evac_refusal self.now.rows column group }
     {
@@ -55,10 +69,14 @@ impl<S: FarTickets> Frame<S> {
     }
 
     /// Begins to send the object of a row group of a column away. The job holds the object's far form, or the ticket of a clean
-    /// object; nothing is changed.
+    /// object. Changes nothing.
     ///
-    /// Refused with `NoColumn` (4), `OutOfRange` (14) if no place of the row group is used, `Absent` (16) if the object is
-    /// away: the first that applies; else with `NoMemory` (1) alone.
+    /// Refused with the first of these that applies:
+    ///
+    /// - `NoColumn` (4): there is no such column.
+    /// - `OutOfRange` (14): no place of the row group is used.
+    /// - `Absent` (16): the object is away.
+    /// - `NoMemory` (1): an allocation fails.
     pub fn begin_evac(&self, store: &S, column: u32, group: u32) -> Result<Job<S>, Refusal>
         requires here { AreAt S.is_of (S.store_id store.now) self.now.rows }
         ensures begun { IfOk result (IsEvacJob self.now.rows column group) }
@@ -72,8 +90,8 @@ impl<S: FarTickets> Frame<S> {
         })
     }
 
-    /// Begins to send the coldest object away that has no pin, of the kind with less space; `None` exactly if neither kind has
-    /// one. Nothing is changed.
+    /// Begins to send the coldest object without a pin away, of the kind with less space. `None` exactly if neither kind has
+    /// one. Changes nothing.
     ///
     /// Refused with `NoMemory` (1) alone.
     pub fn begin_coldest(&self, store: &S) -> Result<Option<Job<S>>, Refusal>
@@ -92,10 +110,13 @@ impl<S: FarTickets> Frame<S> {
         }))
     }
 
-    /// Begins to bring the object of a row group of a column back. Nothing is changed. Allocates nothing.
+    /// Begins to bring the object of a row group of a column back. Changes and allocates nothing.
     ///
-    /// Refused with `NoColumn` (4), `OutOfRange` (14) if no place of the row group is used, `StaleJob` (20) if the object is
-    /// local: the first that applies.
+    /// Refused with the first of these that applies:
+    ///
+    /// - `NoColumn` (4): there is no such column.
+    /// - `OutOfRange` (14): no place of the row group is used.
+    /// - `StaleJob` (20): the object is local.
     pub fn begin_fetch(&self, store: &S, column: u32, group: u32) -> Result<Job<S>, Refusal>
         requires here { AreAt S.is_of (S.store_id store.now) self.now.rows }
         ensures begun { IfOk result (IsFetchJob self.now.rows column group) }
@@ -111,8 +132,12 @@ impl<S: FarTickets> Frame<S> {
 
     /// Sends the object of a carried evacuation away; each row, aggregate and answer stays. Allocates nothing.
     ///
-    /// Refused with `StaleJob` (20) for any other job, and where what the job rests on does not hold any more: the object was
-    /// written or away since; else with `Pinned` (19) if the object has a pin. Then nothing is changed.
+    /// Refused with the first of these that applies:
+    ///
+    /// - `StaleJob` (20): it is any other job, or what the job rests on holds no more: the object was written or away since.
+    /// - `Pinned` (19): the object has a pin.
+    ///
+    /// A refused call changes nothing.
     pub fn commit(&mut self, store: &S, job: &Job<S>) -> Result<(), Refusal>
         requires here { AreAt S.is_of (S.store_id store.now) self.old.rows }
         requires job_here { IsJobAt S.is_of (S.store_id store.now) job.now }
@@ -133,9 +158,14 @@ impl<S: FarTickets> Frame<S> {
 
     /// Brings the object of a carried fetch back; each row, aggregate and answer stays.
     ///
-    /// Refused with `StaleJob` (20) for any other job, and where what the job rests on does not hold any more: the object is local,
-    /// or was away again since; else with `RegionFull` (17) if it does not fit; else with `NoMemory` (1) alone. Then nothing is
-    /// changed.
+    /// Refused with the first of these that applies:
+    ///
+    /// - `StaleJob` (20): it is any other job, or what the job rests on holds no more: the object is local, or was away again
+    ///   since.
+    /// - `RegionFull` (17): the object does not fit.
+    /// - `NoMemory` (1): an allocation fails.
+    ///
+    /// A refused call changes nothing.
     pub fn install(&mut self, store: &S, job: &Job<S>) -> Result<(), Refusal>
         requires here { AreAt S.is_of (S.store_id store.now) self.old.rows }
         requires job_here { IsJobAt S.is_of (S.store_id store.now) job.now }
@@ -154,11 +184,16 @@ impl<S: FarTickets> Frame<S> {
         }
     }
 
-    /// Compacts a segment of the objects of a kind: its parts lie in the lowest other segment without parts from then on, one
-    /// behind the other, those of hot objects first, and none of their objects is hot.
+    /// Compacts a segment of the objects of a kind. Its parts then lie in the lowest other segment without parts, one behind
+    /// the other, those of hot objects first. None of their objects is hot afterwards.
     ///
-    /// Refused with `OutOfRange` (14) exactly if there is no such segment, with `RegionFull` (17) exactly if there is
-    /// one and no other is without parts, else with `NoMemory` (1) alone. Then nothing is changed.
+    /// Refused with the first of these that applies:
+    ///
+    /// - `OutOfRange` (14): there is no such segment.
+    /// - `RegionFull` (17): no other segment is without parts.
+    /// - `NoMemory` (1): an allocation fails.
+    ///
+    /// A refused call changes nothing.
     pub fn compact(&mut self, kind: Kind, segment: u32) -> Result<(), Refusal>
         ensures compacted { OnOk result (Alters (IsMoved (IsCompactedOf kind segment)) self.old self.new) }
         ensures here { (id : List ℕ) → AreAt S.is_of id self.old.rows → AreAt S.is_of id self.new.rows }

@@ -14,25 +14,29 @@ use far_store::FarTickets;
 use far_types::Refusal;
 
 impl<S: FarTickets> Frame<S> {
-    /// Whether a scan would build a row group into the aggregate of a number, running out of memory aside. Allocates nothing.
+    /// Returns whether a scan would build a row group into the aggregate of a number, out of memory aside. Allocates nothing.
     pub fn may_scan(&self, a: u32, group: u32) -> bool
         ensures { result ≡ is_none (scan_refusal (live self.now) (aggregate_at self.now.table a) group) }
     {
         self.table.may_scan(a, group)
     }
 
-    /// Whether an offloaded build would begin, running out of memory aside. Allocates nothing.
+    /// Checks that an offloaded build would begin, out of memory aside. Allocates nothing.
     ///
-    /// Refused with `NoAggregate` (12), `OutOfRange` (14) if no place of the row group is used, `StaleJob` (20) if it is scanned
-    /// already, or the object of a column that the aggregate needs is dirty: the first that applies. A clean object may be local or away.
+    /// Refused with the first of these that applies:
+    ///
+    /// - `NoAggregate` (12): there is no such aggregate.
+    /// - `OutOfRange` (14): no place of the row group is used.
+    /// - `StaleJob` (20): it is scanned already, or the object of a column that the aggregate needs is dirty. A clean object
+    ///   may be local or away.
     pub fn may_offload(&self, a: u32, group: u32) -> Result<(), Refusal>
         ensures refused { refusal_in result ≡ offload_refusal (live self.now) (aggregate_at self.now.table a) group }
     {
         self.table.may_offload(a, group)
     }
 
-    /// Begins to build a row group into an aggregate from the far store's copies of its columns. The job holds their tickets and the
-    /// alive flags of the row group; nothing is changed.
+    /// Begins to build a row group into an aggregate from the far store's copies of its columns. The job holds their tickets
+    /// and the alive flags of the row group. Changes nothing.
     ///
     /// Refused as `may_offload` is, else with `NoMemory` (1) alone.
     pub fn begin_offload(&self, store: &S, a: u32, group: u32) -> Result<Job<S>, Refusal>
@@ -50,9 +54,15 @@ impl<S: FarTickets> Frame<S> {
 
     /// Builds the row group of a carried offloaded build into its aggregate, as a scan would. Each row and object stays.
     ///
-    /// Refused with `StaleJob` (20) for any other job; with `NoAggregate` (12) if its aggregate is not registered; else with
-    /// `StaleJob` (20) if what the job rests on does not hold any more: the registration, the objects of the columns that it needs,
-    /// the flags, or that the row group is still pending; else with `NoMemory` (1) alone. Then nothing is changed.
+    /// Refused with the first of these that applies:
+    ///
+    /// - `StaleJob` (20): it is any other job.
+    /// - `NoAggregate` (12): its aggregate is not registered.
+    /// - `StaleJob` (20): what the job rests on holds no more. That is the registration, the objects of the columns that it
+    ///   needs, the flags, and that the row group is still pending.
+    /// - `NoMemory` (1): an allocation fails.
+    ///
+    /// A refused call changes nothing.
     pub fn merge(&mut self, store: &S, job: &Job<S>) -> Result<(), Refusal>
         requires here { AreAt S.is_of (S.store_id store.now) self.old.rows }
         requires job_here { IsJobAt S.is_of (S.store_id store.now) job.now }

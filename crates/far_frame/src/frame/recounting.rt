@@ -9,12 +9,18 @@ use far_types::{Answer, Refusal};
 use std::thread::Threads;
 
 impl<S: FarRead> Frame<S> {
-    /// What the aggregate of a number answers over the rows as they are, computed from scratch, whatever is still pending and
-    /// whichever objects are away. At most `workers` threads fold the row groups, in consecutive pieces: a local object is read in
-    /// place, another through its ticket. Nothing is changed.
+    /// Returns the answer of the aggregate of a number over the rows as they are, computed from scratch. It does so whatever is
+    /// still pending and whichever objects are away. Changes nothing.
     ///
-    /// Refused with `NoAggregate` (12); `OutOfRange` (14) unless there are 1 to 64 workers; `FarFault` (21) exactly if the meter
-    /// rises, by one for each piece in which the store failed; else with `NoMemory` (1) alone.
+    /// At most `workers` threads fold the row groups, in consecutive pieces. A local object is read in place, any other through
+    /// its ticket.
+    ///
+    /// Refused with the first of these that applies:
+    ///
+    /// - `NoAggregate` (12): there is no such aggregate.
+    /// - `OutOfRange` (14): there are not 1 to 64 workers.
+    /// - `FarFault` (21): the store failed, exactly if the meter rises, by one for each piece in which it failed.
+    /// - `NoMemory` (1): an allocation fails.
     pub fn recount<R: Threads + Sync>(
         &self,
         rt: &R,

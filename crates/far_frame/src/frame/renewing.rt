@@ -10,13 +10,15 @@ use far_store::{FarRead, FarStore, Meter};
 use far_types::Refusal;
 
 impl<S: FarRead> Frame<S> {
-    /// The same table with its far copies in another store: each content of an object that is away is put there. Rows, aggregates and
-    /// answers do not change. A local object stays local, with its pins, versions and order of use, and is dirty, since the new store
-    /// has no copy of it. Do not use jobs of the old table on the new one.
+    /// Returns the same table with its far copies in another store: puts the content of each object that is away there. Rows,
+    /// aggregates and answers do not change. A local object stays local, with its pins, versions and order of use. It is dirty,
+    /// since the new store has no copy of it. Do not use jobs of the old table on the new one.
     ///
-    /// Refused with `FarFault` (21) if one of the stores fails, exactly if the meter rises, by one; with `FarFull` (22) where
-    /// the new one gives out no more numbers; and with `NoMemory` (1). Then the table is handed back as it was; what was put
-    /// stays in the new store.
+    /// A refused call returns the table as it was. What was put stays in the new store. Refused with one of these:
+    ///
+    /// - `FarFault` (21): one of the stores fails, exactly if the meter rises, by one.
+    /// - `FarFull` (22): the new store gives out no more numbers.
+    /// - `NoMemory` (1): an allocation fails.
     pub fn migrate<N: FarStore>(
         frame: Frame<S>,
         store: &S,

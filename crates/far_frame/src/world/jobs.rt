@@ -21,7 +21,7 @@ use far_store::{FarStore, FarTickets};
 use far_types::Refusal;
 
 impl<S: FarStore> World<S> {
-    /// Whether a job may be begun still. Refused with `EditsUsedUp` (24) exactly if the numbers of jobs are used up.
+    /// Checks that one more job may begin. Refused with `EditsUsedUp` (24) exactly if the numbers of jobs are used up.
     fn may_begin(&self) -> Result<(), Refusal>
         ensures refused { refusal_in result ≡ used_up self.now }
         ensures few { OnOk result (self.now.begun < self.now.state.table.limits.edits) }
@@ -33,7 +33,7 @@ impl<S: FarStore> World<S> {
         Ok(())
     }
 
-    /// An evacuation, where a job may be begun.
+    /// Begins an evacuation, if a job may begin.
     fn evac(&self, column: u32, group: u32) -> Result<Job<S>, Refusal>
         ensures begun { IfOk result (IsEvacJob self.now.state.rows column group) }
         ensures few { OnOk result (self.now.begun < self.now.state.table.limits.edits) }
@@ -46,7 +46,7 @@ impl<S: FarStore> World<S> {
         self.frame.begin_evac(&self.store, column, group)
     }
 
-    /// A fetch, where a job may be begun.
+    /// Begins a fetch, if a job may begin.
     fn fetch(&self, column: u32, group: u32) -> Result<Job<S>, Refusal>
         ensures begun { IfOk result (IsFetchJob self.now.state.rows column group) }
         ensures few { OnOk result (self.now.begun < self.now.state.table.limits.edits) }
@@ -59,7 +59,7 @@ impl<S: FarStore> World<S> {
         Ok(job)
     }
 
-    /// An offloaded build, where a job may be begun.
+    /// Begins an offloaded build, if a job may begin.
     fn offload(&self, a: u32, group: u32) -> Result<Job<S>, Refusal>
         ensures begun { IfOk result (IsOffloadJob self.now.state a group) }
         ensures few { OnOk result (self.now.begun < self.now.state.table.limits.edits) }
@@ -72,7 +72,7 @@ impl<S: FarStore> World<S> {
         self.frame.begin_offload(&self.store, a, group)
     }
 
-    /// Gives a job that was begun its number. Refused with `NoMemory` (1) alone; then nothing is changed.
+    /// Gives a begun job its number. Refused with `NoMemory` (1) alone. A refused call changes nothing.
     fn add(&mut self, job: Job<S>) -> Result<u64, Refusal>
         requires next { self.old.begun + 1 < 2 ^ 64 }
         requires here { IsJobAt S.is_of self.old.store job }

@@ -15,7 +15,7 @@ use far_texts::TextCells;
 use far_types::{Kind, Refusal, Text};
 use std::alloc::Global;
 
-/// Lends a part of a column as copies, and remembers the row groups that have some of it.
+/// Lends a part of a column as copies, and records accesses to the row groups that have some of it.
 pub(super) fn lend<S: FarTickets>(
     frame: &mut Frame<S>,
     alloc: Global,
@@ -35,7 +35,7 @@ pub(super) fn lend<S: FarTickets>(
     }
 }
 
-/// Copies a part of a column, as its lending is replied.
+/// Copies a part of a column, as the reply has it.
 fn copied<S: FarTickets>(
     frame: &Frame<S>,
     alloc: Global,
@@ -99,7 +99,7 @@ fn copied_texts<S: FarTickets>(
     ensures refused { IfErr result (MayRefuse (texts_refusal frame.now.rows column from to) true) }
 {
     let view = frame.scope();
-    // Whether all of it is here is asked before anything is copied.
+    // Checks that all of it is local before anything is copied.
     view.texts(column, from, to)?;
     let size = view.size();
     let mut copies = Vec::new(alloc);

@@ -11,11 +11,14 @@ use far_store::FarStore;
 use far_types::Refusal;
 
 impl<S: FarStore> World<S> {
-    /// The same table with its far copies in another store. All numbers of jobs that were begun are spent, and the count goes on.
+    /// Returns the same table with its far copies in another store. All numbers of jobs that were begun are spent, and the
+    /// count goes on.
     ///
-    /// Refused with `FarFault` (21) if one of the stores fails, which is counted; with `FarFull` (22) if the new one gives
-    /// out no more numbers; and with `NoMemory` (1). Then the world is handed back as it was, jobs included, but for its count of
-    /// faults.
+    /// A refused call returns the world as it was, jobs included, but for its count of faults. Refused with one of these:
+    ///
+    /// - `FarFault` (21): one of the stores fails. It is counted.
+    /// - `FarFull` (22): the new store gives out no more numbers.
+    /// - `NoMemory` (1): an allocation fails.
     pub fn migrate<N: FarStore>(self, new_store: N) -> Result<World<N>, (Refusal, World<S>)>
         requires few { self.faults < 2 ^ 62 }
         ensures migrated { IfOk result (IsMigratedTo S.content N.content (N.store_id new_store) self) }

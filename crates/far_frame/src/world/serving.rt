@@ -1,4 +1,4 @@
-// The steps that the table serves by itself.
+// The steps that the table alone serves.
 ghost use Rattle.std.specs.Prelude.{◌≡◌, ℕ, List};
 ghost use Rattle.far_rows.specs.Jobs.{AreAt};
 ghost use Rattle.far_frame.specs.Effects.{Changes};
@@ -46,7 +46,7 @@ pub(super) fn unwatch<S: FarTickets>(frame: &mut Frame<S>, a: u32) -> Reply
     Reply::done_or(frame.unwatch(a))
 }
 
-/// Builds a row group into an aggregate.
+/// Scans a row group into an aggregate.
 pub(super) fn scan_group<S: FarTickets>(frame: &mut Frame<S>, a: u32, group: u32) -> Reply
     ensures changes { Changes S.content frame.old (Step.ScanGroup a group) result frame.new }
     ensures rows { frame.new.rows ≡ frame.old.rows }

@@ -1,4 +1,4 @@
-// Whether a row may be appended.
+// Checks whether a row may be appended.
 ghost use Rattle.std.specs.Prelude.{◌≡◌, ◌≤◌, length};
 ghost use Rattle.far_scopes.specs.Refusing.{refusal_in};
 ghost use Rattle.far_types.specs.declared.limits.Limits.{Limits};
@@ -18,7 +18,7 @@ use far_store::FarTickets;
 use far_texts::{TextColumn, may_push_texts};
 use far_types::{Refusal, Text};
 
-// Whether each of at most 16 columns of texts may get its text. A table without such a column has nothing to ask.
+// Checks that each of at most 16 columns of texts may get its text. A table without such a column checks nothing.
 #[inline(always)]
 fn may_push_all_texts<S: FarTickets>(
     objects: &Objects<u8, S>,
@@ -37,13 +37,15 @@ fn may_push_all_texts<S: FarTickets>(
 }
 
 impl<S: FarTickets> Rows<S> {
-    /// Whether a row may be appended. Allocates nothing.
+    /// Checks that a row may be appended. Allocates nothing. After `Ok`, `push` can be refused with `NoMemory` (1) alone.
     ///
-    /// Refused with `Absent` (16) exactly if the row group of the next place is begun and some object of it is away, naming
-    /// the first in the order of the columns; else with `ChunkFull` (11) exactly if the form of some column's texts would be
-    /// longer than one may be; else with `RegionFull` (17) exactly if new forms, or new objects of numbers, do not find
-    /// space beside all that is there; else with `EditsUsedUp` (24) exactly if the row group is begun and some object of it
-    /// was written as often as objects may be. Where it is not refused, `push` can be refused with `NoMemory` (1) alone.
+    /// Refused with the first of these that applies:
+    ///
+    /// - `Absent` (16): the row group of the next place is begun, and some object of it is away. It names the first in the
+    ///   order of the columns.
+    /// - `ChunkFull` (11): the form of some column's texts would be longer than one may be.
+    /// - `RegionFull` (17): new forms, or new objects of numbers, do not fit into the free space.
+    /// - `EditsUsedUp` (24): the row group is begun, and some object of it was written as often as objects may be.
     pub fn may_push(&self, row: &NewRow) -> Result<(), Refusal>
         requires numbers { length row.now.numbers ≡ length self.now.numbers }
         requires texts { length row.now.texts ≡ length self.now.texts }
@@ -56,13 +58,13 @@ impl<S: FarTickets> Rows<S> {
         self.may_push_values(row)
     }
 
-    // Whether a row may be appended, asked of one kind of columns after the other.
+    // Checks that a row may be appended, by one kind of columns after the other.
     fn may_push_values(&self, row: &NewRow) -> Result<(), Refusal>
         requires numbers { length row.now.numbers ≡ length self.now.numbers }
         requires texts { length row.now.texts ≡ length self.now.texts }
         ensures { refusal_in result ≡ kinds_refusal S.content self.now row.now }
     {
-        // It tells that a table has at most 16 columns.
+        // For the proof: a table has at most 16 columns.
         let len = self.len();
         let group = self.reciprocal.quotient(len, self.size as usize);
         self.here(group as u32)?;

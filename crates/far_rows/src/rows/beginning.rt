@@ -1,4 +1,4 @@
-// Jobs on the objects of the rows that begin.
+// Begins jobs on the objects of the rows.
 ghost use Rattle.std.specs.Prelude.{◌≡◌, ◌<◌, length, true, None, OnOk, IfOk, IfErr};
 ghost use Rattle.far_types.specs.MayRefuse.{MayRefuse};
 ghost use Rattle.far_codec.specs.FarForm.{ints_form};
@@ -17,11 +17,15 @@ use far_types::Refusal;
 use std::alloc::Global;
 
 impl<S: FarTickets> Rows<S> {
-    /// Begins to send the object of a row group of a column away: takes its far form where it is dirty, and another of its
-    /// ticket where it is clean. The rows stay as they are.
+    /// Begins to send the object of a row group of a column away. If the object is dirty, the job takes its far form; if it is
+    /// clean, a copy of its ticket. The rows stay the same.
     ///
-    /// Refused with `NoColumn` (4) exactly if there is no such column; else with `OutOfRange` (14) exactly if no place
-    /// of the row group is used; else with `Absent` (16) exactly if the object is away; else with `NoMemory` (1) alone.
+    /// Refused with the first of these that applies:
+    ///
+    /// - `NoColumn` (4): there is no such column.
+    /// - `OutOfRange` (14): no place of the row group is used.
+    /// - `Absent` (16): the object is away.
+    /// - `NoMemory` (1): an allocation fails.
     pub fn begin_evac(
         &self,
         alloc: Global,
@@ -35,7 +39,7 @@ impl<S: FarTickets> Rows<S> {
         ensures free { OnOk result (evac_refusal self.now column group ≡ None) }
         ensures refused { IfErr result (MayRefuse (evac_refusal self.now column group) true) }
     {
-        // For the proof: what the rows are, so that an object that is away is told by the name that it bears.
+        // For the proof: what the rows are, so that the refusal names an object that is away by its own name.
         let _len = self.len();
         let job = match self.object(column, group)? {
             Object::Number(o) => ByKind::Numbers(self.begin_numbers(alloc, store, o)?),
@@ -75,8 +79,11 @@ impl<S: FarTickets> Rows<S> {
 
     /// Begins to bring the object of a row group of a column back. Allocates nothing.
     ///
-    /// Refused with `NoColumn` (4) exactly if there is no such column; else with `OutOfRange` (14) exactly if no place
-    /// of the row group is used; else with `StaleJob` (20) exactly if the object is local.
+    /// Refused with the first of these that applies:
+    ///
+    /// - `NoColumn` (4): there is no such column.
+    /// - `OutOfRange` (14): no place of the row group is used.
+    /// - `StaleJob` (20): the object is local.
     pub fn begin_fetch(&self, store: &S, column: usize, group: u32) -> Result<RowsFetch<S>, Refusal>
         requires here { AreAt S.is_of (S.store_id store.now) self.now }
         ensures begun { IfOk result (IsFetchBegun self.now column group) }

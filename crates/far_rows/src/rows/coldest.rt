@@ -1,4 +1,4 @@
-// The object of the rows that goes away first.
+// The object of the rows that is evicted first.
 ghost use Rattle.std.specs.Prelude.{◌≡◌, ◌↔◌, None, Some, IfSome, option_map};
 ghost use Rattle.std.specs.Option.{option_or};
 ghost use Rattle.far_scopes.specs.Coldest.{coldest as coldest_in};
@@ -13,9 +13,9 @@ use far_store::FarTickets;
 use far_types::Name;
 
 impl<S: FarTickets> Rows<S> {
-    /// The object that goes away first, by its name: the coldest of the kind whose local memory has less space in proportion
-    /// to its capacity, of numbers where both have as much; where that kind has none, the coldest of the other kind. `None`
-    /// exactly if neither kind has one. Allocates nothing.
+    /// Returns the name of the object that goes away first. It is the coldest of the kind whose local memory has less space in
+    /// proportion to its capacity. If both have as much, that kind is numbers. If that kind has no such object, it is the
+    /// coldest of the other. `None` exactly if neither kind has one. Allocates nothing.
     ///
     /// The object is local and has no pin.
     pub fn coldest(&self) -> Option<Name>
@@ -31,7 +31,7 @@ impl<S: FarTickets> Rows<S> {
         self.coldest_of_both()
     }
 
-    // The object that goes away first.
+    // Returns the object that goes away first.
     fn coldest_of_both(&self) -> Option<Name>
         ensures coldest { result ≡ coldest self.now }
         ensures none { (result ≡ None) ↔ ((coldest_in self.now.number_objects ≡ None) × (coldest_in self.now.text_objects ≡ None)) }
@@ -43,7 +43,7 @@ impl<S: FarTickets> Rows<S> {
         }
     }
 
-    // Whether the objects of numbers have no more space, in proportion to their capacity, than those of texts.
+    // Returns whether the objects of numbers have no more space, in proportion to their capacity, than those of texts.
     fn numbers_go_first(&self) -> bool
         ensures { result ≡ numbers_go_first self.now }
     {
@@ -53,7 +53,7 @@ impl<S: FarTickets> Rows<S> {
     }
 }
 
-// The name of the coldest object of the first of two kinds; where it has none, of the second.
+// Returns the name of the coldest object of the first of two kinds; if it has none, of the second.
 fn first_coldest<T: Elem, U: Elem, S: FarTickets>(
     first: &Objects<T, S>,
     second: &Objects<U, S>,
@@ -67,7 +67,7 @@ fn first_coldest<T: Elem, U: Elem, S: FarTickets>(
     }
 }
 
-// The name of the coldest object of one kind.
+// Returns the name of the coldest object of one kind.
 fn coldest_name<T: Elem, S: FarTickets>(objects: &Objects<T, S>) -> Option<Name>
     ensures name { result ≡ coldest_name objects.now }
     ensures none { (result ≡ None) ↔ (coldest_in objects.now ≡ None) }

@@ -1,4 +1,4 @@
-// Segments of the local memory of the rows' objects that are compacted.
+// Compacts segments of the local memory of the rows' objects.
 ghost use Rattle.std.specs.Prelude.{◌≡◌, ◌<◌, ◌≤◌, ◌↔◌, ◌⊎◌, length, OnOk, OnErr, IfErr, IsErrOf};
 ghost use Rattle.far_log.specs.Effects.{HasNoEmptyOther};
 ghost use Rattle.far_scopes.specs.Compaction.{IsCompacted};
@@ -10,11 +10,16 @@ use far_types::Refusal;
 use std::alloc::Global;
 
 impl<S: FarTickets> Rows<S> {
-    /// Compacts a segment of the objects of numbers: its parts lie in the lowest other segment without parts from then on,
-    /// one behind the other, those of hot objects first, and none of their objects is hot.
+    /// Compacts a segment of the objects of numbers. Its parts then lie in the lowest other segment without parts, one behind
+    /// the other, those of hot objects first. None of their objects is hot afterwards.
     ///
-    /// Refused with `OutOfRange` (14) exactly if there is no such segment, with `RegionFull` (17) exactly if there is
-    /// one and no other is without parts, else with `NoMemory` (1) alone; then nothing is changed.
+    /// Refused with the first of these that applies:
+    ///
+    /// - `OutOfRange` (14): there is no such segment.
+    /// - `RegionFull` (17): no other segment is without parts.
+    /// - `NoMemory` (1): an allocation fails.
+    ///
+    /// A refused call changes nothing.
     pub fn compact_numbers(&mut self, alloc: Global, segment: u32) -> Result<(), Refusal>
         ensures compacted { OnOk result (IsCompacted self.old.number_objects.memory self.new.number_objects.memory segment) }
         ensures stays { self.new ≡ record self.old { number_objects = record self.old.number_objects { memory = self.new.number_objects.memory } } }

@@ -13,15 +13,15 @@ use far_scopes::Objects;
 use far_store::FarTickets;
 
 impl<S: FarTickets> Rows<S> {
-    /// The number that was given to `new`, which jobs on the rows bear. Allocates nothing.
+    /// Returns the number that was given to `new`. Jobs on the rows have it. Allocates nothing.
     pub fn number(&self) -> u32
         ensures { result ≡ self.now.number_objects.number }
     {
         self.number_objects.number()
     }
 
-    /// The ticket of the far copy of a row group of a column; `None` if its object is dirty, or there is no such object.
-    /// Allocates nothing.
+    /// Returns the ticket of the far copy of a row group of a column. `None` if its object is dirty, or there is no such
+    /// object. Allocates nothing.
     ///
     /// Its content is the far form of the row group as it is now, local or away.
     pub fn copy(&self, column: usize, group: u32) -> Option<&S::Ticket>
@@ -40,14 +40,14 @@ impl<S: FarTickets> Rows<S> {
     }
 }
 
-// The ticket of an object, if the object is clean. The ticket's content is a far form.
+// Returns the ticket of an object, if the object is clean. The ticket's content is a far form.
 fn clean_ticket<T: Elem, S: FarTickets>(objects: &Objects<T, S>, o: u32) -> Option<&S::Ticket>
     requires { o < length objects.now.records }
     ensures ticket { option_map (λ ticket. ticket.now) result ≡ clean_ticket objects.now o }
     ensures form { IfSome result (λ ticket. IsSpelled T.in_range T.has_spelling T.spelling (T.meaning (S.content ticket.now)) (S.content ticket.now)) }
     ensures away { is_local objects.now o ≡ false → IsSome result }
 {
-    // For the proof: that a clean object has a far copy.
+    // For the proof: a clean object has a far copy.
     let _number = objects.number();
     if objects.word(o).dirty() {
         return None;

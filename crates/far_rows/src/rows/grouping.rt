@@ -1,4 +1,4 @@
-// A row group, lent in place.
+// A row group, borrowed.
 ghost use Rattle.std.specs.Prelude.{◌≡◌, Some, IfOk, option_map, slice_get};
 ghost use Rattle.far_types.specs.Table.{in_group};
 ghost use Rattle.far_scopes.specs.Refusing.{refusal_in};
@@ -13,7 +13,7 @@ use far_store::FarTickets;
 use far_types::Refusal;
 
 impl<S: FarTickets> Rows<S> {
-    /// The alive flags of the places of a row group, lent in place; none if no place of it is used. Allocates nothing.
+    /// Returns the alive flags of the places of a row group, borrowed; none if no place of it is used. Allocates nothing.
     pub fn flags(&self, group: u32) -> &[bool]
         ensures { result.now ≡ in_group self.now.size group self.now.alive }
     {
@@ -29,10 +29,13 @@ impl<S: FarTickets> Rows<S> {
         self.alive.flags(from, from + size)
     }
 
-    /// The values of a row group of a column, lent in place. Allocates nothing.
+    /// Returns the values of a row group of a column, borrowed. Allocates nothing.
     ///
-    /// Refused with `NoColumn` (4) exactly if there is no such column; else with `OutOfRange` (14) exactly if no place
-    /// of the row group is used; else with `Absent` (16) exactly if its object is away.
+    /// Refused with the first of these that applies:
+    ///
+    /// - `NoColumn` (4): there is no such column.
+    /// - `OutOfRange` (14): no place of the row group is used.
+    /// - `Absent` (16): its object is away.
     pub fn group_column(&self, column: usize, group: u32) -> Result<LentColumn<'_>, Refusal>
         ensures cells { IfOk result (λ lent. option_map (in_group self.now.size group) (slice_get (cells_of S.content self.now) column) ≡ Some (cells_lent lent)) }
         ensures form { IfOk result IsLent }

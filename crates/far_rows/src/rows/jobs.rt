@@ -1,4 +1,4 @@
-// Jobs on the objects of the rows that end.
+// Ends jobs on the objects of the rows.
 ghost use Rattle.std.specs.Prelude.{◌≡◌, ◌≢◌, ◌↔◌, ◌⊎◌, length, false, OnOk, OnErr, IfErr, IsErrOf, IsSomeAnd};
 ghost use Rattle.far_codec.specs.FarForm.{ints_form};
 ghost use Rattle.far_log.specs.RegionState.{fits_in};
@@ -21,9 +21,13 @@ impl<S: FarTickets> Rows<S> {
     /// Sends an object away whose far form was carried. The carried evacuation is kept; no second commit of it is accepted.
     /// Allocates nothing.
     ///
-    /// Refused with `StaleJob` (20) exactly if what it rests on does not hold any more (`IsEvacAccepted`): it was begun on
-    /// other objects, the object is away, was written or away since, has used up its leavings, or is no longer what was
-    /// carried; else with `Pinned` (19) exactly if the object has a pin. Then nothing is changed.
+    /// Refused with the first of these that applies:
+    ///
+    /// - `StaleJob` (20): what it rests on holds no more (`IsEvacAccepted`). It was begun on other objects. Or the object is
+    ///   away, was written or away since, has used up its leavings, or is no longer what was carried.
+    /// - `Pinned` (19): the object has a pin.
+    ///
+    /// A refused call changes nothing.
     pub fn commit(&mut self, store: &S, carried: &RowsCarried<S>) -> Result<(), Refusal>
         requires here { AreAt S.is_of (S.store_id store.now) self.old }
         requires carried_here { S.is_of (of_either carried.now).ticket (S.store_id store.now) }
@@ -82,9 +86,14 @@ impl<S: FarTickets> Rows<S> {
 
     /// Brings an object back whose far form was read. The fetched bytes are kept; no second install of them is accepted.
     ///
-    /// Refused with `StaleJob` (20) exactly if what the fetch rests on does not hold any more (`IsFetchAccepted`): it was
-    /// begun on other objects, or the object is local, or has been away again since; else with `RegionFull` (17) exactly
-    /// where no segment has the space; else with `NoMemory` (1) alone. Then nothing is changed.
+    /// Refused with the first of these that applies:
+    ///
+    /// - `StaleJob` (20): what the fetch rests on holds no more (`IsFetchAccepted`). It was begun on other objects, or the
+    ///   object is local, or has been away again since.
+    /// - `RegionFull` (17): no segment has the space.
+    /// - `NoMemory` (1): an allocation fails.
+    ///
+    /// A refused call changes nothing.
     pub fn install(
         &mut self,
         alloc: Global,

@@ -1,4 +1,4 @@
-// The objects of the rows, which are named by their columns and row groups.
+// The objects of the rows, named by their columns and row groups.
 ghost use Rattle.std.specs.Prelude.{◌≡◌, ◌<◌, ℕ, length, Some, option_map, IfOk, IfSome, OnOk, OnErr, IsSomeAnd, slice_get};
 ghost use Rattle.far_types.specs.declared.name.Name.{Name};
 ghost use Rattle.far_codec.specs.FarForm.{FitsCount};
@@ -19,19 +19,19 @@ use far_store::FarTickets;
 use far_types::Refusal;
 
 impl<S: FarTickets> Rows<S> {
-    /// The objects of numbers, lent for jobs to begin with. Each that is local has a far form, and each is that of the column
-    /// and the row group that it is named by. Allocates nothing.
+    /// Returns the objects of numbers, borrowed, for jobs to begin with. Each that is local has a far form. Each belongs to the
+    /// column and the row group that it is named by. Allocates nothing.
     pub fn number_objects(&self) -> &Objects<Option<i64>, S>
         ensures objects { result.now ≡ self.now.number_objects }
         ensures spelled { (o : ℕ) → IfSome (list_in result.now.memory o) FitsCount }
         ensures owned { (o : ℕ) (name : Name) → slice_get (names_of result.now) o ≡ Some name → object_at self.now name.column name.group ≡ Some (object.Number o) }
     {
-        // For the proof: that an object with a list is in use.
+        // For the proof: an object with a list is in use.
         let _number = self.number_objects.number();
         &self.number_objects
     }
 
-    /// The objects of texts, lent likewise. Allocates nothing.
+    /// Returns the objects of texts, likewise. Allocates nothing.
     pub fn text_objects(&self) -> &Objects<u8, S>
         ensures objects { result.now ≡ self.now.text_objects }
         ensures spelled { (o : ℕ) → IfSome (list_in result.now.memory o) IsTextsForm }
@@ -41,10 +41,12 @@ impl<S: FarTickets> Rows<S> {
         &self.text_objects
     }
 
-    /// The object of a row group of a column. Allocates nothing.
+    /// Returns the object of a row group of a column. Allocates nothing.
     ///
-    /// Refused with `NoColumn` (4) exactly if there is no such column, else with `OutOfRange` (14) exactly if no place
-    /// of the row group is used.
+    /// Refused with the first of these that applies:
+    ///
+    /// - `NoColumn` (4): there is no such column.
+    /// - `OutOfRange` (14): no place of the row group is used.
     pub fn object(&self, column: usize, group: u32) -> Result<Object, Refusal>
         ensures object { IfOk result (λ object. object_at self.now column group ≡ Some object) }
         ensures in_use { IfOk result (λ object. IsInUse self.now object) }
@@ -60,7 +62,7 @@ impl<S: FarTickets> Rows<S> {
         object.ok_or(Refusal::OutOfRange)
     }
 
-    // The object of a row group of a column of numbers, which is known to be one of the objects.
+    // Returns the object of a row group of a column of numbers. For the proof: it is one of the objects.
     fn number_object(&self, number: usize, group: u32) -> Option<Object>
         requires { number < length self.now.numbers }
         ensures object { result ≡ option_map (object_in (column_index.Number number)) (object_of self.now (column_index.Number number) group) }
@@ -70,7 +72,7 @@ impl<S: FarTickets> Rows<S> {
         Some(Object::Number(self.numbers[number].object(group)?))
     }
 
-    // Likewise that of a column of texts.
+    // Returns that of a column of texts, likewise.
     fn text_object(&self, text: usize, group: u32) -> Option<Object>
         requires { text < length self.now.texts }
         ensures object { result ≡ option_map (object_in (column_index.Text text)) (object_of self.now (column_index.Text text) group) }
@@ -82,9 +84,14 @@ impl<S: FarTickets> Rows<S> {
 
     /// Pins the object of a row group of a column once more. Allocates nothing.
     ///
-    /// Refused with `NoColumn` (4) exactly if there is no such column; else with `OutOfRange` (14) exactly if no place
-    /// of the row group is used; else with `Absent` (16) exactly if the object is away; else with `EditsUsedUp` (24)
-    /// exactly if it has 65,535 pins. Then nothing is changed.
+    /// Refused with the first of these that applies:
+    ///
+    /// - `NoColumn` (4): there is no such column.
+    /// - `OutOfRange` (14): no place of the row group is used.
+    /// - `Absent` (16): the object is away.
+    /// - `EditsUsedUp` (24): it has 65,535 pins.
+    ///
+    /// A refused call changes nothing.
     pub fn pin(&mut self, column: usize, group: u32) -> Result<(), Refusal>
         ensures pinned { OnOk result (IsSomeAnd (object_at self.old column group) (λ object. self.new ≡ after_pin self.old object)) }
         ensures kept { KeepsCells S.content S.is_of self.old self.new }
@@ -99,8 +106,13 @@ impl<S: FarTickets> Rows<S> {
 
     /// Pins the object of a row group of a column once less. Allocates nothing.
     ///
-    /// Refused with `NoColumn` (4) exactly if there is no such column; else with `OutOfRange` (14) exactly if no place
-    /// of the row group is used; else with `NotPinned` (18) exactly if the object has no pin. Then nothing is changed.
+    /// Refused with the first of these that applies:
+    ///
+    /// - `NoColumn` (4): there is no such column.
+    /// - `OutOfRange` (14): no place of the row group is used.
+    /// - `NotPinned` (18): the object has no pin.
+    ///
+    /// A refused call changes nothing.
     pub fn unpin(&mut self, column: usize, group: u32) -> Result<(), Refusal>
         ensures unpinned { OnOk result (IsSomeAnd (object_at self.old column group) (λ object. self.new ≡ after_unpin self.old object)) }
         ensures kept { KeepsCells S.content S.is_of self.old self.new }
@@ -113,10 +125,15 @@ impl<S: FarTickets> Rows<S> {
         }
     }
 
-    /// Uses the object of a row group of a column: it is hot and used last, if it is local. Allocates nothing.
+    /// Marks the object of a row group of a column as recently used, if it is resident: it is hot and used last. Allocates
+    /// nothing.
     ///
-    /// Refused with `NoColumn` (4) exactly if there is no such column, else with `OutOfRange` (14) exactly if no place
-    /// of the row group is used; then nothing is changed.
+    /// Refused with the first of these that applies:
+    ///
+    /// - `NoColumn` (4): there is no such column.
+    /// - `OutOfRange` (14): no place of the row group is used.
+    ///
+    /// A refused call changes nothing.
     pub fn touch(&mut self, column: usize, group: u32) -> Result<(), Refusal>
         ensures touched { OnOk result (IsSomeAnd (object_at self.old column group) (λ object. self.new ≡ after_touch self.old object)) }
         ensures kept { KeepsCells S.content S.is_of self.old self.new }

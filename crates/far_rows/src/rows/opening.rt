@@ -11,7 +11,7 @@ use far_texts::TextColumn;
 use far_types::{Kind, Limits, Refusal, Schema};
 use std::alloc::Global;
 
-// The columns of a table, and where each lies.
+// The columns of a table, and the index of each.
 #[derive(Drop)]
 pub(super) struct Columns {
     pub(super) column_indexes: Vec<ColumnIndex>,
@@ -19,7 +19,7 @@ pub(super) struct Columns {
     pub(super) texts: Vec<TextColumn>,
 }
 
-// What the objects of numbers are opened for.
+// Returns the limits of the objects of numbers.
 pub(super) fn number_limits(limits: &Limits) -> ObjectLimits
     ensures { result ≡ number_limits limits.now }
 {
@@ -31,7 +31,7 @@ pub(super) fn number_limits(limits: &Limits) -> ObjectLimits
     }
 }
 
-// What the objects of texts are opened for.
+// Returns the limits of the objects of texts.
 pub(super) fn text_limits(limits: &Limits) -> ObjectLimits
     ensures { result ≡ text_limits limits.now }
 {
@@ -43,7 +43,7 @@ pub(super) fn text_limits(limits: &Limits) -> ObjectLimits
     }
 }
 
-// The columns of a schema, each empty.
+// Returns the columns of a schema, each empty.
 pub(super) fn columns_of(
     alloc: Global,
     schema: &Schema,
@@ -70,7 +70,7 @@ pub(super) fn columns_of(
 }
 
 impl Columns {
-    // One column more, which is empty: its number, and its kind.
+    // Adds an empty column: its number, and its kind.
     fn push(
         &mut self,
         alloc: Global,

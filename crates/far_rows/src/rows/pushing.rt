@@ -42,8 +42,8 @@ pub(super) fn all_have_groups(columns: &[TextColumn])
     }
 }
 
-// Gives each column of texts its text, of those that may be appended. A table without such a column asks and makes nothing. The
-// form of a single column is made in the memory of `spare`.
+// Gives each column of texts its text, which may be appended. A table without such a column makes nothing. The form of a single
+// column is made in the memory of `spare`.
 #[inline(always)]
 fn push_all_texts<S: FarTickets>(
     alloc: Global,
@@ -73,8 +73,8 @@ fn push_all_texts<S: FarTickets>(
     fill_texts(alloc, spare, objects, columns, texts)
 }
 
-// Gives each column its value of the row. Where row groups begin, the numbers are taken back if the texts are refused;
-// else the texts come first, and the numbers then cannot be refused.
+// Gives each column its value of the row. If row groups begin, it undoes the numbers if the texts are refused. Otherwise the
+// texts come first, and the numbers cannot be refused then.
 fn push_values<S: FarTickets>(
     alloc: Global,
     spare: &mut Vec<u8>,
@@ -131,11 +131,11 @@ fn push_values<S: FarTickets>(
 }
 
 impl<S: FarTickets> Rows<S> {
-    /// Appends a row, which is alive: each column gets its value. Where the place is the first of a row group, an object is
-    /// made for each column; else the last object of each is written, all texts before a number.
+    /// Appends a row, which is alive: each column gets its value. If the place is the first of a row group, it makes an object
+    /// for each column. Otherwise it writes the last object of each, all texts before a number.
     ///
-    /// The row is one that `may_push` accepted, and there are fewer than 2^24 places. Refused with `NoMemory` (1) alone; then
-    /// nothing is changed.
+    /// The row is one that `may_push` accepted, and there are fewer than 2^24 places. Refused with `NoMemory` (1) alone. A
+    /// refused call changes nothing.
     pub fn push(&mut self, alloc: Global, row: &NewRow) -> Result<(), Refusal>
         requires numbers { length row.now.numbers ≡ length self.old.numbers }
         requires texts { length row.now.texts ≡ length self.old.texts }
@@ -154,7 +154,7 @@ impl<S: FarTickets> Rows<S> {
         Ok(())
     }
 
-    // Appends a row that is asked of one kind of columns after the other.
+    // Appends a row that was checked by one kind of columns after the other.
     fn push_row(&mut self, alloc: Global, row: &NewRow) -> Result<(), Refusal>
         requires numbers { length row.now.numbers ≡ length self.old.numbers }
         requires texts { length row.now.texts ≡ length self.old.texts }

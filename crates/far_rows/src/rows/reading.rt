@@ -1,4 +1,4 @@
-// Which objects of a row group are local, and cells read in place.
+// Which objects of a row group are local, and cells that are read in place.
 ghost use Rattle.std.specs.Prelude.{◌≡◌, ℕ, ◌∷◌, ◌<◌, ◌/◌, [], length, false, slice_get, option_map, slice_index_or, Some, None, IsTrue, IfOk};
 ghost use Rattle.std.specs.Option.{option_copied, option_map_or};
 ghost use Rattle.far_types.specs.declared.cell.Cell.TheVariants.{Missing};
@@ -24,14 +24,14 @@ use far_texts::TextColumn;
 use far_types::{CellRef, LentRow, Refusal};
 
 impl<S: FarTickets> Rows<S> {
-    /// Whether all objects of a row group are local. A row group of which no place is used has none. Allocates nothing.
+    /// Checks that all objects of a row group are local. A row group of which no place is used has none. Allocates nothing.
     ///
-    /// Refused with `Absent` (16) exactly if one is away, naming the first in the order of the columns by the column and the
+    /// Refused with `Absent` (16) exactly if one is away. It names the first in the order of the columns, by the column and the
     /// row group.
     pub fn here(&self, group: u32) -> Result<(), Refusal>
         ensures { refusal_in result ≡ first_of (absents self.now group) }
     {
-        // For the proof: that each index is that of a column.
+        // For the proof: each index is that of a column.
         let _len = self.len();
         if self.are_all_local() {
             return Ok(());
@@ -42,12 +42,12 @@ impl<S: FarTickets> Rows<S> {
         Ok(())
     }
 
-    // Whether every object of every column is local. It looks at no object, so that where none is away a row costs the same,
+    // Returns whether every object of every column is local. It looks at no object. So if none is away, a row costs the same,
     // however many columns it has.
     fn are_all_local(&self) -> bool
         ensures { IsTrue result → (g : ℕ) → first_of (absents self.now g) ≡ None }
     {
-        // For the proof: what rows are, and of all objects that one with a list is in use.
+        // For the proof: what rows are, and that an object with a list is in use.
         let _len = self.len();
         let _numbers = self.number_objects.number();
         let _texts = self.text_objects.number();
@@ -56,7 +56,7 @@ impl<S: FarTickets> Rows<S> {
         numbers && texts
     }
 
-    // Whether the object of a row group of a column is local, where there is one.
+    // Checks that the object of a row group of a column is local, if there is one.
     pub(super) fn is_here(&self, column_index: ColumnIndex, group: u32) -> Result<(), Refusal>
         requires { IsWithin (length self.now.numbers) (length self.now.texts) column_index }
         ensures { refusal_in result ≡ first_of (told_at self.now group column_index ∷ []) }
@@ -69,10 +69,13 @@ impl<S: FarTickets> Rows<S> {
         }
     }
 
-    /// A cell, lent where it lies. Allocates nothing.
+    /// Returns a cell, borrowed. Allocates nothing.
     ///
-    /// Refused with `NoColumn` (4) exactly if there is no such column, else with `NoRow` (8) exactly past the places, else
-    /// with `Absent` (16) exactly if the object of the cell is away.
+    /// Refused with the first of these that applies:
+    ///
+    /// - `NoColumn` (4): there is no such column.
+    /// - `NoRow` (8): the place is past the end.
+    /// - `Absent` (16): the object of the cell is away.
     pub fn cell(&self, column: usize, place: usize) -> Result<CellRef<'_>, Refusal>
         ensures cell { IfOk result (λ cell. option_map (λ cells. slice_index_or cells place Missing) (slice_get (cells_of S.content self.now) column) ≡ Some (lent_cell cell)) }
         ensures refused { refusal_in result ≡ cell_refusal self.now column place }
@@ -86,7 +89,7 @@ impl<S: FarTickets> Rows<S> {
         self.cell_in(column, *column_index, place)
     }
 
-    // The cell of a place that is there, in the column with this index.
+    // Returns the cell of a place that is there, in the column with this index.
     #[inline(always)]
     pub(crate) fn cell_in(
         &self,
@@ -99,7 +102,7 @@ impl<S: FarTickets> Rows<S> {
         ensures cell { IfOk result (λ cell. slice_index_or (column_in (all_numbers S.content self.now) (all_texts S.content self.now) column_index) place Missing ≡ lent_cell cell) }
         ensures refused { refusal_in result ≡ first_of (absent_at self.now column (place / self.now.size) column_index ∷ []) }
     {
-        // For the proof: that each index is that of a column.
+        // For the proof: each index is that of a column.
         let _len = self.len();
         match column_index {
             ColumnIndex::Number(number) => Ok(CellRef::of_int(self.number_at(
@@ -109,10 +112,10 @@ impl<S: FarTickets> Rows<S> {
         }
     }
 
-    /// The row of a place, each cell lent where it lies and each column looked at once. Allocates nothing.
+    /// Returns the row of a place, with each cell borrowed. It looks at each column once. Allocates nothing.
     ///
-    /// Refused with `Absent` (16) exactly if an object of the place's row group is away, naming the first in the order of
-    /// the columns.
+    /// Refused with `Absent` (16) exactly if an object of the place's row group is away. It names the first in the order of the
+    /// columns.
     pub fn row(&self, place: usize) -> Result<LentRow<'_>, Refusal>
         requires { place < length self.now.alive }
         ensures row { IfOk result (λ row. row ≡ row_at (cells_of S.content self.now) place) }
@@ -127,7 +130,7 @@ impl<S: FarTickets> Rows<S> {
         Ok(row)
     }
 
-    /// The row of a place, each cell lent where it lies once it is asked for. Allocates nothing.
+    /// Returns the row of a place. It borrows each cell when it is asked for. Allocates nothing.
     ///
     /// Refused as `row` is, with `Absent` (16) alone.
     pub fn row_ref(&self, place: usize) -> Result<RowRef<'_, S>, Refusal>
@@ -135,17 +138,20 @@ impl<S: FarTickets> Rows<S> {
         ensures row { IfOk result (λ row. row ≡ row_at (cells_of S.content self.now) place) }
         ensures refused { refusal_in result ≡ first_of (absents self.now (place / self.now.size)) }
     {
-        // For the proof: that there are fewer places than numbers of 32 bits.
+        // For the proof: there are fewer places than numbers of 32 bits.
         let _len = self.len();
         self.here(self.group_of(place))?;
         Ok(RowRef::new(self, place))
     }
 
-    /// The text of a place, lent in place; `None` if it is missing. Allocates nothing.
+    /// Returns the text of a place, borrowed; `None` if it is missing. Allocates nothing.
     ///
-    /// Refused with `NoColumn` (4) exactly if there is no such column, else with `WrongKind` (5) exactly if it is of
-    /// numbers, else with `NoRow` (8) exactly past the places, else with `Absent` (16) exactly if the object of the text is
-    /// away.
+    /// Refused with the first of these that applies:
+    ///
+    /// - `NoColumn` (4): there is no such column.
+    /// - `WrongKind` (5): it is of numbers.
+    /// - `NoRow` (8): the place is past the end.
+    /// - `Absent` (16): the object of the text is away.
     pub fn text(&self, column: usize, place: usize) -> Result<Option<&str>, Refusal>
         ensures text { IfOk result (λ text. option_map (λ cells. slice_index_or cells place Missing) (slice_get (cells_of S.content self.now) column) ≡ Some (text_cell (option_copied text))) }
         ensures refused { refusal_in result ≡ text_refusal self.now column place }
@@ -162,7 +168,7 @@ impl<S: FarTickets> Rows<S> {
         self.text_at(column, text, place)
     }
 
-    // The number of a place that is there.
+    // Returns the number of a place that is there.
     fn number_at(&self, at: usize, number: usize, place: usize) -> Result<Option<i64>, Refusal>
         requires lies { slice_get self.now.column_indexes at ≡ Some (column_index.Number number) }
         requires column { number < length self.now.numbers }
@@ -171,12 +177,12 @@ impl<S: FarTickets> Rows<S> {
         ensures refused { refusal_in result ≡ first_of (absent_at self.now at (place / self.now.size) (column_index.Number number) ∷ []) }
     {
         let column = &self.numbers[number];
-        // For the proof: that a row group is begun for each place.
+        // For the proof: a row group is begun for each place.
         let _len = column.len();
         column.get(&self.number_objects, place)
     }
 
-    // Likewise the text.
+    // Returns the text, likewise.
     fn text_at(&self, at: usize, text: usize, place: usize) -> Result<Option<&str>, Refusal>
         requires lies { slice_get self.now.column_indexes at ≡ Some (column_index.Text text) }
         requires column { text < length self.now.texts }
@@ -190,7 +196,7 @@ impl<S: FarTickets> Rows<S> {
     }
 }
 
-// Whether the object of a row group of a column of numbers is local, where there is one.
+// Checks that the object of a row group of a column of numbers is local, if there is one.
 fn numbers_are_here<S: FarTickets>(
     objects: &Objects<Option<i64>, S>,
     column: &IntColumn,
@@ -199,7 +205,7 @@ fn numbers_are_here<S: FarTickets>(
     requires { IsVector (number_lists S.content objects.now) column.now }
     ensures { refusal_in result ≡ first_of (option_map_or (absent objects.now) (slice_get column.now.objects group) (false, Refusal.StaleJob) ∷ []) }
 {
-    // For the proof: of all objects that one with a list is in use.
+    // For the proof: an object with a list is in use.
     let _number = objects.number();
     if let Some(o) = column.object(group) {
         objects.here(o)?;
@@ -207,7 +213,7 @@ fn numbers_are_here<S: FarTickets>(
     Ok(())
 }
 
-// Likewise of a column of texts.
+// Checks the same of a column of texts.
 fn texts_are_here<S: FarTickets>(
     objects: &Objects<u8, S>,
     column: &TextColumn,

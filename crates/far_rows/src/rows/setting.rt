@@ -25,13 +25,15 @@ use far_types::{Kind, Refusal, Text};
 use std::alloc::Global;
 
 impl<S: FarTickets> Rows<S> {
-    /// Whether a value may be put in a column of a place. Allocates nothing.
+    /// Checks that a value may be put in a column of a place. Allocates nothing. After `Ok`, `set` of a text can be refused
+    /// with `NoMemory` (1) alone, and `set` of a number not at all.
     ///
-    /// Refused with `Absent` (16) exactly if some object of the place's row group is away, naming the first in the order of
-    /// the columns; else with `ChunkFull` (11) exactly if it is a text whose form would be longer than one may be; else
-    /// with `RegionFull` (17) exactly if it is a text whose form does not fit beside the old one; else with
-    /// `EditsUsedUp` (24) exactly if the object was written as often as objects may be. Where it is not refused, `set`
-    /// can be refused with `NoMemory` (1) alone, and of a number not at all.
+    /// Refused with the first of these that applies:
+    ///
+    /// - `Absent` (16): some object of the place's row group is away. It names the first in the order of the columns.
+    /// - `ChunkFull` (11): it is a text whose form would be longer than one may be.
+    /// - `RegionFull` (17): it is a text whose form does not fit while the old one is kept.
+    /// - `EditsUsedUp` (24): the object was written as often as objects may be.
     pub fn may_set(&self, column: usize, place: usize, value: &NewCell) -> Result<(), Refusal>
         requires place { place < length self.now.alive }
         requires of_kind { option_map kind_of (slice_get self.now.column_indexes column) ≡ Some (kind_in value.now) }
@@ -44,13 +46,14 @@ impl<S: FarTickets> Rows<S> {
         self.may_set_value(column, place, value)
     }
 
-    // Whether a value may be put in a column of a place, as the column tells it.
+    // Checks that a value may be put in a column of a place: all objects of its row group are local, and then the column
+    // accepts it.
     fn may_set_value(&self, column: usize, place: usize, value: &NewCell) -> Result<(), Refusal>
         requires place { place < length self.now.alive }
         requires of_kind { option_map kind_of (slice_get self.now.column_indexes column) ≡ Some (kind_in value.now) }
         ensures { refusal_in result ≡ set_refusal S.content self.now column place value.now }
     {
-        // For the proof: that each index is that of a column.
+        // For the proof: each index is that of a column.
         let _len = self.len();
         let group = self.group_of(place);
         self.here(group)?;
@@ -65,25 +68,25 @@ impl<S: FarTickets> Rows<S> {
         }
     }
 
-    // The row group of a place.
+    // Returns the row group of a place.
     pub(super) fn group_of(&self, place: usize) -> u32
         requires { place < length self.now.alive }
         ensures { result ≡ place / self.now.size }
     {
-        // For the proof: that there are fewer places than numbers of 32 bits.
+        // For the proof: there are fewer places than numbers of 32 bits.
         let _len = self.len();
         self.reciprocal.quotient(place, self.size as usize) as u32
     }
 
-    // Whether a number may be put at a place of a column of numbers. The place is of this row group: so its quotient is not
-    // computed again.
+    // Checks that a number may be put at a place of a column of numbers. The caller knows the row group of the place, so it is
+    // not computed again.
     fn number_is_writable(&self, i: usize, place: usize, group: u32) -> Result<(), Refusal>
         requires within { i < length self.now.numbers }
         requires place { place < length self.now.alive }
         requires group { group ≡ place / self.now.size }
         ensures { refusal_in result ≡ option_and_then (λ v. number_set_refusal self.now.number_objects v place) (slice_get self.now.numbers i) }
     {
-        // For the proof: what rows are, and of all objects that one with a list is in use.
+        // For the proof: what rows are, and that an object with a list is in use.
         let _len = self.len();
         let _number = self.number_objects.number();
         let Some(o) = self.numbers[i].object(group) else {
@@ -127,11 +130,11 @@ impl<S: FarTickets> Rows<S> {
         self.texts[i].set(alloc, &mut self.text_objects, place, text)
     }
 
-    /// Puts a value in a column of a place; its row group's object is written, and a text's form is placed anew before the
-    /// old one is dropped.
+    /// Puts a value in a column of a place. Its row group's object is written. A text's form is placed anew before the old one
+    /// is dropped.
     ///
-    /// The value is one that `may_set` accepted. A number is not refused, and a text with `NoMemory` (1) alone; then nothing
-    /// is changed.
+    /// The value is one that `may_set` accepted. A number is not refused, and a text with `NoMemory` (1) alone. A refused call
+    /// changes nothing.
     pub fn set(
         &mut self,
         alloc: Global,
@@ -175,7 +178,7 @@ impl<S: FarTickets> Rows<S> {
         ensures memory { IfErr result (λ e. e ≡ Refusal.NoMemory) }
         ensures err { OnErr result (self.new ≡ self.old) }
     {
-        // For the proof: that each index is that of a column.
+        // For the proof: each index is that of a column.
         let _len = self.len();
         match (self.column_indexes[column], value) {
             (ColumnIndex::Number(i), NewCell::Number(number)) => {

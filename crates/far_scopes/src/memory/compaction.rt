@@ -1,4 +1,4 @@
-// The compaction of a segment.
+// Compaction of a segment.
 ghost use Rattle.std.specs.Prelude.{◌≡◌, ◌≢◌, ℕ, ◌+◌, ◌<◌, ◌≤◌, ◌↔◌, ◌⊎◌, if◌then◌else◌, length, map, All, AllPairs, OnOk, OnErr, IfOk, IfErr, IsErrOf};
 ghost use Rattle.far_log.specs.Effects.{HasNoEmptyOther};
 ghost use Rattle.far_pointer.specs.Layout.{is_hot};
@@ -24,8 +24,8 @@ pub(crate) struct SegmentObject {
 }
 
 impl<T: Elem> LocalMemory<T> {
-    /// Moves the parts of a segment into the lowest other segment without parts, those of hot objects first, and then
-    /// no object of them is hot. Refused, nothing is changed.
+    /// Moves the parts of a segment into the lowest other segment without parts, those of hot objects first. Clears the hot bit of each
+    /// object moved. If it is refused, nothing is changed.
     pub fn compact(&mut self, alloc: Global, segment: u32) -> Result<(), Refusal>
         ensures ok { OnOk result (IsCompacted self.old self.new segment) }
         ensures lists { (p : ℕ) → list_in self.new p ≡ list_in self.old p }
@@ -53,7 +53,7 @@ fn hot_first(alloc: Global, words: &[Word], segment: u32) -> Result<Vec<SegmentO
     Ok(found)
 }
 
-// The objects whose parts lie in a segment and that are hot, or not, as asked for, by ascending offset.
+// The objects whose parts lie in a segment and whose hot bit is `hot`, by ascending offset.
 fn sorted(
     alloc: Global,
     words: &[Word],
@@ -87,7 +87,7 @@ fn objects_in(
     Ok(found)
 }
 
-// Where in a segment the part of an object begins, if it lies there and the object is hot, or not, as asked for.
+// Where in a segment the part of an object begins, if it lies there and the object's hot bit is `hot`.
 fn offset_if(word: Word, segment: u32, hot: bool) -> Option<u32>
     ensures { result ≡ offset_if segment hot word }
 {
@@ -111,7 +111,7 @@ fn offsets_of(alloc: Global, objects: &[SegmentObject]) -> Result<Vec<u32>, Refu
     Ok(offsets)
 }
 
-// The words of objects say where their parts lie now, and that they are not hot. Answers how many were hot.
+// Updates the words of objects: where their parts lie now, and that they are not hot. Returns how many were hot.
 fn settle(words: &mut [Word], objects: &[SegmentObject], moved: &Moved) -> usize
     requires within { All (λ found. found.object < length words.old) objects.now }
     requires once { AllPairs (λ o p. o ≢ p) (map (λ found. found.object) objects.now) }

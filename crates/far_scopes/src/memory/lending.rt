@@ -1,4 +1,4 @@
-// Lists lent to be written.
+// Lists borrowed mutably.
 ghost use Rattle.std.specs.Prelude.{◌≡◌, ℕ, ◌-◌, ◌≤◌, ◌++◌, List, length, take, drop, slice_range, Some, IsSome, IfSome, IsSomeAnd};
 ghost use Rattle.std.specs.Borrow.{sem};
 ghost use Rattle.far_scopes.specs.Memory.{place_of, list_in, ChangesList};
@@ -9,7 +9,7 @@ use super::{LocalMemory, at_of};
 use far_codec::Elem;
 
 impl<T: Elem> LocalMemory<T> {
-    /// The list of object `o`, which is local and has so many elements, lent to be written.
+    /// Mutably borrows the list of object `o`, which is local and has `len` elements.
     pub fn lend_mut(&mut self, o: usize, len: usize) -> &mut [T]
         requires local { IsSome (place_of self.old.words o) }
         requires long { IfSome (list_in self.old o) (λ list. length list ≡ len) }
@@ -22,7 +22,7 @@ impl<T: Elem> LocalMemory<T> {
         region.part_long_mut(at, len)
     }
 
-    /// The elements `from` to `to` of an object that is local, lent to be written.
+    /// Mutably borrows the elements `from` to `to` of an object that is local.
     pub fn lend_range_mut(&mut self, o: usize, from: usize, to: usize) -> &mut [T]
         requires ordered { from ≤ to }
         requires within { IsSomeAnd (list_in self.old o) (λ list. to ≤ length list) }

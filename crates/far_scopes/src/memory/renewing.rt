@@ -8,7 +8,7 @@ use far_codec::Elem;
 use far_pointer::{Pointer, Word};
 
 impl<T: Elem> LocalMemory<T> {
-    /// No local object has a far copy from now on, so each is dirty.
+    /// Clears the far-copy bit of each local object, so each is dirty.
     pub fn forget_copies(&mut self)
         ensures renewed { self.new ≡ renewed_memory self.old }
         ensures lists { (p : ℕ) → list_in self.new p ≡ list_in self.old p }
@@ -20,7 +20,7 @@ impl<T: Elem> LocalMemory<T> {
     }
 }
 
-// The word of the same object, without a far copy where it is local.
+// The word of the same object, without a far copy if it is local.
 fn without_copy(word: Word) -> Word
     ensures { result ≡ renewed_word word }
 {

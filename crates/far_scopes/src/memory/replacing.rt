@@ -13,7 +13,7 @@ use far_types::Refusal;
 
 impl<T: Elem> LocalMemory<T> {
     /// Gives listed objects, which are local, other lists: places all new ones, in order, before it drops an old one.
-    /// Where they fit the answer is `checked`. Refused, nothing is changed.
+    /// If they fit, it returns `checked`. If it is refused, nothing is changed.
     ///
     /// Until all are placed, each new list is that of a further object behind the others.
     pub fn replace_all(
@@ -43,7 +43,7 @@ impl<T: Elem> LocalMemory<T> {
         Ok(())
     }
 
-    // Object `o`, which is local, gets the part of the last object, which is no more; its own is dropped.
+    // Gives object `o`, which is local, the part of the last object. Drops its own part, and removes the last object.
     fn take_over(&mut self, o: usize)
         requires other { o < length self.old.words - 1 }
         requires local { IsSome (place_of self.old.words o) }

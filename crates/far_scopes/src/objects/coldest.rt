@@ -9,12 +9,11 @@ use far_codec::Elem;
 use far_store::FarTickets;
 
 impl<T: Elem, S: FarTickets> Objects<T, S> {
-    /// The object that goes away first: of those without pins that are not hot the one whose last use is the longest ago,
-    /// and where there is none, that of all without pins. `None` exactly if no local object is without pins.
+    /// Returns the eviction victim, the object that goes away first: the least recently used of those that are neither pinned nor hot. If
+    /// there is none, it is the least recently used of all without pins. Returns `None` exactly if no local object is without pins.
     ///
-    /// Allocates nothing. It looks at the order of use from its end. If every local object is hot, it stops at the first
-    /// object without pins. Else it stops at the first that is neither pinned nor hot, or where there is none at the order's
-    /// beginning.
+    /// Allocates nothing. It goes through the order of use from its end. If every local object is hot, it stops at the first object without
+    /// pins. Else it stops at the first that is neither pinned nor hot, or at the order's beginning if there is none.
     pub fn coldest(&self) -> Option<u32>
         ensures coldest { result ≡ coldest self.now }
         ensures local { IfSome result (λ o. is_local self.now o ≡ true) }
@@ -27,7 +26,7 @@ impl<T: Elem, S: FarTickets> Objects<T, S> {
         self.first_cold()
     }
 
-    // The object without pins whose last use is the longest ago.
+    // The least recently used object without pins.
     fn last_unpinned(&self) -> Option<u32>
         ensures { result ≡ find (is_unpinned self.now) (reverse self.now.order) }
     {
@@ -40,8 +39,7 @@ impl<T: Elem, S: FarTickets> Objects<T, S> {
         None
     }
 
-    // Of the objects without pins that are not hot the one whose last use is the longest ago; where there is none, that of
-    // all without pins.
+    // The least recently used object that is neither pinned nor hot. If there is none, the least recently used of all without pins.
     fn first_cold(&self) -> Option<u32>
         ensures { result ≡ coldest self.now }
     {

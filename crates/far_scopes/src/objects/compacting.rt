@@ -1,4 +1,4 @@
-// A segment of the objects' local memory that is compacted.
+// Compaction of a segment of the objects' local memory.
 ghost use Rattle.std.specs.Prelude.{◌≡◌, ℕ, ◌<◌, ◌≤◌, ◌↔◌, ◌⊎◌, length, OnOk, OnErr, IfErr, IsErrOf, List};
 ghost use Rattle.far_log.specs.Effects.{HasNoEmptyOther};
 ghost use Rattle.far_scopes.specs.Compaction.{IsCompacted};
@@ -11,12 +11,15 @@ use far_types::Refusal;
 use std::alloc::Global;
 
 impl<T: Elem, S: FarTickets> Objects<T, S> {
-    /// Compacts a segment: its parts lie in the lowest other segment without parts from then on, one behind the other,
-    /// those of hot objects first, then the others, each by where they lay; and none of their objects is hot. Every
-    /// list, what is local, dirty or away, and the order of use stay.
+    /// Compacts a segment: moves its parts into the lowest other segment without parts, one behind the other. Parts of hot objects come
+    /// first, then the others, each by where they lay.
     ///
-    /// Refused with `OutOfRange` (14) exactly if there is no such segment, with `RegionFull` (17) exactly if there is
-    /// one and no other is without parts, else with `NoMemory` (1) alone; then nothing is changed.
+    /// It clears the hot bits of these objects. Every list, which objects are local, dirty or away, and the order of use stay.
+    ///
+    /// If it is refused, nothing is changed. Refused with:
+    /// - `OutOfRange` (14) exactly if there is no such segment;
+    /// - `RegionFull` (17) exactly if there is one and no other is without parts;
+    /// - else `NoMemory` (1) alone.
     pub fn compact(&mut self, alloc: Global, segment: u32) -> Result<(), Refusal>
         ensures compacted { OnOk result (IsCompacted self.old.memory self.new.memory segment) }
         ensures kept { self.new ≡ record self.old { memory = self.new.memory } }

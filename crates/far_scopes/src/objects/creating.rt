@@ -1,4 +1,4 @@
-// Objects that are made, and the last one unmade.
+// Creates objects, and takes back the last one.
 ghost use Rattle.std.specs.Prelude.{◌≡◌, ◌-◌, ◌<◌, ◌^◌, ◌↔◌, ◌⊎◌, ◌∷◌, length, false, true, Some, None, OnOk, OnErr, IfOk, IfErr, IsErrOf, ℕ, List};
 ghost use Rattle.far_log.specs.RegionState.{fits_in, spaces_of, fit_in_order};
 ghost use Rattle.far_scopes.specs.Memory.{ChangesList};
@@ -11,12 +11,15 @@ use far_store::FarTickets;
 use far_types::{Name, Refusal};
 
 impl<T: Elem, S: FarTickets> Objects<T, S> {
-    /// Makes an object of this list, and answers its number, which is the next: it is local, dirty, hot and used last,
-    /// and was never written, away or pinned. `uncreate` undoes it (`undone`). Lists of further lengths that fitted in
-    /// order behind this one still do (`next`).
+    /// Makes an object of this list. Returns its number, which is the next.
     ///
-    /// Refused with `RegionFull` (17) exactly if no segment has the space, else with `NoMemory` (1) alone; then nothing
-    /// is changed.
+    /// - The object is local, dirty, hot and used last, and was never written, away or pinned.
+    /// - `uncreate` undoes the call (`undone`).
+    /// - Lists of further lengths that fitted in order behind this one still do (`next`).
+    ///
+    /// If it is refused, nothing is changed. Refused with:
+    /// - `RegionFull` (17) exactly if no segment has the space;
+    /// - else `NoMemory` (1) alone.
     pub fn create(&mut self, name: Name, items: &[T]) -> Result<u32, Refusal>
         requires some { 0 < length items.now }
         requires few { length self.old.records < 2 ^ 28 }
@@ -54,7 +57,7 @@ impl<T: Elem, S: FarTickets> Objects<T, S> {
         Ok(o)
     }
 
-    /// Unmakes the last object, which is local and has no pin. Allocates nothing.
+    /// Removes the last object, which is local and has no pin. Allocates nothing.
     pub fn uncreate(&mut self)
         requires local { is_local self.old (length self.old.records - 1) ≡ true }
         requires unpinned { pins_of self.old (length self.old.records - 1) ≡ 0 }

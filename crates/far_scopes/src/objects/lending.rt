@@ -1,4 +1,4 @@
-// Lists lent in place.
+// Lists borrowed in place.
 ghost use Rattle.std.specs.Prelude.{◌≡◌, ℕ, ◌-◌, ◌<◌, ◌≤◌, ◌++◌, List, length, take, drop, slice_range, true, Some, None, IfOk, IsSomeAnd};
 ghost use Rattle.std.specs.Borrow.{sem};
 ghost use Rattle.far_scopes.specs.Memory.{list_in, ChangesList};
@@ -15,7 +15,7 @@ use far_store::FarTickets;
 use far_types::Refusal;
 
 impl<T: Elem, S: FarTickets> Objects<T, S> {
-    /// The list of an object, lent in place. Allocates nothing.
+    /// Borrows the list of an object in place. Allocates nothing.
     ///
     /// Refused with `Absent` (16) exactly if the object is away.
     pub fn lend(&self, o: u32) -> Result<&[T], Refusal>
@@ -27,7 +27,7 @@ impl<T: Elem, S: FarTickets> Objects<T, S> {
         Ok(self.memory.lend(o as usize, self.records[o as usize].len))
     }
 
-    /// Whether an object is local, as its pointer word alone tells. Allocates nothing.
+    /// Checks that an object is local, by its pointer word alone. Allocates nothing.
     ///
     /// Refused with `Absent` (16) exactly if the object is away, as `lend` is.
     pub fn here(&self, o: u32) -> Result<(), Refusal>
@@ -40,10 +40,11 @@ impl<T: Elem, S: FarTickets> Objects<T, S> {
         Ok(())
     }
 
-    /// Whether an object may be written. Allocates nothing.
+    /// Checks that an object may be written. Allocates nothing.
     ///
-    /// Refused with `Absent` (16) exactly if the object is away, and with `EditsUsedUp` (24) exactly if it is local
-    /// and was written as often as objects may be.
+    /// Refused with:
+    /// - `Absent` (16) exactly if the object is away;
+    /// - `EditsUsedUp` (24) exactly if it is local and was written as often as objects may be.
     pub fn may_write(&self, o: u32) -> Result<(), Refusal>
         requires { o < length self.now.records }
         ensures { refusal_in result ≡ write_refusal self.now o }
@@ -55,10 +56,10 @@ impl<T: Elem, S: FarTickets> Objects<T, S> {
         Ok(())
     }
 
-    /// The list of an object that may be written, lent in place to be written. Allocates nothing.
+    /// Mutably borrows the list of an object that may be written, in place. Allocates nothing.
     ///
-    /// Before it is lent, the object counts as written: it is dirty, hot and used last, and its version is one more. What
-    /// the borrow leaves is the object's list, and no other list changes (`alone`).
+    /// The object counts as written before it is borrowed: it is dirty, hot and used last, and its version is one more. What the borrow
+    /// leaves is the object's list, and no other list changes (`alone`).
     pub fn lend_mut(&mut self, o: u32) -> &mut [T]
         requires within { o < length self.old.records }
         requires free { write_refusal self.old o ≡ None }
@@ -75,7 +76,7 @@ impl<T: Elem, S: FarTickets> Objects<T, S> {
         memory.lend_mut(o as usize, len)
     }
 
-    /// The elements `from` to `to` of an object that may be written, lent in place to be written. Allocates nothing.
+    /// Mutably borrows the elements `from` to `to` of an object that may be written, in place. Allocates nothing.
     ///
     /// The object counts as written, as with `lend_mut`.
     pub fn lend_range_mut(&mut self, o: u32, from: usize, to: usize) -> &mut [T]
@@ -95,7 +96,7 @@ impl<T: Elem, S: FarTickets> Objects<T, S> {
         memory.lend_range_mut(o as usize, from, to)
     }
 
-    // The object counts as written.
+    // Marks the object as written.
     pub(super) fn mark(&mut self, o: u32)
         requires within { o < length self.old.records }
         requires free { write_refusal self.old o ≡ None }
@@ -106,13 +107,13 @@ impl<T: Elem, S: FarTickets> Objects<T, S> {
         ensures lists { (p : ℕ) → list_of T.meaning S.content self.new p ≡ list_of T.meaning S.content self.old p }
         ensures clean { AreClean T.meaning S.content self.old → AreClean T.meaning S.content self.new }
     {
-        // The word comes last: who lends the object next finds it at hand.
+        // The word comes last, so that the next borrow of the object finds it at hand.
         self.order.touch(o);
         self.records[o as usize].version += 1;
         self.memory.mark(o as usize);
     }
 
-    /// Whether an object is local: its list is in local memory, and may be lent. Allocates nothing.
+    /// Whether an object is local: its list is in local memory, and may be borrowed. Allocates nothing.
     pub fn is_local(&self, o: u32) -> bool
         requires { o < length self.now.records }
         ensures { result ≡ is_local self.now o }

@@ -13,8 +13,7 @@ use far_store::FarTickets;
 use far_types::Refusal;
 
 impl<T: Elem, S: FarTickets> Objects<T, S> {
-    /// Sends an object away whose far copy is this ticket's content. Its part is dropped and its record kept. Takes no
-    /// memory.
+    /// Evicts an object whose far copy is this ticket's content. Drops its part and keeps its record. Allocates nothing.
     pub fn leave(&mut self, store: &S, o: u32, ticket: &S::Ticket)
         requires here { S.is_of ticket.now (S.store_id store.now) }
         requires copied { IsSomeAnd (list_in self.old.memory o) (λ list. IsSpelled T.in_range T.has_spelling T.spelling list (S.content ticket.now)) }
@@ -33,10 +32,11 @@ impl<T: Elem, S: FarTickets> Objects<T, S> {
         self.order.remove(o);
     }
 
-    /// Brings an object back that is away and whose ticket means these elements.
+    /// Brings an object back that is away and whose ticket means these elements: the end of a fetch.
     ///
-    /// Refused with `RegionFull` (17) exactly if no segment has the space, else with `NoMemory` (1) alone; then nothing
-    /// is changed.
+    /// If it is refused, nothing is changed. Refused with:
+    /// - `RegionFull` (17) exactly if no segment has the space;
+    /// - else `NoMemory` (1) alone.
     pub fn arrive(&mut self, o: u32, items: &[T]) -> Result<(), Refusal>
         requires within { o < length self.old.records }
         requires away { is_local self.old o ≡ false }

@@ -12,8 +12,9 @@ use far_types::Refusal;
 impl<T: Elem, S: FarTickets> Objects<T, S> {
     /// Pins an object once more. Allocates nothing.
     ///
-    /// Refused with `Absent` (16) exactly if the object is away, and with `EditsUsedUp` (24) exactly if it has 65,535
-    /// pins; then nothing is changed.
+    /// If it is refused, nothing is changed. Refused with:
+    /// - `Absent` (16) exactly if the object is away;
+    /// - `EditsUsedUp` (24) exactly if it has 65,535 pins.
     pub fn pin(&mut self, o: u32) -> Result<(), Refusal>
         requires { o < length self.old.records }
         ensures pinned { OnOk result (self.new ≡ after_pin self.old o) }
@@ -37,7 +38,7 @@ impl<T: Elem, S: FarTickets> Objects<T, S> {
 
     /// Pins an object once less. Allocates nothing.
     ///
-    /// Refused with `NotPinned` (18) exactly if it has no pin; then nothing is changed.
+    /// Refused with `NotPinned` (18) exactly if it has no pin. Then nothing is changed.
     pub fn unpin(&mut self, o: u32) -> Result<(), Refusal>
         requires { o < length self.old.records }
         ensures unpinned { OnOk result (self.new ≡ after_unpin self.old o) }
@@ -56,7 +57,7 @@ impl<T: Elem, S: FarTickets> Objects<T, S> {
         Ok(())
     }
 
-    /// Uses an object: it is hot and used last, if it is local. Allocates nothing.
+    /// Marks an object as recently used, if it is local: it is hot and used last. Allocates nothing.
     pub fn touch(&mut self, o: u32)
         requires { o < length self.old.records }
         ensures touched { self.new ≡ after_touch self.old o }

@@ -1,4 +1,4 @@
-// What is asked of objects before they move.
+// Readings of objects, and checks before they move.
 ghost use Rattle.std.specs.Prelude.{◌≡◌, ℕ, ◌<◌, ◌≤◌, ◌↔◌, length, All, Some, IsTrue, true, option_map};
 ghost use Rattle.far_log.specs.RegionState.{fits_in, fit_in_order, spaces_of, space_of, capacity_of};
 ghost use Rattle.far_scopes.specs.Movement.{record_of, leavings_of, is_local};
@@ -16,7 +16,7 @@ impl<T: Elem, S: FarTickets> Objects<T, S> {
         self.records.len() as u32
     }
 
-    /// Whether every object is local. Allocates nothing, and looks at no object: the local ones are those in the order of use.
+    /// Whether every object is local. Allocates nothing, and reads no object: the local ones are those in the order of use.
     pub fn are_all_local(&self) -> bool
         ensures { IsTrue result ↔ ((o : ℕ) → o < length self.now.records → is_local self.now o ≡ true) }
     {
@@ -41,15 +41,15 @@ impl<T: Elem, S: FarTickets> Objects<T, S> {
         self.records[o as usize].name
     }
 
-    /// Whether some segment has the space for a list of so many elements. Allocates nothing.
+    /// Whether some segment has the space for a list of `len` elements. Allocates nothing.
     pub fn fits(&self, len: usize) -> bool
         ensures { result ≡ fits_in self.now.memory.state len }
     {
         self.memory.fits(len)
     }
 
-    /// Whether lists of these lengths, none of them empty and at most 16, can be placed one after the other, each in the
-    /// lowest segment that has the space. Allocates nothing.
+    /// Whether at most 16 lists of these lengths, none of them empty, can be placed one after the other. Each goes to the lowest segment
+    /// that has the space. Allocates nothing.
     pub fn fits_in_order(&self, lens: &[usize]) -> bool
         requires few { length lens.now ≤ 16 }
         requires some { All (λ len. 0 < len) lens.now }
@@ -58,23 +58,23 @@ impl<T: Elem, S: FarTickets> Objects<T, S> {
         self.memory.fits_in_order(lens)
     }
 
-    /// For how many elements there is space, in all segments together. Allocates nothing.
+    /// The space of all segments together, in elements. Allocates nothing.
     ///
-    /// A list needs its space in one segment, so one that is no longer than this need not fit.
+    /// A list needs its space in one segment. So a list that is no longer than this may still not fit.
     pub fn space(&self) -> usize
         ensures { result ≡ space_of self.now.memory.state }
     {
         self.memory.space()
     }
 
-    /// For how many elements all segments are made together. Allocates nothing.
+    /// The capacity of all segments together, in elements. Allocates nothing.
     pub fn capacity(&self) -> usize
         ensures { result ≡ capacity_of self.now.memory.state }
     {
         self.memory.capacity()
     }
 
-    /// Whether an object may go away once more: each may as often as was given to `new`. Allocates nothing.
+    /// Whether an object may go away once more: each may do so as often as the limits of `new` say. Allocates nothing.
     pub fn may_leave(&self, o: u32) -> bool
         requires { o < length self.now.records }
         ensures { IsTrue result ↔ (leavings_of self.now o < self.now.leavings) }

@@ -12,12 +12,13 @@ use far_types::Refusal;
 use std::alloc::Global;
 
 impl<T: Elem, S: FarRead> Objects<T, S> {
-    /// Puts the content of each object that is away into another store, by ascending object number, and makes all space that
-    /// `renew` needs. These objects stay as they are.
+    /// Puts the content of each object that is away into another store, by ascending object number. Allocates all memory that `renew`
+    /// needs. These objects stay as they are.
     ///
-    /// Refused with `FarFault` (21) if one of the stores fails, with `FarFull` (22) if the new one gives out no
-    /// more numbers, and with `NoMemory` (1). It ends at the first object that is refused; what was put before stays in
-    /// the new store.
+    /// It ends at the first object that is refused. What was put before stays in the new store. Refused with:
+    /// - `FarFault` (21) if one of the stores fails;
+    /// - `FarFull` (22) if the new store gives out no more numbers;
+    /// - `NoMemory` (1).
     pub fn renewal<N: FarStore>(
         &self,
         alloc: Global,
@@ -54,9 +55,11 @@ impl<T: Elem, S: FarRead> Objects<T, S> {
 }
 
 impl<T: Elem, S: FarTickets> Objects<T, S> {
-    /// The same objects, whose far copies are those of the renewal from now on. Those that are away have their tickets
-    /// there; the local ones are dirty, since they have no copy there. Every list, what is local, hot or pinned, versions,
-    /// leavings, the order of use and the region stay. Allocates nothing.
+    /// Returns the same objects, whose far copies are those of the renewal from now on. Allocates nothing.
+    ///
+    /// - Objects that are away have their tickets there.
+    /// - Local ones are dirty, since they have no copy there.
+    /// - All else stays: every list, which objects are local, hot or pinned, versions, leavings, the order of use and the region.
     pub fn renew<N: FarTickets>(self, renewal: Renewal<N>) -> Objects<T, N>
         requires { Renews S.content N.content self renewal }
         ensures renewed { result ≡ after_renew self renewal }
@@ -96,7 +99,7 @@ impl<T: Elem, S: FarTickets> Objects<T, S> {
     }
 }
 
-// Puts the content of a ticket into another store. The buffer is space that is used again.
+// Puts the content of a ticket into another store. The buffer's memory is reused.
 fn put_again<S: FarRead, N: FarStore>(
     alloc: Global,
     store: &S,

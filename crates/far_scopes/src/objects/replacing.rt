@@ -18,9 +18,11 @@ impl<T: Elem, S: FarTickets> Objects<T, S> {
     /// Gives an object another list: the new part is placed before the old one is dropped. The object counts as written:
     /// it is dirty, hot and used last, and its version is one more. Its ticket stays.
     ///
-    /// Refused with `Absent` (16) exactly if the object is away, else with `RegionFull` (17) exactly if no segment
-    /// has the space, else with `EditsUsedUp` (24) exactly if it was written as often as objects may be, else with
-    /// `NoMemory` (1) alone; then nothing is changed.
+    /// If it is refused, nothing is changed. Refused with:
+    /// - `Absent` (16) exactly if the object is away;
+    /// - else `RegionFull` (17) exactly if no segment has the space;
+    /// - else `EditsUsedUp` (24) exactly if it was written as often as objects may be;
+    /// - else `NoMemory` (1) alone.
     pub fn replace(&mut self, o: u32, items: &[T]) -> Result<(), Refusal>
         requires some { 0 < length items.now }
         requires within { o < length self.old.records }
@@ -40,11 +42,12 @@ impl<T: Elem, S: FarTickets> Objects<T, S> {
         Ok(())
     }
 
-    /// Whether an object may get another list, of so many elements. Allocates nothing.
+    /// Checks that an object may get another list, of `len` elements. Allocates nothing.
     ///
-    /// Refused as `replace` is, but never for lack of memory: with `Absent` (16) exactly if the object is away, else
-    /// with `RegionFull` (17) exactly if no segment has the space, else with `EditsUsedUp` (24) exactly if it was
-    /// written as often as objects may be.
+    /// Refused as `replace` is, but never with `NoMemory`:
+    /// - `Absent` (16) exactly if the object is away;
+    /// - else `RegionFull` (17) exactly if no segment has the space;
+    /// - else `EditsUsedUp` (24) exactly if it was written as often as objects may be.
     pub fn may_replace(&self, o: u32, len: usize) -> Result<(), Refusal>
         requires { o < length self.now.records }
         ensures { refusal_in result ≡ replace_refusal self.now o len }
@@ -59,15 +62,17 @@ impl<T: Elem, S: FarTickets> Objects<T, S> {
         Ok(())
     }
 
-    /// Gives several objects other lists, all or none: all new parts are placed, in the given order, before an old one is
-    /// dropped. The objects count as written in that order: each is dirty and hot, its version is one more, and the last
-    /// is the one that was used last. Their tickets stay.
+    /// Gives several objects other lists, all or none: all new parts are placed, in the given order, before an old one is dropped.
     ///
-    /// Refused with `Absent` (16) exactly if a listed object is away, naming the first such; else with `RegionFull`
-    /// (17) if the new parts, placed one after the other, do not fit beside all that is there; else with
-    /// `EditsUsedUp` (24) if some listed object was written as often as objects may be; and with `NoMemory` (1) if a
-    /// growth was refused, which may come before it is seen that 17 or 24 applies, but only if the first new part finds
-    /// space. Then nothing is changed.
+    /// The objects count as written in that order: each is dirty and hot, and its version is one more. The last of them is the one used
+    /// last. Their tickets stay.
+    ///
+    /// If it is refused, nothing is changed. Refused with:
+    /// - `Absent` (16), which names the first such object, exactly if a listed object is away;
+    /// - else `RegionFull` (17) if the new parts, placed one after the other, do not fit with all old ones still there;
+    /// - else `EditsUsedUp` (24) if some listed object was written as often as objects may be;
+    /// - `NoMemory` (1) if an allocation failed. This may come before the call finds that 17 or 24 applies, but only if the first new part
+    ///   has space.
     pub fn replace_all(&mut self, lists: &[Replacement<T>]) -> Result<(), Refusal>
         requires some { All (λ r. 0 < length r.list.items) lists.now }
         requires within { All (λ r. r.object < length self.old.records) lists.now }
@@ -90,7 +95,7 @@ impl<T: Elem, S: FarTickets> Objects<T, S> {
         Ok(())
     }
 
-    // Whether listed objects are local; the refusal names the first that is away.
+    // Checks that listed objects are local. The refusal names the first that is away.
     fn all_here(&self, lists: &[Replacement<T>]) -> Result<(), Refusal>
         requires { All (λ r. r.object < length self.now.records) lists.now }
         ensures { refusal_in result ≡ first_absent self.now (map (λ r. r.object) lists.now) }
@@ -104,7 +109,7 @@ impl<T: Elem, S: FarTickets> Objects<T, S> {
         Ok(())
     }
 
-    // Whether listed objects may be written once more.
+    // Checks that listed objects may be written once more.
     fn all_writable(&self, lists: &[Replacement<T>]) -> Result<(), Refusal>
         requires { All (λ r. r.object < length self.now.records) lists.now }
         ensures { refusal_in result ≡ first_of (any_written_out self.now lists.now ∷ []) }
@@ -117,7 +122,7 @@ impl<T: Elem, S: FarTickets> Objects<T, S> {
         Ok(())
     }
 
-    // The listed objects count as written, one after the other.
+    // Marks the listed objects as written, one after the other.
     fn mark_all(&mut self, lists: &[Replacement<T>])
         requires within { All (λ r. r.object < length self.old.records) lists.now }
         requires free { All (λ r. write_refusal self.old r.object ≡ None) lists.now }
@@ -133,7 +138,7 @@ impl<T: Elem, S: FarTickets> Objects<T, S> {
     }
 }
 
-// Notes how long the lists of listed objects are.
+// Records the lengths of the new lists.
 fn set_lens<T, K>(records: &mut [ObjectRecord<K>], lists: &[Replacement<T>])
     requires { All (λ r. r.object < length records.old) lists.now }
     ensures { records.new ≡ with_lens records.old lists.now }

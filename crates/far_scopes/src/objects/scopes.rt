@@ -15,9 +15,10 @@ use std::alloc::Global;
 impl<T: Elem, S: FarTickets> Objects<T, S> {
     /// Pins objects together, one pin for each listing, all or none. The scope must be spent by `close`.
     ///
-    /// Refused with `Absent` (16) exactly if a listed object is away, naming the first such; with `EditsUsedUp` (24)
-    /// exactly if none is and one would get more than 65,535 pins; else with `NoMemory` (1) alone. Then nothing is
-    /// changed.
+    /// If it is refused, nothing is changed. Refused with:
+    /// - `Absent` (16), which names the first such object, exactly if a listed object is away;
+    /// - `EditsUsedUp` (24) exactly if none is away and one would get more than 65,535 pins;
+    /// - else `NoMemory` (1) alone.
     pub fn enter(&mut self, alloc: Global, objects: &[u32]) -> Result<Scope, Refusal>
         requires within { All (λ o. o < length self.old.records) objects.now }
         requires few { length objects.now < 2 ^ 32 }
@@ -41,7 +42,7 @@ impl<T: Elem, S: FarTickets> Objects<T, S> {
         }
     }
 
-    // Whether listed objects are local; the refusal names the first that is away.
+    // Checks that listed objects are local. The refusal names the first that is away.
     fn all_local(&self, objects: &[u32]) -> Result<(), Refusal>
         requires { All (λ o. o < length self.now.records) objects.now }
         ensures { refusal_in result ≡ first_absent self.now objects.now }
@@ -84,7 +85,7 @@ impl<T: Elem, S: FarTickets> Objects<T, S> {
         }
     }
 
-    // Takes a pin back that an object has, and answers whether it had one.
+    // Takes a pin of an object back. Returns whether it had one.
     fn take_pin(&mut self, o: u32) -> bool
         requires { o < length self.old.records }
         ensures taken { IsTrue result → self.new ≡ after_unpin self.old o }
@@ -96,8 +97,8 @@ impl<T: Elem, S: FarTickets> Objects<T, S> {
         self.unpin(o).is_ok()
     }
 
-    /// Takes back one pin for each listing of an object in a scope, where there is one, and answers how many that were.
-    /// Allocates nothing.
+    /// Takes back one pin for each listing of an object in a scope, if the object has one. Returns how many it took back. Allocates
+    /// nothing.
     pub fn close(&mut self, scope: Scope) -> u32
         requires { All (λ o. o < length self.old.records) scope }
         ensures closed { self.new ≡ (after_close self.old scope).0 }

@@ -18,7 +18,7 @@ use std::io::Read;
 const CHUNK: usize = 65_536;
 
 impl<R: Read + Drop> Input<R> {
-    /// A script of which nothing was read yet. Where memory is refused, the fault is `Memory`.
+    /// Returns a script of which nothing was read yet. If memory runs out, the fault is `Memory`.
     pub fn new(alloc: Global, reader: R) -> Result<Input<R>, ShellFault>
         ensures reader { IfOk result (λ input. input.source.reader ≡ reader) }
         ensures bytes { IfOk result (λ input. input.source.bytes ≡ 16777216) }
@@ -38,14 +38,14 @@ impl<R: Read + Drop> Input<R> {
         })
     }
 
-    /// How many reads are left.
+    /// Returns how many reads are left.
     pub fn reads_left(&self) -> u32
         ensures { result ≡ self.now.source.reads }
     {
         self.source.reads
     }
 
-    /// How many bytes are left.
+    /// Returns how many bytes are left.
     pub fn bytes_left(&self) -> u32
         ensures { result ≡ self.now.source.bytes }
     {
@@ -64,8 +64,7 @@ impl<R: Read + Drop> Input<R> {
 }
 
 impl<R: Source + Drop> Input<R> {
-    /// Reads once, and says whether bytes came. They stop at the end of the script alone. Nothing waits to be written
-    /// then.
+    /// Reads once, and returns whether bytes came. They stop at the end of the script alone. All replies were written before.
     pub fn read_more(&mut self, gathered: &Page) -> Result<bool, ShellFault>
         requires flushed { gathered.now ≡ [] }
         ensures read { OnOk result (Reads R.Read self.old [] self.new) }
@@ -93,7 +92,7 @@ impl<R: Source + Drop> Input<R> {
 }
 
 impl<R: Read + Drop> Input<R> {
-    /// Where the first line ends that is whole in the buffer.
+    /// Returns where the first line ends that is whole in the buffer.
     pub fn line_end(&mut self) -> Option<usize>
         ensures end { IfSome result (λ end. (self.new.start ≤ end) × (end < length self.new.held) × (slice_index self.new.held end ≡ 10) × (list_any (λ c. c == 10) (slice_range self.new.held self.new.start end) ≡ false)) }
         ensures none { IfNone result (list_any (λ c. c == 10) (unread R.Read self.new) ≡ false) }
@@ -114,7 +113,7 @@ impl<R: Read + Drop> Input<R> {
     }
 }
 
-/// Whether all bytes are known to be ASCII when these have come behind those that are held.
+/// Returns whether all bytes are known to be ASCII when these have come behind those that are held.
 fn stay_ascii(is_ascii: bool, held: &Page, came: &[u8]) -> bool
     requires { is_ascii ≡ true → IsAscii held.now }
     ensures before { result ≡ true → IsAscii held.now }
@@ -126,7 +125,7 @@ fn stay_ascii(is_ascii: bool, held: &Page, came: &[u8]) -> bool
     came.is_ascii()
 }
 
-/// The place of the first line feed, where there is none before `from`.
+/// Returns the place of the first line feed. There is none before `from`.
 fn line_feed(bytes: &[u8], from: usize) -> Option<usize>
     requires within { from ≤ length bytes.now }
     requires none { list_any (λ c. c == 10) (take from bytes.now) ≡ false }

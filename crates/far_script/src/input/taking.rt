@@ -14,11 +14,11 @@ use crate::source::Source;
 use std::io::Write;
 use std::str;
 
-/// More turns than reads are made for a script: each turn but the last makes one.
+/// One turn more than the reads of a script: each turn but the last makes one.
 const MORE_THAN_READS: u32 = MAX_READS + 1;
 
 impl ByteRange {
-    /// Whether there is no byte.
+    /// Returns whether there is no byte.
     pub fn is_empty(self) -> bool
         ensures { IsTrue result ↔ (self.to ≤ self.from) }
     {
@@ -26,7 +26,7 @@ impl ByteRange {
     }
 }
 
-/// How long a line is without the carriage return at its end.
+/// Returns how long a line is without the carriage return at its end.
 fn line_len(line: &[u8]) -> usize
     ensures within { result ≤ length line.now }
     ensures line { take result line.now ≡ strip_last 13 line.now }
@@ -40,7 +40,7 @@ fn line_len(line: &[u8]) -> usize
 }
 
 impl<R: Source + Drop> Input<R> {
-    /// Reads until a whole line is at hand, and says where it ends; `None` at the end of the script. Replies are written
+    /// Reads until a whole line is at hand, and returns where it ends; `None` at the end of the script. Replies are written
     /// before the reader is asked.
     fn seek_line<W: Write>(
         &mut self,
@@ -85,7 +85,7 @@ impl<R: Source + Drop> Input<R> {
         ByteRange { from, to: end }
     }
 
-    /// Takes the next line, whose end is a line feed and a carriage return directly before it, if there is one.
+    /// Takes the next line. Its end is a line feed, and a carriage return directly before that, if there is one.
     pub fn line<W: Write>(
         &mut self,
         output: &mut Output,
@@ -113,7 +113,7 @@ impl<R: Source + Drop> Input<R> {
         }))
     }
 
-    /// Takes the next bytes, as many as asked. Where the script ends before them, or no more of it comes, the fault is `Input`.
+    /// Takes the next bytes, as many as asked. If the script ends before them, or no more of it comes, the fault is `Input`.
     pub fn bytes<W: Write>(
         &mut self,
         output: &mut Output,
@@ -141,7 +141,7 @@ impl<R: Source + Drop> Input<R> {
         Err(ShellFault::Input)
     }
 
-    /// The text of a line or of a load that was just taken. Where it is no UTF-8, the fault is `Input`.
+    /// Returns the text of a line or of a load that was just taken. If it is no UTF-8, the fault is `Input`.
     pub fn text(&self, byte_range: ByteRange) -> Result<&str, ShellFault>
         requires { Holds R.Read self.now byte_range }
         ensures ok { IfOk result (λ text. (text.now ≡ bytes_in R.Read self.now byte_range) × IsUtf8 text.now) }

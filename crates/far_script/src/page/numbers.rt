@@ -9,10 +9,10 @@ use itoa::{Buffer, write_digits};
 /// The most digits of a number of 64 bits.
 const DIGITS: usize = 20;
 
-/// Numbers below have at most eight digits, which can be counted with no division but one.
+/// Smaller numbers have at most eight digits, which can be counted with only one division.
 const MIDDLING: u64 = 100_000_000;
 
-/// How many digits a number of at most four has.
+/// Returns how many digits a number of at most four digits has.
 #[inline(always)]
 fn short_count(number: u64) -> usize
     requires { number < 10000 }
@@ -25,7 +25,7 @@ fn short_count(number: u64) -> usize
     if number < 1000 { 3 } else { 4 }
 }
 
-/// How many digits a number of at most eight has.
+/// Returns how many digits a number of at most eight digits has.
 #[inline(always)]
 fn digit_count(number: u64) -> usize
     requires { number < 100000000 }
@@ -51,8 +51,8 @@ impl Page {
         self.long_number(number)
     }
 
-    /// The same of a number of at most eight digits. They are counted first, and written where they stay: who copies bytes
-    /// that were just written by twos waits for them.
+    /// Does the same for a number of at most eight digits. They are counted first, and written in place. Copying bytes that
+    /// were just written in pairs would have to wait for them.
     #[inline(always)]
     fn middling_number(&mut self, number: u64) -> Result<(), Refusal>
         requires { number < 100000000 }
@@ -67,7 +67,7 @@ impl Page {
         Ok(())
     }
 
-    /// The same of any number. It is a function of its own, since long numbers are seldom.
+    /// Does the same for any number. It is a function of its own, since long numbers are rare.
     #[inline(never)]
     fn long_number(&mut self, number: u64) -> Result<(), Refusal>
         ensures ok { OnOk result (self.new ≡ self.old ++ decimal number) }
@@ -75,14 +75,15 @@ impl Page {
     {
         let mut buffer = [0u8; 40];
         let start = write_digits(number, &mut buffer, DIGITS);
-        // As many bytes are copied at all times, so that no call has to look how many. Those behind the digits go again.
+        // The number of bytes copied is always the same, so that no call has to compute it. Those behind the digits are
+        // removed.
         self.bytes(&buffer[start..start + DIGITS])?;
         let len = self.len() - start;
         self.truncate(len);
         Ok(())
     }
 
-    /// Adds a number in decimal digits, with a minus where it is below 0. Refused with `NoMemory` (1) alone.
+    /// Adds a number in decimal digits, with a minus if it is below 0. Refused with `NoMemory` (1) alone.
     pub fn signed(&mut self, number: i64) -> Result<(), Refusal>
         ensures ok { OnOk result (self.new ≡ self.old ++ signed_decimal number) }
         ensures memory { IfErr result (λ e. e ≡ Refusal.NoMemory) }
@@ -94,7 +95,7 @@ impl Page {
         self.number(number.unsigned_abs())
     }
 
-    /// The same of a wide number. Refused with `NoMemory` (1) alone.
+    /// Does the same for a wide number. Refused with `NoMemory` (1) alone.
     #[inline(always)]
     pub fn wide(&mut self, number: i128) -> Result<(), Refusal>
         ensures ok { OnOk result (self.new ≡ self.old ++ signed_decimal number) }
@@ -106,8 +107,8 @@ impl Page {
         }
     }
 
-    /// The same of a number of more than 64 bits, which are seldom. It is a function of its own, since its digits have a large frame, which
-    /// each call would pay for.
+    /// Does the same for a number of more than 64 bits, which are rare. It is a function of its own: its digits have a large
+    /// stack frame, and each call would have to make it.
     #[inline(never)]
     fn very_wide(&mut self, number: i128) -> Result<(), Refusal>
         ensures ok { OnOk result (self.new ≡ self.old ++ signed_decimal number) }

@@ -17,15 +17,15 @@ use far_store::FarTickets;
 use far_types::Refusal;
 
 impl<S: FarTickets> LiveTable<S> {
-    /// Whether `scan_group` would build a row group into the aggregate of a number, out of memory aside: the row group is still
-    /// pending, and the columns that the aggregate needs are local. Allocates nothing.
+    /// Returns whether `scan_group` would build a row group into the aggregate of a number, out of memory aside. If so, the row
+    /// group is still pending, and the columns that the aggregate needs are local. Allocates nothing.
     pub fn may_scan(&self, a: u32, group: u32) -> bool
         ensures { result ≡ is_none (scan_refusal self.now (aggregate_at self.now.table a) group) }
     {
         self.scan_due(a, group).is_ok()
     }
 
-    // Why a row group may not be scanned.
+    // Returns why a row group may not be scanned.
     fn scan_due(&self, a: u32, group: u32) -> Result<(), Refusal>
         ensures { refusal_in result ≡ scan_refusal self.now (aggregate_at self.now.table a) group }
     {
@@ -44,10 +44,14 @@ impl<S: FarTickets> LiveTable<S> {
         self.rows.may_scan(spec, group)
     }
 
-    /// Whether `begin_offload` would begin, out of memory aside. Allocates nothing.
+    /// Checks that `begin_offload` would begin, out of memory aside. Allocates nothing.
     ///
-    /// Refused with `NoAggregate` (12); `OutOfRange` (14) if the row group has no place; `StaleJob` (20) if it is scanned already, or
-    /// the object of a column that the aggregate needs is dirty: the first of these that applies. A clean object may be local or away.
+    /// Refused with the first of these that applies:
+    ///
+    /// - `NoAggregate` (12): there is no such aggregate.
+    /// - `OutOfRange` (14): the row group has no place.
+    /// - `StaleJob` (20): it is scanned already, or the object of a column that the aggregate needs is dirty. A clean object
+    ///   may be local or away.
     pub fn may_offload(&self, a: u32, group: u32) -> Result<(), Refusal>
         ensures { refusal_in result ≡ offload_refusal self.now (aggregate_at self.now.table a) group }
     {
@@ -63,9 +67,11 @@ impl<S: FarTickets> LiveTable<S> {
         are_copied(self.rows.held(), spec, group)
     }
 
-    /// Begins to build a row group into the aggregate of a number from the far store's copies of its columns. The table stays as it is.
+    /// Begins to build a row group into the aggregate of a number from the far store's copies of its columns. The table stays
+    /// the same.
     ///
-    /// Refused as `may_offload` is, with `NoAggregate` (12), `OutOfRange` (14) or `StaleJob` (20); else with `NoMemory` (1) alone.
+    /// Refused as `may_offload` is, with `NoAggregate` (12), `OutOfRange` (14) or `StaleJob` (20); else with `NoMemory` (1)
+    /// alone.
     pub fn begin_offload(&self, store: &S, a: u32, group: u32) -> Result<OffloadBuild<S>, Refusal>
         requires here { AreAt S.is_of (S.store_id store.now) self.now.rows }
         ensures begun { IfOk result (IsOffloadBegun self.now a group) }
@@ -96,10 +102,18 @@ impl<S: FarTickets> LiveTable<S> {
 
     /// Builds the row group of a carried build into its aggregate, from the contents that were read. Each row and object stays.
     ///
-    /// Refused with `NoAggregate` (12) exactly if the build's aggregate is not registered; else with `StaleJob` (20) exactly if what
-    /// the build rests on does not hold any more (`IsMergeable`); else with `NoMemory` (1) alone. Then nothing is changed. The build
-    /// rests on this: the table, the registration and its specification are the same; the row group is still pending; the object
-    /// of each column that is needed is clean, under a ticket of the same number; the alive flags are the same.
+    /// Refused with the first of these that applies:
+    ///
+    /// - `NoAggregate` (12): the build's aggregate is not registered.
+    /// - `StaleJob` (20): what the build rests on holds no more (`IsMergeable`).
+    /// - `NoMemory` (1): an allocation fails.
+    ///
+    /// A refused call changes nothing. The build rests on this:
+    ///
+    /// - The table, the registration and its specification are the same.
+    /// - The row group is still pending.
+    /// - The object of each column that is needed is clean, under a ticket of the same number.
+    /// - The alive flags are the same.
     pub fn merge(&mut self, store: &S, carried: &OffloadCarried<S>) -> Result<(), Refusal>
         requires here { AreAt S.is_of (S.store_id store.now) self.old.rows }
         requires carried_here { AreTicketsOf S.is_of (S.store_id store.now) carried.now.job.tickets }
@@ -130,7 +144,7 @@ impl<S: FarTickets> LiveTable<S> {
         )
     }
 
-    // Whether what a build rests on holds still. Then its contents are those of the row group.
+    // Returns whether what a build rests on still holds. Then its contents are those of the row group.
     fn holds_still(&self, store: &S, build: &OffloadBuild<S>) -> bool
         requires here { AreAt S.is_of (S.store_id store.now) self.now.rows }
         requires build_here { AreTicketsOf S.is_of (S.store_id store.now) build.now.job.tickets }

@@ -12,12 +12,15 @@ use far_store::FarTickets;
 use far_types::{Answer, Refusal, Spec};
 
 impl<S: FarTickets> LiveTable<S> {
-    /// Registers an aggregate under the lowest free number of 0 to 31; all row groups that have a place are still
-    /// pending.
+    /// Registers an aggregate under the lowest free number of 0 to 31. All row groups that have a place are pending in it.
     ///
-    /// Refused with `BadSpec` (3), `NoColumn` (4) or `WrongKind` (5) if the aggregate cannot be had over the schema, else
-    /// with `TooManyAggregates` (13) if 32 are registered or 2^32 were, else with `NoMemory` (1) alone; then nothing is
-    /// changed.
+    /// Refused with the first of these that applies:
+    ///
+    /// - `BadSpec` (3), `NoColumn` (4) or `WrongKind` (5): the aggregate cannot be had over the schema.
+    /// - `TooManyAggregates` (13): 32 are registered, or 2^32 were.
+    /// - `NoMemory` (1): an allocation fails.
+    ///
+    /// A refused call changes nothing.
     pub fn watch(&mut self, spec: Spec) -> Result<u32, Refusal>
         ensures ok { IfOk result (IsWatched self.old self.new spec) }
         ensures err { IfErr result (λ e. Refuses (watch_refusal self.old.table spec) true self.old e self.new) }
@@ -39,7 +42,7 @@ impl<S: FarTickets> LiveTable<S> {
 
     /// Forgets the aggregate of a number. Allocates nothing.
     ///
-    /// Refused with `NoAggregate` (12) exactly if there is none; then nothing is changed.
+    /// Refused with `NoAggregate` (12) exactly if there is none. A refused call changes nothing.
     pub fn unwatch(&mut self, a: u32) -> Result<(), Refusal>
         ensures ok { OnOk result (IsUnwatched self.old self.new a) }
         ensures err { IfErr result (λ e. Refuses (unwatch_refusal (aggregate_at self.old.table a)) false self.old e self.new) }
@@ -51,11 +54,18 @@ impl<S: FarTickets> LiveTable<S> {
         Ok(())
     }
 
-    /// Builds the rows of a row group into the aggregate of a number.
+    /// Scans the rows of a row group into the aggregate of a number.
     ///
-    /// Refused with `NoAggregate` (12); `OutOfRange` (14) if the row group has no place; `StaleJob` (20) if it is built
-    /// in already; `Absent` (16) if the object of a column that the aggregate needs is away, naming the first in the order
-    /// of the columns: the first of these that applies. Else with `NoMemory` (1) alone. Then nothing is changed.
+    /// Refused with the first of these that applies:
+    ///
+    /// - `NoAggregate` (12): there is no such aggregate.
+    /// - `OutOfRange` (14): the row group has no place.
+    /// - `StaleJob` (20): it is scanned already.
+    /// - `Absent` (16): the object of a column that the aggregate needs is away. It names the first in the order of the
+    ///   columns.
+    /// - `NoMemory` (1): an allocation fails.
+    ///
+    /// A refused call changes nothing.
     pub fn scan_group(&mut self, a: u32, group: u32) -> Result<(), Refusal>
         ensures ok { OnOk result (IsScanned self.old self.new a group) }
         ensures err { IfErr result (λ e. Refuses (scan_refusal self.old (aggregate_at self.old.table a) group) true self.old e self.new) }
@@ -79,10 +89,13 @@ impl<S: FarTickets> LiveTable<S> {
             .build_at(self.alloc, a, &self.rows.group(group), size, group)
     }
 
-    /// What the aggregate of a number answers over the rows as they are, whichever objects are away.
+    /// Returns the answer of the aggregate of a number over the rows as they are, whichever objects are away.
     ///
-    /// Refused with `NoAggregate` (12), or with `Building` (15) and how many row groups are left where that is not 0, else with
-    /// `NoMemory` (1) alone.
+    /// Refused with the first of these that applies:
+    ///
+    /// - `NoAggregate` (12): there is no such aggregate.
+    /// - `Building` (15): row groups are pending. It says how many.
+    /// - `NoMemory` (1): an allocation fails.
     pub fn ask(&self, a: u32) -> Result<Answer, Refusal>
         ensures ok { IfOk result (Answers self.now.table.places (aggregate_at self.now.table a)) }
         ensures err { IfErr result (λ e. Refuses (ask_refusal (aggregate_at self.now.table a)) true self.now e self.now) }
@@ -91,14 +104,14 @@ impl<S: FarTickets> LiveTable<S> {
         self.aggregates.answer(self.alloc, a)
     }
 
-    /// The specification of the aggregate of a number, or `None` if there is none. Allocates nothing.
+    /// Returns the specification of the aggregate of a number, or `None` if there is none. Allocates nothing.
     pub fn spec(&self, a: u32) -> Option<&Spec>
         ensures { option_copied result ≡ option_map (λ aggregate. aggregate.spec) (aggregate_at self.now.table a) }
     {
         self.aggregates.spec(a)
     }
 
-    /// An aggregate and a row group that is still pending in it, or `None` if there is none. Allocates nothing.
+    /// Returns an aggregate and a row group that is still pending in it, or `None` if there is none. Allocates nothing.
     pub fn unbuilt(&self) -> Option<(u32, u32)>
         ensures some { IfSome result (λ at. is_pending_in (aggregate_at self.now.table at.0) at.1 ≡ true) }
         ensures none { IfNone result ((a : ℕ) → (g : ℕ) → is_pending_in (aggregate_at self.now.table a) g ≡ false) }
@@ -106,8 +119,8 @@ impl<S: FarTickets> LiveTable<S> {
         self.aggregates.first_pending()
     }
 
-    /// How many rows an aggregate of totals without key column folds, and the sum of their values: `None` if there is no
-    /// such aggregate, and where row groups are still pending. Allocates nothing.
+    /// Returns how many rows an aggregate of totals without key column folds, and the sum of their values. `None` if there is
+    /// no such aggregate, or row groups are still pending. Allocates nothing.
     pub fn plain(&self, a: u32) -> Option<(u64, i128)>
         ensures { result ≡ plain_in self.now.table.places (aggregate_at self.now.table a) }
     {

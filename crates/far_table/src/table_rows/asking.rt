@@ -1,4 +1,4 @@
-// Whether an edit may be made.
+// Checks whether an edit may be made.
 ghost use Rattle.std.specs.Prelude.{◌≡◌, ◌==◌, ◌<◌, ◌*◌, ◌∷◌, [], length, Some, option_map, slice_get, OnOk, IfOk};
 ghost use Rattle.far_types.specs.declared.edit.Edit.TheVariants as edit;
 ghost use Rattle.far_types.specs.FirstOf.{first_of};
@@ -16,19 +16,21 @@ use far_store::FarTickets;
 use far_types::{Cell, LentRow, Refusal, Row, Spec};
 
 impl<S: FarTickets> TableRows<S> {
-    /// Takes a row, if it may be appended. Allocates nothing.
+    /// Takes a row, if it may be appended. Allocates nothing. After `Ok`, `push` can be refused with `NoMemory` (1) alone.
     ///
-    /// Refused with `WrongKind` (5), `RowWidth` (6), `TextTooLong` (7), `TableFull` (10); `Absent` (16) if the last row group
-    /// is begun and an object of it is away, naming the first in the order of the columns; `ChunkFull` (11), `RegionFull`
-    /// (17) and `EditsUsedUp` (24): the first of these that applies. Where it is not refused, `push` can be refused with
-    /// `NoMemory` (1) alone.
+    /// Refused with the first of these that applies:
+    ///
+    /// - `WrongKind` (5), `RowWidth` (6), `TextTooLong` (7), `TableFull` (10)
+    /// - `Absent` (16): the last row group is begun, and an object of it is away. It names the first in the order of the
+    ///   columns.
+    /// - `ChunkFull` (11), `RegionFull` (17), `EditsUsedUp` (24)
     pub fn may_insert(&mut self, row: Row) -> Result<(), Refusal>
         ensures refused { refusal_in result ≡ edit_due (asked self.old) (edit.Insert row) }
         ensures taken { OnOk result (row_of self.new.held.column_indexes self.new.new_row ≡ row) }
         ensures free { OnOk result (MayPush S.content self.new) }
         ensures stays { self.new ≡ record self.old { new_row = self.new.new_row } }
     {
-        // They tell what the rows are, and that the row's numbers are those of 64 bits.
+        // For the proof: what the rows are, and that the row's numbers are those of 64 bits.
         let len = self.rows.len();
         let _cells = row.as_slice();
         row_faults(&self.schema, &self.limits, len, &row)?;
@@ -37,19 +39,21 @@ impl<S: FarTickets> TableRows<S> {
         self.may_count()
     }
 
-    /// Cells that are needed no more: a row to come may be made in their memory. Allocates nothing.
+    /// Returns cells that are no longer needed: a later row may be made in their memory. Allocates nothing.
     pub fn spare_cells(&mut self) -> Vec<Cell>
         ensures { self.new ≡ self.old }
     {
         self.new_row.spare_cells()
     }
 
-    /// Whether a cell may be put in a column of a place, and the value that it is there. Allocates nothing.
+    /// Checks that a cell may be put in a column of a place, and returns it as a value of that column. Allocates nothing. After
+    /// `Ok`, `set` can be refused with `NoMemory` (1) alone.
     ///
-    /// Refused with `NoColumn` (4), `WrongKind` (5), `TextTooLong` (7), `NoRow` (8), `RemovedRow` (9); `Absent` (16) if an
-    /// object of the place's row group is away, naming the first in the order of the columns; `ChunkFull` (11), `RegionFull`
-    /// (17) and `EditsUsedUp` (24): the first of these that applies. Where it is not refused, `set` can be refused with
-    /// `NoMemory` (1) alone.
+    /// Refused with the first of these that applies:
+    ///
+    /// - `NoColumn` (4), `WrongKind` (5), `TextTooLong` (7), `NoRow` (8), `RemovedRow` (9)
+    /// - `Absent` (16): an object of the place's row group is away. It names the first in the order of the columns.
+    /// - `ChunkFull` (11), `RegionFull` (17), `EditsUsedUp` (24)
     pub fn may_set(&self, column: u32, place: u32, cell: Cell) -> Result<NewCell, Refusal>
         ensures refused { refusal_in result ≡ edit_due (asked self.now) (edit.Set place column cell) }
         ensures cell { IfOk result (λ value. cell_of value ≡ cell) }
@@ -67,10 +71,13 @@ impl<S: FarTickets> TableRows<S> {
         Ok(value)
     }
 
-    /// Whether a place may be removed, and its row, lent in place. Allocates nothing.
+    /// Checks that a place may be removed, and returns its row, borrowed. Allocates nothing.
     ///
-    /// Refused with `NoRow` (8), `RemovedRow` (9); `Absent` (16) if an object of the place's row group is away, naming the
-    /// first in the order of the columns; and `EditsUsedUp` (24): the first of these that applies.
+    /// Refused with the first of these that applies:
+    ///
+    /// - `NoRow` (8), `RemovedRow` (9)
+    /// - `Absent` (16): an object of the place's row group is away. It names the first in the order of the columns.
+    /// - `EditsUsedUp` (24)
     pub fn may_remove(&self, place: u32) -> Result<LentRow<'_>, Refusal>
         ensures refused { refusal_in result ≡ edit_due (asked self.now) (edit.Remove place) }
         ensures row { IfOk result (λ row. option_map (λ p. p.cells) (slice_get self.now.places place) ≡ Some row) }
@@ -83,9 +90,9 @@ impl<S: FarTickets> TableRows<S> {
         Ok(row)
     }
 
-    /// Whether the columns that an aggregate needs are local in a row group, which has a place. Allocates nothing.
+    /// Checks that the columns that an aggregate needs are local in a row group, which has a place. Allocates nothing.
     ///
-    /// Refused with `Absent` (16) exactly if one is away, naming the first in the order of the columns.
+    /// Refused with `Absent` (16) exactly if one is away. It names the first in the order of the columns.
     pub fn may_scan(&self, spec: &Spec, group: u32) -> Result<(), Refusal>
         requires { group * self.now.limits.group < length self.now.places }
         ensures { refusal_in result ≡ first_of (needed_from self.now.held spec.now group 0 self.now.held.column_indexes) }
@@ -100,7 +107,7 @@ impl<S: FarTickets> TableRows<S> {
         Ok(())
     }
 
-    // Whether one more edit is counted.
+    // Checks that one more edit can be counted.
     fn may_count(&self) -> Result<(), Refusal>
         ensures { refusal_in result ≡ first_of ((self.now.edits == self.now.limits.edits, Refusal.EditsUsedUp) ∷ []) }
     {

@@ -1,4 +1,4 @@
-// Objects that go away, come back and are pinned; the places stay.
+// Objects that are evacuated, fetched and pinned; the places stay.
 ghost use Rattle.std.specs.Prelude.{◌≡◌, ◌≢◌, ◌↔◌, ◌⊎◌, ◌<◌, ◌≤◌, ℕ, List, true, None, Some, option_map, OnOk, OnErr, IfOk, IfErr, IfSome, IsErrOf};
 ghost use Rattle.far_types.specs.MayRefuse.{MayRefuse};
 ghost use Rattle.far_scopes.specs.Coldest.{coldest as coldest_in};
@@ -16,10 +16,14 @@ use far_types::{Kind, Name, Refusal};
 use std::alloc::Global;
 
 impl<S: FarTickets> TableRows<S> {
-    /// Begins to send the object of a row group of a column away. Nothing is changed.
+    /// Begins to send the object of a row group of a column away. Changes nothing.
     ///
-    /// Refused with `NoColumn` (4) exactly if there is no such column; else with `OutOfRange` (14) exactly if no place
-    /// of the row group is used; else with `Absent` (16) exactly if the object is away; else with `NoMemory` (1) alone.
+    /// Refused with the first of these that applies:
+    ///
+    /// - `NoColumn` (4): there is no such column.
+    /// - `OutOfRange` (14): no place of the row group is used.
+    /// - `Absent` (16): the object is away.
+    /// - `NoMemory` (1): an allocation fails.
     pub fn begin_evac(
         &self,
         alloc: Global,
@@ -36,10 +40,13 @@ impl<S: FarTickets> TableRows<S> {
         self.rows.begin_evac(alloc, store, column as usize, group)
     }
 
-    /// Begins to bring the object of a row group of a column back. Nothing is changed. Allocates nothing.
+    /// Begins to bring the object of a row group of a column back. Changes and allocates nothing.
     ///
-    /// Refused with `NoColumn` (4) exactly if there is no such column; else with `OutOfRange` (14) exactly if no place
-    /// of the row group is used; else with `StaleJob` (20) exactly if the object is local.
+    /// Refused with the first of these that applies:
+    ///
+    /// - `NoColumn` (4): there is no such column.
+    /// - `OutOfRange` (14): no place of the row group is used.
+    /// - `StaleJob` (20): the object is local.
     pub fn begin_fetch(&self, store: &S, column: u32, group: u32) -> Result<RowsFetch<S>, Refusal>
         requires here { AreAt S.is_of (S.store_id store.now) self.now.held }
         ensures begun { IfOk result (IsFetchBegun self.now.held column group) }
@@ -51,8 +58,12 @@ impl<S: FarTickets> TableRows<S> {
 
     /// Sends the object of a carried evacuation away; its places stay. Allocates nothing.
     ///
-    /// Refused with `StaleJob` (20) exactly if what it rests on does not hold any more (`IsEvacAccepted`), else with
-    /// `Pinned` (19) exactly if the object has a pin. Then nothing is changed.
+    /// Refused with the first of these that applies:
+    ///
+    /// - `StaleJob` (20): what it rests on holds no more (`IsEvacAccepted`).
+    /// - `Pinned` (19): the object has a pin.
+    ///
+    /// A refused call changes nothing.
     pub fn commit(&mut self, store: &S, carried: &RowsCarried<S>) -> Result<(), Refusal>
         requires here { AreAt S.is_of (S.store_id store.now) self.old.held }
         requires carried_here { S.is_of (of_either carried.now).ticket (S.store_id store.now) }
@@ -68,8 +79,13 @@ impl<S: FarTickets> TableRows<S> {
 
     /// Brings the object of a carried fetch back; its places stay.
     ///
-    /// Refused with `StaleJob` (20) exactly if what it rests on does not hold any more (`IsFetchAccepted`), else with
-    /// `RegionFull` (17) exactly if no segment has the space, else with `NoMemory` (1) alone. Then nothing is changed.
+    /// Refused with the first of these that applies:
+    ///
+    /// - `StaleJob` (20): what it rests on holds no more (`IsFetchAccepted`).
+    /// - `RegionFull` (17): no segment has the space.
+    /// - `NoMemory` (1): an allocation fails.
+    ///
+    /// A refused call changes nothing.
     pub fn install(
         &mut self,
         alloc: Global,
@@ -90,9 +106,14 @@ impl<S: FarTickets> TableRows<S> {
 
     /// Pins the object of a row group of a column once more. Allocates nothing.
     ///
-    /// Refused with `NoColumn` (4) exactly if there is no such column; else with `OutOfRange` (14) exactly if no place
-    /// of the row group is used; else with `Absent` (16) exactly if the object is away; else with `EditsUsedUp` (24)
-    /// exactly if it has 65,535 pins. Then nothing is changed.
+    /// Refused with the first of these that applies:
+    ///
+    /// - `NoColumn` (4): there is no such column.
+    /// - `OutOfRange` (14): no place of the row group is used.
+    /// - `Absent` (16): the object is away.
+    /// - `EditsUsedUp` (24): it has 65,535 pins.
+    ///
+    /// A refused call changes nothing.
     pub fn pin(&mut self, column: u32, group: u32) -> Result<(), Refusal>
         ensures pinned { OnOk result (AreMoved (IsPinned column group) self.old self.new) }
         ensures here { (id : List ℕ) → AreAt S.is_of id self.old.held → AreAt S.is_of id self.new.held }
@@ -104,8 +125,13 @@ impl<S: FarTickets> TableRows<S> {
 
     /// Pins the object of a row group of a column once less. Allocates nothing.
     ///
-    /// Refused with `NoColumn` (4) exactly if there is no such column; else with `OutOfRange` (14) exactly if no place
-    /// of the row group is used; else with `NotPinned` (18) exactly if the object has no pin. Then nothing is changed.
+    /// Refused with the first of these that applies:
+    ///
+    /// - `NoColumn` (4): there is no such column.
+    /// - `OutOfRange` (14): no place of the row group is used.
+    /// - `NotPinned` (18): the object has no pin.
+    ///
+    /// A refused call changes nothing.
     pub fn unpin(&mut self, column: u32, group: u32) -> Result<(), Refusal>
         ensures unpinned { OnOk result (AreMoved (IsUnpinned column group) self.old self.new) }
         ensures here { (id : List ℕ) → AreAt S.is_of id self.old.held → AreAt S.is_of id self.new.held }
@@ -115,10 +141,15 @@ impl<S: FarTickets> TableRows<S> {
         self.rows.unpin(column as usize, group)
     }
 
-    /// Uses the object of a row group of a column: it is hot and used last, if it is local. Allocates nothing.
+    /// Marks the object of a row group of a column as recently used, if it is resident: it is hot and used last. Allocates
+    /// nothing.
     ///
-    /// Refused with `NoColumn` (4) exactly if there is no such column, else with `OutOfRange` (14) exactly if no place
-    /// of the row group is used; then nothing is changed.
+    /// Refused with the first of these that applies:
+    ///
+    /// - `NoColumn` (4): there is no such column.
+    /// - `OutOfRange` (14): no place of the row group is used.
+    ///
+    /// A refused call changes nothing.
     pub fn touch(&mut self, column: u32, group: u32) -> Result<(), Refusal>
         ensures touched { OnOk result (AreMoved (IsTouched column group) self.old self.new) }
         ensures here { (id : List ℕ) → AreAt S.is_of id self.old.held → AreAt S.is_of id self.new.held }
@@ -128,9 +159,9 @@ impl<S: FarTickets> TableRows<S> {
         self.rows.touch(column as usize, group)
     }
 
-    /// The object that goes away first, by its name: the coldest of the kind whose local memory has less space in proportion
-    /// to its capacity, of numbers where both have as much; where that kind has none, the coldest of the other kind. `None`
-    /// exactly if neither kind has one. Allocates nothing.
+    /// Returns the name of the object that goes away first. It is the coldest of the kind whose local memory has less space in
+    /// proportion to its capacity. If both have as much, that kind is numbers. If that kind has no such object, it is the
+    /// coldest of the other. `None` exactly if neither kind has one. Allocates nothing.
     ///
     /// The object is local and has no pin.
     pub fn coldest(&self) -> Option<Name>
@@ -142,11 +173,16 @@ impl<S: FarTickets> TableRows<S> {
         self.rows.coldest()
     }
 
-    /// Compacts a segment of the objects of a kind: its parts lie in the lowest other segment without parts from then on, one
-    /// behind the other, those of hot objects first, and none of their objects is hot.
+    /// Compacts a segment of the objects of a kind. Its parts then lie in the lowest other segment without parts, one behind
+    /// the other, those of hot objects first. None of their objects is hot afterwards.
     ///
-    /// Refused with `OutOfRange` (14) exactly if there is no such segment, with `RegionFull` (17) exactly if there is
-    /// one and no other is without parts, else with `NoMemory` (1) alone. Then nothing is changed.
+    /// Refused with the first of these that applies:
+    ///
+    /// - `OutOfRange` (14): there is no such segment.
+    /// - `RegionFull` (17): no other segment is without parts.
+    /// - `NoMemory` (1): an allocation fails.
+    ///
+    /// A refused call changes nothing.
     pub fn compact(&mut self, alloc: Global, kind: Kind, segment: u32) -> Result<(), Refusal>
         ensures compacted { OnOk result (AreMoved (IsCompactedOf kind segment) self.old self.new) }
         ensures here { (id : List ℕ) → AreAt S.is_of id self.old.held → AreAt S.is_of id self.new.held }

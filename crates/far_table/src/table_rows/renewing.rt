@@ -12,12 +12,14 @@ use far_types::Refusal;
 use std::alloc::Global;
 
 impl<S: FarRead> TableRows<S> {
-    /// Puts the content of each object that is away into another store, those of numbers before those of texts, each by ascending
-    /// object number, and makes all space that `renew` needs. The rows stay as they are.
+    /// Puts the content of each object that is away into another store. Those of numbers come before those of texts, each by
+    /// ascending object number. Allocates all that `renew` needs. The rows stay the same.
     ///
-    /// Refused with `FarFault` (21) if one of the stores fails, exactly if the meter rises, by one; with `FarFull` (22) where
-    /// the new one gives out no more numbers; and with `NoMemory` (1). It ends at the first object that is refused; what was put
-    /// before stays in the new store.
+    /// It ends at the first object that is refused. What was put before stays in the new store. Refused with one of these:
+    ///
+    /// - `FarFault` (21): one of the stores fails, exactly if the meter rises, by one.
+    /// - `FarFull` (22): the new store gives out no more numbers.
+    /// - `NoMemory` (1): an allocation fails.
     pub fn renewal<N: FarStore>(
         &self,
         alloc: Global,
@@ -37,8 +39,8 @@ impl<S: FarRead> TableRows<S> {
 }
 
 impl<S: FarTickets> TableRows<S> {
-    /// The same rows, whose far copies are those of the renewal from now on. Every place stays, and what is local, hot or pinned;
-    /// the local objects are dirty, since they have no copy in the new store. Allocates nothing.
+    /// Returns the same rows, whose far copies are those of the renewal from now on. Every place stays, and what is local, hot
+    /// or pinned. The local objects are dirty, since they have no copy in the new store. Allocates nothing.
     pub fn renew<N: FarTickets>(self, renewal: RowsRenewal<N>) -> TableRows<N>
         requires { RenewsRows S.content N.content self.held renewal }
         ensures renewed { result ≡ renewed_table_rows self renewal }

@@ -1,4 +1,4 @@
-// Texts of a column with the flags of their places, lent in place.
+// Texts of a column with the flags of their places, borrowed.
 ghost use Rattle.std.specs.Prelude.{◌≡◌, ◌∷◌, ◌≤◌, [], drop, length, IfOk, IfSome, IfNone, slice_range};
 ghost use Rattle.std.specs.List.{zip};
 ghost use Rattle.std.specs.Option.{option_copied};
@@ -14,7 +14,14 @@ use far_store::FarTickets;
 use far_types::Refusal;
 use std::marker::Model;
 
-/// A text of a column, lent in place, and the flag of its place.
+/// A text of a column, borrowed, and the flag of its place.
+///
+/// ```
+/// let Some(cell) = cell else {
+///     return false;
+/// };
+/// column.text(objects, place) == Ok(cell.text) && alive.get(place) == Some(cell.alive)
+/// ```
 #[derive(Clone, Copy)]
 pub struct TextCell<'a> {
     /// The text; `None` if it is missing.
@@ -25,8 +32,17 @@ pub struct TextCell<'a> {
 
 /// The texts of a part of a column, in order, each with the flag of its place. Contracts see the list of what is left.
 ///
-/// It lends each text in place, and looks at the head of one form, one bit of its mask and two ends for it, and at an object
-/// once a row group.
+/// It borrows each text from its object. For a text it reads the head of one form, one bit of its mask and two ends. It looks
+/// up an object once a row group.
+///
+/// ```
+/// let mut cells = column.texts(objects, alive.all(), from, to)?;
+/// for place in from..to {
+///     if !is_cell(objects, column, alive, cells.next(), place) {
+///         return Err(WRONG);
+///     }
+/// }
+/// ```
 #[derive(Drop)]
 pub struct TextCells<'a, S: FarTickets> {
     column: &'a TextColumn,
@@ -49,7 +65,7 @@ impl<'a, S: FarTickets> Model for TextCells<'a, S> {
 }
 
 impl<'a, S: FarTickets> TextCells<'a, S> {
-    // The texts from a place on, as many as there are flags.
+    // Returns the texts from a place on, one for each flag.
     fn new(
         column: &'a TextColumn,
         objects: &'a Objects<u8, S>,
@@ -72,10 +88,10 @@ impl<'a, S: FarTickets> TextCells<'a, S> {
         }
     }
 
-    /// The next text with its flag, and `None` if there is none left. Allocates nothing.
+    /// Returns the next text with its flag, and `None` if there is none left. Allocates nothing.
     ///
-    /// It is no `Iterator`'s: a trait's own method gets no proof where it calls what asks for objects that may be shared by
-    /// threads.
+    /// This is no `Iterator`: the prover cannot prove such a method of a trait, if it calls what needs objects that threads may
+    /// share.
     pub fn next(&mut self) -> Option<TextCell<'a>>
         ensures first { IfSome result (λ cell. self.old ≡ (option_copied cell.text, cell.alive) ∷ self.new) }
         ensures none { IfNone result ((self.old ≡ []) × (self.new ≡ [])) }
@@ -97,7 +113,7 @@ impl<'a, S: FarTickets> TextCells<'a, S> {
 }
 
 impl TextColumn {
-    // Whether the objects of the row groups `first` to `end` are local; the refusal names the first that is away.
+    // Checks that the objects of the row groups `first` up to `end` are local; the refusal names the first that is away.
     fn all_here<S: FarTickets>(
         &self,
         objects: &Objects<u8, S>,
@@ -115,11 +131,13 @@ impl TextColumn {
         Ok(())
     }
 
-    /// The texts of the places `from` to `to`, in order, each with the flag of its place, lent in place. The caller lends the
-    /// flags of all places. Allocates nothing.
+    /// Returns the texts of the places `from` up to `to`, in order, each borrowed, with the flag of its place. The caller
+    /// passes the flags of all places. Allocates nothing.
     ///
-    /// Refused with `OutOfRange` (14) exactly if `from` is behind `to` or `to` past the end, else with `Absent` (16)
-    /// exactly if the object of a row group that the part touches is away, naming the first such.
+    /// Refused with the first of these that applies:
+    ///
+    /// - `OutOfRange` (14): `from` is above `to`, or `to` is past the end.
+    /// - `Absent` (16): the object of a row group that the part touches is away. It names the first such.
     pub fn texts<'a, S: FarTickets>(
         &'a self,
         objects: &'a Objects<u8, S>,

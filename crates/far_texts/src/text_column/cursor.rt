@@ -9,22 +9,22 @@ use super::TextColumn;
 use far_scopes::Objects;
 use far_store::FarTickets;
 
-/// A place of a column whose places are gone through in order, and the far form of its row group. So the objects are
-/// looked at once a row group, and no place is divided.
+/// A place of a column whose places are visited in order, and the far form of its row group. So it looks up an object once a
+/// row group, and divides no place.
 #[derive(Clone, Copy)]
 pub(super) struct Cursor<'a> {
     /// The place.
     pub place: usize,
-    /// The row group that it lies in, or that ends before it.
+    /// The row group that holds the place, or that ends before it.
     pub group: usize,
-    /// Where it stands from that row group's beginning.
+    /// The index of the place, from that row group's beginning.
     pub index: usize,
     /// The far form of the row group.
     pub form: &'a [u8],
 }
 
 impl<'a> Cursor<'a> {
-    // A cursor where no place is left.
+    // Returns the cursor for when no place is left.
     pub(super) fn none(place: usize) -> Cursor<'a>
         ensures { result.place ≡ place }
     {
@@ -36,7 +36,7 @@ impl<'a> Cursor<'a> {
         }
     }
 
-    // The cursor at a place.
+    // Returns the cursor at a place.
     pub(super) fn new<S: FarTickets>(
         column: &TextColumn,
         objects: &'a Objects<u8, S>,
@@ -58,7 +58,7 @@ impl<'a> Cursor<'a> {
         }
     }
 
-    // The same place, as one of the row group that it lies in.
+    // Returns the same place, as one of the row group that holds it.
     #[inline(always)]
     pub(super) fn entered<S: FarTickets>(
         self,
@@ -87,7 +87,7 @@ impl<'a> Cursor<'a> {
 }
 
 impl TextColumn {
-    // How many places a row group has.
+    // Returns how many places a row group has.
     #[inline(always)]
     fn size(&self) -> usize
         ensures size { result ≡ self.now.size }
@@ -96,7 +96,7 @@ impl TextColumn {
         self.size
     }
 
-    // The far form of a row group whose object is local, lent in place.
+    // Returns the far form of a row group whose object is local, borrowed.
     fn form_here<'a, S: FarTickets>(&self, objects: &'a Objects<u8, S>, group: usize) -> &'a [u8]
         requires begun { group < length self.now.objects }
         requires is { IsTextColumn (lists_of S.content objects.now) self.now }

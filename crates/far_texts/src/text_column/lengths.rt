@@ -13,7 +13,7 @@ use far_scopes::Objects;
 use far_store::FarTickets;
 use far_types::{Refusal, Text};
 
-/// How many bytes a text has; none if it is missing.
+/// Returns how many bytes a text has: 0 if it is missing.
 pub(crate) fn text_length(text: &Option<Text>) -> usize
     ensures { result ≡ length (bytes_of text.now) }
 {
@@ -23,7 +23,7 @@ pub(crate) fn text_length(text: &Option<Text>) -> usize
     }
 }
 
-/// How many bytes the form of one text has.
+/// Returns how many bytes the form of one text has.
 fn length_of_one(text: &Option<Text>) -> usize
     ensures { result ≡ texts_length (text.now ∷ []) }
 {
@@ -34,17 +34,19 @@ fn length_of_one(text: &Option<Text>) -> usize
 }
 
 impl TextColumn {
-    // Whether the next place begins a row group.
+    // Returns whether the next place begins a row group.
     pub(super) fn begins_group(&self) -> bool
         ensures { result ≡ begins_group self.now }
     {
         self.len == self.objects.len() * self.size
     }
 
-    /// How many bytes the form of a place's row group has once the place has this text. Allocates nothing.
+    /// Returns how many bytes the form of a place's row group has once the place has this text. Allocates nothing.
     ///
-    /// Refused with `OutOfRange` (14) exactly past the end, else with `Absent` (16) exactly if the object of the row
-    /// group is away.
+    /// Refused with the first of these that applies:
+    ///
+    /// - `OutOfRange` (14): the place is past the end.
+    /// - `Absent` (16): the object of the row group is away.
     pub fn form_length_with<S: FarTickets>(
         &self,
         objects: &Objects<u8, S>,
@@ -63,7 +65,7 @@ impl TextColumn {
         Ok(length_with(form, self.index_in(group, place), text))
     }
 
-    /// How many bytes the form of the next place's row group has once the place has this text. Allocates nothing.
+    /// Returns how many bytes the form of the next place's row group has once the place has this text. Allocates nothing.
     ///
     /// Refused with `Absent` (16) exactly if the row group is begun and its object is away.
     pub fn form_length_with_next<S: FarTickets>(

@@ -1,4 +1,4 @@
-// A column of texts gets a text more.
+// A text is appended to a column.
 ghost use Rattle.std.specs.Prelude.{◌≡◌, ◌⊎◌, ◌<◌, ◌≤◌, ◌^◌, ◌++◌, ◌∷◌, ℕ, List, [], length, true, false, None, Some, OnOk, OnErr, IfOk, IfErr};
 ghost use Rattle.far_types.specs.FormLengths.{texts_length};
 ghost use Rattle.far_codec.specs.TextForm.{texts_form, texts_meaning, IsTextsForm};
@@ -20,7 +20,7 @@ use far_types::{Name, Refusal, Text};
 use std::alloc::Global;
 
 impl TextColumn {
-    // Whether the next place may get this text, unless memory runs out.
+    // Checks that the next place may get this text, unless memory runs out.
     pub(super) fn may_push<S: FarTickets>(
         &self,
         objects: &Objects<u8, S>,
@@ -46,7 +46,8 @@ impl TextColumn {
         Ok(())
     }
 
-    // The form of the next place's row group once the place has this text, in the memory of a form that is needed no more.
+    // Returns the form of the next place's row group once the place has this text. It is made in the memory of a form that is
+    // no longer needed.
     pub(crate) fn form_pushed<S: FarTickets>(
         &self,
         spare: Vec<u8>,
@@ -80,7 +81,7 @@ impl TextColumn {
         let _len = self.len();
     }
 
-    // The next place begins a row group, whose form this is.
+    // Begins a row group at the next place, with this form.
     fn begin_group<S: FarTickets>(
         &mut self,
         objects: &mut Objects<u8, S>,
@@ -111,7 +112,7 @@ impl TextColumn {
         Ok(())
     }
 
-    // The next place's row group, which is begun, has this form.
+    // Gives the next place's row group, which is begun, this form.
     fn extend_group<S: FarTickets>(
         &mut self,
         objects: &mut Objects<u8, S>,
@@ -135,14 +136,19 @@ impl TextColumn {
         Ok(())
     }
 
-    /// Appends a text. Where the next place begins a row group an object is made, whose form has this text alone; else the
+    /// Appends a text. If the next place begins a row group, it makes an object, whose form has this text alone. Otherwise the
     /// object of the last row group gets another form, placed before the old one is dropped.
     ///
-    /// Refused with `TextTooLong` (7) exactly if the text has more than 4,096 bytes, else with `Absent` (16) exactly
-    /// where the row group is begun and its object is away, else with `ChunkFull` (11) exactly if the new form would be
-    /// longer than one may be, else with `RegionFull` (17) exactly if no segment has the space, else with `EditsUsedUp`
-    /// (24) exactly if the row group is begun and its object was written as often as objects may be, else with
-    /// `NoMemory` (1) alone; then nothing is changed.
+    /// Refused with the first of these that applies:
+    ///
+    /// - `TextTooLong` (7): the text has more than 4,096 bytes.
+    /// - `Absent` (16): the row group is begun, and its object is away.
+    /// - `ChunkFull` (11): the new form would be longer than one may be.
+    /// - `RegionFull` (17): no segment has the space.
+    /// - `EditsUsedUp` (24): the row group is begun, and its object was written as often as objects may be.
+    /// - `NoMemory` (1): an allocation fails.
+    ///
+    /// A refused call changes nothing.
     pub fn push<S: FarTickets>(
         &mut self,
         alloc: Global,

@@ -1,4 +1,4 @@
-// Texts of a column, lent in place.
+// Texts of a column, borrowed.
 ghost use Rattle.std.specs.Prelude.{◌≡◌, ◌<◌, length, false, Some, IfOk, slice_get, slice_index};
 ghost use Rattle.std.specs.Option.{option_copied};
 ghost use Rattle.far_scopes.specs.Refusing.{refusal_in, lend_refusal};
@@ -13,19 +13,19 @@ use far_store::FarTickets;
 use far_types::Refusal;
 
 impl TextColumn {
-    // The object of a row group that is begun.
+    // Returns the object of a row group that is begun.
     pub(super) fn object_in_use<S: FarTickets>(&self, objects: &Objects<u8, S>, group: usize) -> u32
         requires begun { group < length self.now.objects }
         requires is { IsTextColumn (lists_of S.content objects.now) self.now }
         ensures object { result ≡ slice_index self.now.objects group }
         ensures used { result < length objects.now.records }
     {
-        // For the proof: of all objects that one with a list is in use.
+        // For the proof: an object with a list is in use.
         let _number = objects.number();
         self.objects[group]
     }
 
-    // The far form of a row group that is begun, lent in place.
+    // Returns the far form of a row group that is begun, borrowed.
     pub(super) fn form<'a, S: FarTickets>(
         &self,
         objects: &'a Objects<u8, S>,
@@ -41,7 +41,7 @@ impl TextColumn {
         objects.lend(o)
     }
 
-    // The far form of the last row group, in which the next place lies, lent in place.
+    // Returns the far form of the last row group, which holds the next place, borrowed.
     pub(super) fn last_form<'a, S: FarTickets>(
         &self,
         objects: &'a Objects<u8, S>,
@@ -53,11 +53,13 @@ impl TextColumn {
         self.form(objects, self.objects.len() - 1)
     }
 
-    /// The text of a place, lent in place; `None` if it is missing. Allocates nothing, and looks at the head of one form,
-    /// one bit of its mask and two ends alone.
+    /// Returns the text of a place, borrowed; `None` if it is missing. Allocates nothing. It reads only the head of one form,
+    /// one bit of its mask and two ends.
     ///
-    /// Refused with `NoRow` (8) exactly past the end, else with `Absent` (16) exactly if the object of the place's row
-    /// group is away.
+    /// Refused with the first of these that applies:
+    ///
+    /// - `NoRow` (8): the place is past the end.
+    /// - `Absent` (16): the object of the place's row group is away.
     pub fn text<'a, S: FarTickets>(
         &self,
         objects: &'a Objects<u8, S>,

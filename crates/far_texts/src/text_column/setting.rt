@@ -18,13 +18,17 @@ use far_types::{Refusal, Text};
 use std::alloc::Global;
 
 impl TextColumn {
-    /// Whether the text of a place may be set to this one. Allocates nothing.
+    /// Checks that the text of a place may be set to this one. Allocates nothing. After `Ok`, `set` can be refused with
+    /// `NoMemory` (1) alone.
     ///
-    /// Refused as `set` is, but never for lack of memory: with `TextTooLong` (7) exactly if the text has more than 4,096
-    /// bytes, else with `OutOfRange` (14) exactly past the end, else with `Absent` (16) exactly if the object is away,
-    /// else with `ChunkFull` (11) exactly if the new form would be longer than one may be, else with `RegionFull` (17)
-    /// exactly if no segment has the space, else with `EditsUsedUp` (24) exactly if the object was written as often
-    /// as objects may be. Where it is not refused, `set` can be refused with `NoMemory` (1) alone.
+    /// Refused with the first of these that applies:
+    ///
+    /// - `TextTooLong` (7): the text has more than 4,096 bytes.
+    /// - `OutOfRange` (14): the place is past the end.
+    /// - `Absent` (16): the object is away.
+    /// - `ChunkFull` (11): the new form would be longer than one may be.
+    /// - `RegionFull` (17): no segment has the space.
+    /// - `EditsUsedUp` (24): the object was written as often as objects may be.
     pub fn may_set<S: FarTickets>(
         &self,
         objects: &Objects<u8, S>,
@@ -45,7 +49,7 @@ impl TextColumn {
         objects.may_replace(o, len)
     }
 
-    // The form of a place's row group once the place has this text, which may be set.
+    // Returns the form of a place's row group once the place has this text, which may be set.
     fn form_set<S: FarTickets>(
         &self,
         alloc: Global,
@@ -64,14 +68,20 @@ impl TextColumn {
         form_with(alloc, form, place % self.size, text)
     }
 
-    /// Sets the text of a place. The column itself stays as it is: its texts lie in the objects, of which that of the
-    /// place's row group gets another form, placed before the old one is dropped.
+    /// Sets the text of a place. The column itself stays the same: its texts lie in the objects. The object of the place's row
+    /// group gets another form, placed before the old one is dropped.
     ///
-    /// Refused with `TextTooLong` (7) exactly if the text has more than 4,096 bytes, else with `OutOfRange` (14) exactly
-    /// past the end, else with `Absent` (16) exactly if the object is away, else with `ChunkFull` (11) exactly if the
-    /// new form would be longer than one may be, else with `RegionFull` (17) exactly if no segment has the space, else
-    /// with `EditsUsedUp` (24) exactly if the object was written as often as objects may be, else with `NoMemory` (1)
-    /// alone; then nothing is changed.
+    /// Refused with the first of these that applies:
+    ///
+    /// - `TextTooLong` (7): the text has more than 4,096 bytes.
+    /// - `OutOfRange` (14): the place is past the end.
+    /// - `Absent` (16): the object is away.
+    /// - `ChunkFull` (11): the new form would be longer than one may be.
+    /// - `RegionFull` (17): no segment has the space.
+    /// - `EditsUsedUp` (24): the object was written as often as objects may be.
+    /// - `NoMemory` (1): an allocation fails.
+    ///
+    /// A refused call changes nothing.
     pub fn set<S: FarTickets>(
         &self,
         alloc: Global,

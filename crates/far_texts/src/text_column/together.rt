@@ -21,17 +21,24 @@ use far_types::{Refusal, Text};
 use giving::make_forms;
 use std::alloc::Global;
 
-/// Appends a text to each of several columns, to all or to none. Where the next places begin row groups an object is made
-/// for each column; else the last object of each gets another form, and all new forms are placed, in the order of the
-/// columns, before an old one is dropped. The form of a single column is made in the memory of `spare`, a form that is needed
-/// no more, and `spare` is that form afterwards: so a text after the other allocates nothing while the forms are of one length.
+/// Appends a text to each of several columns, to all or to none.
 ///
-/// Refused with `TextTooLong` (7) exactly if some text has more than 4,096 bytes, else with `Absent` (16) exactly where
-/// the row groups are begun and some column's last object is away, naming the first such; else with `ChunkFull` (11)
-/// exactly if some new form would be longer than its column's may be; else with `RegionFull` (17) if the new forms,
-/// placed one after the other, do not fit beside all that is there; else with `EditsUsedUp` (24) if the row
-/// groups are begun and some last object was written as often as objects may be; and with `NoMemory` (1) if an allocation
-/// failed, which may come before it is seen that 17 or 24 applies. Then nothing is changed.
+/// If the next places begin row groups, it makes an object for each column. Otherwise the last object of each gets another
+/// form. All new forms are placed, in the order of the columns, before an old one is dropped.
+///
+/// The form of a single column is made in the memory of `spare`, a form that is no longer needed. Afterwards `spare` is that
+/// form. So no text allocates while the forms have one length.
+///
+/// Refused with the first of these that applies:
+///
+/// - `TextTooLong` (7): some text has more than 4,096 bytes.
+/// - `Absent` (16): the row groups are begun, and some column's last object is away. It names the first such.
+/// - `ChunkFull` (11): some new form would be longer than its column's may be.
+/// - `RegionFull` (17): the new forms, placed one after the other, do not fit into the free space.
+/// - `EditsUsedUp` (24): the row groups are begun, and some last object was written as often as objects may be.
+///
+/// `NoMemory` (1) says that an allocation failed. That may come before it is known that 17 or 24 applies. A refused call
+/// changes nothing.
 pub fn push_texts<S: FarTickets>(
     alloc: Global,
     spare: &mut Vec<u8>,
@@ -61,10 +68,10 @@ pub fn push_texts<S: FarTickets>(
     make_forms(alloc, spare, objects, columns, texts)
 }
 
-/// Appends a text to each of several columns, to all or to none, as `push_texts` does, once `may_push_texts` told that none is
-/// refused. So no text is measured and no object is asked before the forms are made.
+/// Appends a text to each of several columns, to all or to none, as `push_texts` does, after `may_push_texts` accepted them. It
+/// measures no text and checks no object before it makes the forms.
 ///
-/// Refused with `NoMemory` (1) alone, where an allocation failed; then nothing is changed.
+/// Refused with `NoMemory` (1) alone, if an allocation fails. A refused call changes nothing.
 pub fn fill_texts<S: FarTickets>(
     alloc: Global,
     spare: &mut Vec<u8>,

@@ -1,4 +1,4 @@
-// Elements added and taken back at the end.
+// Elements added and removed at the end.
 ghost use Rattle.std.specs.Prelude.{◌≡◌, ℕ, ◌+◌, ◌-◌, ◌*◌, ◌<◌, ◌^◌, ◌⊎◌, ◌++◌, List, [], ◌∷◌, length, true, false, take, Some, None, OnOk, OnErr, IfErr, slice_index, slice_get};
 ghost use Rattle.far_log.specs.RegionState.{spaces_of, fit_in_order};
 ghost use Rattle.far_scopes.specs.Movement.{list_of, AreClean, AreHere, ChangesObject, is_local, pins_of};
@@ -16,14 +16,14 @@ use far_store::FarTickets;
 use far_types::{Name, Refusal};
 
 impl<T: Elem> FarVector<T> {
-    /// Whether the next element begins a row group. Allocates nothing.
+    /// Returns whether the next element begins a row group. Allocates nothing.
     pub fn begins_group(&self) -> bool
         ensures { result ≡ is_full self.now }
     {
         self.len == self.objects.len() * self.size
     }
 
-    /// Whether the object of the next place is local, whose row group is begun. Allocates nothing.
+    /// Checks that the object of the next place is local. Its row group must be begun. Allocates nothing.
     ///
     /// Refused with `Absent` (16) exactly if it is away.
     pub fn next_is_here<S: FarTickets>(&self, objects: &Objects<T, S>) -> Result<(), Refusal>
@@ -34,10 +34,12 @@ impl<T: Elem> FarVector<T> {
         objects.here(self.next_position(objects).object)
     }
 
-    /// Whether the object of the next place may be written, whose row group is begun. Allocates nothing.
+    /// Checks that the object of the next place may be written. Its row group must be begun. Allocates nothing.
     ///
-    /// Refused with `Absent` (16) exactly if it is away, else with `EditsUsedUp` (24) exactly if it was written as
-    /// often as objects may be.
+    /// Refused with the first of these that applies:
+    ///
+    /// - `Absent` (16): the object is away.
+    /// - `EditsUsedUp` (24): it was written as often as objects may be.
     pub fn next_is_writable<S: FarTickets>(&self, objects: &Objects<T, S>) -> Result<(), Refusal>
         requires is { IsVector (list_of T.meaning S.content objects.now) self.now }
         requires begun { is_full self.now ≡ false }
@@ -46,13 +48,20 @@ impl<T: Elem> FarVector<T> {
         objects.may_write(self.next_position(objects).object)
     }
 
-    /// Adds an element at the end: in the last row group, or, where that is full, in a new one, whose object is made here.
-    /// `unpush` undoes a push that made an object (`undone`).
+    /// Adds an element at the end. If the last row group is full, it makes the object of a new one. `unpush` undoes a push that
+    /// made an object (`undone`).
     ///
-    /// Refused, where it begins a row group, with `RegionFull` (17) exactly if no segment has the space, else with
-    /// `NoMemory` (1) alone. Elsewhere refused with `Absent` (16) exactly if the last row group's object is away, else with
-    /// `EditsUsedUp` (24) exactly if that was written as often as objects may be, and allocates nothing. Then nothing is
-    /// changed.
+    /// If the element begins a row group, refused with the first of these that applies:
+    ///
+    /// - `RegionFull` (17): no segment has the space.
+    /// - `NoMemory` (1): an allocation fails.
+    ///
+    /// Otherwise it allocates nothing, and is refused with the first of these that applies:
+    ///
+    /// - `Absent` (16): the last row group's object is away.
+    /// - `EditsUsedUp` (24): that object was written as often as objects may be.
+    ///
+    /// A refused call changes nothing.
     pub fn push<S: FarTickets>(&mut self, objects: &mut Objects<T, S>, x: T) -> Result<(), Refusal>
         requires is { IsVector (list_of T.meaning S.content objects.old) self.old }
         requires few { is_full self.old ≡ true → length objects.old.records < 2 ^ 28 }
@@ -79,7 +88,7 @@ impl<T: Elem> FarVector<T> {
         }
     }
 
-    // Adds an element where all places are used: in an object of its own.
+    // Adds an element in an object of its own. All places must be used.
     fn begin_group<S: FarTickets>(
         &mut self,
         objects: &mut Objects<T, S>,
@@ -121,7 +130,7 @@ impl<T: Elem> FarVector<T> {
         Ok(())
     }
 
-    // Adds an element where the last row group has a place that is not used.
+    // Adds an element in the last row group, which must have a place that is not used.
     fn fill_place<S: FarTickets>(
         &mut self,
         objects: &mut Objects<T, S>,
@@ -148,7 +157,8 @@ impl<T: Elem> FarVector<T> {
         Ok(())
     }
 
-    /// Takes back a push that made an object: its element, the only one of its row group, and the object. Allocates nothing.
+    /// Undoes a push that made an object: removes its element, the only one of its row group, and the object. Allocates
+    /// nothing.
     pub fn unpush<S: FarTickets>(&mut self, objects: &mut Objects<T, S>)
         requires is { IsVector (list_of T.meaning S.content objects.old) self.old }
         requires alone { self.old.len ≡ (length self.old.objects - 1) * self.old.size + 1 }

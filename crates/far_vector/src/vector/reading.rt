@@ -16,10 +16,12 @@ use far_store::FarTickets;
 use far_types::Refusal;
 
 impl<T: Elem> FarVector<T> {
-    /// The element at a place. Allocates nothing.
+    /// Returns the element at a place. Allocates nothing.
     ///
-    /// Refused with `OutOfRange` (14) exactly if the list has no such place, else with `Absent` (16) exactly if the
-    /// object of its row group is away.
+    /// Refused with the first of these that applies:
+    ///
+    /// - `OutOfRange` (14): the list has no such place.
+    /// - `Absent` (16): the object of its row group is away.
     pub fn get<S: FarTickets>(&self, objects: &Objects<T, S>, i: usize) -> Result<T, Refusal>
         requires { IsVector (list_of T.meaning S.content objects.now) self.now }
         ensures element { IfOk result (λ x. slice_get (elements (list_of T.meaning S.content objects.now) self.now) i ≡ Some x) }
@@ -33,10 +35,12 @@ impl<T: Elem> FarVector<T> {
         Ok(list[at.index])
     }
 
-    /// The elements `from` up to `to`, all of one row group, lent in place. Allocates nothing.
+    /// Returns the elements `from` up to `to`, all of one row group, borrowed from its object. Allocates nothing.
     ///
-    /// Refused with `OutOfRange` (14) exactly if `from` is above `to`, `to` is past the end, or the part is not empty and
-    /// crosses row groups; else with `Absent` (16) exactly if it is not empty and the object of its row group is away.
+    /// Refused with the first of these that applies:
+    ///
+    /// - `OutOfRange` (14): `from` is above `to`, `to` is past the end, or the part is not empty and crosses row groups.
+    /// - `Absent` (16): the part is not empty, and the object of its row group is away.
     pub fn part<'a, S: FarTickets>(
         &self,
         objects: &'a Objects<T, S>,
@@ -56,11 +60,13 @@ impl<T: Elem> FarVector<T> {
         Ok(&list[at.index..at.index + (to - from)])
     }
 
-    /// The elements `from` up to `to`, lent in place piece by piece: one for each row group that has some of them. Takes no
-    /// memory.
+    /// Returns the elements `from` up to `to` piece by piece: a borrowed slice of each row group that has some of them.
+    /// Allocates nothing.
     ///
-    /// Refused with `OutOfRange` (14) exactly if `from` is above `to` or `to` is past the end; else with `Absent` (16)
-    /// exactly if the object of a row group with some of them is away, naming the first such.
+    /// Refused with the first of these that applies:
+    ///
+    /// - `OutOfRange` (14): `from` is above `to`, or `to` is past the end.
+    /// - `Absent` (16): the object of a row group with some of them is away. It names the first such.
     pub fn pieces<'a, S: FarTickets>(
         &'a self,
         objects: &'a Objects<T, S>,
@@ -82,7 +88,7 @@ impl<T: Elem> FarVector<T> {
         Ok(Pieces::new(self, objects, from, to))
     }
 
-    // Whether the objects of row groups `first` up to `end` are local; the refusal names the first that is away.
+    // Checks that the objects of row groups `first` up to `end` are local; the refusal names the first that is away.
     fn all_here<S: FarTickets>(
         &self,
         objects: &Objects<T, S>,
@@ -101,7 +107,7 @@ impl<T: Elem> FarVector<T> {
         Ok(())
     }
 
-    // Whether the elements `from` up to `to` are all there, and of one row group.
+    // Checks that the elements `from` up to `to` are all there, and of one row group.
     pub(super) fn check_part(&self, from: usize, to: usize) -> Result<(), Refusal>
         ensures refused { refusal_in result ≡ first_of (no_range self.now from to ∷ crosses self.now from to ∷ []) }
         ensures shaped { IsShaped self.now }
@@ -120,7 +126,7 @@ impl<T: Elem> FarVector<T> {
         Ok(())
     }
 
-    // How many row groups have some of the elements `from` up to `to`, of which there are some.
+    // Returns how many row groups have some of the elements `from` up to `to`. The range is not empty.
     pub(crate) fn groups_between(&self, from: usize, to: usize) -> usize
         requires some { from < to }
         requires there { to ≤ self.now.len }
@@ -129,7 +135,7 @@ impl<T: Elem> FarVector<T> {
         (to - 1) / self.size + 1 - from / self.size
     }
 
-    // Where the row group of a place ends.
+    // Returns where the row group of a place ends.
     pub(crate) fn group_end(&self, i: usize) -> usize
         requires { i < self.now.len }
         ensures end { result ≡ (i / self.now.size + 1) * self.now.size }

@@ -18,9 +18,13 @@ use far_types::Refusal;
 impl<T: Elem> FarVector<T> {
     /// Writes the element at a place; its row group's object counts as written. Allocates nothing.
     ///
-    /// Refused with `OutOfRange` (14) exactly if the list has no such place, else with `Absent` (16) exactly if the
-    /// object of its row group is away, else with `EditsUsedUp` (24) exactly if that was written as often as objects may
-    /// be; then nothing is changed.
+    /// Refused with the first of these that applies:
+    ///
+    /// - `OutOfRange` (14): the list has no such place.
+    /// - `Absent` (16): the object of its row group is away.
+    /// - `EditsUsedUp` (24): that object was written as often as objects may be.
+    ///
+    /// A refused call changes nothing.
     pub fn set<S: FarTickets>(
         &self,
         objects: &mut Objects<T, S>,
@@ -48,8 +52,8 @@ impl<T: Elem> FarVector<T> {
         Ok(())
     }
 
-    /// Writes the element at a place that may be written, as `set` does, where the caller knows its row group. So nothing is
-    /// asked again, and no place is divided. Allocates nothing.
+    /// Writes the element of a place that may be written, as `set` does. The caller passes its row group, so it repeats no
+    /// check and no division. Allocates nothing.
     pub fn set_in_group<S: FarTickets>(
         &self,
         objects: &mut Objects<T, S>,
@@ -75,7 +79,7 @@ impl<T: Elem> FarVector<T> {
         self.write(objects, at, x);
     }
 
-    /// Whether the element of a place may be written. Allocates nothing, and is refused exactly as `set` is.
+    /// Checks that the element of a place may be written. Allocates nothing, and is refused exactly as `set` is.
     pub fn may_set<S: FarTickets>(&self, objects: &Objects<T, S>, i: usize) -> Result<(), Refusal>
         requires { IsVector (list_of T.meaning S.content objects.now) self.now }
         ensures { refusal_in result ≡ set_refusal objects.now self.now i }
@@ -86,11 +90,13 @@ impl<T: Elem> FarVector<T> {
         objects.may_write(self.position(objects, i).object)
     }
 
-    /// Whether the elements `from` up to `to`, all of one row group, may be written. Allocates nothing.
+    /// Checks that the elements `from` up to `to`, all of one row group, may be written. Allocates nothing.
     ///
-    /// Refused with `OutOfRange` (14) exactly if `from` is above `to`, `to` is past the end, or the part is not empty and
-    /// crosses row groups; else, if it is not empty, with `Absent` (16) exactly if the object of its row group is away, and
-    /// with `EditsUsedUp` (24) exactly if that was written as often as objects may be.
+    /// Refused with the first of these that applies:
+    ///
+    /// - `OutOfRange` (14): `from` is above `to`, `to` is past the end, or the part is not empty and crosses row groups.
+    /// - `Absent` (16): the part is not empty, and the object of its row group is away.
+    /// - `EditsUsedUp` (24): the part is not empty, and that object was written as often as objects may be.
     pub fn may_write_part<S: FarTickets>(
         &self,
         objects: &Objects<T, S>,
@@ -107,10 +113,10 @@ impl<T: Elem> FarVector<T> {
         objects.may_write(self.position(objects, from).object)
     }
 
-    /// The elements `from` up to `to` of a part that may be written and is not empty, lent in place to be written. Takes no
-    /// memory.
+    /// Returns the elements `from` up to `to` of a part that is not empty and may be written, as a mutable slice. Allocates
+    /// nothing.
     ///
-    /// The object of their row group counts as written. What the borrow leaves is the part, and no other element changes.
+    /// The object of their row group counts as written. The part becomes what the borrow leaves, and no other element changes.
     pub fn part_mut<'a, S: FarTickets>(
         objects: &'a mut Objects<T, S>,
         vector: &FarVector<T>,
@@ -160,8 +166,8 @@ impl<T: Elem> FarVector<T> {
         range[0] = x;
     }
 
-    // The object with a place of a row group that may be written, which has its list in local memory: that is known by the
-    // contract of `lend`.
+    // Returns the object with a place of a row group that may be written. For the proof: the contract of `lend` gives that its
+    // list is in local memory.
     fn writable_at<S: FarTickets>(&self, objects: &Objects<T, S>, i: usize) -> u32
         requires is { IsVector (list_of T.meaning S.content objects.now) self.now }
         requires within { i < length self.now.objects * self.now.size }

@@ -1,4 +1,4 @@
-// Whether several columns of numbers may get a number each.
+// Checks whether several columns of numbers may get a number each.
 ghost use Rattle.std.specs.Prelude.{◌≡◌, ◌≤◌, ◌∷◌, [], length, false, None, All, OnOk};
 ghost use Rattle.far_types.specs.FirstOf.{first_of};
 ghost use Rattle.far_scopes.specs.Refusing.{refusal_in};
@@ -13,7 +13,7 @@ use far_scopes::Objects;
 use far_store::FarTickets;
 use far_types::Refusal;
 
-// Whether row groups begin at the next places.
+// Returns whether row groups begin at the next places.
 pub(super) fn all_begin(columns: &[IntColumn]) -> bool
     ensures { result ≡ all_begin columns.now }
 {
@@ -34,7 +34,7 @@ pub(super) fn all_are_shaped(columns: &[IntColumn])
     }
 }
 
-// Whether the objects of the last row groups are local; the refusal names the first that is away.
+// Checks that the objects of the last row groups are local; the refusal names the first that is away.
 pub(super) fn all_here<S: FarTickets>(
     objects: &Objects<Option<i64>, S>,
     columns: &[IntColumn],
@@ -49,7 +49,7 @@ pub(super) fn all_here<S: FarTickets>(
     Ok(())
 }
 
-// Whether the objects of the last row groups, which are local, may be written.
+// Checks that the objects of the last row groups, which are local, may be written.
 pub(super) fn all_writable<S: FarTickets>(
     objects: &Objects<Option<i64>, S>,
     columns: &[IntColumn],
@@ -66,7 +66,7 @@ pub(super) fn all_writable<S: FarTickets>(
     Ok(())
 }
 
-// Whether new row groups, placed in order, fit.
+// Checks that new row groups fit, placed in order.
 pub(super) fn groups_fit<S: FarTickets>(
     objects: &Objects<Option<i64>, S>,
     columns: &[IntColumn],

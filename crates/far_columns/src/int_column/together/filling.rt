@@ -1,4 +1,4 @@
-// Numbers that several columns get within row groups that are begun.
+// Adds numbers to several columns within row groups that are begun.
 ghost use Rattle.std.specs.Prelude.{◌≡◌, ℕ, List, length, map, false, None, All};
 ghost use Rattle.far_codec.specs.Reading.{ints_meaning};
 ghost use Rattle.far_scopes.specs.Movement.{AreClean, AreHere};
@@ -13,7 +13,7 @@ use crate::int_column::IntColumn;
 use far_scopes::Objects;
 use far_store::FarTickets;
 
-// Each column, whose last row group has a place that is not used and may be written, has a number more.
+// Adds a number to each column. Its last row group has a place that is not used and may be written.
 pub(super) fn fill_places<S: FarTickets>(
     objects: &mut Objects<Option<i64>, S>,
     columns: &mut [IntColumn],

@@ -1,4 +1,4 @@
-// Row groups that several columns of numbers begin together, and taking them back.
+// Row groups that several columns of numbers begin together, and how that is undone.
 ghost use Rattle.std.specs.Prelude.{◌≡◌, ◌⊎◌, ◌≤◌, ◌+◌, ◌-◌, ◌^◌, ℕ, List, length, map, take, true, false, All, OnOk, IfErr, OnErr};
 ghost use Rattle.far_log.specs.RegionState.{spaces_of, fit_in_order};
 ghost use Rattle.far_codec.specs.Reading.{ints_meaning};
@@ -14,7 +14,7 @@ use far_scopes::Objects;
 use far_store::FarTickets;
 use far_types::Refusal;
 
-// The next places begin row groups: each column gets an object for its number, or none does.
+// Begins row groups at the next places: each column gets an object for its number, or none does.
 pub(super) fn begin_groups<S: FarTickets>(
     objects: &mut Objects<Option<i64>, S>,
     columns: &mut [IntColumn],
@@ -55,7 +55,7 @@ pub(super) fn begin_groups<S: FarTickets>(
     Ok(())
 }
 
-// The row groups that were begun last, one a column, are taken back with their objects, the last that was made first.
+// Undoes the row groups that were begun last, one a column, with their objects. What was made last goes first.
 pub(super) fn unbegin_groups<S: FarTickets>(
     objects: &mut Objects<Option<i64>, S>,
     columns: &mut [IntColumn],

@@ -1,4 +1,4 @@
-// Whether several columns of texts may get a text each, asked before anything is changed.
+// Checks whether several columns of texts may get a text each, before anything changes.
 ghost use Rattle.std.specs.Prelude.{◌≡◌, ◌<◌, ◌≤◌, ◌∷◌, ℕ, [], length, map, take, false, None, All, IfOk};
 ghost use Rattle.std.specs.List.{list_any};
 ghost use Rattle.far_types.specs.FirstOf.{first_of};
@@ -15,7 +15,8 @@ use far_scopes::Objects;
 use far_store::FarTickets;
 use far_types::{Refusal, Text};
 
-// How long the new forms are, in the order of the columns, of which a table has at most 16; none is longer than it may be.
+// Finds how long the new forms are, in the order of the columns, of which a table has at most 16. None is longer than it may
+// be.
 fn next_lens<S: FarTickets>(
     objects: &Objects<u8, S>,
     columns: &[TextColumn],
@@ -41,7 +42,7 @@ fn next_lens<S: FarTickets>(
 }
 
 impl TextColumn {
-    // Whether the object of the last row group, which is not full, may be written.
+    // Checks that the object of the last row group, which is not full, may be written.
     fn last_is_writable<S: FarTickets>(&self, objects: &Objects<u8, S>) -> Result<(), Refusal>
         requires begun { begins_group self.now ≡ false }
         requires is { IsTextColumn (lists_of S.content objects.now) self.now }
@@ -52,7 +53,7 @@ impl TextColumn {
     }
 }
 
-// Whether the objects of the last row groups, which are local, may be written.
+// Checks that the objects of the last row groups, which are local, may be written.
 fn all_writable<S: FarTickets>(
     objects: &Objects<u8, S>,
     columns: &[TextColumn],
@@ -68,8 +69,8 @@ fn all_writable<S: FarTickets>(
     Ok(())
 }
 
-// Whether no new form is longer than it may be, the new forms fit, and objects that get another form may be written. The
-// length of each form is found once.
+// Checks that no new form is longer than it may be, and that all of them fit. Checks also that objects with a new form may be
+// written. It finds the length of each form once.
 fn may_place_forms<S: FarTickets>(
     objects: &Objects<u8, S>,
     columns: &[TextColumn],
@@ -92,14 +93,16 @@ fn may_place_forms<S: FarTickets>(
     all_writable(objects, columns)
 }
 
-/// Whether each of several columns, of which a table has at most 16, may get a text more. Allocates nothing.
+/// Checks that each of several columns, of which a table has at most 16, may get a text more. Allocates nothing. After `Ok`,
+/// `push_texts` and `fill_texts` can be refused with `NoMemory` (1) alone.
 ///
-/// Refused as `push_texts` is, but never for lack of memory: with `TextTooLong` (7) exactly if some text has more than
-/// 4,096 bytes, else with `Absent` (16) exactly if the row groups are begun and some column's last object is away,
-/// naming the first such; else with `ChunkFull` (11) exactly if some new form would be longer than its column's may be;
-/// else with `RegionFull` (17) exactly if the new forms, placed one after the other, do not fit beside all that is
-/// there; else with `EditsUsedUp` (24) exactly if the row groups are begun and some last object was written as often as
-/// objects may be. Where it is not refused, `push_texts` and `fill_texts` can be refused with `NoMemory` (1) alone.
+/// Refused with the first of these that applies:
+///
+/// - `TextTooLong` (7): some text has more than 4,096 bytes.
+/// - `Absent` (16): the row groups are begun, and some column's last object is away. It names the first such.
+/// - `ChunkFull` (11): some new form would be longer than its column's may be.
+/// - `RegionFull` (17): the new forms, placed one after the other, do not fit into the free space.
+/// - `EditsUsedUp` (24): the row groups are begun, and some last object was written as often as objects may be.
 pub fn may_push_texts<S: FarTickets>(
     objects: &Objects<u8, S>,
     columns: &[TextColumn],

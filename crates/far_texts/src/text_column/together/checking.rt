@@ -1,4 +1,4 @@
-// Whether several columns of texts may get a text each.
+// Checks whether several columns of texts may get a text each.
 ghost use Rattle.std.specs.Prelude.{◌≡◌, if◌then◌else◌, ◌∷◌, [], length, false, None, All, OnOk};
 ghost use Rattle.far_types.specs.FirstOf.{first_of};
 ghost use Rattle.far_scopes.specs.Refusing.{refusal_in};
@@ -14,7 +14,7 @@ use far_scopes::Objects;
 use far_store::FarTickets;
 use far_types::{Refusal, Text};
 
-// Whether no text is too long.
+// Checks that no text is too long.
 fn all_short(texts: &[Option<Text>]) -> Result<(), Refusal>
     ensures { refusal_in result ≡ first_of (any_too_long texts.now ∷ []) }
 {
@@ -26,7 +26,7 @@ fn all_short(texts: &[Option<Text>]) -> Result<(), Refusal>
     Ok(())
 }
 
-// Whether row groups begin at the next places.
+// Returns whether row groups begin at the next places.
 pub(super) fn all_begin(columns: &[TextColumn]) -> bool
     ensures { result ≡ all_begin columns.now }
 {
@@ -47,7 +47,7 @@ pub(super) fn all_have_groups(columns: &[TextColumn])
     }
 }
 
-// Whether the objects of the last row groups are local; the refusal names the first that is away.
+// Checks that the objects of the last row groups are local; the refusal names the first that is away.
 fn all_here<S: FarTickets>(objects: &Objects<u8, S>, columns: &[TextColumn]) -> Result<(), Refusal>
     requires each { All (IsTextColumn (lists_of S.content objects.now)) columns.now }
     requires begun { All (λ c. begins_group c ≡ false) columns.now }
@@ -59,7 +59,7 @@ fn all_here<S: FarTickets>(objects: &Objects<u8, S>, columns: &[TextColumn]) -> 
     Ok(())
 }
 
-// Whether no new form is longer than it may be.
+// Checks that no new form is longer than it may be.
 fn none_full<S: FarTickets>(
     objects: &Objects<u8, S>,
     columns: &[TextColumn],
@@ -80,7 +80,7 @@ fn none_full<S: FarTickets>(
     Ok(())
 }
 
-// Whether no text is too long, and the objects of row groups that are begun are local: then the lengths of the new forms can be
+// Checks that no text is too long, and that the objects of begun row groups are local. Then the lengths of the new forms can be
 // found.
 pub(super) fn may_measure_forms<S: FarTickets>(
     objects: &Objects<u8, S>,
@@ -99,7 +99,7 @@ pub(super) fn may_measure_forms<S: FarTickets>(
     all_here(objects, columns)
 }
 
-// Whether the next places may get these texts, but for what is seen while the new forms are made and placed.
+// Checks that the next places may get these texts, but for what shows only while the new forms are made and placed.
 pub(super) fn may_make_forms<S: FarTickets>(
     objects: &Objects<u8, S>,
     columns: &[TextColumn],

@@ -1,4 +1,4 @@
-// The new forms of several columns of texts that get a text each.
+// The new forms of several columns that get a text each.
 ghost use Rattle.std.specs.Prelude.{◌≡◌, ◌<◌, ◌≤◌, ◌+◌, ◌^◌, ◌∷◌, ℕ, [], length, true, None, All, IfOk, IfErr};
 ghost use Rattle.far_types.specs.FirstOf.{first_of};
 ghost use Rattle.far_texts.specs.Texts.{lists_of, HasGroups, IsTextColumn};
@@ -30,7 +30,7 @@ pub(super) fn next_objects_are_unused<S: FarTickets>(
 }
 
 impl TextColumn {
-    // The object for the next text; where a row group begins, the k-th that will be made behind so many.
+    // Returns the object for the next text. If a row group begins, it is the k-th new object behind `count` objects.
     fn object_for(&self, count: u32, k: usize) -> u32
         requires { begins_group self.now ≡ true → count + k < 2 ^ 28 }
         ensures { result ≡ object_for self.now (count + k) }
@@ -43,7 +43,7 @@ impl TextColumn {
     }
 }
 
-// The form for the next text of the one column, beside its object, in the memory of a form that is needed no more.
+// Makes the form for the next text of the one column, with its object, in the memory of a form that is no longer needed.
 pub(super) fn next_form<S: FarTickets>(
     spare: Vec<u8>,
     objects: &Objects<u8, S>,
@@ -66,7 +66,7 @@ pub(super) fn next_form<S: FarTickets>(
     Ok(Replacement { object, list })
 }
 
-// The form for each column's next text, beside its object.
+// Makes the form for each column's next text, with its object.
 pub(super) fn next_forms<S: FarTickets>(
     alloc: Global,
     objects: &Objects<u8, S>,

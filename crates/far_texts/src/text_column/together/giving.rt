@@ -1,4 +1,4 @@
-// Several columns of texts get the forms of their next texts, all or none.
+// Several columns get the forms of their next texts, all or none.
 ghost use Rattle.std.specs.Prelude.{◌≡◌, if◌then◌else◌, ◌⊎◌, ◌<◌, ◌≤◌, ◌+◌, ◌^◌, ◌∷◌, ℕ, List, [], length, map, true, false, None, Some, All, OnOk, IfErr, OnErr};
 ghost use Rattle.far_types.specs.FirstOf.{first_of};
 ghost use Rattle.far_scopes.specs.Movement.{AreClean, AreHere};
@@ -18,7 +18,7 @@ use std::alloc::Global;
 use std::mem;
 use std::slice::from_ref;
 
-// Each column gets the form of its next text, which may be made: all of them, or none.
+// Gives each column the form of its next text, which may be made: to all of them, or to none.
 pub(super) fn give_forms<S: FarTickets>(
     objects: &mut Objects<u8, S>,
     columns: &mut [TextColumn],
@@ -57,8 +57,8 @@ pub(super) fn give_forms<S: FarTickets>(
     }
 }
 
-// Makes the form for each column's next text, where no first test refuses one, and gives them to the columns: all of them, or
-// none. The form of a single column is made in the memory of `spare`, a form that is needed no more, and is left there.
+// Makes the form for each column's next text, if no first test refuses one, and gives them to all columns or to none. The form
+// of a single column is made in the memory of `spare`, and is left there.
 pub(super) fn make_forms<S: FarTickets>(
     alloc: Global,
     spare: &mut Vec<u8>,
@@ -87,7 +87,7 @@ pub(super) fn make_forms<S: FarTickets>(
 {
     next_objects_are_unused(objects, columns);
     if columns.len() == 1 {
-        // The one form needs no list of forms, which would be memory of its own. It takes the memory of the form before.
+        // One form needs no list of forms, which would allocate. It takes the memory of the form before.
         let old = mem::replace(spare, Vec::new(alloc));
         let form = next_form(old, objects, columns, texts)?;
         let given = give_forms(objects, columns, texts, from_ref(&form));

@@ -1,4 +1,4 @@
-// Several columns of texts grow by a text each, whose forms are made.
+// Several columns grow by a text each, whose forms are made.
 ghost use Rattle.std.specs.Prelude.{◌≡◌, ◌⊎◌, ◌<◌, ◌≤◌, ◌+◌, ◌^◌, ℕ, List, length, map, true, false, None, Some, All, OnOk, OnErr, IfErr};
 ghost use Rattle.std.specs.List.{slice_index_or};
 ghost use Rattle.far_log.specs.RegionState.{spaces_of, fit_in_order};
@@ -16,7 +16,7 @@ use far_scopes::{Objects, Replacement};
 use far_store::FarTickets;
 use far_types::{Name, Refusal};
 
-// The next places begin row groups, whose forms these are: an object is made for each column, or for none.
+// Begins row groups at the next places, with these forms: makes an object for each column, or for none.
 pub(super) fn begin_groups<S: FarTickets>(
     objects: &mut Objects<u8, S>,
     columns: &mut [TextColumn],
@@ -72,8 +72,8 @@ fn lengthen(columns: &mut [TextColumn])
     lengthen(columns);
 }
 
-// Listed objects get other lists: all of them, or none. Where one alone is listed there is nothing that would have to be taken
-// back, so it goes the short way.
+// Gives listed objects new lists: all of them, or none. If one alone is listed, there is nothing to undo, so it takes the short
+// way.
 fn replace_forms<S: FarTickets>(
     objects: &mut Objects<u8, S>,
     forms: &[Replacement<u8>],
@@ -96,7 +96,7 @@ fn replace_forms<S: FarTickets>(
     objects.replace_all(forms)
 }
 
-// The last row groups, which are not full, get these forms: all of them, or none.
+// Gives the last row groups, which are not full, these forms: all of them, or none.
 pub(super) fn extend_groups<S: FarTickets>(
     objects: &mut Objects<u8, S>,
     columns: &mut [TextColumn],

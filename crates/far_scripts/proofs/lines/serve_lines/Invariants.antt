@@ -1,7 +1,7 @@
 use Rattle.std.proofs.Common.{ℕ, List, length, ◌≤◌, ◌+◌}
 use Rattle.far_script.specs.Flow.{Reads, Prints}
-use Rattle.far_shell.specs.Scripts.{Answers}
-use Rattle.far_shell.proofs.script.serve_lines.Given as goal
+use Rattle.far_scripts.specs.Scripts.{Answers}
+use Rattle.far_scripts.proofs.lines.serve_lines.Given as goal
 
 abbrev pub invariant-loop-turn : goal.invariant-loop-turn
 invariant-loop-turn g l = (bytes : List ℕ) × (text : List ℕ) × Reads g.R.Read l.fn.input bytes l.input

@@ -2,10 +2,10 @@ use Rattle.std.proofs.Common.{[], ◌++◌, ◌∷◌, ◌∙◌, refl, sym, ari
 use Rattle.far_script.specs.declared.fault.ShellFault.TheVariants as fault
 use Rattle.far_script.specs.Flow.{IsUnseen}
 use Rattle.far_script.proofs.StopLaws.{handed-on, if-unseen}
-use Rattle.far_shell.proofs.BreakLaws.{breaks-first, no-line, no-text-last, no-text-line, rejects-first, rejects-none}
+use Rattle.far_scripts.proofs.BreakLaws.{breaks-first, no-line, no-text-last, no-text-line, rejects-first, rejects-none}
 use Rattle.far_script.proofs.FlowLaws.{few-bytes, reads-none, reads-then, prints-none, prints-nothing-then, range-empty, range-some}
-use Rattle.far_shell.proofs.ScriptLaws.{turn-more, blank-more, begins-line, begins-last}
-use Rattle.far_shell.proofs.script.first_command.Goals as goal
+use Rattle.far_scripts.proofs.ScriptLaws.{turn-more, blank-more, begins-line, begins-last}
+use Rattle.far_scripts.proofs.first_line.first_command.Goals as goal
 
 pub loop-turn-init : goal.loop-turn-init
 loop-turn-init g c = ([], [], reads-none g.R.Read _ _ refl, prints-none (g.W.Write.contents c.args.writer.now) c.args.output.now.page, refl, grind arith, grind arith)

@@ -1,7 +1,7 @@
 use Rattle.std.proofs.Common.{[], append-nil, ◌∙◌, refl, sym}
 use Rattle.far_script.specs.declared.fault.ShellFault.TheVariants as fault
 use Rattle.far_script.proofs.StopLaws.{handed-on}
-use Rattle.far_shell.proofs.script.open.Goals as goal
+use Rattle.far_scripts.proofs.opening.open.Goals as goal
 
 pub returns-in_err-add_text-in-Ok-clause-err : goal.returns-in_err-add_text-in-Ok-clause-err
 returns-in_err-add_text-in-Ok-clause-err g c =

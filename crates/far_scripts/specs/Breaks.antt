@@ -1,0 +1,109 @@
+-- What was printed up to a fault: of the first line of a script, and of the lines behind it.
+use Rattle.std.specs.Prelude.{◌≡◌, ◌⊎◌, ℕ, List, [], ◌∷◌, ◌++◌, None, Some, IsUtf8, codes}
+use Rattle.far_types.specs.declared.refusal.Refusal.TheVariants as refusal
+use Rattle.far_types.specs.Bounds.{IsSchema, AreLimits}
+use Rattle.far_store.specs.declared.store.FarTickets.{Ghosts as Tickets}
+use Rattle.far_script.specs.declared.fault.ShellFault.{ShellFault}
+use Rattle.far_script.specs.declared.fault.ShellFault.TheVariants as fault
+use Rattle.far_commands.specs.Cuts.{Fails, IsFront, Lists}
+use Rattle.far_script.specs.Openings.{Opened, Schema, start_in}
+use Rattle.far_script.specs.Printing.{refusal_text}
+use Rattle.far_commands.specs.Progress.{At}
+use Rattle.far_script.specs.Lines.{Blank, IsOneLine, without_return}
+use Rattle.far_scripts.specs.Scripts.{Answers, Begins, IsNew, Opens}
+
+-- bytes that begin with no line that can be answered. Either none has its end, and why no more came is the first argument. Or they are the
+-- last line, and at fault; that nothing comes behind it is the second argument. Or the first line is at fault
+abbrev pub HasNoTurn : Type 0 → Type 0 → (List ℕ → List ℕ → Type 0) → List ℕ → Type 0
+HasNoTurn unseen spent fails bytes = (IsOneLine bytes × (unseen ⊎ (spent × fails bytes [])))
+    ⊎ ((line : List ℕ) × (behind : List ℕ) × IsOneLine line × (bytes ≡ line ++ 10 ∷ behind) × fails (without_return line) behind)
+
+-- a line is no first line, and this is printed for it
+abbrev pub IsUnknown : List ℕ → List ℕ → Type 0
+IsUnknown line text = (start_in line ≡ None) × (text ≡ codes "syntax command 1\n")
+
+-- a table of these columns and limits may not be, and this is printed for it
+abbrev pub IsRefused : Opened → List ℕ → Type 0
+IsRefused opened text = ¬ (IsSchema opened.0 × AreLimits opened.1) × (text ≡ refusal_text refusal.BadSchema)
+
+-- a line opens no table and asks for no sessions, and this is printed for it
+abbrev pub IsRejected : List ℕ → List ℕ → Type 0
+IsRejected line text = IsUnknown line text ⊎ ((opened : Opened) × (start_in line ≡ Some (Schema opened)) × IsRefused opened text)
+
+-- what a fault has printed for a first line: why, where the line is at fault
+abbrev pub Rejection : ShellFault → (List ℕ → Type 0) → List ℕ → Type 0
+Rejection fault.BadStart why text = why text
+Rejection fault.Input why text = ⊥
+Rejection fault.Output why text = ⊥
+Rejection fault.Memory why text = text ≡ []
+Rejection fault.Turns why text = ⊥
+
+-- a script has no command
+abbrev pub HasNoCommand : List ℕ → Type 0 → Type 0
+HasNoCommand bytes spent = (blanks : List (List ℕ)) × Blank bytes blanks × spent
+
+-- the first command of a script is at fault, or there is none
+abbrev pub Rejects : List ℕ → Type 0 → List ℕ → Type 0
+Rejects bytes spent text = ((line : List ℕ) × Begins bytes spent line × IsRejected line text) ⊎ (HasNoCommand bytes spent × (text ≡ []))
+
+-- no first command came: behind empty lines none has its end, or the first is no text
+pub record HasNoStart (unseen spent : Type 0) (bytes : List ℕ) : Type 0 where
+  pub blanks : List (List ℕ)
+  pub blank : List ℕ
+  pub empty : Blank blank blanks
+  pub next : List ℕ
+  pub none : HasNoTurn unseen spent (λ line behind. ¬ (IsUtf8 line)) next
+  pub whole : bytes ≡ blank ++ next
+
+-- a fault comes before any first command was understood, and this is printed
+abbrev pub HasNotBegun : Type 0 → Type 0 → ShellFault → List ℕ → List ℕ → List ℕ → Type 0
+HasNotBegun unseen spent fault.BadStart bytes rest text = Rejects bytes (rest ≡ []) text
+HasNotBegun unseen spent fault.Input bytes rest text = HasNoStart unseen spent bytes × (text ≡ [])
+HasNotBegun unseen spent fault.Output bytes rest text = text ≡ []
+HasNotBegun unseen spent fault.Memory bytes rest text = text ≡ []
+HasNotBegun unseen spent fault.Turns bytes rest text = ⊥
+
+module _ {K : Type 0} where
+  -- the same of a line that may have lost a carriage return
+  abbrev pub ListsNext : At K → List ℕ → List ℕ → Type 0
+  ListsNext at bytes text = Lists at bytes text ⊎ Lists at (without_return bytes) text
+
+  -- what follows the lines that were answered, and what is printed for it. Of an input at fault it is all that came: no whole
+  -- turn. Else it is a line, and where it asks for a dump, a front of it may be printed. The first two arguments say why no more came
+  -- though the end was not seen, and that nothing comes behind. A load lacks bytes by either
+  abbrev pub BreaksIn : Type 0 → Type 0 → ShellFault → At K → List ℕ → List ℕ → Type 0
+  BreaksIn unseen spent fault.BadStart at next front = ⊥
+  BreaksIn unseen spent fault.Input at next front = (front ≡ []) × HasNoTurn unseen spent (Fails (spent ⊎ unseen) at.world.state.table.schema) next
+  BreaksIn unseen spent fault.Output at next front = IsOneLine next × IsFront (ListsNext at next) front
+  BreaksIn unseen spent fault.Memory at next front = IsOneLine next × IsFront (ListsNext at next) front
+  BreaksIn unseen spent fault.Turns at next front = ⊥
+
+-- the second and the third argument say why no more came
+module _ {S K : Type 0} (tickets : Tickets S K) (unseen spent : Type 0) where
+  -- behind the first command a script breaks off: whole lines are answered, and then no more
+  pub record BreaksOff (old : At K) (why : ShellFault) (bytes text : List ℕ) : Type 0 where
+    pub before : List ℕ
+    pub printed : List ℕ
+    pub mid : At K
+    pub answered : Answers tickets old before printed mid
+    pub next : List ℕ
+    pub front : List ℕ
+    pub cut : BreaksIn unseen spent why mid next front
+    pub whole : bytes ≡ before ++ next
+    pub said : text ≡ printed ++ front
+
+  -- behind a first command that asks for a table of these columns and limits a script breaks off: the table is not opened, and nothing
+  -- behind the command is read, or the table is opened, and its lines break off
+  abbrev pub BreaksServing : Opened → ShellFault → List ℕ → List ℕ → Type 0
+  BreaksServing opened why bytes text = ((bytes ≡ []) × Rejection why (IsRefused opened) text) ⊎ ((at : At K) × (tail : List ℕ) × IsNew opened at × BreaksOff at why bytes tail × (text ≡ codes "ok\n" ++ tail))
+
+  -- a script breaks off behind its first command
+  pub record BreaksLater (why : ShellFault) (bytes rest text : List ℕ) : Type 0 where
+    pub first : List ℕ
+    pub at : At K
+    pub more : List ℕ
+    pub tail : List ℕ
+    pub opens : Opens first (more ++ rest ≡ []) at
+    pub breaks : BreaksOff at why more tail
+    pub whole : bytes ≡ first ++ more
+    pub said : text ≡ codes "ok\n" ++ tail

@@ -1,0 +1,64 @@
+// The first line of a script, as it is read.
+ghost use Rattle.std.specs.Prelude.{◌≡◌, ◌≢◌, ℕ, List, [], ◌++◌, ◌≤◌, true, IfOk, IfErr, OnOk, Some};
+ghost use Rattle.far_script.specs.Flow.{Gives, IsOver, IsSpent, IsUnseen, Prints, Reads, has_failed};
+ghost use Rattle.far_script.specs.Openings.{IsWithin, start_in, start_of};
+ghost use Rattle.far_scripts.specs.Breaks.{HasNotBegun, IsUnknown, Rejection};
+ghost use Rattle.far_scripts.specs.Scripts.{Begins};
+
+use super::lines::MAX_LINES;
+use far_script::opening::first_line;
+use far_script::{FirstLine, Input, Line, Output, ShellFault, Source};
+use std::alloc::Global;
+use std::io::Write;
+
+/// What a first line says, where it is one. Else that is printed, and the fault is `BadStart`.
+fn read_first(alloc: Global, line: &str, output: &mut Output) -> Result<FirstLine, ShellFault>
+    ensures first { IfOk result (λ first. start_in line.now ≡ Some (start_of first)) }
+    ensures within { IfOk result (λ first. IsWithin (start_of first)) }
+    ensures quiet { OnOk result (output.new.page ≡ output.old.page) }
+    ensures err { IfErr result (λ fault. (text : List ℕ) × (output.new.page ≡ output.old.page ++ text) × Rejection fault (IsUnknown line.now) text) }
+    ensures unwritten { IfErr result (λ fault. fault ≢ ShellFault.Output) }
+{
+    match first_line(alloc, line) {
+        Ok(Some(first)) => Ok(first),
+        Ok(None) => {
+            output.add_text("syntax command 1\n")?;
+            Err(ShellFault::BadStart)
+        }
+        Err(refusal) => Err(ShellFault::of_memory(refusal)),
+    }
+}
+
+/// The first command of a script. Where there is none, or it is no first line, the fault is `BadStart`.
+pub fn first_command<R: Source + Drop, W: Write>(
+    alloc: Global,
+    input: &mut Input<R>,
+    output: &mut Output,
+    writer: &mut W,
+) -> Result<FirstLine, ShellFault>
+    ensures ok { IfOk result (λ first. (bytes : List ℕ) × (line : List ℕ) × Reads R.Read input.old bytes input.new × Begins bytes (IsSpent R.Read input.new) line × (start_in line ≡ Some (start_of first))) }
+    ensures within { IfOk result (λ first. IsWithin (start_of first)) }
+    ensures printed { OnOk result (Prints (W.contents writer.old) output.old.page [] (W.contents writer.new) output.new.page) }
+    ensures err { IfErr result (λ fault. (bytes : List ℕ) × (rest : List ℕ) × (text : List ℕ) × Gives R.Read fault input.old input.new bytes rest × Prints (W.contents writer.old) output.old.page text (W.contents writer.new) output.new.page × HasNotBegun (IsUnseen R.Read R.may_fail input.old input.new) (IsOver R.Read input.new rest) fault bytes rest text) }
+    ensures failed { IfErr result (λ fault. fault ≡ ShellFault.Output → has_failed output.new ≡ true) }
+    ensures asked { input.new.source.reads ≤ input.old.source.reads }
+{
+    for turn in 0..MAX_LINES {
+        match input.line(output, writer)? {
+            Line::Whole(line) => {
+                if !line.is_empty() {
+                    let first = read_first(alloc, input.text(line)?, output)?;
+                    return Ok(first);
+                }
+            }
+            Line::Last(line) => {
+                if line.is_empty() {
+                    return Err(ShellFault::BadStart);
+                }
+                let last = read_first(alloc, input.text(line)?, output)?;
+                return Ok(last);
+            }
+        }
+    }
+    Err(ShellFault::Input)
+}
