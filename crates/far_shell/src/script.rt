@@ -69,9 +69,9 @@ fn flush_at<W: Write>(
 /// read. The objects of its table go to a store in this process, which takes 1,048,576 contents. Behind a first command that asks for
 /// sessions no line is read, though its bytes may have come with that command.
 ///
-/// The faults are those of `run_script`. Afterwards no more reads are left than before, and each byte that came is taken off those that
-/// were left: also of a reader whose bytes nobody knows, as standard input. At the fault `Input` all whole lines that came are answered,
-/// and the next line or its load came and is no UTF-8, or lacks what did not come:
+/// The faults are those of `run_script`. Afterwards no more reads are left than before. At the end of the script and at the fault `Input`
+/// each byte that came is taken off those that were left: also of a reader whose bytes nobody knows, as standard input. At the fault
+/// `Input` all whole lines that came are answered, and the next line or its load came and is no UTF-8, or lacks what did not come:
 ///
 /// - the line its end; then the end of the script was not seen;
 /// - the load its bytes; then the end of the script was seen, and nothing is left behind them, or it was not seen.
