@@ -12,8 +12,8 @@ use far_store::FarStore;
 use std::io::Write;
 
 /// Answers a script behind a first command that asks for a table: opens the table over a new store, and answers its lines up to the end
-/// of the script. Where the store is refused memory, the fault is `Memory`; where the table is refused, that is printed, and the fault is
-/// `BadStart`.
+/// of the script. If the store cannot be allocated, the fault is `Memory`. If the table is refused, the refusal is printed, and the fault
+/// is `BadStart`.
 pub fn serve_table<S: FarStore, A: Resources<S>, R: Source + Drop, W: Write>(
     resources: &A,
     opening: Opening,

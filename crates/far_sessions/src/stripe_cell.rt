@@ -1,7 +1,7 @@
-// The names of the four cells, and the cell of one stripe.
+// The tag of the four cells, and the cell of one stripe.
 ghost use Rattle.std.specs.Prelude.{◌≡◌};
 
-use far_history::{Cell, Naming};
+use far_history::{Cell, PlanTag};
 use std::marker::{Brand, PhantomData};
 
 /// Names the four cells. It has no functions: a caller picks a type, as `Brand`.
@@ -9,15 +9,15 @@ use std::marker::{Brand, PhantomData};
 /// ```
 /// opened::<N, Brand, S, R>(rt, alloc, made, store, edits)
 /// ```
-pub trait Rooms {
+pub trait CellsTag {
     ghost use Rattle.std.specs.Prelude.{ℕ};
     ghost use Rattle.atomic_table.specs.Seated.{TableId};
 
     ghost cells: { ℕ → TableId };
 }
 
-impl Rooms for Brand {
-    ghost use Rattle.far_sessions.specs.Rooms.{no_cell};
+impl CellsTag for Brand {
+    ghost use Rattle.far_sessions.specs.Cells.{no_cell};
 
     ghost cells = { λ _. no_cell };
 }
@@ -34,7 +34,7 @@ impl Rooms for Brand {
 /// }
 /// ```
 #[derive(Drop)]
-pub struct Counter<N: Naming, B: Rooms, const I: usize> {
+pub struct StripeCell<N: PlanTag, B: CellsTag, const I: usize> {
     pub(crate) cell: Cell<N>,
     pub(crate) of: PhantomData<B>,
     ghost is: { cell.table.shared.table_id ≡ B.cells I },

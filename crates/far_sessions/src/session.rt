@@ -3,10 +3,10 @@ ghost use Rattle.std.specs.Prelude.{◌≡◌, ℕ};
 ghost use Rattle.far_history.specs.Histories.{gauge_of};
 ghost use Rattle.far_sessions.specs.Known.{at, SeesMore};
 
-use crate::rooms::{Counter, Rooms};
+use crate::stripe_cell::{CellsTag, StripeCell};
 use far_history::reading::reading_of;
 use far_history::steps::look;
-use far_history::{Naming, Pass, Reading};
+use far_history::{Pass, PlanTag, Reading};
 use std::marker::{Model, PhantomData};
 use std::sync::Wait;
 
@@ -20,25 +20,25 @@ use std::sync::Wait;
 ///     two,
 ///     three,
 /// } = session;
-/// keepers.zero.take_in(rt, cells.zero(), zero);
-/// keepers.one.take_in(rt, cells.one(), one);
-/// keepers.two.take_in(rt, cells.two(), two);
-/// keepers.three.take_in(rt, cells.three(), three);
+/// keepers.zero.end_session(rt, cells.zero(), zero);
+/// keepers.one.end_session(rt, cells.one(), one);
+/// keepers.two.end_session(rt, cells.two(), two);
+/// keepers.three.end_session(rt, cells.three(), three);
 /// ```
 #[derive(Drop)]
-pub struct Place<B: Rooms, const I: usize> {
+pub struct SessionAt<B: CellsTag, const I: usize> {
     pub(crate) pass: Pass,
     pub(crate) of: PhantomData<B>,
 }
 
-impl<B: Rooms, const I: usize> Model for Place<B, I> {
+impl<B: CellsTag, const I: usize> Model for SessionAt<B, I> {
     ghost use Rattle.std.specs.Prelude.{◌≡◌};
     ghost use Rattle.crossbeam_utils.specs.Seq.{cell_view};
-    ghost use Rattle.far_history.specs.Sessions.{Told, told_of, IsSession};
+    ghost use Rattle.far_history.specs.Sessions.{SessionState, session_state, IsSession};
 
-    ghost Value = { Told };
+    ghost Value = { SessionState };
 
-    ghost view = { λ s. told_of (cell_view s.pass) };
+    ghost view = { λ s. session_state (cell_view s.pass) };
 
     ghost invariant = { λ s. (s.pass.table_id ≡ B.cells I) × IsSession (cell_view s.pass) };
 }
@@ -53,19 +53,19 @@ impl<B: Rooms, const I: usize> Model for Place<B, I> {
 /// };
 /// ```
 #[derive(Drop)]
-pub struct Session<B: Rooms> {
+pub struct Session<B: CellsTag> {
     pub(crate) number: u64,
     /// The session at stripe 0.
-    pub zero: Place<B, 0>,
+    pub zero: SessionAt<B, 0>,
     /// The session at stripe 1.
-    pub one: Place<B, 1>,
+    pub one: SessionAt<B, 1>,
     /// The session at stripe 2.
-    pub two: Place<B, 2>,
+    pub two: SessionAt<B, 2>,
     /// The session at stripe 3.
-    pub three: Place<B, 3>,
+    pub three: SessionAt<B, 3>,
 }
 
-impl<B: Rooms> Model for Session<B> {
+impl<B: CellsTag> Model for Session<B> {
     ghost use Rattle.std.specs.Prelude.{◌≡◌};
     ghost use Rattle.far_sessions.specs.Known.{Known};
 
@@ -76,7 +76,7 @@ impl<B: Rooms> Model for Session<B> {
     ghost invariant = { λ s. (s.number ≡ s.zero.by) × (s.one.by ≡ s.zero.by) × (s.two.by ≡ s.zero.by) × (s.three.by ≡ s.zero.by) };
 }
 
-impl<B: Rooms> Session<B> {
+impl<B: CellsTag> Session<B> {
     /// Returns the session's number, counted from 0.
     pub fn number(&self) -> u64
         ensures { (k : ℕ) → (at self.now k).by ≡ result }
@@ -85,9 +85,9 @@ impl<B: Rooms> Session<B> {
     }
 }
 
-impl<N: Naming, B: Rooms, const I: usize> Counter<N, B, I> {
+impl<N: PlanTag, B: CellsTag, const I: usize> StripeCell<N, B, I> {
     /// Returns what the gauge reads after the history so far. Takes no stripe's lock.
-    pub fn gauge<R: Wait>(&self, rt: &R, me: &mut Place<B, I>) -> Reading
+    pub fn gauge<R: Wait>(&self, rt: &R, me: &mut SessionAt<B, I>) -> Reading
         ensures reading { result ≡ gauge_of N.plan me.new.seen }
         ensures seen { SeesMore N.plan me.old me.new }
     {

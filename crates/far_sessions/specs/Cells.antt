@@ -1,4 +1,4 @@
--- The names of the four cells.
+-- The cells of the four stripes.
 use Rattle.std.specs.Prelude.{ℕ, zero, suc, []}
 use Rattle.atomic_table.specs.Seated.{TableId}
 

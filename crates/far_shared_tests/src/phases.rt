@@ -1,18 +1,18 @@
-// Works that a session does by hand: it begins a job, carries it and ends it.
+// Works that a session does in phases: it begins a job, carries it and ends it.
 ghost use Rattle.std.specs.Prelude.{◌≡◌, IfOk, IfSome};
 ghost use Rattle.far_frame.specs.Jobs.{IsJobAt};
 
 use crate::replies::done;
 use crate::scenes::{Replied, Reply};
 use far_frame::Job;
-use far_history::Naming;
-use far_shared::{Shared, Site, Work};
+use far_history::PlanTag;
+use far_shared::{Shared, TableTag, Work};
 use far_store::{FarStore, Meter};
 use far_types::Refusal;
 use std::alloc::Global;
 use std::sync::Wait;
 
-// What is answered where a job was begun, and `Nothing` where there was nothing to do.
+// Goes on with a job, if one was begun. Returns `Nothing` if there was nothing to do.
 fn once_begun<J: Drop, F: FnOnce(J) -> Replied + Drop>(
     begun: Result<Option<J>, Refusal>,
     go_on: F,
@@ -26,7 +26,7 @@ fn once_begun<J: Drop, F: FnOnce(J) -> Replied + Drop>(
     }
 }
 
-// What is answered where a job was carried.
+// Goes on with a job that was carried.
 fn once_carried<J: Drop, F: FnOnce(J) -> Replied + Drop>(
     carried: Result<J, (Refusal, J)>,
     go_on: F,
@@ -40,7 +40,7 @@ fn once_carried<J: Drop, F: FnOnce(J) -> Replied + Drop>(
 }
 
 // Carries a job of a stripe and ends it.
-fn complete<N: Naming, B: Site, S: FarStore, R: Wait>(
+fn complete<N: PlanTag, B: TableTag, S: FarStore, R: Wait>(
     rt: &R,
     alloc: Global,
     shared: &Shared<N, B, S>,
@@ -62,7 +62,7 @@ fn complete<N: Naming, B: Site, S: FarStore, R: Wait>(
 }
 
 // Begins a work, carries its job and ends it.
-pub fn complete_work<N: Naming, B: Site, S: FarStore, R: Wait>(
+pub fn complete_work<N: PlanTag, B: TableTag, S: FarStore, R: Wait>(
     rt: &R,
     alloc: Global,
     shared: &Shared<N, B, S>,
