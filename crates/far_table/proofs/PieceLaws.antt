@@ -1,6 +1,6 @@
 -- Pieces that are folded separately come to what the whole table does.
 use Rattle.std.proofs.Common.{◌≡◌, ℕ, suc, ◌+◌, ◌<◌, ◌≤◌, Bool, true, false, List, [], ◌∷◌, ◌++◌, length, refl, sym, ap, subst, ◌∙◌, arith, slice_index_or, Result, Ok, Err, Option, Some}
-use Rattle.std.specs.Prelude.{◌==◌, ◌&&◌, cond, IfOk, IsOk, OnOk, is_ok}
+use Rattle.std.specs.Prelude.{◌==◌, cond, IfOk, IsOk, is_ok}
 use Rattle.std.specs.List.{cons_option}
 use Rattle.std.specs.Result.{result_ok}
 use Rattle.std.proofs.lemmas.List.{append_assoc}
@@ -80,13 +80,3 @@ one-gathered pieces partials new piece rest are ok added = record {
       ∙ append_assoc partials (done ∷ []) (all_partials rest)
       ∙ ap (λ (p : Result PartialDone Refusal). partials ++ cons_option (result_ok p) (all_partials rest)) (sym at)
   by (Err e) at = absurd (clash at ok)
-
--- what is known of a call that was accepted
-pub on-ok : {A P : Type 0} (r : Result A Refusal) → is_ok r ≡ true → OnOk r P → P
-on-ok (Ok x) is holds = holds
-on-ok (Err e) is holds = absurd (let clash : false ≡ true = is in cc)
-
-pub both-true : (a b : Bool) → (a && b) ≡ true → (a ≡ true) × (b ≡ true)
-both-true true true is = (refl, refl)
-both-true true false is = absurd cc
-both-true false b is = absurd cc

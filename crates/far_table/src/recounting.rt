@@ -100,11 +100,7 @@ fn append(
 /// Gathers the partial aggregates of all pieces, in order. Adds the faults of the pieces to the caller's.
 ///
 /// Refused with `FarFault` (21) exactly if the meter rises, else with `NoMemory` (1).
-fn gather(
-    alloc: Global,
-    pieces: Vec<Piece>,
-    meter: &mut Meter,
-) -> Result<Vec<PartialDone>, Refusal>
+fn gather(alloc: Global, pieces: Vec<Piece>, meter: &mut Meter) -> Result<Vec<PartialDone>, Refusal>
     requires few { meter.old < 2 ^ 63 }
     requires pieces_few { length pieces.items ≤ 64 }
     requires faults_few { HaveFewFaults pieces.items }

@@ -1,4 +1,4 @@
-use Rattle.std.proofs.Common.{◌≡◌, ◌+◌, List, refl, sym, ap, ◌∙◌, arith}
+use Rattle.std.proofs.Common.{◌≡◌, List, refl, sym, ap, ◌∙◌, arith}
 use Rattle.far_types.specs.Answers.{Extrema, extrema}
 use Rattle.far_types.specs.Effects.{joined_extrema}
 use Rattle.far_types.specs.Table.{Place}
