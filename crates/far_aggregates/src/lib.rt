@@ -28,4 +28,4 @@ pub use lend_group::LendGroup;
 pub use pending::Pending;
 pub use recounting::answer_of;
 pub use registrations::group_count;
-pub use scans::{fold_group, scan_totals};
+pub use scans::{observe_group, scan_totals};

@@ -1,26 +1,25 @@
--- Runs of row groups that are folded into one partial each: their places, and what their totals come to.
-use Rattle.std.proofs.Common.{◌≡◌, inl, inr, ℕ, ◌+◌, ◌-◌, ◌*◌, ◌/◌, ◌<◌, ◌≤◌, ◌^◌, List, [], ◌∷◌, ◌++◌, length, take, drop, max, sym, ap, subst, ◌∙◌, arith, slice_index_or}
+-- Runs of row groups that are folded into one partial each: their places, and what these come to.
+use Rattle.std.proofs.Common.{◌≡◌, inl, inr, ℕ, ◌+◌, ◌-◌, ◌*◌, ◌/◌, ◌<◌, ◌≤◌, ◌^◌, List, [], ◌++◌, length, take, drop, max, sym, ap, subst, ◌∙◌, arith, slice_index_or}
 use Rattle.std.proofs.Math.Nat.{mul_assoc, mul_comm, mul-le-mul_right, div-lt_iff_lt-mul, lt-div-mul-add, div-mul-le_self}
 use Rattle.std.proofs.Math.Seq.{take-add}
 use Rattle.std.proofs.lemmas.Bool.{cases_lt}
 use Rattle.std.proofs.lemmas.List.{take_all, drop_all, length-take, length-drop, drop-drop}
 use Rattle.std.proofs.lemmas.List.Elements.{filter_map-append}
 use Rattle.far_types.specs.declared.spec.Spec.{Spec}
-use Rattle.far_types.specs.declared.spec.Fold.TheVariants as fold
-use Rattle.far_types.specs.Answers.{Totals, totals}
-use Rattle.far_types.specs.Effects.{joined_totals}
+use Rattle.far_types.specs.Answers.{Totals, totals, extrema}
+use Rattle.far_types.specs.Effects.{joined_totals, joined_extrema}
 use Rattle.far_types.specs.Table.{Place, groups, in_group, place_pair}
-use Rattle.far_types.proofs.TotalLaws.{totals-append}
+use Rattle.far_types.proofs.TotalLaws.{totals-append, extrema-append}
 use Rattle.far_groups.specs.Live.{Live, CanJoin}
 use Rattle.far_groups.proofs.PairLaws.{can_join}
 use Rattle.far_offload.specs.declared.partial.PartialDone.{PartialDone}
 use Rattle.far_offload.specs.Partials.{partial_of}
 use Rattle.far_aggregates.specs.Accumulators.{pairs_here, group_pairs}
-use Rattle.far_aggregates.specs.Recounting.{partials_from}
+use Rattle.far_aggregates.specs.Recounting.{partial_at, partials_from}
 use Rattle.far_aggregates.proofs.PairLaws.{pairs-few}
 use Rattle.far_table.specs.declared.piece.Piece.{Piece}
 use Rattle.far_table.specs.Pieces.{begin_of, run_of, IsPiece, all_partials, AreWhole, HaveFewFaults}
-use Rattle.far_table.proofs.PieceLaws.{AreFrom, all-joined, few-faults}
+use Rattle.far_table.proofs.PieceLaws.{AreFrom, all-from, few-faults}
 
 -- ---- sums and products
 
@@ -163,14 +162,16 @@ module _ (places : List Place) where
       ∙ ap totals (sym (filter_map-append (place_pair spec) (run_of size from group places) (in_group size group places)))
       ∙ ap (λ l. totals (pairs_here spec l)) (sym (run-more size from group low))
 
+  pub run-observed : (spec : Spec) (size from group : ℕ) → from ≤ group → joined_extrema (extrema (pairs_here spec (run_of size from group places))) (extrema (group_pairs spec size group places)) ≡ extrema (pairs_here spec (run_of size from (group + 1) places))
+  run-observed spec size from group low =
+      sym (extrema-append (pairs_here spec (run_of size from group places)) (group_pairs spec size group places))
+      ∙ ap extrema (sym (filter_map-append (place_pair spec) (run_of size from group places) (in_group size group places)))
+      ∙ ap (λ l. extrema (pairs_here spec l)) (sym (run-more size from group low))
+
 -- what a piece comes to is what its wide row group does
-pub alone : (spec : Spec) (places : List Place) (size count long i : ℕ) → length places ≤ count * size → spec.fold ≡ fold.Totals
-    → ◌≡◌ {A = List PartialDone} (partial_of fold.Totals (pairs_here spec (run_of size (begin_of count long i) (begin_of count long (i + 1)) places)) ∷ []) (partials_from spec (long * size) places i (i + 1 - i))
-alone spec places size count long i all is =
-    let one : 1 ≡ i + 1 - i = omega arith in
-    ap (λ (ps : List Place). partial_of fold.Totals (pairs_here spec ps) ∷ []) (run-wide places size count long i all)
-    ∙ ap (λ f. partial_of f (group_pairs spec (long * size) i places) ∷ []) (sym is)
-    ∙ ap (partials_from spec (long * size) places i) one
+pub as-one : (spec : Spec) (places : List Place) (size count long i : ℕ) → length places ≤ count * size
+    → partial_of spec.fold (pairs_here spec (run_of size (begin_of count long i) (begin_of count long (i + 1)) places)) ≡ partial_at spec (long * size) places i
+as-one spec places size count long i all = ap (λ (ps : List Place). partial_of spec.fold (pairs_here spec ps)) (run-wide places size count long i all)
 
 -- ---- how many pieces there are
 
@@ -204,23 +205,21 @@ narrow len size count long small few is short =
 -- ---- pieces that are told by their numbers
 
 module _ (spec : Spec) (wide : ℕ) (places : List Place) (number : ℕ) (pieces : List Piece) (many : length pieces ≡ number)
-    (each : (i : ℕ) (d : Piece) → i < number → IsPiece spec wide places i (i + 1) (slice_index_or pieces i d)) where
-  in-order : AreFrom spec wide places number 1 0 pieces
+    (each : (i : ℕ) (d : Piece) → i < number → IsPiece spec wide places i (slice_index_or pieces i d)) where
+  in-order : AreFrom spec wide places 0 pieces
   in-order k d within =
-      let low : k ≡ begin_of number 1 (0 + k) = omega (arith, within, many) in
-      let high : k + 1 ≡ begin_of number 1 (0 + k + 1) = omega (arith, within, many) in
-      subst (λ n. IsPiece spec wide places (begin_of number 1 (0 + k)) n (slice_index_or pieces k d)) high
-      (subst (λ n. IsPiece spec wide places n (k + 1) (slice_index_or pieces k d)) low (each k d (omega (arith, within, many))))
+      let at : k ≡ 0 + k = omega arith in
+      subst (λ n. IsPiece spec wide places n (slice_index_or pieces k d)) at (each k d (omega (arith, within, many)))
 
   pub wide-few : HaveFewFaults pieces
-  wide-few = few-faults spec wide places number 1 0 pieces in-order
+  wide-few = few-faults spec wide places 0 pieces in-order
 
   pub wide-whole : AreWhole pieces → all_partials pieces ≡ partials_from spec wide places 0 number
-  wide-whole whole = all-joined spec wide places number 1 pieces in-order whole (omega (arith, many))
+  wide-whole whole = all-from spec wide places 0 pieces in-order whole ∙ ap (partials_from spec wide places 0) many
 
 -- what all pieces come to, in the words of the table that has row groups as wide as they
 pub wide-told : (spec : Spec) (places : List Place) (size held long wide number len : ℕ) (pieces : List Piece) (partials : List PartialDone) → size ≡ held → wide ≡ long * size → number ≡ groups wide len → length pieces ≡ number
-    → ((i : ℕ) (d : Piece) → i < number → IsPiece spec (long * held) places i (i + 1) (slice_index_or pieces i d)) → AreWhole pieces → partials ≡ all_partials pieces → partials ≡ partials_from spec wide places 0 (groups wide len)
+    → ((i : ℕ) (d : Piece) → i < number → IsPiece spec (long * held) places i (slice_index_or pieces i d)) → AreWhole pieces → partials ≡ all_partials pieces → partials ≡ partials_from spec wide places 0 (groups wide len)
 wide-told spec places size held long wide number len pieces partials same wide-is counted many each whole gathered =
     gathered
     ∙ wide-whole spec (long * held) places number pieces many each whole
