@@ -22,11 +22,7 @@ use far_types::{Refusal, Spec};
 use std::alloc::Global;
 
 /// Folds the live places of a row group. Refused with `NoMemory` (1) alone.
-fn fold_group<G: LendGroup>(
-    alloc: Global,
-    spec: &Spec,
-    group: &G,
-) -> Result<PartialDone, Refusal>
+fn fold_group<G: LendGroup>(alloc: Global, spec: &Spec, group: &G) -> Result<PartialDone, Refusal>
     requires few { length (G.places group.now) ≤ 2 ^ 24 }
     requires served { IsServed (G.has group.now) spec.now }
     ensures partial { IfOk result (λ done. done ≡ partial_of spec.now.fold (pairs_here spec.now (G.places group.now))) }
