@@ -22,6 +22,7 @@ mod reserve;
 mod retract;
 mod scans;
 mod spare_keys;
+mod spare_lists;
 
 pub use aggregates::Aggregates;
 pub use lend_group::LendGroup;
