@@ -110,7 +110,7 @@ fn sum_of<S: FarTickets>(
 }
 
 /// One round of the sums, whose times become the least so far. Returns what keeps the work from being left out: nothing is left
-/// of it where a list and a column have the same sum.
+/// of it if a list and a column have the same sum.
 fn time_sums<S: FarTickets>(
     rt: &HostRuntime,
     objects: &Objects<Option<i64>, S>,
