@@ -23,7 +23,7 @@ use Rattle.far_extrema.specs.contracts.tournament.Tournament as tournament
 use Rattle.far_extrema.specs.contracts.tournament.Spare as spare
 use Rattle.far_extrema.specs.contracts.holder.Holder as holder
 use Rattle.far_extrema.specs.contracts.live_extrema.LiveExtrema as extrema
-use Rattle.far_aggregates.proofs.pending.Pending.TheSendSync as pending
+use Rattle.far_aggregates.proofs.spare_lists.SpareLists.TheSendSync as spare_lists
 use Rattle.far_aggregates.proofs.spare_keys.SpareKeys.TheSendSync as spare_keys
 use Rattle.far_aggregates.proofs.pending_groups.PendingGroups.TheSendSync as pending_groups
 use Rattle.far_aggregates.specs.contracts.known.KnownExtrema as known
@@ -96,10 +96,10 @@ aggregate_sync : IsSync aggregate.the_row
 aggregate_sync = struct_syncs aggregate.the_type (spec.the_field_sync, (search sendable, (pending_groups.the_sync, (accumulator_sync, tt))))
 
 aggregates_send : IsSend aggregates.the_row
-aggregates_send = view_send aggregates.TheInside.the_row _ _ _ _ (struct_sends aggregates.TheInside.the_type (heap.Vec-send _ (option.the_send _ aggregate_send), (pending.the_field_send, (spare_keys.the_field_send, (reciprocal.the_field_send, tt)))))
+aggregates_send = view_send aggregates.TheInside.the_row _ _ _ _ (struct_sends aggregates.TheInside.the_type (heap.Vec-send _ (option.the_send _ aggregate_send), (spare_lists.the_field_send, (spare_keys.the_field_send, (reciprocal.the_field_send, tt)))))
 
 aggregates_sync : IsSync aggregates.the_row
-aggregates_sync = view_sync aggregates.TheInside.the_row _ _ _ _ (struct_syncs aggregates.TheInside.the_type (heap.Vec-sync _ (option.the_sync _ aggregate_sync), (pending.the_field_sync, (spare_keys.the_field_sync, (reciprocal.the_field_sync, tt)))))
+aggregates_sync = view_sync aggregates.TheInside.the_row _ _ _ _ (struct_syncs aggregates.TheInside.the_type (heap.Vec-sync _ (option.the_sync _ aggregate_sync), (spare_lists.the_field_sync, (spare_keys.the_field_sync, (reciprocal.the_field_sync, tt)))))
 
 -- ---- a table
 module _ (S T : RattleType) (g : Tickets S.Denot T.Denot) where
