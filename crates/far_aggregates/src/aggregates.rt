@@ -23,11 +23,11 @@ use super::reserve::reserve_all;
 use super::retract::{needs_rows, retract_all, retract_totals};
 use super::scans::build_at;
 use super::spare_keys::SpareKeys;
+use super::spare_lists::SpareLists;
 use far_reciprocal::Reciprocal;
 use far_types::{Answer, CellRef, LendCells, Refusal, Spec};
 use std::alloc::Global;
 use std::marker::Model;
-use std::mem;
 
 /// The aggregates of a table, under their numbers: at most 32. An edit of the rows has three parts:
 ///
@@ -52,8 +52,7 @@ use std::mem;
 #[derive(Drop)]
 pub struct Aggregates {
     registry: Vec<Option<Aggregate>>,
-    /// The lists of an edit that has ended. The next edit uses them, so it makes none.
-    lists: Pending,
+    spare_lists: SpareLists,
     spare_keys: SpareKeys,
     /// A hint for divisions by how many places a row group has.
     reciprocal: Reciprocal,
@@ -91,7 +90,7 @@ impl Aggregates {
     {
         Aggregates {
             registry: Vec::new(alloc),
-            lists: Pending::nothing(alloc),
+            spare_lists: SpareLists::new(alloc),
             spare_keys: SpareKeys::new(alloc),
             reciprocal: Reciprocal::new(1),
         }
@@ -248,6 +247,9 @@ impl Aggregates {
     /// `end` ends the edit. If they refuse it, `undo` undoes the deltas.
     ///
     /// Refused with `NoMemory` (1) alone. A refusal changes no answer.
+    ///
+    /// It is inlined, as `end` is, so that an insert moves no lists through memory.
+    #[inline(always)]
     pub fn apply_deltas<R: LendCells>(
         &mut self,
         alloc: Global,
@@ -269,23 +271,19 @@ impl Aggregates {
             return Ok(Pending::nothing(alloc));
         }
         let group = self.group_of(place, size);
-        let Pending {
-            applied,
-            mut to_retract,
-            ..
-        } = mem::replace(&mut self.lists, Pending::nothing(alloc));
+        let list = self.spare_lists.take_deltas(alloc);
         let registry = self.registry.as_mut_slice();
         reserve_all(registry, group);
         let applied = apply_deltas(
             &mut self.spare_keys,
-            applied,
+            list,
             registry,
             row,
             size,
             place,
             group,
         )?;
-        to_retract.clear();
+        let to_retract = Vec::new(alloc);
         Ok(Pending {
             group,
             applied,
@@ -317,16 +315,13 @@ impl Aggregates {
         ensures memory { IfErr result (λ e. e ≡ Refusal.NoMemory) }
     {
         let group = self.group_of(place, size);
-        let Pending {
-            applied,
-            to_retract,
-            ..
-        } = mem::replace(&mut self.lists, Pending::nothing(alloc));
+        let pairs = self.spare_lists.take_pairs(alloc);
+        let deltas = self.spare_lists.take_deltas(alloc);
         let registry = self.registry.as_mut_slice();
         reserve_all(registry, group);
         let to_retract = row_pairs(
             &mut self.spare_keys,
-            to_retract,
+            pairs,
             registry,
             row,
             size,
@@ -336,7 +331,7 @@ impl Aggregates {
         let changed = Changed { row, column, cell };
         let applied = apply_deltas(
             &mut self.spare_keys,
-            applied,
+            deltas,
             registry,
             &changed,
             size,
@@ -368,23 +363,19 @@ impl Aggregates {
         ensures memory { IfErr result (λ e. e ≡ Refusal.NoMemory) }
     {
         let group = self.group_of(place, size);
-        let Pending {
-            mut applied,
-            to_retract,
-            ..
-        } = mem::replace(&mut self.lists, Pending::nothing(alloc));
+        let list = self.spare_lists.take_pairs(alloc);
         let registry = self.registry.as_mut_slice();
         reserve_all(registry, group);
         let to_retract = row_pairs(
             &mut self.spare_keys,
-            to_retract,
+            list,
             registry,
             row,
             size,
             place,
             group,
         )?;
-        applied.clear();
+        let applied = Vec::new(alloc);
         Ok(Pending {
             group,
             applied,
@@ -408,10 +399,11 @@ impl Aggregates {
 
     /// Ends an edit that the rows have, if there is nothing to retract. Its lists, and the strings of its text keys, are kept
     /// for the next. Allocates nothing.
+    #[inline(always)]
     pub fn end(&mut self, pending: Pending)
         ensures same { self.new ≡ self.old }
     {
-        self.lists = pending.emptied(&mut self.spare_keys);
+        self.spare_lists.keep(pending, &mut self.spare_keys);
     }
 
     /// Retracts the pairs that the row gave before an edit, which the rows have. The row group lends its columns as they are

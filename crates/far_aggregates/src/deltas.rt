@@ -179,6 +179,11 @@ fn apply_next<R: LendCells>(
             deltas.push_reserved(None);
             Ok(())
         }
+        // Most aggregates have no key column. Their adding is compiled for itself, without a look at the key.
+        PairRef::Under {
+            number: None,
+            value,
+        } => apply_under(deltas, entry, group, None, value),
         PairRef::Under { number, value } => apply_under(deltas, entry, group, number, value),
         PairRef::UnderText { text, value } => {
             apply_under_text(keys, deltas, entry, group, text, value)

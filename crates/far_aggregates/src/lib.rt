@@ -22,10 +22,11 @@ mod reserve;
 mod retract;
 mod scans;
 mod spare_keys;
+mod spare_lists;
 
 pub use aggregates::Aggregates;
 pub use lend_group::LendGroup;
 pub use pending::Pending;
 pub use recounting::answer_of;
 pub use registrations::group_count;
-pub use scans::{fold_group, scan_totals};
+pub use scans::{observe_group, scan_totals};

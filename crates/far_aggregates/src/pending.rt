@@ -3,7 +3,6 @@ ghost use Rattle.std.specs.Prelude.{◌≡◌, []};
 
 use super::deltas::Delta;
 use super::pairs::Pair;
-use super::spare_keys::SpareKeys;
 use std::alloc::Global;
 
 /// The deltas that an edit applied, and the pairs to retract once the rows are changed. If the rows refuse the edit, give this
@@ -39,25 +38,6 @@ impl Pending {
             group: 0,
             applied: Vec::new(alloc),
             to_retract: Vec::new(alloc),
-        }
-    }
-
-    /// Returns the lists without their pairs, for the next edit. Their text keys become spare ones. Allocates nothing.
-    pub(crate) fn emptied(self, keys: &mut SpareKeys) -> Pending
-        ensures applied { result.applied.items ≡ [] }
-        ensures to_retract { result.to_retract.items ≡ [] }
-    {
-        let Pending {
-            group,
-            mut applied,
-            mut to_retract,
-        } = self;
-        keys.keep_deltas(&mut applied);
-        keys.keep_pairs(&mut to_retract);
-        Pending {
-            group,
-            applied,
-            to_retract,
         }
     }
 }

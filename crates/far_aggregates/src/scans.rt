@@ -1,8 +1,8 @@
 // A row group that is scanned into an aggregate.
 ghost use Rattle.std.specs.Prelude.{◌≡◌, ◌≢◌, ◌-◌, ◌<◌, ◌≤◌, ◌^◌, ℕ, List, true, length, slice_get, slice_set, IfOk, OnOk, OnErr, IfErr};
 ghost use Rattle.far_types.specs.declared.spec.Fold.TheVariants as folds;
-ghost use Rattle.far_types.specs.Answers.{totals};
-ghost use Rattle.far_types.specs.Effects.{joined_totals};
+ghost use Rattle.far_types.specs.Answers.{totals, extrema};
+ghost use Rattle.far_types.specs.Effects.{joined_totals, joined_extrema};
 ghost use Rattle.far_types.specs.Table.{Place, in_group};
 ghost use Rattle.far_groups.specs.Live.{CanJoin};
 ghost use Rattle.far_offload.specs.Partials.{partial_of};
@@ -15,17 +15,14 @@ ghost use Rattle.far_aggregates.specs.Recounting.{AccumulatorMayMerge, IsMerged}
 use super::aggregate::{Accumulator, Aggregate};
 use super::lend_group::LendGroup;
 use super::needed::needed_columns;
+use far_extrema::GroupExtrema;
 use far_groups::LiveTotals;
-use far_offload::{PartialDone, fold, fold_into};
+use far_offload::{PartialDone, fold, fold_into, observe_into};
 use far_types::{Refusal, Spec};
 use std::alloc::Global;
 
 /// Folds the live places of a row group. Refused with `NoMemory` (1) alone.
-pub fn fold_group<G: LendGroup>(
-    alloc: Global,
-    spec: &Spec,
-    group: &G,
-) -> Result<PartialDone, Refusal>
+fn fold_group<G: LendGroup>(alloc: Global, spec: &Spec, group: &G) -> Result<PartialDone, Refusal>
     requires few { length (G.places group.now) ≤ 2 ^ 24 }
     requires served { IsServed (G.has group.now) spec.now }
     ensures partial { IfOk result (λ done. done ≡ partial_of spec.now.fold (pairs_here spec.now (G.places group.now))) }
@@ -81,6 +78,22 @@ pub fn scan_totals<G: LendGroup>(
 {
     let columns = needed_columns(spec, group);
     fold_into(alloc, live, spec, &columns, group.alive())
+}
+
+/// Observes the rows of a row group in extrema, which may have rows of other row groups. Refused with `NoMemory` (1) alone. A refused
+/// call may have observed some of the rows.
+pub fn observe_group<G: LendGroup>(
+    alloc: Global,
+    observed: &mut GroupExtrema,
+    spec: &Spec,
+    group: &G,
+) -> Result<(), Refusal>
+    requires served { IsServed (G.has group.now) spec.now }
+    ensures ok { OnOk result (observed.new ≡ joined_extrema observed.old (extrema (pairs_here spec.now (G.places group.now)))) }
+    ensures memory { IfErr result (λ e. e ≡ Refusal.NoMemory) }
+{
+    let columns = needed_columns(spec, group);
+    observe_into(alloc, observed, spec, &columns, group.alive())
 }
 
 /// Scans the rows of a row group. Refused with `NoMemory` (1) alone. A refused call changes nothing.

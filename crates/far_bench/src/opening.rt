@@ -5,9 +5,9 @@ ghost use Rattle.far_shared.specs.Opening.{AreNamed};
 use crate::lending::lend_first;
 use crate::plan::plan;
 use crate::sessions::{Duties, Times, time_all};
-use far_history::Naming;
+use far_history::PlanTag;
 use far_sessions::Session;
-use far_shared::{Made, Plan, Shared, Site};
+use far_shared::{Made, Plan, Shared, TableTag};
 use far_store::{AgentStore, FarTickets};
 use far_types::Refusal;
 use std::alloc::Global;
@@ -18,8 +18,8 @@ use std::time::Clock;
 
 /// Measures on a table whose cells have these names.
 fn opened<
-    N: Naming + Send + Sync,
-    B: Site + Send + Sync,
+    N: PlanTag + Send + Sync,
+    B: TableTag + Send + Sync,
     S: FarTickets,
     R: Threads + Wait + Clock + Sync,
 >(rt: &R, alloc: Global, made: Made<N, S>, duties: Duties) -> Result<Times, Refusal>
@@ -34,7 +34,7 @@ fn opened<
 }
 
 /// Gives the cells of a table their names.
-fn named<N: Naming + Send + Sync, S: FarTickets, R: Threads + Wait + Clock + Sync>(
+fn named<N: PlanTag + Send + Sync, S: FarTickets, R: Threads + Wait + Clock + Sync>(
     rt: &R,
     alloc: Global,
     made: Made<N, S>,
@@ -44,7 +44,7 @@ fn named<N: Naming + Send + Sync, S: FarTickets, R: Threads + Wait + Clock + Syn
 }
 
 /// Measures on a table of a plan that has this name.
-fn planned<N: Naming + Send + Sync, S: FarTickets, R: Threads + Wait + Clock + Sync>(
+fn planned<N: PlanTag + Send + Sync, S: FarTickets, R: Threads + Wait + Clock + Sync>(
     rt: &R,
     alloc: Global,
     plan: Plan,

@@ -3,9 +3,9 @@ ghost use Rattle.std.specs.Prelude.{◌<◌};
 
 use crate::clock::{nanoseconds, since};
 use crate::plan::{PLACES, row};
-use far_history::Naming;
+use far_history::PlanTag;
 use far_sessions::{Cells, Session};
-use far_shared::{Shared, Site};
+use far_shared::{Shared, TableTag};
 use far_store::FarTickets;
 use far_types::{Cell, Edit, Refusal};
 use std::alloc::{AllocError, Global};
@@ -46,7 +46,7 @@ const NO_TIMES: Times = Times {
 };
 
 /// The stripe of a session: the writers' own, and those that readers read, from 0 on.
-fn stripe_of<B: Site>(me: &Session<B>, duties: Duties) -> u32
+fn stripe_of<B: TableTag>(me: &Session<B>, duties: Duties) -> u32
     ensures { result < 4 }
 {
     let number = me.number();
@@ -58,7 +58,7 @@ fn stripe_of<B: Site>(me: &Session<B>, duties: Duties) -> u32
 }
 
 /// Inserts a row at each place of a stripe. Returns whether all were inserted.
-fn fill<N: Naming, B: Site, S: FarTickets, R: Wait>(
+fn fill<N: PlanTag, B: TableTag, S: FarTickets, R: Wait>(
     rt: &R,
     alloc: Global,
     shared: &Shared<N, B, S>,
@@ -78,7 +78,7 @@ fn fill<N: Naming, B: Site, S: FarTickets, R: Wait>(
 
 /// Sets so many numbers, each at another place than the one before. Returns whether all were set.
 #[inline(never)]
-fn set_all<N: Naming, B: Site, S: FarTickets, R: Wait>(
+fn set_all<N: PlanTag, B: TableTag, S: FarTickets, R: Wait>(
     rt: &R,
     shared: &Shared<N, B, S>,
     me: &mut Session<B>,
@@ -100,7 +100,7 @@ fn set_all<N: Naming, B: Site, S: FarTickets, R: Wait>(
 
 /// Reads the gauge of a stripe so many times. Returns the greatest number of edits that it read, so that no reading is left out.
 #[inline(never)]
-fn read_all<N: Naming, B: Site, R: Wait>(
+fn read_all<N: PlanTag, B: TableTag, R: Wait>(
     rt: &R,
     cells: &Cells<N, B>,
     me: &mut Session<B>,
@@ -116,7 +116,7 @@ fn read_all<N: Naming, B: Site, R: Wait>(
 
 /// Reads the gauge of a stripe until it has so many edits. Returns how often it was read.
 #[inline(never)]
-fn read_until<N: Naming, B: Site, R: Wait>(
+fn read_until<N: PlanTag, B: TableTag, R: Wait>(
     rt: &R,
     cells: &Cells<N, B>,
     me: &mut Session<B>,
@@ -135,7 +135,7 @@ fn read_until<N: Naming, B: Site, R: Wait>(
 }
 
 /// What a session's edits take, and as many readings after them.
-fn time_writer<N: Naming, B: Site, S: FarTickets, R: Wait + Clock>(
+fn time_writer<N: PlanTag, B: TableTag, S: FarTickets, R: Wait + Clock>(
     rt: &R,
     alloc: Global,
     shared: &Shared<N, B, S>,
@@ -163,7 +163,7 @@ fn time_writer<N: Naming, B: Site, S: FarTickets, R: Wait + Clock>(
 }
 
 /// What a session's readings take, from the writer's first set to its last.
-fn time_reader<N: Naming, B: Site, R: Wait + Clock>(
+fn time_reader<N: PlanTag, B: TableTag, R: Wait + Clock>(
     rt: &R,
     cells: &Cells<N, B>,
     me: &mut Session<B>,
@@ -187,7 +187,7 @@ fn time_reader<N: Naming, B: Site, R: Wait + Clock>(
 }
 
 /// What a session's duty takes.
-fn time_session<N: Naming, B: Site, S: FarTickets, R: Wait + Clock>(
+fn time_session<N: PlanTag, B: TableTag, S: FarTickets, R: Wait + Clock>(
     rt: &R,
     alloc: Global,
     shared: &Shared<N, B, S>,
@@ -204,8 +204,8 @@ fn time_session<N: Naming, B: Site, S: FarTickets, R: Wait + Clock>(
 
 /// The times of all sessions, each in a thread of its own.
 fn time_each<
-    N: Naming + Send + Sync,
-    B: Site + Send + Sync,
+    N: PlanTag + Send + Sync,
+    B: TableTag + Send + Sync,
     S: FarTickets,
     R: Threads + Wait + Clock + Sync,
 >(
@@ -238,8 +238,8 @@ fn slowest(all: Vec<Result<Times, Refusal>>) -> Result<Times, Refusal> {
 
 /// The times of the slowest session, when all do their duties at once.
 pub(crate) fn time_all<
-    N: Naming + Send + Sync,
-    B: Site + Send + Sync,
+    N: PlanTag + Send + Sync,
+    B: TableTag + Send + Sync,
     S: FarTickets,
     R: Threads + Wait + Clock + Sync,
 >(

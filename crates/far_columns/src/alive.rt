@@ -8,13 +8,11 @@ use std::marker::Model;
 /// The alive flags of a table's places, by place. Contracts see their list.
 ///
 /// ```
-/// let mut alive = Alive::new(alloc);
-/// for _ in 0..count {
-///     let Ok(()) = alive.push() else {
-///         return None;
-///     };
+/// if alive.len() < count {
+///     alive.push()?;
+/// } else if alive.len() > count {
+///     alive.unpush();
 /// }
-/// Some(alive)
 /// ```
 #[derive(Drop)]
 pub struct Alive {

@@ -30,13 +30,10 @@ pub use together::{fill_numbers, may_push_numbers, push_numbers, unpush_numbers}
 /// Contracts see the column as a vector, whose default value is 0, and its numbers by the lists of its objects.
 ///
 /// ```
-/// for number in numbers {
-///     if objects.count() >= 1 << 28 {
-///         return Err(Refusal::TableFull);
-///     }
-///     column.push(objects, *number)?;
+/// if objects.count() >= 1 << 28 {
+///     return Err(Refusal::TableFull);
 /// }
-/// Ok(())
+/// column.push(objects, number)
 /// ```
 #[derive(Drop)]
 pub struct IntColumn {

@@ -11,15 +11,8 @@ use std::marker::Model;
 /// borrowed.
 ///
 /// ```
-/// let Some(lent) = lents.next() else {
-///     return None;
-/// };
-/// let piece = if by_flags {
-///     live_sum(lent.values, lent.alive)
-/// } else {
-///     whole_sum(lent.values)
-/// };
-/// sum = sum.wrapping_add(piece);
+/// let index = place - from;
+/// let (number, flag) = (piece.values.get(index), piece.alive.get(index));
 /// ```
 #[derive(Drop)]
 pub struct Lent<'a> {

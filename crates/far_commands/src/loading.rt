@@ -56,7 +56,9 @@ fn insert_line<S: FarStore>(
     Ok(world.edit(Edit::Insert(Row::new(cells))))
 }
 
-/// Inserts the lines of a text that are not empty, up to the first that is refused. Refused with `NoMemory` (1) alone.
+/// Inserts the lines of a text that are not empty, up to the first that is refused. Refused with `NoMemory` (1) alone. It is a
+/// function of its own, so that its loop has the registers for itself.
+#[inline(never)]
 fn load_lines<S: FarStore>(
     alloc: Global,
     world: &mut World<S>,

@@ -9,7 +9,7 @@ use std::marker::Model;
 /// at most.
 ///
 /// ```
-/// let mut progress = open(resources.alloc(), store, opening, output)?;
+/// let mut progress = open(resources, opening, output)?;
 /// serve_lines(resources, &mut progress, input, output, writer)?;
 /// ```
 #[derive(Drop)]

@@ -101,6 +101,9 @@ impl<S: FarStore> World<S> {
     }
 
     /// Serves an edit, as its step is served. No fault occurs.
+    ///
+    /// It is inlined, so that a caller that knows the kind of its edit goes straight to that.
+    #[inline(always)]
     pub fn edit(&mut self, edit: Edit) -> Reply
         ensures step { IsStep S.content S.number_of self.old (Step.Edit edit) result self.new }
         ensures faults { self.new.faults ≡ self.old.faults }

@@ -7,7 +7,7 @@ use Rattle.far_types.specs.Edits.{edit_refusal}
 use Rattle.far_types.specs.Table.{empty_table}
 use Rattle.far_history.specs.Histories.{Planned, replay, by_session, AllBelow}
 use Rattle.far_history.specs.Rule.{entry, Reads, Fits, Kept, Looks, added, Adds}
-use Rattle.far_history.specs.Views.{keeper, joined, nobody, keeper_part, session_part, one_given, new_session}
+use Rattle.far_history.specs.Views.{keeper, joined, no_part, keeper_part, session_part, one_given, new_session}
 use Rattle.far_history.specs.declared.view.Entry.{Entry}
 use Rattle.far_history.specs.declared.view.View.{View}
 use Rattle.far_history.proofs.Lists.{set_each, snoc_each, length_set, prefix_self, prefix_more, cond_eq, cond_ne}
@@ -25,13 +25,13 @@ begins p words reads = record {
   reads = reads;
   legal = tt;
   below = tt;
-  each = snoc_each (Fits 0 (λ _. 0) 0 []) [] (keeper [] 0) (λ j u lt e. absurd (omega arith)) (record { keeps = λ _. (refl, refl, refl); sits = off });
+  each = snoc_each (Fits 0 (λ _. 0) 0 []) [] (keeper [] 0) (λ j u lt e. absurd (omega arith)) (record { keeps = λ _. (refl, refl, refl); has_session = off });
 }
 
-pub looks : (p : Planned) (by : ℕ) (v : View) → v.sits ≡ true → Turns (Kept p) by v (λ x. x) (Looks p)
-looks p by v sits words views h at =
+pub looks : (p : Planned) (by : ℕ) (v : View) → v.has_session ≡ true → Turns (Kept p) by v (λ x. x) (Looks p)
+looks p by v has_session words views h at =
     let mine = h.each by v at in
-    let s = mine.sits sits in
+    let s = mine.has_session has_session in
     let w : View = record v { seen = h.log } in
     let P : ℕ → View → Type 0 = Fits h.keeper_at h.owner h.given h.log in (
       w,
@@ -43,16 +43,16 @@ looks p by v sits words views h at =
         reads = h.reads;
         legal = h.legal;
         below = h.below;
-        each = set_each P views by w (λ j u ne e. h.each j u e) (record { keeps = mine.keeps; sits = λ _. (s.0, s.1, prefix_self h.log, s.3) });
+        each = set_each P views by w (λ j u ne e. h.each j u e) (record { keeps = mine.keeps; has_session = λ _. (s.0, s.1, prefix_self h.log, s.3) });
       },
       (refl, s.2, (λ k. sym (mine.keeps k).1), h.legal, h.reads, s.3, (λ k. subst (λ n. AllBelow n h.log) (sym (mine.keeps k).2) h.below)),
     )
 
-pub adds : (p : Planned) (by : ℕ) (v : View) (e : Edit) (new : List ℕ) → v.keeps ≡ true → v.sits ≡ true → Reads p new (v.all ++ entry v.by e ∷ []) → edit_refusal (replay p v.all) e ≡ None → Turns (Kept p) by v (λ _. new) (Adds e)
-adds p by v e new keeps sits reads may words views h at =
+pub adds : (p : Planned) (by : ℕ) (v : View) (e : Edit) (new : List ℕ) → v.keeps ≡ true → v.has_session ≡ true → Reads p new (v.all ++ entry v.by e ∷ []) → edit_refusal (replay p v.all) e ≡ None → Turns (Kept p) by v (λ _. new) (Adds e)
+adds p by v e new keeps has_session reads may words views h at =
     let mine = h.each by v at in
     let k = mine.keeps keeps in
-    let s = mine.sits sits in
+    let s = mine.has_session has_session in
     let w : View = added v e in
     let x : Entry = entry v.by e in
     let log : List Entry = h.log ++ x ∷ [] in
@@ -69,19 +69,19 @@ adds p by v e new keeps sits reads may words views h at =
         each = set_each P views by w
             (λ j u ne e'. let f = h.each j u e' in record {
               keeps = λ q. absurd (ne ((f.keeps q).0 ∙ sym k.0));
-              sits = λ q. let t = f.sits q in (t.0, t.1, prefix_more u.seen h.log (x ∷ []) t.2, by_session-other u.by h.log x (λ same. ne (t.0 ∙ ap h.owner (sym same) ∙ sym s.0)) ∙ t.3);
+              has_session = λ q. let t = f.has_session q in (t.0, t.1, prefix_more u.seen h.log (x ∷ []) t.2, by_session-other u.by h.log x (λ same. ne (t.0 ∙ ap h.owner (sym same) ∙ sym s.0)) ∙ t.3);
             })
             (record {
               keeps = λ _. (k.0, ap (λ l. l ++ x ∷ []) k.1, k.2);
-              sits = λ _. (s.0, s.1, subst (λ l. IsPrefix (l ++ x ∷ []) log) (sym k.1) (prefix_self log), by_session-same v.by h.log e ∙ ap (λ l. l ++ x ∷ []) s.3);
+              has_session = λ _. (s.0, s.1, subst (λ l. IsPrefix (l ++ x ∷ []) log) (sym k.1) (prefix_self log), by_session-same v.by h.log e ∙ ap (λ l. l ++ x ∷ []) s.3);
             });
       },
       refl,
     )
 
 -- the session of a pass gets a pass of its own
-pub rises : (p : Planned) (by : ℕ) (v : View) → Forks (Kept p) by v (keeper_part v) (session_part v)
-rises p by v words views h at =
+pub splits : (p : Planned) (by : ℕ) (v : View) → Forks (Kept p) by v (keeper_part v) (session_part v)
+splits p by v words views h at =
     let mine = h.each by v at in
     let n : ℕ = length views in
     let left : View = keeper_part v in
@@ -97,14 +97,14 @@ rises p by v words views h at =
       below = h.below;
       each = snoc_each P (set views by left) right
           (λ j u _ e. set_each P views by left
-          (λ i y ne e'. let f = h.each i y e' in record { keeps = f.keeps; sits = λ q. let t = f.sits q in (t.0 ∙ sym (cond_ne (h.owner y.by) by n (h.owner y.by) (λ same. ne (t.0 ∙ same))), t.1, t.2, t.3) })
-          (record { keeps = mine.keeps; sits = off }) j u e)
-          (record { keeps = off; sits = λ q. let t = mine.sits q in (length_set views by left ∙ sym (cond_eq (h.owner v.by) by n (h.owner v.by) (sym t.0)), t.1, t.2, t.3) });
+          (λ i y ne e'. let f = h.each i y e' in record { keeps = f.keeps; has_session = λ q. let t = f.has_session q in (t.0 ∙ sym (cond_ne (h.owner y.by) by n (h.owner y.by) (λ same. ne (t.0 ∙ same))), t.1, t.2, t.3) })
+          (record { keeps = mine.keeps; has_session = off }) j u e)
+          (record { keeps = off; has_session = λ q. let t = mine.has_session q in (length_set views by left ∙ sym (cond_eq (h.owner v.by) by n (h.owner v.by) (sym t.0)), t.1, t.2, t.3) });
     }
 
 -- a pass takes the session of another
-pub sits_down : (p : Planned) (by : ℕ) (v : View) (other : ℕ) (w : View) → Merges (Kept p) by v other w (joined v w) nobody
-sits_down p by v other w words views h at distinct there =
+pub joins : (p : Planned) (by : ℕ) (v : View) (other : ℕ) (w : View) → Merges (Kept p) by v other w (joined v w) no_part
+joins p by v other w words views h at distinct there =
     let mine = h.each by v at in
     let both : View = joined v w in
     let theirs = set_each (λ j u. j ≡ other → Fits h.keeper_at h.owner h.given h.log j u) views by both (λ j u ne e' _. h.each j u e') (λ same. absurd (distinct (sym same))) other w there refl in
@@ -118,11 +118,11 @@ sits_down p by v other w words views h at distinct there =
       reads = h.reads;
       legal = h.legal;
       below = h.below;
-      each = set_each P (set views by both) other nobody
+      each = set_each P (set views by both) other no_part
           (λ j u ne e. set_each Q views by both
-          (λ i y _ e' ne'. let f = h.each i y e' in record { keeps = f.keeps; sits = λ q. let t = f.sits q in (t.0 ∙ sym (cond_ne (h.owner y.by) other by (h.owner y.by) (λ same. ne' (t.0 ∙ same))), t.1, t.2, t.3) })
-          (λ _. record { keeps = mine.keeps; sits = λ q. let t = theirs.sits q in (sym (cond_eq (h.owner w.by) other by (h.owner w.by) (sym t.0)), t.1, t.2, t.3) }) j u e ne)
-          (record { keeps = off; sits = off });
+          (λ i y _ e' ne'. let f = h.each i y e' in record { keeps = f.keeps; has_session = λ q. let t = f.has_session q in (t.0 ∙ sym (cond_ne (h.owner y.by) other by (h.owner y.by) (λ same. ne' (t.0 ∙ same))), t.1, t.2, t.3) })
+          (λ _. record { keeps = mine.keeps; has_session = λ q. let t = theirs.has_session q in (sym (cond_eq (h.owner w.by) other by (h.owner w.by) (sym t.0)), t.1, t.2, t.3) }) j u e ne)
+          (record { keeps = off; has_session = off });
     }
 
 -- the keeper gives a new session out
@@ -146,11 +146,11 @@ gives p by v keeps words views h at =
           (λ j u _ e. set_each P views by left
           (λ i y ne e'. let f = h.each i y e' in record {
             keeps = λ q. absurd (ne ((f.keeps q).0 ∙ sym k.0));
-            sits = λ q. let t = f.sits q in (t.0 ∙ sym (cond_ne y.by h.given n (h.owner y.by) (λ same. omega (arith, t.1, same))), omega (arith, t.1), t.2, t.3);
+            has_session = λ q. let t = f.has_session q in (t.0 ∙ sym (cond_ne y.by h.given n (h.owner y.by) (λ same. omega (arith, t.1, same))), omega (arith, t.1), t.2, t.3);
           })
-          (record { keeps = λ _. (k.0, k.1, ap (λ m. m + 1) k.2); sits = off }) j u e)
+          (record { keeps = λ _. (k.0, k.1, ap (λ m. m + 1) k.2); has_session = off }) j u e)
           (record {
             keeps = off;
-            sits = λ _. (length_set views by left ∙ sym (cond_eq v.given h.given n (h.owner v.given) k.2), omega (arith, k.2), subst (λ l. IsPrefix l h.log) (sym k.1) (prefix_self h.log), ap (λ m. by_session m h.log) k.2 ∙ by_session-new h.given h.given h.log h.below (omega arith));
+            has_session = λ _. (length_set views by left ∙ sym (cond_eq v.given h.given n (h.owner v.given) k.2), omega (arith, k.2), subst (λ l. IsPrefix l h.log) (sym k.1) (prefix_self h.log), ap (λ m. by_session m h.log) k.2 ∙ by_session-new h.given h.given h.log h.below (omega arith));
           });
     }

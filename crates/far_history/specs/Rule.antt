@@ -19,7 +19,7 @@ Reads p words log = reading_in words ≡ gauge_of p log
 -- what the rule says of one pass: `keeper_at` is the pass that keeps the history, and `owner` gives the pass of each session
 pub record Fits (keeper_at : ℕ) (owner : ℕ → ℕ) (given : ℕ) (log : List Entry) (at : ℕ) (v : View) : Type 0 where
   pub keeps : v.keeps ≡ true → (at ≡ keeper_at) × (v.all ≡ log) × (v.given ≡ given)
-  pub sits : v.sits ≡ true → (at ≡ owner v.by) × (v.by < given) × IsPrefix v.seen log × (by_session v.by log ≡ v.mine)
+  pub has_session : v.has_session ≡ true → (at ≡ owner v.by) × (v.by < given) × IsPrefix v.seen log × (by_session v.by log ≡ v.mine)
 
 -- there is one legal history, and the words are the reading after it. One pass keeps it. Each session has seen a prefix of it, and knows
 -- which entries are its own
@@ -41,7 +41,7 @@ Looks p v before after w =
 
 -- a pass that keeps the history and has a session, once that session adds an edit
 abbrev pub added : View → Edit → View
-added v e = record { keeps = v.keeps; all = v.all ++ entry v.by e ∷ []; given = v.given; sits = v.sits; by = v.by; seen = v.all ++ entry v.by e ∷ []; mine = v.mine ++ entry v.by e ∷ [] }
+added v e = record { keeps = v.keeps; all = v.all ++ entry v.by e ∷ []; given = v.given; has_session = v.has_session; by = v.by; seen = v.all ++ entry v.by e ∷ []; mine = v.mine ++ entry v.by e ∷ [] }
 
 -- an edit is added to the history
 abbrev pub Adds : Edit → View → List ℕ → List ℕ → View → Type 0

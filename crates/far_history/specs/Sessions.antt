@@ -6,16 +6,16 @@ use Rattle.far_history.specs.declared.view.Entry.{Entry}
 use Rattle.far_history.specs.declared.view.View.{View}
 
 -- its number, the prefix of the history that it has seen, and its own entries in it
-pub record Told : Type 0 where
+pub record SessionState : Type 0 where
   pub by : ℕ
   pub seen : List Entry
   pub mine : List Entry
 
-abbrev pub told_of : View → Told
-told_of v = record { by = v.by; seen = v.seen; mine = v.mine }
+abbrev pub session_state : View → SessionState
+session_state v = record { by = v.by; seen = v.seen; mine = v.mine }
 
 -- a session that has seen nothing
-abbrev pub newcomer : ℕ → Told
+abbrev pub newcomer : ℕ → SessionState
 newcomer n = record { by = n; seen = []; mine = [] }
 
 -- a pass with a session alone, whose entries in what it has seen are its own

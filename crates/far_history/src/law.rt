@@ -9,7 +9,7 @@ use std::marker::{Brand, PhantomData};
 /// Names the plan of a shared table: its schema, its limits, its gauge and how many sessions it has. A proof knows a lock's value by its
 /// type alone, so the plan is a type parameter of all that lies under a lock.
 ///
-/// A plan that was made gets a `Brand` as its name:
+/// A plan that was made gets a `Brand` as its tag:
 ///
 /// ```
 /// match plan_of(alloc, scene.table, scene.roles.len() as u64) {
@@ -17,26 +17,26 @@ use std::marker::{Brand, PhantomData};
 ///     Err(refusal) => Err(refusal),
 /// }
 /// ```
-pub trait Naming {
+pub trait PlanTag {
     ghost use Rattle.far_history.specs.Histories.{Planned};
 
     ghost plan: { Planned };
 }
 
-impl Naming for Brand {
+impl PlanTag for Brand {
     ghost use Rattle.far_history.specs.Histories.{no_plan};
 
     ghost plan = { no_plan };
 }
 
 /// Names an edit that is about to be added to a history.
-pub trait Asking {
+pub trait EditTag {
     ghost use Rattle.far_types.specs.declared.edit.Edit.{Edit};
 
     ghost edit: { Edit };
 }
 
-impl Asking for Brand {
+impl EditTag for Brand {
     ghost use Rattle.far_types.specs.declared.edit.Edit.TheVariants.{Remove};
 
     ghost edit = { Remove 0 };
@@ -50,7 +50,7 @@ pub struct Law<N> {
     of: PhantomData<N>,
 }
 
-impl<N: Naming> Protocol<[u64; 4], View> for Law<N> {
+impl<N: PlanTag> Protocol<[u64; 4], View> for Law<N> {
     ghost use Rattle.std.specs.Prelude.{[]};
     ghost use Rattle.far_history.specs.Rule.{Kept};
     ghost use Rattle.far_history.specs.Views.{keeper};
@@ -65,7 +65,7 @@ pub struct Look<N> {
     of: PhantomData<N>,
 }
 
-impl<N: Naming> Outcome<[u64; 4], View> for Look<N> {
+impl<N: PlanTag> Outcome<[u64; 4], View> for Look<N> {
     ghost use Rattle.far_history.specs.Rule.{Looks};
 
     ghost then = { Looks N.plan };
@@ -76,7 +76,7 @@ pub struct Add<E> {
     of: PhantomData<E>,
 }
 
-impl<E: Asking> Outcome<[u64; 4], View> for Add<E> {
+impl<E: EditTag> Outcome<[u64; 4], View> for Add<E> {
     ghost use Rattle.far_history.specs.Rule.{Adds};
 
     ghost then = { Adds E.edit };
@@ -93,10 +93,10 @@ impl Split<View> for Give {
     ghost right = { new_session };
 }
 
-/// A step that takes the session out of its pass.
-pub struct Rise;
+/// A step that splits the session off its pass.
+pub struct SplitSession;
 
-impl Split<View> for Rise {
+impl Split<View> for SplitSession {
     ghost use Rattle.far_history.specs.Views.{keeper_part, session_part};
 
     ghost left = { keeper_part };
@@ -104,15 +104,15 @@ impl Split<View> for Rise {
     ghost right = { session_part };
 }
 
-/// A step that puts the session of one pass into the keeper's.
-pub struct Sit;
+/// A step that joins the session of one pass to the keeper's.
+pub struct JoinSession;
 
-impl Join<View> for Sit {
-    ghost use Rattle.far_history.specs.Views.{joined, nobody};
+impl Join<View> for JoinSession {
+    ghost use Rattle.far_history.specs.Views.{joined, no_part};
 
     ghost both = { joined };
 
-    ghost spent = { nobody };
+    ghost spent = { no_part };
 }
 
 /// The cell of a history: four words that are read and written in one step.

@@ -7,9 +7,9 @@ ghost use Rattle.far_history.specs.Readings.{reading_in};
 /// The keeper of a stripe adds an edit. `after` is the reading that the longer history has:
 ///
 /// ```
-/// add(rt, &counter.cell, &mut pass, words_of(after), told);
-/// look(rt, &counter.cell, &mut pass);
-/// me.pass = rise(&counter.cell, &mut pass);
+/// add(rt, &stripe_cell.cell, &mut pass, words_of(after), edit);
+/// look(rt, &stripe_cell.cell, &mut pass);
+/// me.pass = split_session(&stripe_cell.cell, &mut pass);
 /// self.pass = Some(Kept::new(pass));
 /// ```
 #[derive(Clone, Copy, Debug, PartialEq, Eq)]

@@ -17,7 +17,7 @@ pub struct View {
     /// How many sessions were given out, if the pass keeps the history.
     pub given: u64,
     /// Whether the pass has a session.
-    pub sits: bool,
+    pub has_session: bool,
     /// The session's number.
     pub by: u64,
     /// The prefix of the history that the session has seen.

@@ -20,10 +20,10 @@ use std::marker::Model;
 ///     unreachable!()
 /// };
 /// let mut pass = kept.into_pass();
-/// let session = rise(&counter.cell, &mut me.pass);
-/// sit(&counter.cell, &mut pass, session);
-/// let words = look(rt, &counter.cell, &mut pass);
-/// me.pass = rise(&counter.cell, &mut pass);
+/// let session = split_session(&stripe_cell.cell, &mut me.pass);
+/// join_session(&stripe_cell.cell, &mut pass, session);
+/// let words = look(rt, &stripe_cell.cell, &mut pass);
+/// me.pass = split_session(&stripe_cell.cell, &mut pass);
 /// self.pass = Some(Kept::new(pass));
 /// ```
 pub struct Kept<S, V> {

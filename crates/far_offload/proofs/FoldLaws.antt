@@ -11,21 +11,18 @@ use Rattle.std.proofs.lemmas.List.{append-nil, take_more}
 use Rattle.std.proofs.lemmas.List.Elements.{filter_map-append}
 use Rattle.far_types.specs.declared.key.Key.{Key}
 use Rattle.far_types.specs.declared.spec.Spec.{Spec}
-use Rattle.far_types.specs.declared.spec.Fold.{Fold}
-use Rattle.far_types.specs.declared.spec.Fold.TheVariants as fold
 use Rattle.far_types.specs.Cells.{number_in, key_in}
 use Rattle.far_types.specs.Filters.{keeps}
 use Rattle.far_types.specs.Pairs.{Pair, PairsFit, key_under, paired}
 use Rattle.far_types.specs.Answers.{count_sum, int_sum, min_max, totals, extrema}
-use Rattle.far_types.specs.Effects.{widened, joined_totals, joined_extrema}
+use Rattle.far_types.specs.Effects.{widened, with_pair, with_observed, count_in, joined_totals}
 use Rattle.far_types.proofs.ByKeyMaps.{grouped-one}
 use Rattle.far_types.proofs.Values.{count_sum-among, min_max-among, min_max-cons}
-use Rattle.far_types.proofs.TotalLaws.{totals-cons, totals-among, totals-append, extrema-cons, extrema-among, extrema-append}
+use Rattle.far_types.proofs.TotalLaws.{totals-cons, totals-among, totals-append, extrema-cons, extrema-among}
 use Rattle.far_extrema.proofs.HolderLaws.{widened_within}
 use Rattle.far_groups.proofs.PairLaws.{counted}
-use Rattle.far_offload.specs.declared.partial.PartialDone.TheVariants.{Totals, Extrema}
 use Rattle.far_offload.specs.Columns.{Columns, cells_at}
-use Rattle.far_offload.specs.Partials.{pair_at, pairs_over, value_at, values_over, min_max_in, partial_of, with_folded, CanFold, IsWithin}
+use Rattle.far_offload.specs.Partials.{pair_at, pairs_over, value_at, values_over, min_max_in, IsWithin}
 
 enumerate-more : (n : ℕ) (flags : List Bool) (i : ℕ) → i < length flags → enumerate_from n (take i flags ++ get_or flags i false ∷ []) ≡ enumerate_from n (take i flags) ++ (n + i, get_or flags i false) ∷ []
 enumerate-more n [] i h = absurd (omega arith)
@@ -62,15 +59,15 @@ min_max-more [] value = refl
 min_max-more (v ∷ values) value =
     ap Some (min_max-among (v ∷ values) value [] ∙ ap (λ l. min_max (value ∷ l)) (append-nil (v ∷ values)) ∙ min_max-cons value (v ∷ values))
 
-pub partial-more : (f : Fold) (pairs : List Pair) (pair : Pair) → partial_of f (pairs ++ pair ∷ []) ≡ with_folded (partial_of f pairs) pair
-partial-more fold.Totals pairs pair =
-    ap (λ m. Totals (record { left = 0; totals = m })) (totals-among pairs pair [] ∙ ap (λ l. totals (pair ∷ l)) (append-nil pairs) ∙ totals-cons pair pairs)
-partial-more fold.Extrema pairs pair =
-    ap Extrema (extrema-among pairs pair [] ∙ ap (λ l. extrema (pair ∷ l)) (append-nil pairs) ∙ extrema-cons pair pairs)
+pub totals-more : (pairs : List Pair) (pair : Pair) → totals (pairs ++ pair ∷ []) ≡ with_pair (totals pairs) pair
+totals-more pairs pair = totals-among pairs pair [] ∙ ap (λ l. totals (pair ∷ l)) (append-nil pairs) ∙ totals-cons pair pairs
 
-pub can-fold : (f : Fold) (pairs : List Pair) (key : Option Key) → length pairs < 2 ^ 26 → CanFold (partial_of f pairs) key
-can-fold fold.Totals pairs key few = let h = counted pairs key in omega (arith, h)
-can-fold fold.Extrema pairs key few = tt
+pub extrema-more : (pairs : List Pair) (pair : Pair) → extrema (pairs ++ pair ∷ []) ≡ with_observed (extrema pairs) pair
+extrema-more pairs pair = extrema-among pairs pair [] ∙ ap (λ l. extrema (pair ∷ l)) (append-nil pairs) ∙ extrema-cons pair pairs
+
+-- a pair more can be counted under a key
+pub few-under : (pairs : List Pair) (key : Option Key) → length pairs < 2 ^ 26 → count_in (fin.get (totals pairs) key) < 2 ^ 26
+few-under pairs key few = let h = counted pairs key in omega (arith, h)
 
 -- the values of the first places, with one place more
 pub values-with : (spec : Spec) (columns : Columns) (flags : List Bool) (i : ℕ) (flag : Bool) (value : ℤ) → i < length flags → get_or flags i false ≡ flag → Some value ≡ value_at spec columns (i, flag) → values_over spec columns (take (i + 1) flags) ≡ values_over spec columns (take i flags) ++ value ∷ []
@@ -188,7 +185,7 @@ pub no-totals : (values : List ℤ) → length values ≡ 0 → totals (map (λ 
 no-totals [] none = refl
 no-totals (value ∷ values) none = absurd (omega arith)
 
-plain-extrema : (values : List ℤ) (least greatest : ℤ) → Some (least, greatest) ≡ min_max_in values → extrema (map (λ value. (None, value)) values) ≡ fin.insert fin.empty None (least, greatest)
+pub plain-extrema : (values : List ℤ) (least greatest : ℤ) → Some (least, greatest) ≡ min_max_in values → extrema (map (λ value. (None, value)) values) ≡ fin.insert fin.empty None (least, greatest)
 plain-extrema [] least greatest h = absurd cc
 plain-extrema (value ∷ values) least greatest h = grouped-one min_max None value values ∙ ap (fin.insert fin.empty None) (sym (some_same h))
   where
@@ -199,9 +196,6 @@ pub no-extrema : (values : List ℤ) → None ≡ min_max_in values → extrema 
 no-extrema [] h = refl
 no-extrema (value ∷ values) h = absurd cc
 
--- what `add_rows` and `observe_rows` make of them, where nothing is in yet
+-- what `add_rows` makes of them, where nothing is in yet
 pub added-totals : (values : List ℤ) → (length values ≡ 0 → ⊥) → joined_totals fin.empty (fin.insert fin.empty None (count_sum values)) ≡ totals (map (λ value. (None, value)) values)
 added-totals values some = ap (joined_totals fin.empty) (sym (plain-totals values some)) ∙ sym (totals-append [] (map (λ value. (None, value)) values))
-
-pub observed-extrema : (values : List ℤ) (least greatest : ℤ) → Some (least, greatest) ≡ min_max_in values → joined_extrema fin.empty (fin.insert fin.empty None (least, greatest)) ≡ extrema (map (λ value. (None, value)) values)
-observed-extrema values least greatest h = ap (joined_extrema fin.empty) (sym (plain-extrema values least greatest h)) ∙ sym (extrema-append [] (map (λ value. (None, value)) values))

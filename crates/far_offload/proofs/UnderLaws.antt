@@ -1,5 +1,5 @@
 -- The extrema under one key, with one place more.
-use Rattle.std.proofs.Common.{◌≡◌, ℕ, ◌+◌, ◌<◌, Bool, true, false, cond, List, [], ◌∷◌, ◌++◌, length, get_or, map, take, Option, None, Some, refl, sym, ap, ◌∙◌}
+use Rattle.std.proofs.Common.{◌≡◌, ℕ, ◌+◌, ◌<◌, Bool, true, false, cond, List, [], ◌++◌, length, get_or, map, take, Option, None, Some, refl, sym, ap, ◌∙◌}
 use Rattle.std.specs.Prelude.{ℤ, option_map}
 use Rattle.std.specs.FinMap as fin
 use Rattle.std.specs.List.{cons_option}
@@ -21,13 +21,9 @@ use Rattle.far_types.specs.Answers.{Extrema, extrema}
 use Rattle.far_types.specs.Effects.{widened, with_observed}
 use Rattle.far_types.proofs.Grouping.{same_key}
 use Rattle.far_types.proofs.ByKeyMaps.{get_inserted}
-use Rattle.far_types.proofs.TotalLaws.{extrema-cons, extrema-among}
 use Rattle.far_offload.specs.Columns.{Columns, column_of, cell_of, cells_at, AreKeys}
 use Rattle.far_offload.specs.Partials.{pairs_over, value_at, IsWithin}
-use Rattle.far_offload.proofs.FoldLaws.{within-kept, pair-is, pairs-next, pairs-valueless}
-
-extrema-more : (pairs : List Pair) (pair : Pair) → extrema (pairs ++ pair ∷ []) ≡ with_observed (extrema pairs) pair
-extrema-more pairs pair = extrema-among pairs pair [] ∙ ap (λ l. extrema (pair ∷ l)) (append-nil pairs) ∙ extrema-cons pair pairs
+use Rattle.far_offload.proofs.FoldLaws.{extrema-more, within-kept, pair-is, pairs-next, pairs-valueless}
 
 -- a pair under another key leaves what stands under this one
 elsewhere : (m : Extrema) (pair : Pair) (key : Option Key) → (pair.0 ≡ key → ⊥) → fin.get (with_observed m pair) key ≡ fin.get m key

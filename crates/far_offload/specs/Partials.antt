@@ -1,9 +1,7 @@
 -- What the live places of a row group come to.
-use Rattle.std.specs.Prelude.{ℕ, ◌^◌, ◌<◌, ℤ, ◌≤ℤ◌, Bool, cond, List, [], ◌∷◌, Option, None, Some, IfSome, FitsSigned}
+use Rattle.std.specs.Prelude.{ℕ, ℤ, ◌≤ℤ◌, Bool, cond, List, [], ◌∷◌, Option, None, Some, IfSome, FitsSigned}
 use Rattle.std.specs.Int.{w64}
 use Rattle.std.specs.List.{filter_map, enumerate_from}
-use Rattle.std.specs.FinMap as fin
-use Rattle.far_types.specs.declared.key.Key.{Key}
 use Rattle.far_types.specs.declared.spec.Spec.{Spec}
 use Rattle.far_types.specs.declared.spec.Fold.{Fold}
 use Rattle.far_types.specs.declared.spec.Fold.TheVariants as fold
@@ -11,7 +9,6 @@ use Rattle.far_types.specs.Cells.{number_in}
 use Rattle.far_types.specs.Filters.{keeps}
 use Rattle.far_types.specs.Pairs.{Pair, pair_of}
 use Rattle.far_types.specs.Answers.{min_max, totals, extrema}
-use Rattle.far_types.specs.Effects.{with_pair, with_observed, count_in}
 use Rattle.far_offload.specs.declared.partial.PartialDone.{PartialDone}
 use Rattle.far_offload.specs.declared.partial.PartialDone.TheVariants.{Totals, Extrema}
 use Rattle.far_offload.specs.Columns.{Columns, cells_at}
@@ -52,13 +49,3 @@ IsWithin (Some min_max) (Some value) = (min_max.0 ≤ℤ value) × (value ≤ℤ
 abbrev pub partial_of : Fold → List Pair → PartialDone
 partial_of fold.Totals pairs = Totals (record { left = 0; totals = totals pairs })
 partial_of fold.Extrema pairs = Extrema (extrema pairs)
-
--- one pair more
-abbrev pub with_folded : PartialDone → Pair → PartialDone
-with_folded (Totals live) pair = Totals (record live { totals = with_pair live.totals pair })
-with_folded (Extrema observed) pair = Extrema (with_observed observed pair)
-
--- a pair more can be counted under the key
-abbrev pub CanFold : PartialDone → Option Key → Type 0
-CanFold (Totals live) key = count_in (fin.get live.totals key) < 2 ^ 26
-CanFold (Extrema observed) key = Unit {0}

@@ -7,8 +7,9 @@ ghost use Rattle.far_offload.specs.Partials.{partial_of, pairs_over};
 use crate::column::{Column, find};
 use crate::filtering::value_at;
 use crate::keys::key_at;
+use crate::observing::observe_into;
 use crate::partial::PartialDone;
-use crate::plain::{count_sum_of, min_max_of};
+use crate::plain::count_sum_of;
 use far_extrema::GroupExtrema;
 use far_groups::LiveTotals;
 use far_types::{Fold, Refusal, Spec};
@@ -34,50 +35,64 @@ fn plain_totals(
     Ok(live)
 }
 
-/// Folds extrema without key column.
-fn plain_extrema(
-    alloc: Global,
-    spec: &Spec,
-    columns: &[Column<'_>],
-    alive: &[bool],
-) -> Result<GroupExtrema, Refusal>
-    requires { spec.now.key ≡ None }
-    ensures extrema { IfOk result (λ observed. observed ≡ extrema (pairs_over spec.now columns.now alive.now)) }
-    ensures memory { IfErr result (λ e. e ≡ Refusal.NoMemory) }
-{
-    let mut observed = GroupExtrema::new(alloc);
-    if let Some((least, greatest)) = min_max_of(spec, columns, alive) {
-        observed.observe_rows(None, least, greatest)?;
-    }
-    Ok(observed)
-}
-
-/// Folds an aggregate with a key column.
-fn keyed(
+/// Folds totals with a key column.
+fn keyed_totals(
     alloc: Global,
     spec: &Spec,
     column: u32,
     columns: &[Column<'_>],
     alive: &[bool],
-) -> Result<PartialDone, Refusal>
+) -> Result<LiveTotals, Refusal>
     requires few { length alive.now ≤ 2 ^ 26 }
     requires keyed { spec.now.key ≡ Some column }
-    ensures partial { IfOk result (λ done. done ≡ partial_of spec.now.fold (pairs_over spec.now columns.now alive.now)) }
+    ensures totals { IfOk result (λ live. live ≡ record { left = 0; totals = totals (pairs_over spec.now columns.now alive.now) }) }
     ensures memory { IfErr result (λ e. e ≡ Refusal.NoMemory) }
 {
     let values = find(columns, spec.value);
     let keys = find(columns, column);
-    let mut done = PartialDone::new(alloc, spec.fold);
+    let mut totals = LiveTotals::new(alloc, 0);
     let mut key = None;
     for place in 0..alive.len() {
         if let Some(value) = value_at(spec, columns, values, place, alive[place]) {
             key = key_at(alloc, keys, place, key)?;
             if key.is_some() {
-                done.fold_under(&key, value)?;
+                totals.add_under(&key, value)?;
             }
         }
     }
-    Ok(done)
+    Ok(totals)
+}
+
+/// Folds totals.
+fn totals_of(
+    alloc: Global,
+    spec: &Spec,
+    columns: &[Column<'_>],
+    alive: &[bool],
+) -> Result<LiveTotals, Refusal>
+    requires few { length alive.now ≤ 2 ^ 26 }
+    ensures totals { IfOk result (λ live. live ≡ record { left = 0; totals = totals (pairs_over spec.now columns.now alive.now) }) }
+    ensures memory { IfErr result (λ e. e ≡ Refusal.NoMemory) }
+{
+    match spec.key {
+        Some(column) => keyed_totals(alloc, spec, column, columns, alive),
+        None => plain_totals(alloc, spec, columns, alive),
+    }
+}
+
+/// Folds extrema.
+fn extrema_of(
+    alloc: Global,
+    spec: &Spec,
+    columns: &[Column<'_>],
+    alive: &[bool],
+) -> Result<GroupExtrema, Refusal>
+    ensures extrema { IfOk result (λ observed. observed ≡ extrema (pairs_over spec.now columns.now alive.now)) }
+    ensures memory { IfErr result (λ e. e ≡ Refusal.NoMemory) }
+{
+    let mut observed = GroupExtrema::new(alloc);
+    observe_into(alloc, &mut observed, spec, columns, alive)?;
+    Ok(observed)
 }
 
 /// Folds the live places of columns at hand. There is a place for each flag, at most 2^26. A column that is not at hand, and a
@@ -94,11 +109,8 @@ pub fn fold(
     ensures partial { IfOk result (λ done. done ≡ partial_of spec.now.fold (pairs_over spec.now columns.now alive.now)) }
     ensures memory { IfErr result (λ e. e ≡ Refusal.NoMemory) }
 {
-    if let Some(column) = spec.key {
-        return keyed(alloc, spec, column, columns, alive);
-    }
     match spec.fold {
-        Fold::Totals => Ok(PartialDone::Totals(plain_totals(alloc, spec, columns, alive)?)),
-        Fold::Extrema => Ok(PartialDone::Extrema(plain_extrema(alloc, spec, columns, alive)?)),
+        Fold::Totals => Ok(PartialDone::Totals(totals_of(alloc, spec, columns, alive)?)),
+        Fold::Extrema => Ok(PartialDone::Extrema(extrema_of(alloc, spec, columns, alive)?)),
     }
 }

@@ -39,12 +39,9 @@ same-next cells row n d rest =
     let here : n + 0 ≡ n = omega arith in
     sym (get_or-drop n cells 0 d ∙ ap (λ i. get_or cells i d) here) ∙ ap (λ l. get_or l 0 d) rest ∙ get_or-drop n row 0 d ∙ ap (λ i. get_or row i d) here
 
--- also once the next one is taken, and something else is put in its place
-pub same-later : (cells row : List Cell) (n : ℕ) (a b : Cell) → drop n cells ≡ drop n row → drop (n + 1) (set (set cells n a) n b) ≡ drop (n + 1) row
-same-later cells row n a b rest =
-    drop-set-lt (n + 1) (set cells n a) n b (omega arith)
-    ∙ drop-set-lt (n + 1) cells n a (omega arith)
-    ∙ sym (drop-drop 1 n cells) ∙ ap (drop 1) rest ∙ drop-drop 1 n row
+-- also once the next one is taken, and something else is left in its place
+pub same-later : (cells row : List Cell) (n : ℕ) (left : Cell) → drop n cells ≡ drop n row → drop (n + 1) (set cells n left) ≡ drop (n + 1) row
+same-later cells row n left rest = drop-set-lt (n + 1) cells n left (omega arith) ∙ sym (drop-drop 1 n cells) ∙ ap (drop 1) rest ∙ drop-drop 1 n row
 
 -- the cells that are taken, and one more
 pub taken-more : (row taken : List Cell) (n : ℕ) (new : Cell) → n < length row → new ≡ get_or row n new → taken ≡ take n row → taken ++ new ∷ [] ≡ take (n + 1) row

@@ -4,14 +4,10 @@
 /// cells (`cells_lent`).
 ///
 /// ```
-/// let Ok(LentColumn::Numbers(numbers)) = rows.group_column(0, group) else {
-///     return None;
-/// };
-/// let mut sum = 0i64;
-/// for number in numbers {
-///     sum = sum.wrapping_add(number.unwrap_or(0));
+/// match rows.group_column(column, group) {
+///     Ok(LentColumn::Numbers(lent)) => lent == numbers,
+///     _ => false,
 /// }
-/// Some(sum)
 /// ```
 #[derive(Clone, Copy, Debug)]
 pub enum LentColumn<'a> {

@@ -65,6 +65,7 @@ impl NewRow {
     }
 
     /// Loads the cells of a row, whose columns have these indexes. None is too long. Allocates nothing.
+    #[inline(always)]
     pub fn load(&mut self, column_indexes: &[ColumnIndex], row: Row)
         requires column_indexes { AreColumnIndexes column_indexes.now (length self.old.numbers) (length self.old.texts) }
         requires width { length row ≡ length column_indexes.now }
@@ -76,8 +77,7 @@ impl NewRow {
     {
         let mut cells = row.into_cells();
         for column in 0..cells.len() {
-            let cell = mem::replace(&mut cells[column], Cell::Missing);
-            cells[column] = self.put(column_indexes[column], cell);
+            self.put(column_indexes[column], &mut cells[column]);
         }
         self.spare = cells;
     }
@@ -90,22 +90,17 @@ impl NewRow {
         mem::replace(&mut self.spare, Vec::new(alloc))
     }
 
-    // Puts a cell, which is of the kind of its index, and returns a text that stood there.
-    fn put(&mut self, column_index: ColumnIndex, cell: Cell) -> Cell
+    // Puts the value of a cell, which is of the kind of its index. The cell gets a text that stood there.
+    #[inline(always)]
+    fn put(&mut self, column_index: ColumnIndex, cell: &mut Cell)
         requires within { IsWithin (length self.old.numbers) (length self.old.texts) column_index }
-        requires of_kind { is_of_kind (kind_of column_index) cell ≡ true }
-        requires short { is_too_long cell ≡ false }
-        ensures { self.new ≡ with_value self.old column_index cell }
+        requires of_kind { is_of_kind (kind_of column_index) cell.old ≡ true }
+        requires short { is_too_long cell.old ≡ false }
+        ensures { self.new ≡ with_value self.old column_index cell.old }
     {
         match column_index {
-            ColumnIndex::Number(number) => {
-                self.numbers[number] = number_of(cell);
-                Cell::Missing
-            }
-            ColumnIndex::Text(text) => {
-                let new = text_of(cell);
-                cell_of(mem::replace(&mut self.texts[text], new))
-            }
+            ColumnIndex::Number(number) => self.numbers[number] = number_of(cell),
+            ColumnIndex::Text(text) => exchange(&mut self.texts[text], cell),
         }
     }
 
@@ -173,15 +168,32 @@ fn nothing<T: Drop>(alloc: Global, count: usize) -> Result<Vec<Option<T>>, Refus
 }
 
 // Returns the number of a cell of a column of numbers.
-fn number_of(cell: Cell) -> Option<i64>
-    requires { is_of_kind Kind.Int cell ≡ true }
-    ensures { int_cell result ≡ cell }
+#[inline(always)]
+fn number_of(cell: &Cell) -> Option<i64>
+    requires { is_of_kind Kind.Int cell.now ≡ true }
+    ensures { int_cell result ≡ cell.now }
 {
     match cell {
-        Cell::Int(number) => Some(number),
+        Cell::Int(number) => Some(*number),
         Cell::Text(_) => unreachable!(),
         Cell::Missing => None,
     }
+}
+
+// Exchanges a text for that of a cell of a column of texts. Mostly both have one, and then nothing but the texts is moved.
+#[inline(always)]
+fn exchange(text: &mut Option<Text>, cell: &mut Cell)
+    requires { is_of_kind Kind.Text cell.old ≡ true }
+    ensures { text_cell text.new ≡ cell.old }
+{
+    if let Some(earlier) = text {
+        if let Cell::Text(later) = cell {
+            mem::swap(earlier, later);
+            return;
+        }
+    }
+    let later = text_of(mem::replace(cell, Cell::Missing));
+    *cell = cell_of(mem::replace(text, later));
 }
 
 // Returns the cell of a text.

@@ -49,6 +49,7 @@ fn first_field(text: &str) -> &str
 
 /// Returns an equal string, in the memory of a cell that is no longer needed, if it is a text. Refused with `NoMemory` (1)
 /// alone.
+#[inline(always)]
 fn string_in(alloc: Global, spare: Cell, field: &str) -> Result<String, Refusal>
     ensures string { IfOk result (λ string. string_bytes string ≡ field.now) }
     ensures memory { IfErr result (λ e. e ≡ Refusal.NoMemory) }
@@ -62,7 +63,9 @@ fn string_in(alloc: Global, spare: Cell, field: &str) -> Result<String, Refusal>
     Ok(string)
 }
 
-/// Returns a field as a cell, as `cell` reads it, in the memory of a cell that is no longer needed.
+/// Returns a field as a cell, as `cell` reads it, in the memory of a cell that is no longer needed. It is inlined, since a cell that
+/// is passed on to a call goes through memory.
+#[inline(always)]
 fn cell_in(alloc: Global, spare: Cell, column: Option<Kind>, field: &str) -> Result<Cell, Refusal>
     ensures cell { IfOk result (λ cell. cell ≡ cell_of column field.now) }
     ensures memory { IfErr result (λ e. e ≡ Refusal.NoMemory) }
@@ -111,6 +114,7 @@ fn write_cell(
 
 /// Returns the cells of what stands between the commas of a text, in the memory of cells that are no longer needed. Refused
 /// with `NoMemory` (1) alone.
+#[inline(always)]
 pub fn cells_in(
     alloc: Global,
     spare: Vec<Cell>,

@@ -77,10 +77,10 @@ module _ {R : Type 0} (read : Ghosts R) {S K : Type 0} (tickets : Tickets S K) (
 
   -- how the lines of a script break off
   abbrev pub Ending : Input R read → Input R read → Option (List ℕ) → Option (List ℕ) → List ℕ → List ℕ → At K → ShellFault → Type 0
-  Ending first new a b h k old why = (all : List ℕ) × (rest : List ℕ) × (said : List ℕ) × Gives read why first new all rest × Prints a h said b k × BreaksOff tickets unseen (IsOver read new rest) old why all said
+  Ending first new a b h k old why = (all : List ℕ) × (rest : List ℕ) × (said : List ℕ) × Gives read why first new all rest × Prints a h said b k × BreaksOff tickets unseen (IsOver read new rest) old why all rest said
 
   between : (first after new : Input R read) (a b : Option (List ℕ)) (h k : List ℕ) (old at : At K) (bytes text : List ℕ) (why : ShellFault)
-      → IfInput why (Counts read first bytes new) → BreaksIn unseen (IsOver read new (coming read after)) why at [] [] → Reads read first bytes after → Prints a h text b k → Answers tickets old bytes text at → Ending first new a b h k old why
+      → IfInput why (Counts read first bytes new) → BreaksIn unseen (IsOver read new (coming read after)) why at [] (coming read after) [] → Reads read first bytes after → Prints a h text b k → Answers tickets old bytes text at → Ending first new a b h k old why
   between first after new a b h k old at bytes text why counts cut p q r = (
     bytes,
     coming read after,
@@ -113,7 +113,7 @@ module _ {R : Type 0} (read : Ghosts R) {S K : Type 0} (tickets : Tickets S K) (
 
   -- within a line
   within-line : (first before mid new : Input R read) (a b c d : Option (List ℕ)) (h k l m : List ℕ) (old at : At K) (raw bytes text front : List ℕ) (why : ShellFault)
-      → IfInput why (Counts read first (bytes ++ raw) new) → BreaksIn unseen (IsOver read new (10 ∷ coming read mid)) why at raw front
+      → IfInput why (Counts read first (bytes ++ raw) new) → BreaksIn unseen (IsOver read new (10 ∷ coming read mid)) why at raw (10 ∷ coming read mid) front
       → Reads read first bytes before → Prints a h text b k → Answers tickets old bytes text at → Reads read before (raw ++ 10 ∷ []) mid → Prints b k [] c l → Prints c l front d m → Ending first new a d h m old why
   within-line first before mid new a b c d h k l m old at raw bytes text front why counts cut p q r s t u = (
     bytes ++ raw,
@@ -130,7 +130,7 @@ module _ {R : Type 0} (read : Ghosts R) {S K : Type 0} (tickets : Tickets S K) (
 
   -- within the last line
   within-last : (first before mid new : Input R read) (a b c d : Option (List ℕ)) (h k l m : List ℕ) (old at : At K) (line bytes text front : List ℕ) (why : ShellFault)
-      → IfInput why (Counts read first (bytes ++ line) new) → BreaksIn unseen (IsOver read new (coming read mid)) why at line front
+      → IfInput why (Counts read first (bytes ++ line) new) → BreaksIn unseen (IsOver read new (coming read mid)) why at line (coming read mid) front
       → Reads read first bytes before → Prints a h text b k → Answers tickets old bytes text at → Reads read before line mid → Prints b k [] c l → Prints c l front d m → Ending first new a d h m old why
   within-last first before mid new a b c d h k l m old at line bytes text front why counts cut p q r s t u = (
     bytes ++ line,
@@ -152,10 +152,10 @@ module _ {R : Type 0} (read : Ghosts R) {S K : Type 0} (tickets : Tickets S K) (
       stopped first before new a d h m old at bytes text p (nothing-printed a b c d h k l m text u.0 q t u.1 u.2) r (stops-line read before mid new raw line unseen (λ rest. Fails (Short new rest) at.world.state.table.schema) one stripped s v)
   breaks-line first before mid new a b c d h k l m old at line raw bytes text fault.Output p q r one stripped s t u v =
       within-line first before mid new a b c d h k l m old at raw bytes text u.0 fault.Output tt
-      (one, front-more (λ said. Lists at line said) (ListsNext at raw) u.0 (λ said n. inr (subst (λ (z : List ℕ). Lists at z said) stripped n)) u.2) p q r s t u.1
+      (one, front-more (λ said. Lists at line said) (ListsNext at raw (10 ∷ coming read mid)) u.0 (λ said n. inl (coming read mid, refl, subst (λ (z : List ℕ). Lists at z said) stripped n)) u.2) p q r s t u.1
   breaks-line first before mid new a b c d h k l m old at line raw bytes text fault.Memory p q r one stripped s t u v =
       within-line first before mid new a b c d h k l m old at raw bytes text u.0 fault.Memory tt
-      (one, front-more (λ said. Lists at line said) (ListsNext at raw) u.0 (λ said n. inr (subst (λ (z : List ℕ). Lists at z said) stripped n)) u.2) p q r s t u.1
+      (one, front-more (λ said. Lists at line said) (ListsNext at raw (10 ∷ coming read mid)) u.0 (λ said n. inl (coming read mid, refl, subst (λ (z : List ℕ). Lists at z said) stripped n)) u.2) p q r s t u.1
   breaks-line first before mid new a b c d h k l m old at line raw bytes text fault.Turns p q r one stripped s t u v = absurd u.2
 
   -- within the answer to the last line
@@ -169,15 +169,15 @@ module _ {R : Type 0} (read : Ghosts R) {S K : Type 0} (tickets : Tickets S K) (
       stopped first before new a d h m old at bytes text p (nothing-printed a b c d h k l m text u.0 q t u.1 u.2) r
       (stops-last read before mid new line unseen (λ rest. Fails (Short new rest) at.world.state.table.schema) one s spent v)
   breaks-last first before mid new a b c d h k l m old at line bytes text fault.Output p q r one s spent t u v =
-      within-last first before mid new a b c d h k l m old at line bytes text u.0 fault.Output tt (one, front-more (λ said. Lists at line said) (ListsNext at line) u.0 (λ said n. inl n) u.2) p q r s t u.1
+      within-last first before mid new a b c d h k l m old at line bytes text u.0 fault.Output tt (one, front-more (λ said. Lists at line said) (ListsNext at line (coming read mid)) u.0 (λ said n. inr (spent-rest read mid spent, n)) u.2) p q r s t u.1
   breaks-last first before mid new a b c d h k l m old at line bytes text fault.Memory p q r one s spent t u v =
-      within-last first before mid new a b c d h k l m old at line bytes text u.0 fault.Memory tt (one, front-more (λ said. Lists at line said) (ListsNext at line) u.0 (λ said n. inl n) u.2) p q r s t u.1
+      within-last first before mid new a b c d h k l m old at line bytes text u.0 fault.Memory tt (one, front-more (λ said. Lists at line said) (ListsNext at line (coming read mid)) u.0 (λ said n. inr (spent-rest read mid spent, n)) u.2) p q r s t u.1
   breaks-last first before mid new a b c d h k l m old at line bytes text fault.Turns p q r one s spent t u v = absurd u.2
 
 module _ {R : Type 0} (read : Ghosts R) {S K : Type 0} (tickets : Tickets S K) (unseen : Type 0) where
   -- how a script breaks off behind a first command that asks for a table
   abbrev pub Serving : Input R read → Input R read → Option (List ℕ) → Option (List ℕ) → List ℕ → List ℕ → Opened → ShellFault → Type 0
-  Serving first new a b h k opened why = (bytes : List ℕ) × (rest : List ℕ) × (text : List ℕ) × Gives read why first new bytes rest × Prints a h text b k × BreaksServing tickets unseen (IsOver read new rest) opened why bytes text
+  Serving first new a b h k opened why = (bytes : List ℕ) × (rest : List ℕ) × (text : List ℕ) × Gives read why first new bytes rest × Prints a h text b k × BreaksServing tickets unseen (IsOver read new rest) opened why bytes rest text
 
   -- the table is not opened
   pub rejects-table : (input : Input R read) (u : Option (List ℕ)) (held left text : List ℕ) (opened : Opened) (why : ShellFault) → left ≡ held ++ text → Rejection why (IsRefused opened) text → Serving input input u u held left opened why
@@ -190,13 +190,9 @@ module _ {R : Type 0} (read : Ghosts R) {S K : Type 0} (tickets : Tickets S K) (
     inl (refl, h),
   )
 
-  -- no store is made for it
-  pub breaks-store : (input : Input R read) (u : Option (List ℕ)) (held : List ℕ) (opened : Opened) → Serving input input u u held held opened fault.Memory
-  breaks-store input u held opened = rejects-table input u held held [] opened fault.Memory (sym (append-nil held)) refl
-
   -- its lines break off
   pub breaks-lines : (old new : Input R read) (u w : Option (List ℕ)) (held k left bytes rest text : List ℕ) (opened : Opened) (at : At K) (why : ShellFault)
-      → k ≡ held ++ codes "ok\n" → IsNew opened at → Gives read why old new bytes rest → Prints u k text w left → BreaksOff tickets unseen (IsOver read new rest) at why bytes text
+      → k ≡ held ++ codes "ok\n" → IsNew tickets opened at → Gives read why old new bytes rest → Prints u k text w left → BreaksOff tickets unseen (IsOver read new rest) at why bytes rest text
       → Serving old new u w held left opened why
   breaks-lines old new u w held k left bytes rest text opened at why e fresh g q b =
       (bytes, rest, codes "ok\n" ++ text, g, prints-then u u w held (codes "ok\n") k text left (prints u held (codes "ok\n") k e) q, inr (at, text, fresh, b, refl))
@@ -278,37 +274,37 @@ not-begun-as P Q A B fault.Output bytes rest text f s h = h
 not-begun-as P Q A B fault.Memory bytes rest text f s h = h
 not-begun-as P Q A B fault.Turns bytes rest text f s h = h
 
-breaks-in-as : {K : Type 0} (P Q A B : Type 0) (why : ShellFault) (at : At K) (next front : List ℕ) → IfInput why (P → Q) → (A → B) → BreaksIn P A why at next front → BreaksIn Q B why at next front
-breaks-in-as P Q A B fault.BadStart at next front f s h = h
-breaks-in-as P Q A B fault.Input at next front f s h =
+breaks-in-as : {K : Type 0} (P Q A B : Type 0) (why : ShellFault) (at : At K) (next rest front : List ℕ) → IfInput why (P → Q) → (A → B) → BreaksIn P A why at next rest front → BreaksIn Q B why at next rest front
+breaks-in-as P Q A B fault.BadStart at next rest front f s h = h
+breaks-in-as P Q A B fault.Input at next rest front f s h =
     let kinds = at.world.state.table.schema in
     (h.0, turn-as P Q A B (Fails (A ⊎ P) kinds) (Fails (B ⊎ Q) kinds) next f s (λ line behind x. fails-as (A ⊎ P) (B ⊎ Q) kinds line behind (λ short. either s f short) x) h.1)
-breaks-in-as P Q A B fault.Output at next front f s h = h
-breaks-in-as P Q A B fault.Memory at next front f s h = h
-breaks-in-as P Q A B fault.Turns at next front f s h = h
+breaks-in-as P Q A B fault.Output at next rest front f s h = h
+breaks-in-as P Q A B fault.Memory at next rest front f s h = h
+breaks-in-as P Q A B fault.Turns at next rest front f s h = h
 
 module _ {S K : Type 0} (tickets : Tickets S K) (P Q A B : Type 0) where
-  breaks-off-as : (old : At K) (why : ShellFault) (bytes text : List ℕ) → IfInput why (P → Q) → (A → B) → BreaksOff tickets P A old why bytes text → BreaksOff tickets Q B old why bytes text
-  breaks-off-as old why bytes text f s b = record {
+  breaks-off-as : (old : At K) (why : ShellFault) (bytes rest text : List ℕ) → IfInput why (P → Q) → (A → B) → BreaksOff tickets P A old why bytes rest text → BreaksOff tickets Q B old why bytes rest text
+  breaks-off-as old why bytes rest text f s b = record {
     before = b.before;
     printed = b.printed;
     mid = b.mid;
     answered = b.answered;
     next = b.next;
     front = b.front;
-    cut = breaks-in-as P Q A B why b.mid b.next b.front f s b.cut;
+    cut = breaks-in-as P Q A B why b.mid b.next rest b.front f s b.cut;
     whole = b.whole;
     said = b.said;
   }
 
   -- the same of a table that may not be opened
-  pub breaks-serving-as : (opened : Opened) (why : ShellFault) (bytes text : List ℕ) → IfInput why (P → Q) → (A → B) → BreaksServing tickets P A opened why bytes text → BreaksServing tickets Q B opened why bytes text
-  breaks-serving-as opened why bytes text f s (inl h) = inl h
-  breaks-serving-as opened why bytes text f s (inr h) = inr (h.0, h.1, h.2, breaks-off-as h.0 why bytes h.1 f s h.3, h.4)
+  pub breaks-serving-as : (opened : Opened) (why : ShellFault) (bytes rest text : List ℕ) → IfInput why (P → Q) → (A → B) → BreaksServing tickets P A opened why bytes rest text → BreaksServing tickets Q B opened why bytes rest text
+  breaks-serving-as opened why bytes rest text f s (inl h) = inl h
+  breaks-serving-as opened why bytes rest text f s (inr h) = inr (h.0, h.1, h.2, breaks-off-as h.0 why bytes rest h.1 f s h.3, h.4)
 
   later-as : (why : ShellFault) (bytes rest text : List ℕ) → IfInput why (P → Q) → (A → B) → BreaksLater tickets P A why bytes rest text → BreaksLater tickets Q B why bytes rest text
   later-as why bytes rest text f s b =
-      record { first = b.first; at = b.at; more = b.more; tail = b.tail; opens = b.opens; breaks = breaks-off-as b.at why b.more b.tail f s b.breaks; whole = b.whole; said = b.said }
+      record { first = b.first; at = b.at; more = b.more; tail = b.tail; opens = b.opens; breaks = breaks-off-as b.at why b.more rest b.tail f s b.breaks; whole = b.whole; said = b.said }
 
   -- before or behind the first command
   pub first-or-later : (why : ShellFault) (bytes rest text : List ℕ) → IfInput why (P → Q) → (A → B) → HasNotBegun P A why bytes rest text ⊎ BreaksLater tickets P A why bytes rest text

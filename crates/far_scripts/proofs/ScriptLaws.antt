@@ -72,7 +72,7 @@ module _ {R : Type 0} (read : Ghosts R) {S K : Type 0} (tickets : Tickets S K) w
 
   -- a table is opened, and its lines are answered
   pub serves-table : (old new : Input R read) (u w : Option (List ℕ)) (held k left bytes text : List ℕ) (opened : Opened) (at : At K)
-      → k ≡ held ++ codes "ok\n" → IsNew opened at → Reads read old bytes new → Prints u k text w left → Ends tickets at bytes text → IsSpent read new
+      → k ≡ held ++ codes "ok\n" → IsNew tickets opened at → Reads read old bytes new → Prints u k text w left → Ends tickets at bytes text → IsSpent read new
       → (all : List ℕ) × (said : List ℕ) × Reads read old all new × Prints u held said w left × IsServed tickets opened all said × IsSpent read new
   serves-table old new u w held k left bytes text opened at e fresh p q ends spent =
       (bytes, codes "ok\n" ++ text, p, prints-then u u w held (codes "ok\n") k text left (prints u held (codes "ok\n") k e) q, (at, text, fresh, ends, refl), spent)

@@ -64,38 +64,39 @@ HasNotBegun unseen spent fault.Memory bytes rest text = text ≡ []
 HasNotBegun unseen spent fault.Turns bytes rest text = ⊥
 
 module _ {K : Type 0} where
-  -- the same of a line that may have lost a carriage return
-  abbrev pub ListsNext : At K → List ℕ → List ℕ → Type 0
-  ListsNext at bytes text = Lists at bytes text ⊎ Lists at (without_return bytes) text
+  -- a line asks for a dump, and this is what is listed. Its end comes behind it, and it may lose a carriage return; or it is the last one,
+  -- and nothing comes behind it
+  abbrev pub ListsNext : At K → List ℕ → List ℕ → List ℕ → Type 0
+  ListsNext at line rest text = ((behind : List ℕ) × (rest ≡ 10 ∷ behind) × Lists at (without_return line) text) ⊎ ((rest ≡ []) × Lists at line text)
 
   -- what follows the lines that were answered, and what is printed for it. Of an input at fault it is all that came: no whole
   -- turn. Else it is a line, and where it asks for a dump, a front of it may be printed. The first two arguments say why no more came
   -- though the end was not seen, and that nothing comes behind. A load lacks bytes by either
-  abbrev pub BreaksIn : Type 0 → Type 0 → ShellFault → At K → List ℕ → List ℕ → Type 0
-  BreaksIn unseen spent fault.BadStart at next front = ⊥
-  BreaksIn unseen spent fault.Input at next front = (front ≡ []) × HasNoTurn unseen spent (Fails (spent ⊎ unseen) at.world.state.table.schema) next
-  BreaksIn unseen spent fault.Output at next front = IsOneLine next × IsFront (ListsNext at next) front
-  BreaksIn unseen spent fault.Memory at next front = IsOneLine next × IsFront (ListsNext at next) front
-  BreaksIn unseen spent fault.Turns at next front = ⊥
+  abbrev pub BreaksIn : Type 0 → Type 0 → ShellFault → At K → List ℕ → List ℕ → List ℕ → Type 0
+  BreaksIn unseen spent fault.BadStart at next rest front = ⊥
+  BreaksIn unseen spent fault.Input at next rest front = (front ≡ []) × HasNoTurn unseen spent (Fails (spent ⊎ unseen) at.world.state.table.schema) next
+  BreaksIn unseen spent fault.Output at next rest front = IsOneLine next × IsFront (ListsNext at next rest) front
+  BreaksIn unseen spent fault.Memory at next rest front = IsOneLine next × IsFront (ListsNext at next rest) front
+  BreaksIn unseen spent fault.Turns at next rest front = ⊥
 
 -- the second and the third argument say why no more came
 module _ {S K : Type 0} (tickets : Tickets S K) (unseen spent : Type 0) where
   -- behind the first command a script breaks off: whole lines are answered, and then no more
-  pub record BreaksOff (old : At K) (why : ShellFault) (bytes text : List ℕ) : Type 0 where
+  pub record BreaksOff (old : At K) (why : ShellFault) (bytes rest text : List ℕ) : Type 0 where
     pub before : List ℕ
     pub printed : List ℕ
     pub mid : At K
     pub answered : Answers tickets old before printed mid
     pub next : List ℕ
     pub front : List ℕ
-    pub cut : BreaksIn unseen spent why mid next front
+    pub cut : BreaksIn unseen spent why mid next rest front
     pub whole : bytes ≡ before ++ next
     pub said : text ≡ printed ++ front
 
   -- behind a first command that asks for a table of these columns and limits a script breaks off: the table is not opened, and nothing
   -- behind the command is read, or the table is opened, and its lines break off
-  abbrev pub BreaksServing : Opened → ShellFault → List ℕ → List ℕ → Type 0
-  BreaksServing opened why bytes text = ((bytes ≡ []) × Rejection why (IsRefused opened) text) ⊎ ((at : At K) × (tail : List ℕ) × IsNew opened at × BreaksOff at why bytes tail × (text ≡ codes "ok\n" ++ tail))
+  abbrev pub BreaksServing : Opened → ShellFault → List ℕ → List ℕ → List ℕ → Type 0
+  BreaksServing opened why bytes rest text = ((bytes ≡ []) × Rejection why (IsRefused opened) text) ⊎ ((at : At K) × (tail : List ℕ) × IsNew tickets opened at × BreaksOff at why bytes rest tail × (text ≡ codes "ok\n" ++ tail))
 
   -- a script breaks off behind its first command
   pub record BreaksLater (why : ShellFault) (bytes rest text : List ℕ) : Type 0 where
@@ -103,7 +104,7 @@ module _ {S K : Type 0} (tickets : Tickets S K) (unseen spent : Type 0) where
     pub at : At K
     pub more : List ℕ
     pub tail : List ℕ
-    pub opens : Opens first (more ++ rest ≡ []) at
-    pub breaks : BreaksOff at why more tail
+    pub opens : Opens tickets first (more ++ rest ≡ []) at
+    pub breaks : BreaksOff at why more rest tail
     pub whole : bytes ≡ first ++ more
     pub said : text ≡ codes "ok\n" ++ tail

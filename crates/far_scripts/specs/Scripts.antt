@@ -7,6 +7,7 @@ use Rattle.far_script.specs.Openings.{Opened, Schema, start_in}
 use Rattle.far_commands.specs.Progress.{At}
 use Rattle.far_commands.specs.Replies.{AnswersLine}
 use Rattle.far_commands.specs.Tables.{IsEmpty}
+use Rattle.far_frame.specs.Worlds.{World}
 
 -- one line of a script without its line feed, the bytes behind it that belong to it, and what is printed for it
 pub record Turn : Type 0 where
@@ -33,16 +34,23 @@ pub record Begins (bytes : List ℕ) (spent : Type 0) (line : List ℕ) : Type 0
   pub text : IsUtf8 line
   pub is : ((bytes ≡ blank ++ (raw ++ 10 ∷ [])) × (line ≡ without_return raw)) ⊎ ((bytes ≡ blank ++ raw) × (line ≡ raw) × spent)
 
-module _ {K : Type 0} where
-  -- a script stands behind its first command, which opened an empty table
+-- the capacity of the first store of a script: how many contents it takes
+abbrev pub first_capacity : ℕ
+first_capacity = 1048576
+
+module _ {S K : Type 0} (tickets : Tickets S K) where
+  -- the objects of a table go to a store of this capacity
+  abbrev pub HasStore : ℕ → World K → Type 0
+  HasStore capacity world = (store : S) × (tickets.capacity_of store ≡ capacity) × (world.store ≡ tickets.store_id store)
+
+  -- a script stands behind its first command, which opened an empty table over a store of the first capacity
   abbrev pub IsNew : Opened → At K → Type 0
-  IsNew opened at = IsEmpty opened at.world × (at.number ≡ 1)
+  IsNew opened at = IsEmpty opened at.world × HasStore first_capacity at.world × (at.number ≡ 1)
 
   -- the first command of a script opens an empty table of its columns and limits
   abbrev pub Opens : List ℕ → Type 0 → At K → Type 0
   Opens bytes spent at = (line : List ℕ) × (opened : Opened) × Begins bytes spent line × (start_in line ≡ Some (Schema opened)) × IsNew opened at
 
-module _ {S K : Type 0} (tickets : Tickets S K) where
   -- one turn
   abbrev pub IsTurn : At K → Turn → At K → Type 0
   IsTurn old turn new = IsOneLine turn.line × AnswersLine tickets old (without_return turn.line) turn.rows turn.text new

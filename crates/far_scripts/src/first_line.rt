@@ -11,7 +11,7 @@ use far_script::{FirstLine, Input, Line, Output, ShellFault, Source};
 use std::alloc::Global;
 use std::io::Write;
 
-/// What a first line says, where it is one. Else that is printed, and the fault is `BadStart`.
+/// Returns what a first line says. If the line is none, that is printed, and the fault is `BadStart`.
 fn read_first(alloc: Global, line: &str, output: &mut Output) -> Result<FirstLine, ShellFault>
     ensures first { IfOk result (λ first. start_in line.now ≡ Some (start_of first)) }
     ensures within { IfOk result (λ first. IsWithin (start_of first)) }

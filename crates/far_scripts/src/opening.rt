@@ -3,26 +3,31 @@ ghost use Rattle.std.specs.Prelude.{◌≡◌, ◌≢◌, ℕ, List, ◌++◌, c
 ghost use Rattle.far_scripts.specs.Breaks.{IsRefused, Rejection};
 ghost use Rattle.far_scripts.specs.Scripts.{IsNew};
 
-use far_commands::{Progress, open_table};
+use far_commands::{Progress, Resources, open_table};
 use far_script::{Opening, Output, ShellFault};
 use far_store::FarStore;
 use far_types::Refusal;
-use std::alloc::Global;
 
-/// The table that a first line asks for, over a store. Where it is refused with `BadSchema` (2), that is printed, and the fault is
-/// `BadStart`.
-pub fn open<S: FarStore>(
-    alloc: Global,
-    store: S,
+/// How many contents the first store of a script takes.
+const STORE_CAPACITY: u64 = 1_048_576;
+
+/// The table that a first line asks for, over a new store. Where the store is refused memory, the fault is `Memory`. Where the table is
+/// refused with `BadSchema` (2), that is printed, and the fault is `BadStart`.
+pub fn open<S: FarStore, A: Resources<S>>(
+    resources: &A,
     opening: Opening,
     output: &mut Output,
 ) -> Result<Progress<S>, ShellFault>
-    ensures ok { IfOk result (λ progress. IsNew (opening.kinds.items, opening.limits) progress) }
+    ensures ok { IfOk result (IsNew S.FarTickets (opening.kinds.items, opening.limits)) }
     ensures said { OnOk result (output.new.page ≡ output.old.page ++ codes "ok\n") }
     ensures err { IfErr result (λ fault. (text : List ℕ) × (output.new.page ≡ output.old.page ++ text) × Rejection fault (IsRefused (opening.kinds.items, opening.limits)) text) }
     ensures unwritten { IfErr result (λ fault. fault ≢ ShellFault.Output) }
 {
-    match open_table(alloc, store, opening) {
+    let store = match resources.store(STORE_CAPACITY) {
+        Ok(store) => store,
+        Err(refusal) => return Err(ShellFault::of_memory(refusal)),
+    };
+    match open_table(resources.alloc(), store, opening) {
         Ok(world) => {
             output.add_text("ok\n")?;
             Ok(Progress::new(world))

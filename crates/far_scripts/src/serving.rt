@@ -11,12 +11,9 @@ use far_script::{Input, Opening, Output, ShellFault, Source};
 use far_store::FarStore;
 use std::io::Write;
 
-/// The most contents that the store of a script takes.
-const STORE_CAPACITY: u64 = 1_048_576;
-
 /// Answers a script behind a first command that asks for a table: opens the table over a new store, and answers its lines up to the end
-/// of the script. Where the store is refused memory, the fault is `Memory`; where the table is refused, that is printed, and the fault is
-/// `BadStart`.
+/// of the script. If the store cannot be allocated, the fault is `Memory`. If the table is refused, the refusal is printed, and the fault
+/// is `BadStart`.
 pub fn serve_table<S: FarStore, A: Resources<S>, R: Source + Drop, W: Write>(
     resources: &A,
     opening: Opening,
@@ -25,15 +22,11 @@ pub fn serve_table<S: FarStore, A: Resources<S>, R: Source + Drop, W: Write>(
     writer: &mut W,
 ) -> Result<(), ShellFault>
     ensures ok { OnOk result ((bytes : List ℕ) × (text : List ℕ) × Reads R.Read input.old bytes input.new × Prints (W.contents writer.old) output.old.page text (W.contents writer.new) output.new.page × IsServed S.FarTickets (opening.kinds.items, opening.limits) bytes text × IsSpent R.Read input.new) }
-    ensures err { IfErr result (λ fault. (bytes : List ℕ) × (rest : List ℕ) × (text : List ℕ) × Gives R.Read fault input.old input.new bytes rest × Prints (W.contents writer.old) output.old.page text (W.contents writer.new) output.new.page × BreaksServing S.FarTickets (IsUnseen R.Read R.may_fail input.old input.new) (IsOver R.Read input.new rest) (opening.kinds.items, opening.limits) fault bytes text) }
+    ensures err { IfErr result (λ fault. (bytes : List ℕ) × (rest : List ℕ) × (text : List ℕ) × Gives R.Read fault input.old input.new bytes rest × Prints (W.contents writer.old) output.old.page text (W.contents writer.new) output.new.page × BreaksServing S.FarTickets (IsUnseen R.Read R.may_fail input.old input.new) (IsOver R.Read input.new rest) (opening.kinds.items, opening.limits) fault bytes rest text) }
     ensures failed { IfErr result (λ fault. fault ≡ ShellFault.Output → has_failed output.new ≡ true) }
     ensures asked { input.new.source.reads ≤ input.old.source.reads }
 {
-    let store = match resources.store(STORE_CAPACITY) {
-        Ok(store) => store,
-        Err(refusal) => return Err(ShellFault::of_memory(refusal)),
-    };
-    let mut progress = open(resources.alloc(), store, opening, output)?;
+    let mut progress = open(resources, opening, output)?;
     serve_lines(resources, &mut progress, input, output, writer)?;
     Ok(())
 }

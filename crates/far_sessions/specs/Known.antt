@@ -2,17 +2,17 @@
 use Rattle.std.specs.Prelude.{◌≡◌, ℕ, zero, suc, List, [], ◌∷◌, ◌++◌}
 use mathlib.Core.List.{IsPrefix}
 use Rattle.far_history.specs.Histories.{Planned, IsLegal, by_session}
-use Rattle.far_history.specs.Sessions.{Told, newcomer}
-use Rattle.far_sessions.specs.Rooms.{four}
+use Rattle.far_history.specs.Sessions.{SessionState, newcomer}
+use Rattle.far_sessions.specs.Cells.{four}
 
 -- what it knows of each history
 pub record Known : Type 0 where
-  pub zeroth : Told
-  pub first : Told
-  pub second : Told
-  pub third : Told
+  pub zeroth : SessionState
+  pub first : SessionState
+  pub second : SessionState
+  pub third : SessionState
 
-abbrev pub at : Known → ℕ → Told
+abbrev pub at : Known → ℕ → SessionState
 at s = four s.zeroth s.first s.second s.third
 
 -- the number of the session, which is the same at each
@@ -30,7 +30,7 @@ newcomers (suc n) = newcomers n ++ newcomer_at_all n ∷ []
 
 -- the session has seen a legal history, which begins with all that it had seen and has just its own entries of it. It made no
 -- edit
-pub record SeesMore (p : Planned) (before after : Told) : Type 0 where
+pub record SeesMore (p : Planned) (before after : SessionState) : Type 0 where
   pub more : IsPrefix before.seen after.seen
   pub legal : IsLegal p after.seen
   pub own : by_session after.by after.seen ≡ after.mine

@@ -1,4 +1,4 @@
+pub mod Cells
 pub mod Closing
 pub mod Known
 pub mod Passes
-pub mod Rooms

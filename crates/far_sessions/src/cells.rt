@@ -3,10 +3,10 @@ ghost use Rattle.std.specs.Prelude.{◌≡◌, ◌≢◌, ◌<◌, ◌≤◌, �
 ghost use Rattle.far_history.specs.Histories.{gauge_of};
 ghost use Rattle.far_sessions.specs.Known.{at, SeesMore};
 
-use crate::place::Session;
-use crate::rooms::{Counter, Rooms};
+use crate::session::Session;
+use crate::stripe_cell::{CellsTag, StripeCell};
 use crossbeam_utils::CachePadded;
-use far_history::{Naming, Reading};
+use far_history::{PlanTag, Reading};
 use far_types::Refusal;
 use std::sync::Wait;
 
@@ -26,33 +26,33 @@ pub(crate) type Spacers = Vec<Vec<u64>>;
 /// };
 /// ```
 #[derive(Drop)]
-pub struct Cells<N: Naming, B: Rooms> {
-    pub(crate) zero: CachePadded<Counter<N, B, 0>>,
-    pub(crate) one: CachePadded<Counter<N, B, 1>>,
-    pub(crate) two: CachePadded<Counter<N, B, 2>>,
-    pub(crate) three: CachePadded<Counter<N, B, 3>>,
+pub struct Cells<N: PlanTag, B: CellsTag> {
+    pub(crate) zero: CachePadded<StripeCell<N, B, 0>>,
+    pub(crate) one: CachePadded<StripeCell<N, B, 1>>,
+    pub(crate) two: CachePadded<StripeCell<N, B, 2>>,
+    pub(crate) three: CachePadded<StripeCell<N, B, 3>>,
     // They stay as long as the cells. Otherwise other data that a thread writes would soon lie in their place.
     pub(crate) spacers: Spacers,
 }
 
-impl<N: Naming, B: Rooms> Cells<N, B> {
+impl<N: PlanTag, B: CellsTag> Cells<N, B> {
     /// Returns the cell of stripe 0.
-    pub fn zero(&self) -> &Counter<N, B, 0> {
+    pub fn zero(&self) -> &StripeCell<N, B, 0> {
         &self.zero
     }
 
     /// Returns the cell of stripe 1.
-    pub fn one(&self) -> &Counter<N, B, 1> {
+    pub fn one(&self) -> &StripeCell<N, B, 1> {
         &self.one
     }
 
     /// Returns the cell of stripe 2.
-    pub fn two(&self) -> &Counter<N, B, 2> {
+    pub fn two(&self) -> &StripeCell<N, B, 2> {
         &self.two
     }
 
     /// Returns the cell of stripe 3.
-    pub fn three(&self) -> &Counter<N, B, 3> {
+    pub fn three(&self) -> &StripeCell<N, B, 3> {
         &self.three
     }
 

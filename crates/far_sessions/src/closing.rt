@@ -4,13 +4,13 @@ ghost use Rattle.far_sessions.specs.Closing.{Has, IsWhole, IsSettled};
 
 use crate::cells::Cells;
 use crate::keeper::Keepers;
-use crate::place::Session;
-use crate::rooms::Rooms;
-use far_history::Naming;
+use crate::session::Session;
+use crate::stripe_cell::CellsTag;
+use far_history::PlanTag;
 use std::sync::Wait;
 
 // Returns whether a session of this number is there.
-fn has<B: Rooms>(sessions: &[Session<B>], number: u64) -> bool
+fn has<B: CellsTag>(sessions: &[Session<B>], number: u64) -> bool
     ensures { IsTrue result ↔ Has number sessions.now }
 {
     for session in sessions {
@@ -22,7 +22,7 @@ fn has<B: Rooms>(sessions: &[Session<B>], number: u64) -> bool
 }
 
 /// Returns whether the sessions below a number are all there.
-pub fn are_whole<B: Rooms>(sessions: &[Session<B>], count: u64) -> bool
+pub fn are_whole<B: CellsTag>(sessions: &[Session<B>], count: u64) -> bool
     ensures { IsTrue result ↔ IsWhole count sessions.now }
 {
     for number in 0..count {
@@ -35,7 +35,7 @@ pub fn are_whole<B: Rooms>(sessions: &[Session<B>], count: u64) -> bool
 
 /// Ends these sessions. Each history is the same as before, and its entries of each of them are just the session's own. If
 /// `are_whole` held before, they are all the entries that a history has.
-pub fn settle<N: Naming, B: Rooms, R: Wait>(
+pub fn settle<N: PlanTag, B: CellsTag, R: Wait>(
     rt: &R,
     cells: &Cells<N, B>,
     keepers: &mut Keepers<N, B>,
@@ -59,9 +59,9 @@ pub fn settle<N: Naming, B: Rooms, R: Wait>(
             two,
             three,
         } = session;
-        keepers.zero.take_in(rt, cells.zero(), zero);
-        keepers.one.take_in(rt, cells.one(), one);
-        keepers.two.take_in(rt, cells.two(), two);
-        keepers.three.take_in(rt, cells.three(), three);
+        keepers.zero.end_session(rt, cells.zero(), zero);
+        keepers.one.end_session(rt, cells.one(), one);
+        keepers.two.end_session(rt, cells.two(), two);
+        keepers.three.end_session(rt, cells.three(), three);
     }
 }

@@ -6,12 +6,12 @@ ghost use Rattle.far_history.specs.Histories.{replay, gauge_of, by_session, IsLe
 ghost use Rattle.far_history.specs.Rule.{entry};
 ghost use Rattle.far_sessions.specs.Known.{SeesMore};
 
-use crate::place::Place;
-use crate::rooms::{Counter, Rooms};
+use crate::session::SessionAt;
+use crate::stripe_cell::{CellsTag, StripeCell};
 use crossbeam_utils::atomic::seq_cell::Doing;
 use far_history::reading::{reading_of, words_of};
-use far_history::steps::{add, look, rise, sit};
-use far_history::{Naming, Reading, View};
+use far_history::steps::{add, join_session, look, split_session};
+use far_history::{PlanTag, Reading, View};
 use far_kept::Kept;
 use far_types::Edit;
 use std::marker::{Model, PhantomData};
@@ -23,22 +23,22 @@ use std::sync::Wait;
 /// Contracts see the history. It is legal, and each entry is of a session of the plan.
 ///
 /// ```
-/// let before = self.keeper.look(rt, counter, me);
-/// let told = Snapshot::of(&edit);
+/// let before = self.keeper.look(rt, stripe_cell, me);
+/// let copy = Snapshot::of(&edit);
 /// let changed = change::<N, S>(&mut self.frame, before.edits, edit)?;
-/// self.keeper.add(rt, counter, me, changed.after, told);
+/// self.keeper.add(rt, stripe_cell, me, changed.after, copy);
 /// Ok(Applied {
 ///     number: changed.after.edits,
 ///     place: changed.place,
 /// })
 /// ```
 #[derive(Drop)]
-pub struct Keeper<N: Naming, B: Rooms, const I: usize> {
+pub struct Keeper<N: PlanTag, B: CellsTag, const I: usize> {
     pub(crate) pass: Option<Kept<[u64; 4], Doing<[u64; 4], View>>>,
     pub(crate) of: PhantomData<(N, B)>,
 }
 
-impl<N: Naming, B: Rooms, const I: usize> Model for Keeper<N, B, I> {
+impl<N: PlanTag, B: CellsTag, const I: usize> Model for Keeper<N, B, I> {
     ghost use Rattle.std.specs.Prelude.{List};
     ghost use Rattle.far_history.specs.declared.view.Entry.{Entry};
     ghost use Rattle.far_sessions.specs.Passes.{history_in, IsHeld};
@@ -53,13 +53,13 @@ impl<N: Naming, B: Rooms, const I: usize> Model for Keeper<N, B, I> {
 /// The keepers of the four histories.
 ///
 /// ```
-/// keepers.zero.take_in(rt, cells.zero(), zero);
-/// keepers.one.take_in(rt, cells.one(), one);
-/// keepers.two.take_in(rt, cells.two(), two);
-/// keepers.three.take_in(rt, cells.three(), three);
+/// keepers.zero.end_session(rt, cells.zero(), zero);
+/// keepers.one.end_session(rt, cells.one(), one);
+/// keepers.two.end_session(rt, cells.two(), two);
+/// keepers.three.end_session(rt, cells.three(), three);
 /// ```
 #[derive(Drop)]
-pub struct Keepers<N: Naming, B: Rooms> {
+pub struct Keepers<N: PlanTag, B: CellsTag> {
     /// The keeper of stripe 0.
     pub zero: Keeper<N, B, 0>,
     /// The keeper of stripe 1.
@@ -70,13 +70,13 @@ pub struct Keepers<N: Naming, B: Rooms> {
     pub three: Keeper<N, B, 3>,
 }
 
-impl<N: Naming, B: Rooms, const I: usize> Keeper<N, B, I> {
+impl<N: PlanTag, B: CellsTag, const I: usize> Keeper<N, B, I> {
     /// Shows a session the history, and returns what the gauge reads after it.
     pub fn look<R: Wait>(
         &mut self,
         rt: &R,
-        counter: &Counter<N, B, I>,
-        me: &mut Place<B, I>,
+        stripe_cell: &StripeCell<N, B, I>,
+        me: &mut SessionAt<B, I>,
     ) -> Reading
         ensures reading { result ≡ gauge_of N.plan self.old }
         ensures history { self.new ≡ self.old }
@@ -87,10 +87,10 @@ impl<N: Naming, B: Rooms, const I: usize> Keeper<N, B, I> {
             unreachable!()
         };
         let mut pass = kept.into_pass();
-        let session = rise(&counter.cell, &mut me.pass);
-        sit(&counter.cell, &mut pass, session);
-        let words = look(rt, &counter.cell, &mut pass);
-        me.pass = rise(&counter.cell, &mut pass);
+        let session = split_session(&stripe_cell.cell, &mut me.pass);
+        join_session(&stripe_cell.cell, &mut pass, session);
+        let words = look(rt, &stripe_cell.cell, &mut pass);
+        me.pass = split_session(&stripe_cell.cell, &mut pass);
         self.pass = Some(Kept::new(pass));
         reading_of(words)
     }
@@ -100,16 +100,16 @@ impl<N: Naming, B: Rooms, const I: usize> Keeper<N, B, I> {
     pub fn add<R: Wait>(
         &mut self,
         rt: &R,
-        counter: &Counter<N, B, I>,
-        me: &mut Place<B, I>,
+        stripe_cell: &StripeCell<N, B, I>,
+        me: &mut SessionAt<B, I>,
         after: Reading,
-        told: Snapshot<Edit>,
+        edit: Snapshot<Edit>,
     )
-        requires may { edit_refusal (replay N.plan self.old) told.value ≡ None }
-        requires reading { after ≡ gauge_of N.plan (self.old ++ entry me.old.by told.value ∷ []) }
-        ensures history { self.new ≡ self.old ++ entry me.old.by told.value ∷ [] }
+        requires may { edit_refusal (replay N.plan self.old) edit.value ≡ None }
+        requires reading { after ≡ gauge_of N.plan (self.old ++ entry me.old.by edit.value ∷ []) }
+        ensures history { self.new ≡ self.old ++ entry me.old.by edit.value ∷ [] }
         ensures whole { me.new.seen ≡ self.new }
-        ensures mine { me.new.mine ≡ me.old.mine ++ entry me.old.by told.value ∷ [] }
+        ensures mine { me.new.mine ≡ me.old.mine ++ entry me.old.by edit.value ∷ [] }
         ensures by { me.new.by ≡ me.old.by }
         ensures own { by_session me.new.by me.new.seen ≡ me.new.mine }
         ensures legal { IsLegal N.plan self.new }
@@ -118,22 +118,27 @@ impl<N: Naming, B: Rooms, const I: usize> Keeper<N, B, I> {
             unreachable!()
         };
         let mut pass = kept.into_pass();
-        let session = rise(&counter.cell, &mut me.pass);
-        sit(&counter.cell, &mut pass, session);
-        add(rt, &counter.cell, &mut pass, words_of(after), told);
-        look(rt, &counter.cell, &mut pass);
-        me.pass = rise(&counter.cell, &mut pass);
+        let session = split_session(&stripe_cell.cell, &mut me.pass);
+        join_session(&stripe_cell.cell, &mut pass, session);
+        add(rt, &stripe_cell.cell, &mut pass, words_of(after), edit);
+        look(rt, &stripe_cell.cell, &mut pass);
+        me.pass = split_session(&stripe_cell.cell, &mut pass);
         self.pass = Some(Kept::new(pass));
     }
 
     /// Ends a session at this stripe. The history's entries of it are exactly its own.
-    pub fn take_in<R: Wait>(&mut self, rt: &R, counter: &Counter<N, B, I>, place: Place<B, I>)
+    pub fn end_session<R: Wait>(
+        &mut self,
+        rt: &R,
+        stripe_cell: &StripeCell<N, B, I>,
+        session: SessionAt<B, I>,
+    )
         ensures history { self.new ≡ self.old }
-        ensures seen { IsPrefix place.seen self.old }
-        ensures own { by_session place.by self.old ≡ place.mine }
+        ensures seen { IsPrefix session.seen self.old }
+        ensures own { by_session session.by self.old ≡ session.mine }
     {
-        let mut place = place;
-        self.look(rt, counter, &mut place);
+        let mut session = session;
+        self.look(rt, stripe_cell, &mut session);
     }
 
     /// For the proof: the history is legal, and each entry is of a session of the plan.

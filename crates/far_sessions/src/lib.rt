@@ -8,12 +8,12 @@ pub mod cells;
 pub mod closing;
 pub mod keeper;
 pub mod opening;
-pub mod place;
-pub mod rooms;
+pub mod session;
+pub mod stripe_cell;
 
 pub use cells::Cells;
 pub use closing::{are_whole, settle};
 pub use keeper::{Keeper, Keepers};
 pub use opening::{Made, Opened};
-pub use place::{Place, Session};
-pub use rooms::{Counter, Rooms};
+pub use session::{Session, SessionAt};
+pub use stripe_cell::{CellsTag, StripeCell};

@@ -5,23 +5,23 @@ ghost use Rattle.far_sessions.specs.Known.{newcomers};
 
 use crate::cells::{Cells, Spacers};
 use crate::keeper::{Keeper, Keepers};
-use crate::place::{Place, Session};
-use crate::rooms::{Counter, Rooms};
+use crate::session::{Session, SessionAt};
+use crate::stripe_cell::{CellsTag, StripeCell};
 use crossbeam_utils::CachePadded;
 use far_history::steps::{begin, give};
-use far_history::{Cell, Naming, Pass};
+use far_history::{Cell, Pass, PlanTag};
 use far_kept::Kept;
 use std::alloc::{AllocError, Global};
 use std::marker::{Model, PhantomData};
 
 /// A new cell, with the pass that keeps its empty history. Contracts see which cell it is.
 #[derive(Drop)]
-struct Fresh<N: Naming> {
+struct Fresh<N: PlanTag> {
     cell: Cell<N>,
     pass: Pass,
 }
 
-impl<N: Naming> Model for Fresh<N> {
+impl<N: PlanTag> Model for Fresh<N> {
     ghost use Rattle.std.specs.Prelude.{◌≡◌, []};
     ghost use Rattle.crossbeam_utils.specs.Seq.{cell_view};
     ghost use Rattle.atomic_table.specs.Seated.{TableId};
@@ -36,12 +36,12 @@ impl<N: Naming> Model for Fresh<N> {
 
 /// Gives out the sessions of a stripe. Contracts see how many it gave.
 #[derive(Drop)]
-struct Giver<B: Rooms, const I: usize> {
+struct Giver<B: CellsTag, const I: usize> {
     pass: Pass,
     of: PhantomData<B>,
 }
 
-impl<B: Rooms, const I: usize> Model for Giver<B, I> {
+impl<B: CellsTag, const I: usize> Model for Giver<B, I> {
     ghost use Rattle.std.specs.Prelude.{◌≡◌, ℕ};
     ghost use Rattle.crossbeam_utils.specs.Seq.{cell_view};
     ghost use Rattle.far_history.specs.Sessions.{IsGiver};
@@ -68,7 +68,7 @@ fn add_spacers(alloc: Global, spacers: &mut Spacers) -> Result<(), AllocError> {
     Ok(())
 }
 
-impl<N: Naming> Fresh<N> {
+impl<N: PlanTag> Fresh<N> {
     // Makes a cell, after spacers that separate it from the one before.
     fn make(alloc: Global, spacers: &mut Spacers) -> Result<Fresh<N>, AllocError> {
         add_spacers(alloc, spacers)?;
@@ -77,13 +77,13 @@ impl<N: Naming> Fresh<N> {
     }
 
     // Returns the cell under its name, and what gives out its sessions.
-    fn named<B: Rooms, const I: usize>(self) -> (Counter<N, B, I>, Giver<B, I>)
+    fn named<B: CellsTag, const I: usize>(self) -> (StripeCell<N, B, I>, Giver<B, I>)
         requires { self ≡ B.cells I }
         ensures { result.1 ≡ 0 }
     {
         let Fresh { cell, pass } = self;
         (
-            Counter {
+            StripeCell {
                 cell,
                 of: PhantomData,
             },
@@ -95,21 +95,21 @@ impl<N: Naming> Fresh<N> {
     }
 }
 
-impl<B: Rooms, const I: usize> Giver<B, I> {
+impl<B: CellsTag, const I: usize> Giver<B, I> {
     // Returns the next session.
-    fn give<N: Naming>(&mut self, counter: &Counter<N, B, I>) -> Place<B, I>
+    fn give<N: PlanTag>(&mut self, stripe_cell: &StripeCell<N, B, I>) -> SessionAt<B, I>
         ensures count { self.new ≡ self.old + 1 }
         ensures session { result ≡ newcomer self.old }
     {
-        let pass = give(&counter.cell, &mut self.pass);
-        Place {
+        let pass = give(&stripe_cell.cell, &mut self.pass);
+        SessionAt {
             pass,
             of: PhantomData,
         }
     }
 
     // Keeps the history, once all sessions are given out.
-    fn into_keeper<N: Naming>(self) -> Keeper<N, B, I>
+    fn into_keeper<N: PlanTag>(self) -> Keeper<N, B, I>
         requires { self ≡ N.plan.sessions }
         ensures { result ≡ [] }
     {
@@ -130,7 +130,7 @@ impl<B: Rooms, const I: usize> Giver<B, I> {
 /// }
 /// ```
 #[derive(Drop)]
-pub struct Made<N: Naming> {
+pub struct Made<N: PlanTag> {
     zero: Fresh<N>,
     one: Fresh<N>,
     two: Fresh<N>,
@@ -148,7 +148,7 @@ pub struct Made<N: Naming> {
 /// } = opened;
 /// ```
 #[derive(Drop)]
-pub struct Opened<N: Naming, B: Rooms> {
+pub struct Opened<N: PlanTag, B: CellsTag> {
     /// For each table a keeper, to lie beside it under its lock.
     pub keepers: Keepers<N, B>,
     /// The cells, which lie outside the locks.
@@ -157,7 +157,7 @@ pub struct Opened<N: Naming, B: Rooms> {
     pub sessions: Vec<Session<B>>,
 }
 
-impl<N: Naming> Made<N> {
+impl<N: PlanTag> Made<N> {
     /// Makes the four cells. Refused if memory is out.
     pub fn make(alloc: Global) -> Result<Made<N>, AllocError> {
         let mut spacers = Vec::new(alloc);
@@ -172,7 +172,7 @@ impl<N: Naming> Made<N> {
 
     /// Returns the keepers of the four empty histories, the cells, and the sessions, of which there are `count`. Refused if
     /// memory is out.
-    pub fn open<B: Rooms>(self, alloc: Global, count: u64) -> Result<Opened<N, B>, AllocError>
+    pub fn open<B: CellsTag>(self, alloc: Global, count: u64) -> Result<Opened<N, B>, AllocError>
         requires names { (self.zero ≡ B.cells 0) × (self.one ≡ B.cells 1) × (self.two ≡ B.cells 2) × (self.three ≡ B.cells 3) }
         requires count { count ≡ N.plan.sessions }
         ensures sessions { IfOk result (λ o. o.sessions.items ≡ newcomers N.plan.sessions) }

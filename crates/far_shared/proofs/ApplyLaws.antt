@@ -6,12 +6,12 @@ use Rattle.far_types.specs.declared.edit.Edit.{Edit}
 use Rattle.far_types.specs.declared.refusal.Refusal.{Refusal}
 use Rattle.far_history.specs.Histories.{Planned, IsLegal, by_session, replay}
 use Rattle.far_history.specs.Rule.{entry}
-use Rattle.far_history.specs.Sessions.{Told}
+use Rattle.far_history.specs.Sessions.{SessionState}
 use Rattle.far_history.specs.declared.view.Entry.{Entry}
 use Rattle.far_shared.specs.Applying.{place_of, WhyNot, Extends, IsRefused}
 use Rattle.far_shared.specs.declared.stripe.Applied.{Applied}
 
-module _ (p : Planned) (before : Told) (e : Edit) (after : Told) (log now : List Entry) (prefix : IsPrefix before.seen log) (by : after.by ≡ before.by)
+module _ (p : Planned) (before : SessionState) (e : Edit) (after : SessionState) (log now : List Entry) (prefix : IsPrefix before.seen log) (by : after.by ≡ before.by)
     (own : by_session after.by after.seen ≡ after.mine) (legal : IsLegal p after.seen) (whole : after.seen ≡ now) where
   -- an edit that was accepted
   pub extends : (r : Result Applied Refusal) → OnOk r ((now ≡ log ++ entry before.by e ∷ []) × (after.mine ≡ before.mine ++ entry before.by e ∷ []))

@@ -23,7 +23,7 @@ use Rattle.far_extrema.specs.contracts.tournament.Tournament as tournament
 use Rattle.far_extrema.specs.contracts.tournament.Spare as spare
 use Rattle.far_extrema.specs.contracts.holder.Holder as holder
 use Rattle.far_extrema.specs.contracts.live_extrema.LiveExtrema as extrema
-use Rattle.far_aggregates.proofs.pending.Pending.TheSendSync as pending
+use Rattle.far_aggregates.proofs.spare_lists.SpareLists.TheSendSync as spare_lists
 use Rattle.far_aggregates.proofs.spare_keys.SpareKeys.TheSendSync as spare_keys
 use Rattle.far_aggregates.proofs.pending_groups.PendingGroups.TheSendSync as pending_groups
 use Rattle.far_aggregates.specs.contracts.known.KnownExtrema as known
@@ -34,11 +34,11 @@ use Rattle.far_table.proofs.table_rows.TableRows.TheSendSync as rows
 use Rattle.far_table.specs.contracts.live_table.LiveTable as table
 use Rattle.far_prefetcher.proofs.prefetcher.Prefetcher.TheSendSync as prefetcher
 use Rattle.far_frame.specs.contracts.frame.Frame as frame
-use Rattle.far_history.specs.declared.law.Naming.{Ghosts as Names}
-use Rattle.far_sessions.specs.declared.rooms.Rooms.{Ghosts as Cellars}
+use Rattle.far_history.specs.declared.law.PlanTag.{Ghosts as PlanTags}
+use Rattle.far_sessions.specs.declared.stripe_cell.CellsTag.{Ghosts as CellsTags}
 use Rattle.far_sessions.proofs.cells.Cells.TheSendSync as cells
 use Rattle.far_sessions.proofs.keeper.Keeper.TheSendSync as keeper
-use Rattle.far_shared.specs.declared.stripe.Site.{Ghosts as Sites}
+use Rattle.far_shared.specs.declared.stripe.TableTag.{Ghosts as TableTags}
 use Rattle.far_shared.specs.contracts.stripe.Stripe as stripe
 use Rattle.far_shared.proofs.shared.Count.TheSendSync as count
 use Rattle.far_shared.specs.contracts.shared.Shared as shared
@@ -96,10 +96,10 @@ aggregate_sync : IsSync aggregate.the_row
 aggregate_sync = struct_syncs aggregate.the_type (spec.the_field_sync, (search sendable, (pending_groups.the_sync, (accumulator_sync, tt))))
 
 aggregates_send : IsSend aggregates.the_row
-aggregates_send = view_send aggregates.TheInside.the_row _ _ _ _ (struct_sends aggregates.TheInside.the_type (heap.Vec-send _ (option.the_send _ aggregate_send), (pending.the_field_send, (spare_keys.the_field_send, (reciprocal.the_field_send, tt)))))
+aggregates_send = view_send aggregates.TheInside.the_row _ _ _ _ (struct_sends aggregates.TheInside.the_type (heap.Vec-send _ (option.the_send _ aggregate_send), (spare_lists.the_field_send, (spare_keys.the_field_send, (reciprocal.the_field_send, tt)))))
 
 aggregates_sync : IsSync aggregates.the_row
-aggregates_sync = view_sync aggregates.TheInside.the_row _ _ _ _ (struct_syncs aggregates.TheInside.the_type (heap.Vec-sync _ (option.the_sync _ aggregate_sync), (pending.the_field_sync, (spare_keys.the_field_sync, (reciprocal.the_field_sync, tt)))))
+aggregates_sync = view_sync aggregates.TheInside.the_row _ _ _ _ (struct_syncs aggregates.TheInside.the_type (heap.Vec-sync _ (option.the_sync _ aggregate_sync), (spare_lists.the_field_sync, (spare_keys.the_field_sync, (reciprocal.the_field_sync, tt)))))
 
 -- ---- a table
 module _ (S T : RattleType) (g : Tickets S.Denot T.Denot) where
@@ -116,7 +116,7 @@ module _ (S T : RattleType) (g : Tickets S.Denot T.Denot) where
   frame_sync t = view_sync (frame.TheInside.the_row S T g) _ _ _ _ (struct_syncs (frame.TheInside.the_type S T g) (global.the_field_sync, (table_sync t, (prefetcher.the_sync, tt))))
 
 -- ---- four tables under their locks
-module _ (N B S T : RattleType) (b : Cellars B.Denot) (n : Names N.Denot) (at : Sites B.Denot) (g : Tickets S.Denot T.Denot) where
+module _ (N B S T : RattleType) (b : CellsTags B.Denot) (n : PlanTags N.Denot) (at : TableTags B.Denot) (g : Tickets S.Denot T.Denot) where
   pub stripe_send : (I : RattleType) → IsSend T → IsSend (stripe.the_row N B S I T n at b g)
   stripe_send I t = view_send (stripe.TheInside.the_row N B S I T n at b g) _ _ _ _ (struct_sends (stripe.TheInside.the_type N B S I T n at b g) (frame_send S T g t, (keeper.the_send N B I n b, tt)))
 

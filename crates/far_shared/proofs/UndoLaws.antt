@@ -16,7 +16,7 @@ use Rattle.far_frame.specs.declared.step.Reply.TheVariants as reply
 use Rattle.far_frame.specs.declared.step.Step.TheVariants as step
 use Rattle.far_history.specs.Histories.{Planned}
 use Rattle.far_history.specs.declared.view.Entry.{Entry}
-use Rattle.far_shared.specs.Stripes.{Held, IsStripe}
+use Rattle.far_shared.specs.Stripes.{StripeState, IsStripe}
 use Rattle.far_shared.specs.Watching.{registered, uncounted, unregistered}
 use Rattle.far_shared.proofs.RegisterLaws.{free-within, number-free}
 
@@ -82,22 +82,22 @@ none-there None given may = refl
 none-there (Some r) given may = absurd (let off : false ≡ true = may.1 in cc)
 
 -- a history with a table
-abbrev pub held : {K : Type 0} → List Entry → State K → Held K
+abbrev pub held : {K : Type 0} → List Entry → State K → StripeState K
 held log state = record { log = log; state = state }
 
 module _ {K : Type 0} where
   -- a registration that is taken back leaves all but the count of registrations
-  pub undone : (a : ℕ) (spec : Spec) (h : Held K) → lowest_free h.state.table ≡ Some a → uncounted (unregistered a (registered a spec h)) ≡ uncounted h
+  pub undone : (a : ℕ) (spec : Spec) (h : StripeState K) → lowest_free h.state.table ≡ Some a → uncounted (unregistered a (registered a spec h)) ≡ uncounted h
   undone a spec h free =
       ap (λ (all : List (Option Registered)). uncounted (record h { state = record h.state { table = record h.state.table { aggregates = all } } }))
       (set-back 0 a h.state.table.aggregates a (Some (registered_now spec h.state.table)) free (omega arith))
 
   -- the same of a stripe in which it was made and taken back
-  pub taken-back : (a : ℕ) (spec : Spec) (old made new : Held K) → lowest_free old.state.table ≡ Some a → made ≡ registered a spec old → new ≡ unregistered a made → uncounted new ≡ uncounted old
+  pub taken-back : (a : ℕ) (spec : Spec) (old made new : StripeState K) → lowest_free old.state.table ≡ Some a → made ≡ registered a spec old → new ≡ unregistered a made → uncounted new ≡ uncounted old
   taken-back a spec old made new free is back = ap uncounted (back ∙ ap (unregistered a) is) ∙ undone a spec old free
 
   -- a registration of a copy, under the number that was found beforehand
-  pub at-number : (a b : ℕ) (copy spec : Spec) (old new : Held K) → copy ≡ spec → lowest_free old.state.table ≡ Some a → (lowest_free old.state.table ≡ Some b) × (new ≡ registered b copy old) → new ≡ registered a spec old
+  pub at-number : (a b : ℕ) (copy spec : Spec) (old new : StripeState K) → copy ≡ spec → lowest_free old.state.table ≡ Some a → (lowest_free old.state.table ≡ Some b) × (new ≡ registered b copy old) → new ≡ registered a spec old
   at-number a b copy spec old new same free done =
       let both : Some b ≡ Some a = sym done.0 ∙ free in
       let at : b ≡ a = cc in

@@ -12,7 +12,7 @@ use Rattle.far_types.specs.FirstOf.{first_of}
 use Rattle.far_types.specs.Table.{Place, Table}
 use Rattle.far_history.specs.Histories.{Planned, IsLegal, by_session, replay}
 use Rattle.far_history.specs.Rule.{entry}
-use Rattle.far_history.specs.Sessions.{Told}
+use Rattle.far_history.specs.Sessions.{SessionState}
 use Rattle.far_history.specs.declared.view.Entry.{Entry}
 use Rattle.far_sessions.specs.Known.{SeesMore}
 use Rattle.far_shared.specs.declared.stripe.Applied.{Applied}
@@ -48,7 +48,7 @@ WhyNot table e given = (edit_refusal table e ≡ Some given)
     ⊎ (((first_of (edit_faults table.schema table.limits table.places e) ≡ None) × IsOfObjects (length table.schema) (place_of table e / table.limits.group) (places_cells table.schema e) (overfills table.schema table.limits e table.places) given)
     ⊎ ((edit_refusal table e ≡ None) × (given ≡ refusal.NoMemory)))
 
-module _ (p : Planned) (before : Told) (e : Edit) (after : Told) where
+module _ (p : Planned) (before : SessionState) (e : Edit) (after : SessionState) where
   -- the edit was accepted. The session has then seen a legal history. It begins with all that the session had seen, and ends
   -- with this edit at the number that was returned. The edit is one more of the session's own
   pub record Extends (applied : Applied) : Type 0 where

@@ -12,7 +12,7 @@ use Rattle.far_shared.specs.Fours.{pending_in}
 use Rattle.far_shared.specs.Plans.{IsPlan}
 
 -- what contracts see of a stripe: its history, and its table with its objects and aggregates
-pub record Held (K : Type 0) : Type 0 where
+pub record StripeState (K : Type 0) : Type 0 where
   pub log : List Entry
   pub state : State K
 

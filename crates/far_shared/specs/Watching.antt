@@ -6,7 +6,7 @@ use Rattle.far_types.specs.declared.refusal.Refusal.TheVariants as refusal
 use Rattle.far_types.specs.declared.spec.Spec.{Spec}
 use Rattle.far_types.specs.Bounds.{spec_refusal}
 use Rattle.far_table.specs.Watching.{registered_at, with_aggregate}
-use Rattle.far_shared.specs.Stripes.{Held}
+use Rattle.far_shared.specs.Stripes.{StripeState}
 
 -- it cannot be had over the schema; or there are too many, or they have not the same number in all four, or memory ran out
 abbrev pub WatchRefusal : List Kind → Spec → Refusal → Type 0
@@ -15,13 +15,13 @@ WatchRefusal schema spec given = (spec_refusal schema spec ≡ Some given)
 
 module _ {K : Type 0} where
   -- a stripe whose table has an aggregate more, under a number
-  abbrev pub registered : ℕ → Spec → Held K → Held K
+  abbrev pub registered : ℕ → Spec → StripeState K → StripeState K
   registered a spec h = record h { state = record h.state { table = registered_at a spec h.state.table } }
 
   -- a stripe whose table has no aggregate under a number
-  abbrev pub unregistered : ℕ → Held K → Held K
+  abbrev pub unregistered : ℕ → StripeState K → StripeState K
   unregistered a h = record h { state = record h.state { table = with_aggregate a None h.state.table } }
 
   -- a stripe but for how many registrations were made: its history, rows, objects, pins and aggregates
-  abbrev pub uncounted : Held K → Held K
+  abbrev pub uncounted : StripeState K → StripeState K
   uncounted h = record h { state = record h.state { table = record h.state.table { registrations = 0 } } }

@@ -4,9 +4,9 @@ ghost use Rattle.far_shared.specs.Asking.{IsAnswer, IsAsked, IsLeft};
 
 use crate::four::answer_four;
 use crate::shared::Shared;
-use crate::stripe::{Site, Stripe};
+use crate::stripe::{Stripe, TableTag};
 use far_frame::View;
-use far_history::Naming;
+use far_history::PlanTag;
 use far_store::FarTickets;
 use far_types::{Answer, Refusal};
 use std::alloc::Global;
@@ -21,7 +21,7 @@ use std::sync::{RwLock, RwLockReadGuard, Wait};
 /// }
 /// ```
 #[derive(Drop)]
-pub enum Scope<'a, N: Naming, B: Site, S: FarTickets> {
+pub enum Scope<'a, N: PlanTag, B: TableTag, S: FarTickets> {
     /// Stripe 0.
     Zero(RwLockReadGuard<'a, Stripe<N, B, S, 0>>),
     /// Stripe 1.
@@ -32,7 +32,7 @@ pub enum Scope<'a, N: Naming, B: Site, S: FarTickets> {
     Three(RwLockReadGuard<'a, Stripe<N, B, S, 3>>),
 }
 
-impl<N: Naming, B: Site, S: FarTickets, const I: usize> Stripe<N, B, S, I> {
+impl<N: PlanTag, B: TableTag, S: FarTickets, const I: usize> Stripe<N, B, S, I> {
     /// Returns a view of the rows. They are what a legal history leaves.
     fn view(&self) -> View<'_, S>
         ensures { IsLeft N.plan result.table }
@@ -42,7 +42,7 @@ impl<N: Naming, B: Site, S: FarTickets, const I: usize> Stripe<N, B, S, I> {
     }
 }
 
-impl<'a, N: Naming, B: Site, S: FarTickets> Scope<'a, N, B, S> {
+impl<'a, N: PlanTag, B: TableTag, S: FarTickets> Scope<'a, N, B, S> {
     /// Returns a view of the rows of the stripe. They are what a legal history leaves.
     pub fn view(&self) -> View<'_, S>
         ensures { IsLeft N.plan result.table }
@@ -57,7 +57,7 @@ impl<'a, N: Naming, B: Site, S: FarTickets> Scope<'a, N, B, S> {
 }
 
 /// Returns the answer of an aggregate over the rows of four stripes.
-fn answer_stripes<N: Naming, B: Site, S: FarTickets>(
+fn answer_stripes<N: PlanTag, B: TableTag, S: FarTickets>(
     alloc: Global,
     zero: &Stripe<N, B, S, 0>,
     one: &Stripe<N, B, S, 1>,
@@ -77,7 +77,7 @@ fn answer_stripes<N: Naming, B: Site, S: FarTickets>(
 }
 
 /// Returns the stripe of this number under its read lock.
-fn read_under<'a, N: Naming, B: Site, S: FarTickets, const I: usize, R: Wait>(
+fn read_under<'a, N: PlanTag, B: TableTag, S: FarTickets, const I: usize, R: Wait>(
     rt: &R,
     lock: &'a RwLock<Stripe<N, B, S, I>>,
     stripe: u32,
@@ -89,7 +89,7 @@ fn read_under<'a, N: Naming, B: Site, S: FarTickets, const I: usize, R: Wait>(
     lock.read(rt)
 }
 
-impl<N: Naming, B: Site, S: FarTickets> Shared<N, B, S> {
+impl<N: PlanTag, B: TableTag, S: FarTickets> Shared<N, B, S> {
     /// Returns the stripe of this number under its read lock. Refused with `OutOfRange` (14) exactly if there is no such
     /// stripe.
     pub fn scope<R: Wait>(&self, rt: &R, stripe: u32) -> Result<Scope<'_, N, B, S>, Refusal>

@@ -4,9 +4,9 @@ ghost use Rattle.std.specs.Int.{div_ceil};
 ghost use Rattle.far_shared.specs.Works.{RefusedFor, columns_for, stripe_of, work_refusals, works_in};
 
 use crate::shared::Shared;
-use crate::stripe::Site;
+use crate::stripe::TableTag;
 use crate::work::{Report, Work};
-use far_history::Naming;
+use far_history::PlanTag;
 use far_store::{FarStore, Meter};
 use far_types::Refusal;
 use std::alloc::AllocError;
@@ -14,7 +14,7 @@ use std::sync::Wait;
 use std::thread::{self, Threads};
 
 // Does one work.
-fn serve<N: Naming, B: Site, S: FarStore, R: Wait>(
+fn serve<N: PlanTag, B: TableTag, S: FarStore, R: Wait>(
     rt: &R,
     shared: &Shared<N, B, S>,
     store: &S,
@@ -45,7 +45,7 @@ fn serve<N: Naming, B: Site, S: FarStore, R: Wait>(
 }
 
 // Does some works, one after the other.
-fn serve_all<N: Naming, B: Site, S: FarStore, R: Wait>(
+fn serve_all<N: PlanTag, B: TableTag, S: FarStore, R: Wait>(
     rt: &R,
     shared: &Shared<N, B, S>,
     store: &S,
@@ -94,8 +94,8 @@ fn sum_of(reports: &[Report]) -> Report
 
 // Does works on at most `workers` threads, each of which gets consecutive ones.
 fn serve_chunks<
-    N: Naming + Send + Sync,
-    B: Site + Send + Sync,
+    N: PlanTag + Send + Sync,
+    B: TableTag + Send + Sync,
     S: FarStore,
     R: Threads + Wait + Sync,
 >(
@@ -140,8 +140,8 @@ impl Background {
     /// - `OutOfRange` (14), before any work, unless there are 1 to 8 workers;
     /// - `NoMemory` (1), if the threads or their reports find no memory. Some works may be done then, or all.
     pub fn run<
-        N: Naming + Send + Sync,
-        B: Site + Send + Sync,
+        N: PlanTag + Send + Sync,
+        B: TableTag + Send + Sync,
         S: FarStore,
         R: Threads + Wait + Sync,
     >(

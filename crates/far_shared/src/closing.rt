@@ -8,17 +8,17 @@ ghost use Rattle.far_shared.specs.Stripes.{IsStripe};
 
 use crate::opening::Four;
 use crate::shared::Shared;
-use crate::stripe::{Site, Stripe};
+use crate::stripe::{Stripe, TableTag};
 use crossbeam_utils::CachePadded;
 use far_frame::Frame;
-use far_history::Naming;
+use far_history::PlanTag;
 use far_sessions::{Cells, Keeper, Keepers, Session, are_whole, settle};
 use far_store::FarTickets;
 use far_types::Refusal;
 use std::sync::{RwLock, Wait};
 
 /// Ends these sessions. Each history is legal, and has just their own entries.
-fn end<N: Naming, B: Site, R: Wait>(
+fn end<N: PlanTag, B: TableTag, R: Wait>(
     rt: &R,
     cells: Cells<N, B>,
     keepers: Keepers<N, B>,
@@ -37,7 +37,7 @@ fn end<N: Naming, B: Site, R: Wait>(
     settle(rt, &cells, &mut keepers, sessions);
 }
 
-impl<N: Naming, B: Site, S: FarTickets, const I: usize> Stripe<N, B, S, I> {
+impl<N: PlanTag, B: TableTag, S: FarTickets, const I: usize> Stripe<N, B, S, I> {
     /// Returns the table as it is, and what keeps its history.
     fn into_parts(self) -> (Frame<S>, Keeper<N, B, I>)
         ensures table { result.0 ≡ self.state }
@@ -51,7 +51,7 @@ impl<N: Naming, B: Site, S: FarTickets, const I: usize> Stripe<N, B, S, I> {
 }
 
 /// Ends these sessions, and returns the tables of the four stripes. Each is as it was, with its objects and its aggregates.
-fn end_stripes<N: Naming, B: Site, S: FarTickets, R: Wait>(
+fn end_stripes<N: PlanTag, B: TableTag, S: FarTickets, R: Wait>(
     rt: &R,
     cells: Cells<N, B>,
     zero: Stripe<N, B, S, 0>,
@@ -87,13 +87,13 @@ fn end_stripes<N: Naming, B: Site, S: FarTickets, R: Wait>(
 }
 
 /// Returns what lay under a stripe's lock.
-fn unlocked<N: Naming, B: Site, S: FarTickets, const I: usize>(
+fn unlocked<N: PlanTag, B: TableTag, S: FarTickets, const I: usize>(
     lock: CachePadded<RwLock<Stripe<N, B, S, I>>>,
 ) -> Stripe<N, B, S, I> {
     lock.into_inner().into_inner()
 }
 
-impl<N: Naming, B: Site, S: FarTickets> Shared<N, B, S> {
+impl<N: PlanTag, B: TableTag, S: FarTickets> Shared<N, B, S> {
     /// Ends all sessions, and returns the four tables. The entries of each table's history are just those that its sessions
     /// know as their own.
     ///

@@ -11,7 +11,7 @@ ghost use Rattle.far_shared.specs.Plans.{IsPlan};
 ghost use Rattle.far_shared.specs.Stripes.{KeepsColumns, first_registered};
 
 use far_frame::Frame;
-use far_history::{Naming, Reading};
+use far_history::{PlanTag, Reading};
 use far_store::FarTickets;
 use far_types::{Edit, Refusal};
 
@@ -53,7 +53,7 @@ fn make<S: FarTickets>(frame: &mut Frame<S>, edit: Edit) -> Result<u32, Refusal>
 }
 
 /// Returns what the gauge of a table reads after `edits` edits.
-fn gauged<N: Naming, S: FarTickets>(frame: &Frame<S>, edits: u64) -> Reading
+fn gauged<N: PlanTag, S: FarTickets>(frame: &Frame<S>, edits: u64) -> Reading
     requires plan { IsPlan N.plan }
     requires gauge { aggregate_at frame.now.table 0 ≡ Some (first_registered N.plan.gauge) }
     ensures { result ≡ record { edits = edits; count = (folded N.plan.gauge frame.now.table.places).0; sum = (folded N.plan.gauge frame.now.table.places).1 } }
@@ -65,7 +65,7 @@ fn gauged<N: Naming, S: FarTickets>(frame: &Frame<S>, edits: u64) -> Reading
 }
 
 /// Makes an edit after `edits` others.
-pub(crate) fn change<N: Naming, S: FarTickets>(
+pub(crate) fn change<N: PlanTag, S: FarTickets>(
     frame: &mut Frame<S>,
     edits: u64,
     edit: Edit,

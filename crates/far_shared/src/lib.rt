@@ -27,5 +27,5 @@ pub use four::answer_four;
 pub use opening::{Four, Made};
 pub use plan::Plan;
 pub use shared::Shared;
-pub use stripe::{Applied, Site, Stripe};
+pub use stripe::{Applied, Stripe, TableTag};
 pub use work::{Building, Report, Work};

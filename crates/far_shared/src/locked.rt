@@ -4,17 +4,17 @@ ghost use Rattle.far_store.specs.Faults.{RefusedBy, faults_in};
 ghost use Rattle.far_frame.specs.Jobs.{IsJobAt, kind_of};
 ghost use Rattle.far_shared.specs.Works.{IsJobOf, IsBuildOf, IsBuildingAt, begin_refusals, begun_kind, columns_for, end_refusals, job_refusals, stripe_of};
 
-use crate::stripe::{Site, Stripe};
+use crate::stripe::{Stripe, TableTag};
 use crate::work::{Building, Work};
 use far_frame::Job;
-use far_history::Naming;
+use far_history::PlanTag;
 use far_store::{FarStore, FarTickets, Meter};
 use far_types::{Name, Refusal};
 use std::alloc::Global;
 use std::sync::{RwLock, Wait};
 
 /// Begins a work under the read lock.
-pub(crate) fn begin_under<N: Naming, B: Site, S: FarTickets, const I: usize, R: Wait>(
+pub(crate) fn begin_under<N: PlanTag, B: TableTag, S: FarTickets, const I: usize, R: Wait>(
     rt: &R,
     lock: &RwLock<Stripe<N, B, S, I>>,
     store: &S,
@@ -31,7 +31,7 @@ pub(crate) fn begin_under<N: Naming, B: Site, S: FarTickets, const I: usize, R: 
 }
 
 /// Ends a job under the write lock.
-pub(crate) fn finish_under<N: Naming, B: Site, S: FarTickets, const I: usize, R: Wait>(
+pub(crate) fn finish_under<N: PlanTag, B: TableTag, S: FarTickets, const I: usize, R: Wait>(
     rt: &R,
     lock: &RwLock<Stripe<N, B, S, I>>,
     stripe: u32,
@@ -48,7 +48,7 @@ pub(crate) fn finish_under<N: Naming, B: Site, S: FarTickets, const I: usize, R:
 }
 
 /// Begins to build a pending row group, under the read lock.
-fn building_under<N: Naming, B: Site, S: FarTickets, const I: usize, R: Wait>(
+fn building_under<N: PlanTag, B: TableTag, S: FarTickets, const I: usize, R: Wait>(
     rt: &R,
     lock: &RwLock<Stripe<N, B, S, I>>,
     store: &S,
@@ -62,7 +62,7 @@ fn building_under<N: Naming, B: Site, S: FarTickets, const I: usize, R: Wait>(
 }
 
 /// Builds a row group into an aggregate by a scan, under the write lock.
-fn scan_under<N: Naming, B: Site, S: FarTickets, const I: usize, R: Wait>(
+fn scan_under<N: PlanTag, B: TableTag, S: FarTickets, const I: usize, R: Wait>(
     rt: &R,
     lock: &RwLock<Stripe<N, B, S, I>>,
     aggregate: u32,
@@ -92,7 +92,7 @@ fn once_carried<J: Drop, F: FnOnce(J) -> Result<(), Refusal> + Drop>(
 }
 
 /// Carries a job under no lock, and ends it.
-fn complete_under<N: Naming, B: Site, S: FarStore, const I: usize, R: Wait>(
+fn complete_under<N: PlanTag, B: TableTag, S: FarStore, const I: usize, R: Wait>(
     rt: &R,
     alloc: Global,
     lock: &RwLock<Stripe<N, B, S, I>>,
@@ -120,7 +120,7 @@ fn complete_under<N: Naming, B: Site, S: FarStore, const I: usize, R: Wait>(
 }
 
 /// Sends the coldest object of a stripe away, and returns which; `None` if there is none that may go.
-pub(crate) fn evacuate_under<N: Naming, B: Site, S: FarStore, const I: usize, R: Wait>(
+pub(crate) fn evacuate_under<N: PlanTag, B: TableTag, S: FarStore, const I: usize, R: Wait>(
     rt: &R,
     alloc: Global,
     lock: &RwLock<Stripe<N, B, S, I>>,
@@ -143,7 +143,7 @@ pub(crate) fn evacuate_under<N: Naming, B: Site, S: FarStore, const I: usize, R:
 }
 
 /// Brings an object of a stripe back.
-pub(crate) fn fetch_under<N: Naming, B: Site, S: FarStore, const I: usize, R: Wait>(
+pub(crate) fn fetch_under<N: PlanTag, B: TableTag, S: FarStore, const I: usize, R: Wait>(
     rt: &R,
     alloc: Global,
     lock: &RwLock<Stripe<N, B, S, I>>,
@@ -166,7 +166,7 @@ pub(crate) fn fetch_under<N: Naming, B: Site, S: FarStore, const I: usize, R: Wa
 }
 
 /// Builds a pending row group of a stripe into its aggregate; false if none is pending.
-pub(crate) fn build_under<N: Naming, B: Site, S: FarStore, const I: usize, R: Wait>(
+pub(crate) fn build_under<N: PlanTag, B: TableTag, S: FarStore, const I: usize, R: Wait>(
     rt: &R,
     alloc: Global,
     lock: &RwLock<Stripe<N, B, S, I>>,

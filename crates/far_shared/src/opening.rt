@@ -5,10 +5,10 @@ ghost use Rattle.far_shared.specs.Opening.{AreNamed, IsEmpty};
 
 use crate::plan::Plan;
 use crate::shared::{Count, Shared};
-use crate::stripe::{Site, Stripe};
+use crate::stripe::{Stripe, TableTag};
 use crossbeam_utils::CachePadded;
 use far_frame::Frame;
-use far_history::Naming;
+use far_history::PlanTag;
 use far_sessions::{Keeper, Opened, Session};
 use far_store::FarTickets;
 use far_types::Refusal;
@@ -106,14 +106,14 @@ fn with_other<A: Drop, B: Drop>(one: A, other: Result<B, AllocError>) -> Result<
 /// named(rt, alloc, made, store, edits)
 /// ```
 #[derive(Drop)]
-pub struct Made<N: Naming, S: FarTickets> {
+pub struct Made<N: PlanTag, S: FarTickets> {
     sessions: u64,
     columns: u64,
     cells: far_sessions::Made<N>,
     frames: Four<Frame<S>>,
 }
 
-impl<N: Naming, S: FarTickets> Model for Made<N, S> {
+impl<N: PlanTag, S: FarTickets> Model for Made<N, S> {
     ghost use Rattle.std.specs.Prelude.{◌≡◌, length};
     ghost use Rattle.far_shared.specs.Opening.{CellIds, IsEmpty};
 
@@ -154,7 +154,7 @@ impl Plan {
     /// Makes the four tables, each with the gauge as its aggregate 0, and the four cells.
     ///
     /// Refused with `NoMemory` (1) alone. What was made is then dropped.
-    pub fn make<N: Naming, S: FarTickets>(self, alloc: Global) -> Result<Made<N, S>, Refusal>
+    pub fn make<N: PlanTag, S: FarTickets>(self, alloc: Global) -> Result<Made<N, S>, Refusal>
         requires { self ≡ N.plan }
         ensures memory { IfErr result (λ e. e ≡ Refusal.NoMemory) }
     {
@@ -183,7 +183,7 @@ impl Plan {
 }
 
 /// Puts a table under its lock, beside what keeps its history: both have an empty history.
-fn under_lock<N: Naming, B: Site, S: FarTickets, const I: usize>(
+fn under_lock<N: PlanTag, B: TableTag, S: FarTickets, const I: usize>(
     frame: Frame<S>,
     keeper: Keeper<N, B, I>,
 ) -> CachePadded<RwLock<Stripe<N, B, S, I>>>
@@ -194,7 +194,7 @@ fn under_lock<N: Naming, B: Site, S: FarTickets, const I: usize>(
 }
 
 /// Puts each table under a lock, beside what keeps its history.
-fn share<N: Naming, B: Site, S: FarTickets>(
+fn share<N: PlanTag, B: TableTag, S: FarTickets>(
     alloc: Global,
     count: Count<N>,
     frames: Four<Frame<S>>,
@@ -223,12 +223,15 @@ fn share<N: Naming, B: Site, S: FarTickets>(
     (shared, sessions)
 }
 
-impl<N: Naming, S: FarTickets> Made<N, S> {
+impl<N: PlanTag, S: FarTickets> Made<N, S> {
     /// Puts each table under a lock, beside what keeps its history, and makes the sessions. All histories are empty. The caller
     /// names the four cells, and the store to which objects will go.
     ///
     /// Refused with `NoMemory` (1) alone. What was made is then dropped.
-    pub fn open<B: Site>(self, alloc: Global) -> Result<(Shared<N, B, S>, Vec<Session<B>>), Refusal>
+    pub fn open<B: TableTag>(
+        self,
+        alloc: Global,
+    ) -> Result<(Shared<N, B, S>, Vec<Session<B>>), Refusal>
         requires names { AreNamed self B.cells }
         ensures sessions { IfOk result (λ opened. opened.1.items ≡ newcomers N.plan.sessions) }
         ensures memory { IfErr result (λ e. e ≡ Refusal.NoMemory) }

@@ -3,10 +3,10 @@ ghost use Rattle.std.specs.Prelude.{◌≡◌, ◌≢◌, ◌<◌, ◌≤◌, �
 ghost use Rattle.far_sessions.specs.Known.{at};
 ghost use Rattle.far_shared.specs.Applying.{Extends, IsRefused};
 
-use crate::stripe::{Applied, Site, Stripe};
+use crate::stripe::{Applied, Stripe, TableTag};
 use crossbeam_utils::CachePadded;
-use far_history::Naming;
-use far_sessions::{Cells, Counter, Place, Session};
+use far_history::PlanTag;
+use far_sessions::{Cells, Session, SessionAt, StripeCell};
 use far_store::FarTickets;
 use far_types::{Edit, Refusal};
 use std::alloc::Global;
@@ -15,7 +15,7 @@ use std::sync::{RwLock, Wait};
 
 /// How many sessions a shared table has, and how many columns. They never change, so no lock protects them.
 #[derive(Drop)]
-pub(crate) struct Count<N: Naming> {
+pub(crate) struct Count<N: PlanTag> {
     pub(crate) sessions: u64,
     pub(crate) columns: u64,
     pub(crate) of: PhantomData<N>,
@@ -55,7 +55,7 @@ pub(crate) struct Count<N: Naming> {
 /// }
 /// ```
 #[derive(Drop)]
-pub struct Shared<N: Naming, B: Site, S: FarTickets> {
+pub struct Shared<N: PlanTag, B: TableTag, S: FarTickets> {
     pub(crate) alloc: Global,
     pub(crate) zero: CachePadded<RwLock<Stripe<N, B, S, 0>>>,
     pub(crate) one: CachePadded<RwLock<Stripe<N, B, S, 1>>>,
@@ -66,20 +66,20 @@ pub struct Shared<N: Naming, B: Site, S: FarTickets> {
 }
 
 /// Makes an edit on the stripe under this lock.
-fn apply_under<N: Naming, B: Site, S: FarTickets, const I: usize, R: Wait>(
+fn apply_under<N: PlanTag, B: TableTag, S: FarTickets, const I: usize, R: Wait>(
     rt: &R,
     lock: &RwLock<Stripe<N, B, S, I>>,
-    counter: &Counter<N, B, I>,
-    me: &mut Place<B, I>,
+    stripe_cell: &StripeCell<N, B, I>,
+    me: &mut SessionAt<B, I>,
     edit: Edit,
 ) -> Result<Applied, Refusal>
     ensures ok { IfOk result (Extends N.plan me.old edit me.new) }
     ensures refused { IfErr result (IsRefused N.plan me.old edit me.new) }
 {
-    lock.write(rt).apply(rt, counter, me, edit)
+    lock.write(rt).apply(rt, stripe_cell, me, edit)
 }
 
-impl<N: Naming, B: Site, S: FarTickets> Shared<N, B, S> {
+impl<N: PlanTag, B: TableTag, S: FarTickets> Shared<N, B, S> {
     /// Returns the four cells. Takes no stripe's lock.
     pub fn cells(&self) -> &Cells<N, B> {
         &self.cells

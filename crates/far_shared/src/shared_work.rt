@@ -6,15 +6,15 @@ ghost use Rattle.far_shared.specs.Works.{IsJobOf, RefusedAt, RefusedFor, stripe_
 
 use crate::locked::{begin_under, build_under, evacuate_under, fetch_under, finish_under};
 use crate::shared::Shared;
-use crate::stripe::Site;
+use crate::stripe::TableTag;
 use crate::work::Work;
 use far_frame::Job;
-use far_history::Naming;
+use far_history::PlanTag;
 use far_store::{FarStore, FarTickets, Meter};
 use far_types::{Name, Refusal};
 use std::sync::Wait;
 
-impl<N: Naming, B: Site, S: FarTickets> Shared<N, B, S> {
+impl<N: PlanTag, B: TableTag, S: FarTickets> Shared<N, B, S> {
     /// Begins a work under the read lock of its stripe; `None` if there is nothing to do.
     ///
     /// Refused with the first of these that applies:
@@ -65,7 +65,7 @@ impl<N: Naming, B: Site, S: FarTickets> Shared<N, B, S> {
     }
 }
 
-impl<N: Naming, B: Site, S: FarStore> Shared<N, B, S> {
+impl<N: PlanTag, B: TableTag, S: FarStore> Shared<N, B, S> {
     /// Sends the coldest object of a stripe away, and returns which; `None` if there was none that may go.
     ///
     /// Refused with `OutOfRange` (14) if there is no such stripe, else with one of these:

@@ -9,27 +9,27 @@ ghost use Rattle.far_shared.specs.Applying.{place_of, WhyNot, Extends, IsRefused
 
 use crate::editing::change;
 use far_frame::Frame;
-use far_history::Naming;
-use far_sessions::{Counter, Keeper, Place, Rooms};
+use far_history::PlanTag;
+use far_sessions::{CellsTag, Keeper, SessionAt, StripeCell};
 use far_store::FarTickets;
 use far_types::{Edit, Refusal};
 use std::marker::{Brand, Model};
 use std::snapshot::Snapshot;
 use std::sync::Wait;
 
-/// Names the store to which the objects of four tables go, in addition to their cells. It has no functions: a caller picks a
-/// type, as `Brand`.
+/// Names a shared table: its four cells, and the store to which its objects go. It has no functions: a caller picks a type, as
+/// `Brand`.
 ///
 /// ```
 /// opened::<N, Brand, S, R>(rt, alloc, made, store, edits)
 /// ```
-pub trait Site: Rooms {
+pub trait TableTag: CellsTag {
     ghost use Rattle.std.specs.Prelude.{ℕ, List};
 
     ghost store: { List ℕ };
 }
 
-impl Site for Brand {
+impl TableTag for Brand {
     ghost use Rattle.std.specs.Prelude.{[]};
 
     ghost store = { [] };
@@ -57,33 +57,33 @@ pub struct Applied {
 /// Its objects have the number I, and all its tickets are of the store.
 ///
 /// ```
-/// lock.write(rt).apply(rt, counter, me, edit)
+/// lock.write(rt).apply(rt, stripe_cell, me, edit)
 /// ```
 #[derive(Drop)]
-pub struct Stripe<N: Naming, B: Site, S: FarTickets, const I: usize> {
+pub struct Stripe<N: PlanTag, B: TableTag, S: FarTickets, const I: usize> {
     pub(crate) frame: Frame<S>,
     pub(crate) keeper: Keeper<N, B, I>,
 }
 
-impl<N: Naming, B: Site, S: FarTickets, const I: usize> Model for Stripe<N, B, S, I> {
+impl<N: PlanTag, B: TableTag, S: FarTickets, const I: usize> Model for Stripe<N, B, S, I> {
     ghost use Rattle.far_rows.specs.Jobs.{AreAt};
-    ghost use Rattle.far_shared.specs.Stripes.{AreRowsOf, Held, IsStripe};
+    ghost use Rattle.far_shared.specs.Stripes.{AreRowsOf, StripeState, IsStripe};
 
-    ghost Value = { Held S.Ticket };
+    ghost Value = { StripeState S.Ticket };
 
     ghost view = { λ s. record { log = s.keeper; state = s.frame } };
 
     ghost invariant = { λ s. IsStripe N.plan s.keeper s.frame.table × AreAt S.is_of B.store s.frame.rows × AreRowsOf N.plan.schema I s.frame.rows };
 }
 
-impl<N: Naming, B: Site, S: FarTickets, const I: usize> Stripe<N, B, S, I> {
-    /// Makes an edit, as the session of this place, as `Frame`'s call of that edit does. Refused as that call is. The table,
-    /// its objects and its aggregates are then as before.
+impl<N: PlanTag, B: TableTag, S: FarTickets, const I: usize> Stripe<N, B, S, I> {
+    /// Makes an edit, as this session, as `Frame`'s call of that edit does. Refused as that call is. The table, its objects and
+    /// its aggregates are then as before.
     pub fn apply<R: Wait>(
         &mut self,
         rt: &R,
-        counter: &Counter<N, B, I>,
-        me: &mut Place<B, I>,
+        stripe_cell: &StripeCell<N, B, I>,
+        me: &mut SessionAt<B, I>,
         edit: Edit,
     ) -> Result<Applied, Refusal>
         ensures prefix { IsPrefix me.old.seen self.old.log }
@@ -98,10 +98,10 @@ impl<N: Naming, B: Site, S: FarTickets, const I: usize> Stripe<N, B, S, I> {
         ensures refused { OnErr result ((self.new ≡ self.old) × (me.new.mine ≡ me.old.mine)) }
         ensures why { IfErr result (WhyNot (replay N.plan self.old.log) edit) }
     {
-        let before = self.keeper.look(rt, counter, me);
-        let told = Snapshot::of(&edit);
+        let before = self.keeper.look(rt, stripe_cell, me);
+        let copy = Snapshot::of(&edit);
         let changed = change::<N, S>(&mut self.frame, before.edits, edit)?;
-        self.keeper.add(rt, counter, me, changed.after, told);
+        self.keeper.add(rt, stripe_cell, me, changed.after, copy);
         Ok(Applied {
             number: changed.after.edits,
             place: changed.place,

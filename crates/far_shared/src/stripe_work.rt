@@ -7,15 +7,15 @@ ghost use Rattle.far_frame.specs.declared.step.Step.TheVariants as step;
 ghost use Rattle.far_frame.specs.Jobs.{IsJobAt, kind_of};
 ghost use Rattle.far_shared.specs.Works.{Begins, BeginRefusal, BeginsBuild, BuildRefusal, Ends, EndRefusal, IsJobOf, IsBuildOf, IsBuildingAt, begin_refusals, begun_kind, columns_for, end_refusals};
 
-use crate::stripe::{Site, Stripe};
+use crate::stripe::{Stripe, TableTag};
 use crate::work::{Building, Work};
 use crate::working::{begin_on, building_on, finish_on, scan_on};
 use far_frame::Job;
-use far_history::Naming;
+use far_history::PlanTag;
 use far_store::FarTickets;
 use far_types::Refusal;
 
-impl<N: Naming, B: Site, S: FarTickets, const I: usize> Stripe<N, B, S, I> {
+impl<N: PlanTag, B: TableTag, S: FarTickets, const I: usize> Stripe<N, B, S, I> {
     /// Begins a work; `None` if there is nothing to do. Changes nothing.
     ///
     /// - An evacuation is refused with `NoMemory` (1) alone.

@@ -5,9 +5,9 @@ ghost use Rattle.far_table.specs.Watching.{aggregate_at, lowest_free};
 ghost use Rattle.far_shared.specs.Watching.{WatchRefusal, registered, uncounted, unregistered};
 
 use crate::shared::Shared;
-use crate::stripe::{Site, Stripe};
+use crate::stripe::{Stripe, TableTag};
 use far_frame::Frame;
-use far_history::Naming;
+use far_history::PlanTag;
 use far_store::FarTickets;
 use far_types::{Refusal, Spec};
 use std::sync::Wait;
@@ -32,7 +32,7 @@ fn free_number<S: FarTickets>(frame: &Frame<S>) -> Option<u32>
     None
 }
 
-impl<N: Naming, B: Site, S: FarTickets, const I: usize> Stripe<N, B, S, I> {
+impl<N: PlanTag, B: TableTag, S: FarTickets, const I: usize> Stripe<N, B, S, I> {
     /// Returns the number under which the next aggregate is registered, which is not the gauge's. Allocates nothing.
     fn next_number(&self) -> Option<u32>
         ensures free { result ≡ lowest_free self.now.state.table }
@@ -80,7 +80,7 @@ impl<N: Naming, B: Site, S: FarTickets, const I: usize> Stripe<N, B, S, I> {
 }
 
 /// Registers an aggregate in two stripes, whose next number is this one, or in neither.
-fn watch_two<N: Naming, B: Site, S: FarTickets, const I: usize, const J: usize>(
+fn watch_two<N: PlanTag, B: TableTag, S: FarTickets, const I: usize, const J: usize>(
     one: &mut Stripe<N, B, S, I>,
     other: &mut Stripe<N, B, S, J>,
     spec: &Spec,
@@ -108,7 +108,7 @@ fn watch_two<N: Naming, B: Site, S: FarTickets, const I: usize, const J: usize>(
 
 /// Returns the number under which the next aggregate is registered in all four stripes. `None` if there is none, or it is not
 /// the same in all. Allocates nothing.
-fn common_number<N: Naming, B: Site, S: FarTickets>(
+fn common_number<N: PlanTag, B: TableTag, S: FarTickets>(
     zero: &Stripe<N, B, S, 0>,
     one: &Stripe<N, B, S, 1>,
     two: &Stripe<N, B, S, 2>,
@@ -131,7 +131,7 @@ fn common_number<N: Naming, B: Site, S: FarTickets>(
 
 /// Registers an aggregate in four stripes under one number, or in none. If it is refused, the four are as before, but for how
 /// many registrations were made.
-fn watch_four<N: Naming, B: Site, S: FarTickets>(
+fn watch_four<N: PlanTag, B: TableTag, S: FarTickets>(
     zero: &mut Stripe<N, B, S, 0>,
     one: &mut Stripe<N, B, S, 1>,
     two: &mut Stripe<N, B, S, 2>,
@@ -160,7 +160,7 @@ fn watch_four<N: Naming, B: Site, S: FarTickets>(
     }
 }
 
-impl<N: Naming, B: Site, S: FarTickets> Shared<N, B, S> {
+impl<N: PlanTag, B: TableTag, S: FarTickets> Shared<N, B, S> {
     /// Registers an aggregate in all four stripes under one number, which is below 32, or in none. Holds all four write locks.
     /// All row groups that hold a place are pending in it.
     ///

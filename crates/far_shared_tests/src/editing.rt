@@ -1,6 +1,6 @@
 // Edits that are drawn, beside a plain list of what they leave.
-use crate::bells::Bells;
 use crate::scenes::{Left, Replied, Reply, Step};
+use crate::signals::Signals;
 use far_random::Draws;
 use far_types::Refusal;
 use std::alloc::Global;
@@ -161,7 +161,7 @@ fn edit_both<M, F: Fn(&mut M, Step) -> Replied>(
     Ok(())
 }
 
-// What the edits leave, where the gauge of the stripe says the same.
+// Returns what the edits leave, if the gauge of the stripe says the same.
 fn as_gauged(rows: &Rows, reading: Replied) -> Result<Left, Refusal> {
     let left = left_of(&rows.numbers);
     if reading == Ok(Reply::Reading(rows.edits, left.count, left.sum)) {
@@ -189,13 +189,13 @@ fn edit_all<M, F: Fn(&mut M, Step) -> Replied>(
     }
 }
 
-// Makes so many edits on the home stripe of the session of this number, which no other session edits, and tells the others that it has
-// ended. Gives what the accepted ones leave by a plain list, which is what the gauge reads.
+// Makes so many edits on the home stripe of the session of this number, which no other session edits, and sends a signal when it has
+// ended. Returns what the accepted ones leave by a plain list, which is what the gauge reads.
 pub fn edit_at_random<M, F: Fn(&mut M, Step) -> Replied>(
     alloc: Global,
     call: &F,
     me: &mut M,
-    bells: &Bells,
+    signals: &Signals,
     number: u64,
     edits: u32,
 ) -> Result<Left, Refusal>
@@ -206,6 +206,6 @@ pub fn edit_at_random<M, F: Fn(&mut M, Step) -> Replied>(
         edits: 0,
     };
     let left = edit_all(call, me, number, &mut rows, edits);
-    bells.ring();
+    signals.send();
     left
 }

@@ -4,9 +4,9 @@ ghost use Rattle.std.specs.Prelude.{IfErr};
 use crate::playing::Played;
 use crate::scenes::{End, Left, NO_ROW};
 use far_frame::Frame;
-use far_history::Naming;
+use far_history::PlanTag;
 use far_sessions::Session;
-use far_shared::{Four, Shared, Site};
+use far_shared::{Four, Shared, TableTag};
 use far_store::FarTickets;
 use far_types::Refusal;
 use std::alloc::{AllocError, Global};
@@ -20,7 +20,7 @@ pub struct Finale<P> {
     left: [Left; 4],
 }
 
-// What comes back where a session is missing.
+// What `close` returns if a session is missing.
 type Refused<N, B, S> = (Refusal, Shared<N, B, S>, Vec<Session<B>>);
 
 // Whether a table has these rows.
@@ -64,7 +64,7 @@ fn is_err_and<T: Drop, E: Drop, F: FnOnce(E) -> bool + Drop>(
 }
 
 // Whether a shared table is closed with these sessions, and leaves these rows.
-fn closes<N: Naming, B: Site, S: FarTickets, R: Wait>(
+fn closes<N: PlanTag, B: TableTag, S: FarTickets, R: Wait>(
     rt: &R,
     shared: Shared<N, B, S>,
     sessions: Vec<Session<B>>,
@@ -83,7 +83,7 @@ fn with_last<P: Drop>(mut list: Vec<P>, last: P) -> Result<Vec<P>, AllocError> {
 }
 
 // Whether a shared table that came back with its sessions is closed when the one that was missing is there again.
-fn closes_again<N: Naming, B: Site, S: FarTickets, R: Wait>(
+fn closes_again<N: PlanTag, B: TableTag, S: FarTickets, R: Wait>(
     rt: &R,
     refused: Refused<N, B, S>,
     last: Session<B>,
@@ -96,8 +96,8 @@ fn closes_again<N: Naming, B: Site, S: FarTickets, R: Wait>(
     is_closed.unwrap_or(false) && refusal == Refusal::OutOfRange
 }
 
-// Whether a shared table comes back with its sessions where one is missing, and is closed when it is there again.
-fn closes_with_all<N: Naming, B: Site, S: FarTickets, R: Wait>(
+// Returns whether a shared table comes back with its sessions if one is missing, and is closed when it is there again.
+fn closes_with_all<N: PlanTag, B: TableTag, S: FarTickets, R: Wait>(
     rt: &R,
     shared: Shared<N, B, S>,
     finale: Finale<Session<B>>,
@@ -114,7 +114,7 @@ fn closes_with_all<N: Naming, B: Site, S: FarTickets, R: Wait>(
 }
 
 // The same, once all roles came out.
-pub fn ends<N: Naming, B: Site, S: FarTickets, R: Wait>(
+pub fn ends<N: PlanTag, B: TableTag, S: FarTickets, R: Wait>(
     rt: &R,
     shared: Shared<N, B, S>,
     finale: Result<Finale<Session<B>>, Refusal>,
@@ -162,7 +162,7 @@ fn sessions_of<P: Drop>(alloc: Global, played: Vec<Played<P>>) -> Result<Vec<P>,
     Ok(sessions)
 }
 
-// These sessions, of which the last is apart.
+// Separates the last of these sessions.
 fn parted<P: Drop>(mut sessions: Vec<P>, left: [Left; 4]) -> Result<Finale<P>, Refusal> {
     match sessions.pop() {
         Some(last) => Ok(Finale {

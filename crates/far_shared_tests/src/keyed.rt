@@ -1,6 +1,6 @@
 // Rows of two keys on two stripes, and an answer over both.
-use crate::bells::Bells;
 use crate::scenes::{Letter, Replied, Reply, Step};
+use crate::signals::Signals;
 use far_types::Refusal;
 
 // How many answers are asked for at most.
@@ -16,28 +16,28 @@ fn insert_both<M, F: Fn(&mut M, Step) -> Replied>(call: &F, me: &mut M) -> Repli
     }
 }
 
-// Inserts so many pairs. Says whether an answer was asked for while each was inserted or after.
+// Inserts so many pairs. Returns whether an answer was asked for while each was inserted or after.
 fn insert_all<M, F: Fn(&mut M, Step) -> Replied>(
     call: &F,
     me: &mut M,
-    bells: &Bells,
+    signals: &Signals,
     pairs: u32,
 ) -> Result<bool, Refusal>
     requires { F.IsAlwaysCallable call.now }
 {
     for _ in 0..pairs {
-        let asked = bells.asked();
+        let asked = signals.asked();
         if let Err(refusal) = insert_both(call, me) {
             return Err(refusal);
         }
-        if !bells.awaits_asking(asked) {
+        if !signals.awaits_asking(asked) {
             return Ok(false);
         }
     }
     Ok(true)
 }
 
-// What inserting so many pairs says, where the aggregate was registered as the first.
+// Returns what inserting the pairs returned, if the aggregate was registered as the first.
 fn if_first(registered: Replied, is_answered: Result<bool, Refusal>) -> Result<bool, Refusal> {
     match registered {
         Ok(Reply::Number(1)) => is_answered,
@@ -46,19 +46,19 @@ fn if_first(registered: Replied, is_answered: Result<bool, Refusal>) -> Result<b
     }
 }
 
-// Registers totals by key, tells the others, inserts so many pairs, and tells the others again.
+// Registers totals by key, sends a signal, inserts so many pairs, and sends another signal.
 pub fn insert_pairs<M, F: Fn(&mut M, Step) -> Replied>(
     call: &F,
     me: &mut M,
-    bells: &Bells,
+    signals: &Signals,
     pairs: u32,
 ) -> Result<bool, Refusal>
     requires { F.IsAlwaysCallable call.now }
 {
     let registered = call(me, Step::WatchByKey);
-    bells.ring();
-    let is_answered = insert_all(call, me, bells, pairs);
-    bells.ring();
+    signals.send();
+    let is_answered = insert_all(call, me, signals, pairs);
+    signals.send();
     if_first(registered, is_answered)
 }
 
@@ -75,18 +75,18 @@ fn is_right(reply: Replied, is_last: bool, pairs: u32) -> Result<bool, Refusal> 
     }
 }
 
-// Asks for the totals by key until so many pairs are inserted. Says whether each answer was right.
+// Asks for the totals by key until so many pairs are inserted. Returns whether each answer was right.
 fn ask_until<M, F: Fn(&mut M, Step) -> Replied>(
     call: &F,
     me: &mut M,
-    bells: &Bells,
+    signals: &Signals,
     pairs: u32,
 ) -> Result<bool, Refusal>
     requires { F.IsAlwaysCallable call.now }
 {
     for _ in 0..ANSWERS {
-        let is_last = bells.has_rung(2);
-        bells.ask();
+        let is_last = signals.was_sent(2);
+        signals.ask();
         let answer = is_right(call(me, Step::AskByKey(1)), is_last, pairs);
         if is_last || answer != Ok(true) {
             return answer;
@@ -99,13 +99,13 @@ fn ask_until<M, F: Fn(&mut M, Step) -> Replied>(
 pub fn ask_pairs<M, F: Fn(&mut M, Step) -> Replied>(
     call: &F,
     me: &mut M,
-    bells: &Bells,
+    signals: &Signals,
     pairs: u32,
 ) -> Result<bool, Refusal>
     requires { F.IsAlwaysCallable call.now }
 {
-    if bells.awaits(1) {
-        ask_until(call, me, bells, pairs)
+    if signals.awaits(1) {
+        ask_until(call, me, signals, pairs)
     } else {
         Ok(false)
     }

@@ -3,7 +3,7 @@
 //! examples come out as they should. A test names a scene: a table, a store and what each session does, as data.
 
 #[cfg(test)]
-mod bells;
+mod concurrent;
 #[cfg(test)]
 mod editing;
 #[cfg(test)]
@@ -13,8 +13,6 @@ mod examples;
 #[cfg(test)]
 mod gates;
 #[cfg(test)]
-mod hand;
-#[cfg(test)]
 mod keyed;
 #[cfg(test)]
 mod lines;
@@ -22,6 +20,8 @@ mod lines;
 mod looking;
 #[cfg(test)]
 mod opening;
+#[cfg(test)]
+mod phases;
 #[cfg(test)]
 mod plans;
 #[cfg(test)]
@@ -37,9 +37,9 @@ mod scenes;
 #[cfg(test)]
 mod serving;
 #[cfg(test)]
-mod stripes;
+mod signals;
 #[cfg(test)]
-mod together;
+mod stripes;
 #[cfg(test)]
 mod workers;
 #[cfg(test)]

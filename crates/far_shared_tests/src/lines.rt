@@ -1,8 +1,8 @@
-// Calls that are made one after another, each with the answer that is due.
+// Calls that are made one after another, each with the reply that is due.
 use crate::scenes::{Line, Replied, Step};
 use far_types::Refusal;
 
-// What a call answers, made a second time where the first found no memory.
+// Returns the reply to a call. If the call ran out of memory, it is made a second time.
 fn answer_at_last<M, F: Fn(&mut M, Step) -> Replied>(call: &F, me: &mut M, step: Step) -> Replied
     requires { F.IsAlwaysCallable call.now }
 {
@@ -12,7 +12,7 @@ fn answer_at_last<M, F: Fn(&mut M, Step) -> Replied>(call: &F, me: &mut M, step:
     }
 }
 
-// Whether calls are answered as is due, one after another.
+// Returns whether calls get the replies that are due, one after another.
 pub fn play_lines<M, F: Fn(&mut M, Step) -> Replied>(call: &F, me: &mut M, lines: &[Line]) -> bool
     requires { F.IsAlwaysCallable call.now }
 {

@@ -1,10 +1,10 @@
 // Rows of a stripe that a session is lent.
-use crate::bells::Bells;
 use crate::replies::waited;
 use crate::scenes::{Replied, Reply};
+use crate::signals::Signals;
 use far_frame::View;
-use far_history::Naming;
-use far_shared::{Shared, Site};
+use far_history::PlanTag;
+use far_shared::{Shared, TableTag};
 use far_store::FarTickets;
 use std::sync::Wait;
 
@@ -21,7 +21,7 @@ fn first_number<S: FarTickets>(view: &View<'_, S>) -> Replied {
 }
 
 // The number that is lent of a stripe's first place.
-pub fn lend<N: Naming, B: Site, S: FarTickets, R: Wait>(
+pub fn lend<N: PlanTag, B: TableTag, S: FarTickets, R: Wait>(
     rt: &R,
     shared: &Shared<N, B, S>,
     stripe: u32,
@@ -32,23 +32,23 @@ pub fn lend<N: Naming, B: Site, S: FarTickets, R: Wait>(
     }
 }
 
-// Tells the others, waits until the sessions were told so often, and looks at the first row then.
-fn look_later<S: FarTickets>(view: &View<'_, S>, bells: &Bells, times: u64) -> Replied {
-    bells.ring();
-    let is_told = bells.awaits(times);
+// Sends a signal, waits until so many signals were sent, and looks at the first row then.
+fn look_later<S: FarTickets>(view: &View<'_, S>, signals: &Signals, times: u64) -> Replied {
+    signals.send();
+    let is_told = signals.awaits(times);
     waited(is_told && view.is_alive(0).is_some())
 }
 
-// Reads a stripe, tells the others, and lets go of the stripe when the sessions were told so often.
-pub fn hold<N: Naming, B: Site, S: FarTickets, R: Wait>(
+// Locks a stripe for reading, sends a signal, and unlocks the stripe when so many signals were sent.
+pub fn hold<N: PlanTag, B: TableTag, S: FarTickets, R: Wait>(
     rt: &R,
     shared: &Shared<N, B, S>,
-    bells: &Bells,
+    signals: &Signals,
     stripe: u32,
     times: u64,
 ) -> Replied {
     match shared.scope(rt, stripe) {
-        Ok(scope) => look_later(&scope.view(), bells, times),
+        Ok(scope) => look_later(&scope.view(), signals, times),
         Err(refusal) => Err(refusal),
     }
 }

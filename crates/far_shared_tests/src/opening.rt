@@ -7,8 +7,8 @@ use crate::gates::{Gated, gate_of};
 use crate::plans::plan_of;
 use crate::playing::play_to_end;
 use crate::scenes::Scene;
-use far_history::Naming;
-use far_shared::{Made, Plan, Site};
+use far_history::PlanTag;
+use far_shared::{Made, Plan, TableTag};
 use far_store::{AgentStore, FarStore};
 use far_types::Refusal;
 use std::alloc::Global;
@@ -21,8 +21,8 @@ const CAPACITY: u64 = 16_777_216;
 
 // Whether a scene comes out on a table whose cells and store have these names.
 fn opened<
-    N: Naming + Send + Sync,
-    B: Site + Send + Sync,
+    N: PlanTag + Send + Sync,
+    B: TableTag + Send + Sync,
     S: FarStore + Gated,
     R: Threads + Wait + Sync,
 >(rt: &R, alloc: Global, made: Made<N, S>, store: &S, scene: &Scene) -> Result<bool, Refusal>
@@ -37,7 +37,7 @@ fn opened<
 }
 
 // Gives the cells of a table and its store their names.
-fn named<N: Naming + Send + Sync, S: FarStore + Gated, R: Threads + Wait + Sync>(
+fn named<N: PlanTag + Send + Sync, S: FarStore + Gated, R: Threads + Wait + Sync>(
     rt: &R,
     alloc: Global,
     made: Made<N, S>,
@@ -48,7 +48,7 @@ fn named<N: Naming + Send + Sync, S: FarStore + Gated, R: Threads + Wait + Sync>
 }
 
 // The same on a table of a plan that has this name.
-fn planned<N: Naming + Send + Sync, S: FarStore + Gated, R: Threads + Wait + Sync>(
+fn planned<N: PlanTag + Send + Sync, S: FarStore + Gated, R: Threads + Wait + Sync>(
     rt: &R,
     alloc: Global,
     plan: Plan,
@@ -88,7 +88,7 @@ fn on_agent<R: Threads + Wait + Sync>(
     })
 }
 
-// Whether a scene comes out, played a second time where the first found no memory.
+// Returns whether a scene comes out. If the first run of it was out of memory, it is played a second time.
 pub fn comes_out<R: Threads + Wait + Sync>(rt: &R, alloc: Global, scene: &Scene) -> bool {
     let answer = match on_agent(rt, alloc, scene) {
         Err(Refusal::NoMemory) => on_agent(rt, alloc, scene),

@@ -1,16 +1,16 @@
 // Sessions that play a scene, each in a thread of its own.
 ghost use Rattle.std.specs.Prelude.{◌≡◌};
 
-use crate::bells::Bells;
 use crate::ending::{Finale, finale_of};
 use crate::gates::Gated;
 use crate::lines::play_lines;
 use crate::roles::{do_duty, left_if};
 use crate::scenes::{End, Left, Replied, Role, Scene, Step};
 use crate::serving::serve;
-use far_history::Naming;
+use crate::signals::Signals;
+use far_history::PlanTag;
 use far_sessions::Session;
-use far_shared::{Shared, Site};
+use far_shared::{Shared, TableTag};
 use far_store::FarStore;
 use far_types::Refusal;
 use std::alloc::{AllocError, Global};
@@ -25,11 +25,11 @@ pub struct Played<P> {
     pub left: Result<Left, Refusal>,
 }
 
-// What all sessions of a scene have beside the table and its store.
+// What all sessions of a scene share besides the table and its store.
 #[derive(Drop)]
 struct Stage {
     alloc: Global,
-    bells: Bells,
+    signals: Signals,
     scene: Scene,
 }
 
@@ -44,8 +44,8 @@ fn role_of(scene: &Scene, number: u64) -> Role {
 // Plays the role of a session, which its player knows by the answers to its calls. A player is handed no scene: the borrow checker does
 // not cover a closure beside what lives for ever.
 fn play_as<
-    N: Naming + Send + Sync,
-    B: Site + Send + Sync,
+    N: PlanTag + Send + Sync,
+    B: TableTag + Send + Sync,
     S: FarStore + Gated,
     R: Threads + Wait + Sync,
 >(
@@ -59,20 +59,20 @@ fn play_as<
     requires store { S.store_id store.now ≡ B.store }
 {
     let alloc = stage.alloc;
-    let bells = &stage.bells;
+    let signals = &stage.signals;
     let call = |me: &mut Session<B>, step: Step| -> Replied
         requires { S.store_id store.now ≡ B.store }
-    { serve(rt, alloc, shared, store, bells, me, step) };
+    { serve(rt, alloc, shared, store, signals, me, step) };
     match role_of(&stage.scene, number) {
         Role::Plays(lines) => left_if(Ok(play_lines(&call, me, lines))),
-        Role::Does(duty) => do_duty(alloc, &call, me, bells, number, duty),
+        Role::Does(duty) => do_duty(alloc, &call, me, signals, number, duty),
     }
 }
 
 // The same of a session that is handed on, once all are there: so none waits for one that never comes.
 fn play<
-    N: Naming + Send + Sync,
-    B: Site + Send + Sync,
+    N: PlanTag + Send + Sync,
+    B: TableTag + Send + Sync,
     S: FarStore + Gated,
     R: Threads + Wait + Sync,
 >(
@@ -85,7 +85,7 @@ fn play<
     requires store { S.store_id store.now ≡ B.store }
 {
     let number = me.number();
-    let left = if stage.bells.gathers(stage.scene.roles.len() as u64) {
+    let left = if stage.signals.gathers(stage.scene.roles.len() as u64) {
         play_as(rt, shared, store, stage, &mut me, number)
     } else {
         Err(Refusal::NoMemory)
@@ -95,8 +95,8 @@ fn play<
 
 // Plays the roles of all sessions, each in a thread of its own.
 fn play_all<
-    N: Naming + Send + Sync,
-    B: Site + Send + Sync,
+    N: PlanTag + Send + Sync,
+    B: TableTag + Send + Sync,
     S: FarStore + Gated,
     R: Threads + Wait + Sync,
 >(
@@ -114,7 +114,7 @@ fn play_all<
     thread::map_vec(rt, sessions, &play_one)
 }
 
-// What comes at the end of a scene, where there was memory for its threads.
+// Returns what comes at the end of a scene, if there was memory for its threads.
 fn ended<P: Drop>(
     alloc: Global,
     played: Result<Vec<Played<P>>, AllocError>,
@@ -128,8 +128,8 @@ fn ended<P: Drop>(
 
 // Plays the roles of all sessions.
 pub fn play_to_end<
-    N: Naming + Send + Sync,
-    B: Site + Send + Sync,
+    N: PlanTag + Send + Sync,
+    B: TableTag + Send + Sync,
     S: FarStore + Gated,
     R: Threads + Wait + Sync,
 >(
@@ -144,7 +144,7 @@ pub fn play_to_end<
 {
     let stage = Stage {
         alloc,
-        bells: Bells::new(),
+        signals: Signals::new(),
         scene: *scene,
     };
     let played = play_all(rt, shared, store, &stage, sessions);

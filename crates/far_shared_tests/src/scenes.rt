@@ -85,21 +85,21 @@ pub enum Step {
     Evacuate(u32),
     // Brings the numbers of a row group of a stripe back.
     Fetch(u32, u32),
-    // Builds a row group that is left on a stripe.
+    // Builds a row group that is pending on a stripe.
     Build(u32),
     // Begins a work, carries its job and ends it.
-    ByHand(Work),
+    InPhases(Work),
     // Lets so many threads do these works.
     Run(u32, Works),
     // Waits until a put has come to the gate.
     AwaitPut,
     // Opens the gate.
     OpenGate,
-    // Tells the other sessions.
-    Ring,
-    // Waits until the sessions were told so often.
+    // Sends a signal to the other sessions.
+    Signal,
+    // Waits until so many signals were sent.
     Await(u64),
-    // Reads a stripe, and lets go of it when the sessions were told so often.
+    // Locks a stripe for reading, and unlocks it when so many signals were sent.
     Hold(u32, u64),
 }
 

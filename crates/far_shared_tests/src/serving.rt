@@ -1,17 +1,17 @@
 // The calls of a session.
 ghost use Rattle.std.specs.Prelude.{◌≡◌};
 
-use crate::bells::Bells;
 use crate::gates::{Gated, awaits_put};
-use crate::hand::complete_work;
 use crate::looking::{hold, lend};
+use crate::phases::complete_work;
 use crate::plans::{all_numbers, keyed_row, row_of};
 use crate::replies::{applied, built, done, moved, numbered, read, told, told_by_key, waited};
 use crate::scenes::{Replied, Reply, Step};
+use crate::signals::Signals;
 use crate::workers::run;
-use far_history::Naming;
+use far_history::PlanTag;
 use far_sessions::Session;
-use far_shared::{Shared, Site};
+use far_shared::{Shared, TableTag};
 use far_store::{FarStore, FarTickets, Meter};
 use far_types::{Cell, Edit, Fold, Refusal, Spec};
 use std::alloc::Global;
@@ -39,7 +39,7 @@ fn edit_of(alloc: Global, step: Step) -> Result<(u32, Edit), Refusal> {
 }
 
 // Makes the edit of a call.
-fn edit<N: Naming, B: Site, S: FarTickets, R: Wait>(
+fn edit<N: PlanTag, B: TableTag, S: FarTickets, R: Wait>(
     rt: &R,
     alloc: Global,
     shared: &Shared<N, B, S>,
@@ -62,18 +62,18 @@ fn spec_of(alloc: Global, step: Step) -> Spec {
 }
 
 // What a call answers that needs no store. Those that are not named make an edit.
-fn serve_here<N: Naming, B: Site, S: FarTickets, R: Wait>(
+fn serve_here<N: PlanTag, B: TableTag, S: FarTickets, R: Wait>(
     rt: &R,
     alloc: Global,
     shared: &Shared<N, B, S>,
-    bells: &Bells,
+    signals: &Signals,
     me: &mut Session<B>,
     step: Step,
 ) -> Replied {
     match step {
         Step::Gauge(stripe) => read(shared.cells().gauge(rt, me, stripe)),
         Step::Lend(stripe) => lend(rt, shared, stripe),
-        Step::Hold(stripe, times) => hold(rt, shared, bells, stripe, times),
+        Step::Hold(stripe, times) => hold(rt, shared, signals, stripe, times),
         Step::Ask(a) => told(shared.ask_all(rt, a)),
         Step::AskByKey(a) => told_by_key(shared.ask_all(rt, a)),
         Step::Watch | Step::WatchTotals | Step::WatchByKey => numbered(shared.watch_all(
@@ -85,7 +85,7 @@ fn serve_here<N: Naming, B: Site, S: FarTickets, R: Wait>(
 }
 
 // What a call answers that moves an object or builds a row group.
-fn move_or_build<N: Naming, B: Site, S: FarStore, R: Wait>(
+fn move_or_build<N: PlanTag, B: TableTag, S: FarStore, R: Wait>(
     rt: &R,
     alloc: Global,
     shared: &Shared<N, B, S>,
@@ -99,22 +99,22 @@ fn move_or_build<N: Naming, B: Site, S: FarStore, R: Wait>(
         Step::Evacuate(stripe) => moved(shared.evacuate_once(rt, stripe, store, &mut meter)),
         Step::Fetch(stripe, group) => done(shared.fetch(rt, stripe, 0, group, store, &mut meter)),
         Step::Build(stripe) => built(shared.build_once(rt, stripe, store, &mut meter)),
-        Step::ByHand(work) => complete_work(rt, alloc, shared, store, work),
+        Step::InPhases(work) => complete_work(rt, alloc, shared, store, work),
         _ => Ok(Reply::Nothing),
     }
 }
 
-// Waits for other sessions or for a put, or tells that there is something to wait for.
-fn wait_or_tell<S: Gated>(store: &S, bells: &Bells, step: Step) -> Replied {
+// Waits for signals or for a put, or sends a signal.
+fn wait_or_tell<S: Gated>(store: &S, signals: &Signals, step: Step) -> Replied {
     match step {
         Step::AwaitPut => waited(awaits_put(store)),
-        Step::Await(times) => waited(bells.awaits(times)),
+        Step::Await(times) => waited(signals.awaits(times)),
         Step::OpenGate => {
             store.open();
             Ok(Reply::Done)
         }
         _ => {
-            bells.ring();
+            signals.send();
             Ok(Reply::Done)
         }
     }
@@ -122,8 +122,8 @@ fn wait_or_tell<S: Gated>(store: &S, bells: &Bells, step: Step) -> Replied {
 
 // What a call answers.
 pub fn serve<
-    N: Naming + Send + Sync,
-    B: Site + Send + Sync,
+    N: PlanTag + Send + Sync,
+    B: TableTag + Send + Sync,
     S: FarStore + Gated,
     R: Threads + Wait + Sync,
 >(
@@ -131,20 +131,20 @@ pub fn serve<
     alloc: Global,
     shared: &Shared<N, B, S>,
     store: &S,
-    bells: &Bells,
+    signals: &Signals,
     me: &mut Session<B>,
     step: Step,
 ) -> Replied
     requires store { S.store_id store.now ≡ B.store }
 {
     match step {
-        Step::AwaitPut | Step::OpenGate | Step::Ring | Step::Await(_) => wait_or_tell(
-            store, bells, step,
+        Step::AwaitPut | Step::OpenGate | Step::Signal | Step::Await(_) => wait_or_tell(
+            store, signals, step,
         ),
-        Step::Evacuate(_) | Step::Fetch(_, _) | Step::Build(_) | Step::ByHand(_) => move_or_build(
+        Step::Evacuate(_) | Step::Fetch(_, _) | Step::Build(_) | Step::InPhases(_) => move_or_build(
             rt, alloc, shared, store, step,
         ),
         Step::Run(workers, works) => run(rt, alloc, shared, store, workers, works),
-        _ => serve_here(rt, alloc, shared, bells, me, step),
+        _ => serve_here(rt, alloc, shared, signals, me, step),
     }
 }

@@ -6,8 +6,8 @@ use crate::replies::worked;
 use crate::scenes::{
     AWAY, End, FIRST, Gate, NO_ROW, ROW_OF_5, Replied, Reply, Role, Scene, Step, Table, Works,
 };
-use far_history::Naming;
-use far_shared::{Background, Shared, Site, Work};
+use far_history::PlanTag;
+use far_shared::{Background, Shared, TableTag, Work};
 use far_store::FarStore;
 use far_types::{Name, Refusal};
 use std::alloc::{AllocError, Global};
@@ -54,14 +54,12 @@ fn list_of(alloc: Global, works: &[Work]) -> Result<Vec<Work>, AllocError> {
 }
 
 // Lets so many threads do these works.
-pub fn run<N: Naming + Send + Sync, B: Site + Send + Sync, S: FarStore, R: Threads + Wait + Sync>(
-    rt: &R,
-    alloc: Global,
-    shared: &Shared<N, B, S>,
-    store: &S,
-    workers: u32,
-    works: Works,
-) -> Replied
+pub fn run<
+    N: PlanTag + Send + Sync,
+    B: TableTag + Send + Sync,
+    S: FarStore,
+    R: Threads + Wait + Sync,
+>(rt: &R, alloc: Global, shared: &Shared<N, B, S>, store: &S, workers: u32, works: Works) -> Replied
     requires store { S.store_id store.now ≡ B.store }
 {
     match list_of(alloc, works_in(works)) {

@@ -1,6 +1,6 @@
 // What is done beside sessions that edit: objects move, aggregates are registered and built, gauges are read.
-use crate::bells::Bells;
 use crate::scenes::{Replied, Reply, Step};
+use crate::signals::Signals;
 use far_shared::Work;
 use far_types::Refusal;
 use std::thread;
@@ -50,7 +50,7 @@ fn is_due(worked: Worked, edits: u64) -> bool {
     worked.registered < AGGREGATES && edits / EDITS_BETWEEN > u64::from(worked.registered)
 }
 
-// What a worker does in a turn: it sends an object of a stripe away, and then builds a row group that is left there, in turn as
+// What a worker does in a turn: it sends an object of a stripe away, and then builds a row group that is pending there, in turn as
 // `build_once` does and by the far store.
 fn step_at(turn: u32) -> Step {
     let stripe = turn / 2 % 4;
@@ -59,7 +59,7 @@ fn step_at(turn: u32) -> Step {
     } else if turn % 16 < 8 {
         Step::Build(stripe)
     } else {
-        Step::ByHand(Work::Build(stripe))
+        Step::InPhases(Work::Build(stripe))
     }
 }
 
@@ -89,7 +89,7 @@ fn after(worked: Worked, edits: u64, reply: Replied) -> Result<Worked, Refusal> 
 fn work_until<M, F: Fn(&mut M, Step) -> Replied>(
     call: &F,
     me: &mut M,
-    bells: &Bells,
+    signals: &Signals,
     until: u64,
 ) -> Result<u32, Refusal>
     requires { F.IsAlwaysCallable call.now }
@@ -99,7 +99,7 @@ fn work_until<M, F: Fn(&mut M, Step) -> Replied>(
         registered: 0,
     };
     for _ in 0..TURNS {
-        if bells.has_rung(until) {
+        if signals.was_sent(until) {
             return Ok(worked.registered);
         }
         let edits = edits_in(call(me, Step::Gauge(0)));
@@ -136,13 +136,13 @@ fn until_nothing<M, F: Fn(&mut M, Step) -> Replied>(
 // Sends all objects of each stripe away, and builds all that is left there by the far store.
 static SETTLING: [Step; 8] = [
     Step::Evacuate(0),
-    Step::ByHand(Work::Build(0)),
+    Step::InPhases(Work::Build(0)),
     Step::Evacuate(1),
-    Step::ByHand(Work::Build(1)),
+    Step::InPhases(Work::Build(1)),
     Step::Evacuate(2),
-    Step::ByHand(Work::Build(2)),
+    Step::InPhases(Work::Build(2)),
     Step::Evacuate(3),
-    Step::ByHand(Work::Build(3)),
+    Step::InPhases(Work::Build(3)),
 ];
 
 // Makes each of these calls until there is nothing to do.
@@ -161,7 +161,7 @@ fn settle<M, F: Fn(&mut M, Step) -> Replied>(
     Ok(())
 }
 
-// What is said where two answers differ: why the one is refused, or else the other.
+// Returns what is said if two replies differ: why the one is refused, or else the other.
 fn differs(one: Replied, other: Replied) -> Result<bool, Refusal> {
     match (one, other) {
         (Err(refusal), _) => Err(refusal),
@@ -221,12 +221,12 @@ fn end_work<M, F: Fn(&mut M, Step) -> Replied>(
 pub fn work_beside<M, F: Fn(&mut M, Step) -> Replied>(
     call: &F,
     me: &mut M,
-    bells: &Bells,
+    signals: &Signals,
     until: u64,
 ) -> Result<bool, Refusal>
     requires { F.IsAlwaysCallable call.now }
 {
-    match work_until(call, me, bells, until) {
+    match work_until(call, me, signals, until) {
         Ok(registered) => end_work(call, me, registered),
         Err(refusal) => Err(refusal),
     }
@@ -241,7 +241,7 @@ fn is_later(reading: Replied, before: Replied) -> bool {
 pub fn read_beside<M, F: Fn(&mut M, Step) -> Replied>(
     call: &F,
     me: &mut M,
-    bells: &Bells,
+    signals: &Signals,
     until: u64,
 ) -> Result<bool, Refusal>
     requires { F.IsAlwaysCallable call.now }
@@ -254,7 +254,7 @@ pub fn read_beside<M, F: Fn(&mut M, Step) -> Replied>(
             return differs(reading, before[stripe as usize]);
         }
         before[stripe as usize] = reading;
-        if bells.has_rung(until) {
+        if signals.was_sent(until) {
             return Ok(true);
         }
     }

@@ -59,7 +59,7 @@ module _ {R : Type 0} (read : Ghosts R) {S K : Type 0} (tickets : Tickets S K) (
   -- behind its first command, which asks for a table
   pub breaks-table : (old mid new : Input R read) (u v w : Option (List ℕ)) (held k left first line bytes rest text : List ℕ) (opened : Opened) (why : ShellFault)
       → held ≡ [] → Reads read old first mid → Prints u held [] v k → Begins first (IsSpent read mid) line → start_in line ≡ Some (Schema opened)
-      → Gives read why mid new bytes rest → Prints v k text w left → BreaksServing tickets unseen (IsOver read new rest) opened why bytes text
+      → Gives read why mid new bytes rest → Prints v k text w left → BreaksServing tickets unseen (IsOver read new rest) opened why bytes rest text
       → Breaking old new u w left why
   breaks-table old mid new u v w held k left first line bytes rest text opened why empty p q b asks g t (inl h) = (
     first,

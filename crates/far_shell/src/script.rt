@@ -48,7 +48,7 @@ fn serve<
     }
 }
 
-/// Writes the replies that are left where a fault ends a script. If the fault is a failed write, nothing is written.
+/// Writes the replies that are left when a fault ends a script. If the fault is a failed write, nothing is written.
 ///
 /// For the proof: `fault` is an argument for the contract alone. The body goes by the mark that a failed write leaves in the output.
 fn flush_at<W: Write>(
@@ -65,18 +65,17 @@ fn flush_at<W: Write>(
     output.flush(writer)
 }
 
-/// Runs a script that is lent: reads its commands and writes the replies, each before the reader is asked for more than was
-/// read. The objects of its table go to a store in this process, which takes 1,048,576 contents. Behind a first command that asks for
-/// sessions no line is read, though its bytes may have come with that command.
+/// Runs a script as `run_script` does, from an input that its caller lends. Behind a first command that asks for sessions no line is read,
+/// though its bytes may have come with that command.
 ///
-/// The faults are those of `run_script`. Afterwards no more reads are left than before, and each byte that came is taken off those that
-/// were left: also of a reader whose bytes nobody knows, as standard input. At the fault `Input` all whole lines that came are answered,
-/// and the next line or its load came and is no UTF-8, or lacks what did not come:
+/// The faults are those of `run_script`. Afterwards no more reads are left than before. At the end of the script and at the fault `Input`
+/// each byte that came is taken off those that were left. That holds too of a reader whose bytes no contract knows, as standard input. At
+/// the fault `Input` all whole lines that came are answered. The next line or its load came and is no UTF-8, or lacks what did not come:
 ///
 /// - the line its end; then the end of the script was not seen;
 /// - the load its bytes; then the end of the script was seen, and nothing is left behind them, or it was not seen.
 ///
-/// The last line, which has no end, is no UTF-8 only if the end of the script was seen. Where it was not seen, the reader was asked, or no
+/// The last line, which has no end, is no UTF-8 only if the end of the script was seen. If it was not seen, the reader was asked, or no
 /// reads are left. And one of these holds:
 ///
 /// - readers of its type may fail;
@@ -106,16 +105,22 @@ pub fn run_input<T: AllocGlobal + Sync + Threads + Wait, R: Source + Drop, W: Wr
     }
 }
 
-/// Runs a script: reads its commands and writes the replies, each before the reader is asked for more than was read. The
-/// objects of its table go to a store in this process, which takes 1,048,576 contents. Where the first command asks for sessions, it
-/// is the whole script, as `run_threads` runs it: no line behind it is read.
+/// Runs a script: reads its commands and writes the replies. Each reply is written before the reader is asked for more. The objects of
+/// its table go to a store in this process, which takes 1,048,576 contents. If the first command asks for sessions, it is the whole
+/// script (`run_threads`), and no line behind it is read.
 ///
-/// A script has at most 16,777,216 bytes and is read in at most 1,048,576 reads; past either the fault is `Input`, and so where a read
-/// fails, a line or the bytes of a load are no UTF-8, or the script ends inside a load. So a script of fewer than 1,048,576 bytes, which
-/// are known, does not end by `Input` if each line, and the bytes of each load, are UTF-8, all bytes of each load are there, and readers of
-/// this type never fail ([`a_short_script_at_hand_comes_whole`](crate::laws::a_short_script_at_hand_comes_whole)). What lies wholly before
-/// a fault is answered. Where a write fails, the fault is `Output`; where the shell itself is refused memory, `Memory`; where the first
-/// command opens no table and asks for no sessions, `BadStart`; where sessions give up on an edit, `Turns`.
+/// A script has at most 16,777,216 bytes, and is read in at most 1,048,576 reads. What lies wholly before a fault is answered. Ends with:
+///
+/// - `Input`, if a read fails or one of these bounds is passed. Also if a line or the bytes of a load are no UTF-8, or the script ends
+///   inside a load;
+/// - `Output`, if a write fails;
+/// - `Memory`, if the shell itself runs out of memory;
+/// - `BadStart`, if the first command opens no table and asks for no sessions;
+/// - `Turns`, if sessions give up on an edit.
+///
+/// Say that a script has fewer than 1,048,576 bytes, that they are known, and that readers of its type never fail. Then it ends with
+/// `Input` only if a line or the bytes of a load are no UTF-8, or it ends inside a load
+/// ([`a_short_script_at_hand_comes_whole`](crate::laws::a_short_script_at_hand_comes_whole)).
 ///
 /// The program does this:
 ///

@@ -75,12 +75,15 @@ pub fn print_sessions<T: AllocGlobal + Sync + Threads + Wait>(
     }
 }
 
-/// What a script that is the line `threads SESSIONS EDITS` runs: so many sessions, each on a thread of its own where one can be made,
-/// share a table of one column of numbers, and each inserts so many rows of the number 1 on its home stripe, while a worker in the
-/// background sends objects away. When all have ended, the gauge of each one's home stripe and the answer over all stripes are written.
+/// Runs the script line `threads SESSIONS EDITS`. The sessions share a table of one column of numbers, each on a thread of its own if one
+/// can be made. Each inserts EDITS rows of the number 1 on its home stripe. Meanwhile a worker in the background sends objects away. When
+/// all have ended, the gauge of each session's home stripe is written, and the answer over all stripes.
 ///
-/// Ends with `Memory` where a call is refused memory, and with `Turns` where an edit was tried 10,000 times or is refused for what no
-/// other try mends; then nothing is written. Ends with `Output` where a write fails.
+/// Ends with:
+///
+/// - `Memory`, if a call runs out of memory; nothing is written then;
+/// - `Turns`, if an edit was tried 10,000 times, or is refused for a reason that no other try mends; nothing is written then;
+/// - `Output`, if a write fails.
 pub fn run_threads<T: AllocGlobal + Sync + Threads + Wait, W: Write>(
     rt: &T,
     sessions: u32,

@@ -1,9 +1,9 @@
 -- The far copy of an object has the cells of its row group.
-use Rattle.std.proofs.Common.{◌≡◌, inl, inr, ℕ, zero, suc, ℤ, ◌*◌, ◌<◌, Bool, true, false, List, [], ◌∷◌, ◌++◌, map, length, take, drop, replicate, get_or, Option, None, Some, refl, sym, ap, subst, ◌∙◌, arith}
+use Rattle.std.proofs.Common.{◌≡◌, inl, inr, ℕ, zero, suc, ℤ, ◌*◌, ◌<◌, Bool, false, List, [], ◌∷◌, ◌++◌, map, length, take, drop, replicate, get_or, Option, None, Some, refl, sym, ap, subst, ◌∙◌, arith}
 use Rattle.std.specs.Prelude.{◌-◌, ◌==◌, cond, min, option_map, unwrap_or, slice_get, slice_index, IsSomeAnd}
 use Rattle.std.specs.Option.{option_and_then}
 use Rattle.std.proofs.lemmas.List.{length-take, length-drop, length-map, take-map, drop-map, map-append}
-use Rattle.std.proofs.lemmas.Option.{same_Some, none-some, slice_get-map, slice_get_within, get_or_from_slice_get}
+use Rattle.std.proofs.lemmas.Option.{same_Some, slice_get-map, slice_get_within, get_or_from_slice_get}
 use Rattle.far_types.specs.declared.cell.Cell.{Cell}
 use Rattle.far_types.specs.declared.cell.Cell.TheVariants as cell
 use Rattle.far_types.specs.Lent.{int_cell, text_cell}

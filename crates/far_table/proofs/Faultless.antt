@@ -1,7 +1,7 @@
 -- What an edit without a fault of its own is like, and one that is not refused.
-use Rattle.std.proofs.Common.{◌≡◌, ◌≢◌, ℕ, ◌<◌, Bool, true, false, not, List, length, Option, None, Some, refl, sym, ap, ◌∙◌}
-use Rattle.std.specs.Prelude.{◌==◌, is_none, option_map, slice_get}
-use Rattle.std.specs.List.{list_any}
+use Rattle.std.proofs.Common.{◌≡◌, ◌≢◌, ℕ, ◌<◌, Bool, true, false, not, List, [], ◌∷◌, length, Option, None, Some, refl, sym, ap, arith, ◌∙◌}
+use Rattle.std.specs.Prelude.{◌==◌, ◌&&◌, is_none, option_map, slice_get}
+use Rattle.std.specs.List.{list_all, list_any, zip}
 use Rattle.std.proofs.lemmas.Bool.{eqb-true, eqb-false}
 use Rattle.std.proofs.lemmas.Option.{slice_get_within, none-some}
 use Rattle.far_types.specs.declared.cell.Cell.{Cell}
@@ -46,6 +46,35 @@ row-right schema limits places row free =
       short = short.0;
       few = eqb-false (length places) limits.places few.0;
     }
+
+both-true : (a b : Bool) → (a && b) ≡ true → (a ≡ true) × (b ≡ true)
+both-true true b both = (refl, both)
+both-true false b both = absurd cc
+
+is-false : (b : Bool) → not b ≡ true → b ≡ false
+is-false true is = absurd cc
+is-false false is = refl
+
+-- where each cell may stand in its column, all are of their kinds and none is too long
+each-stands : (schema : List Kind) (row : List Cell) → length row ≡ length schema → list_all (λ (at : Kind × Cell). is_of_kind at.0 at.1 && not (is_too_long at.1)) (zip schema row) ≡ true
+    → (kinds_fit schema row ≡ true) × (list_any is_too_long row ≡ false)
+each-stands [] [] width each = (refl, refl)
+each-stands [] (cell ∷ row) width each = absurd (omega (arith, width))
+each-stands (kind ∷ schema) [] width each = absurd (omega (arith, width))
+each-stands (kind ∷ schema) (cell ∷ row) width each =
+    let later = both-true (is_of_kind kind cell && not (is_too_long cell)) (list_all (λ (at : Kind × Cell). is_of_kind at.0 at.1 && not (is_too_long at.1)) (zip schema row)) each in
+    let here = both-true (is_of_kind kind cell) (not (is_too_long cell)) later.0 in
+    let rest = each-stands schema row (omega (arith, width)) later.1 in
+    let short = is-false (is_too_long cell) here.1 in
+    (rw (here.0, rest.0) refl, rw (short, rest.1) refl)
+
+-- then only a full table refuses the row
+pub full-alone : (schema : List Kind) (row : List Cell) → ((length row == length schema) && list_all (λ (at : Kind × Cell). is_of_kind at.0 at.1 && not (is_too_long at.1)) (zip schema row)) ≡ true
+    → (limits : Limits) (places : List Place) → first_of (edit_faults schema limits places (edit.Insert row)) ≡ first_of ((length places == limits.places, refusal.TableFull) ∷ [])
+full-alone schema row stands limits places =
+    let both = both-true (length row == length schema) (list_all (λ (at : Kind × Cell). is_of_kind at.0 at.1 && not (is_too_long at.1)) (zip schema row)) stands in
+    let right = each-stands schema row (eqb-true (length row) (length schema) both.0) both.1 in
+    rw (right.0, both.0, right.1) refl
 
 -- a cell, and its place
 pub record IsCell (schema : List Kind) (places : List Place) (p c : ℕ) (cell : Cell) : Type 0 where

@@ -25,5 +25,4 @@ mod Merging
 mod Away
 mod MixedReads
 mod PieceLaws
-mod Recounted
-mod TotalRuns
+mod Runs

@@ -16,7 +16,7 @@ use Rattle.far_scopes.specs.Movement.{Movement, version_of}
 use Rattle.far_evacuator.specs.Jobs.{CarriedEvacuation, CarriedFetch}
 use Rattle.far_texts.specs.Texts.{Texts, lists_of}
 use Rattle.far_columns.specs.Numbers.{number_lists}
-use Rattle.far_scopes.proofs.Outcomes.{by-outcome, on-both}
+use Rattle.far_scopes.proofs.Outcomes.{by-outcome}
 use Rattle.far_rows.specs.declared.job.ByKind.{ByKind}
 use Rattle.far_rows.specs.declared.job.ByKind.TheVariants.{Numbers, Texts as OfTexts}
 use Rattle.far_rows.specs.declared.object.Object.{Object}

@@ -1,5 +1,5 @@
 -- An aggregate that is computed from scratch, whatever is still pending.
-use Rattle.std.specs.Prelude.{◌≡◌, ℕ, ◌+◌, ◌-◌, ◌*◌, ◌<◌, ◌&&◌, ◌⊎◌, min, not, nat_lt, List, [], ◌∷◌, Option, None, Some, is_none, Result, IfOk, IsSomeAnd}
+use Rattle.std.specs.Prelude.{◌≡◌, ℕ, ◌<◌, ◌&&◌, ◌⊎◌, not, nat_lt, [], ◌∷◌, Option, None, Some, is_none, IsSomeAnd}
 use Rattle.far_types.specs.declared.answer.Answer.{Answer}
 use Rattle.far_types.specs.declared.refusal.Refusal.{Refusal}
 use Rattle.far_types.specs.declared.refusal.Refusal.TheVariants as refusal

@@ -1,7 +1,9 @@
 // What is wrong with an edit itself, whichever objects are local: the first of refusals 4 to 10, in their order. Nothing here
 // allocates.
-ghost use Rattle.std.specs.Prelude.{◌≡◌, ◌∷◌, [], ℕ, List, Option, is_none, length, option_map, slice_get};
-ghost use Rattle.std.specs.List.{list_any};
+ghost use Rattle.std.specs.Prelude.{◌≡◌, ◌==◌, ◌&&◌, not, ◌∷◌, [], ℕ, List, Option, is_none, length, option_map, slice_get};
+ghost use Rattle.std.specs.List.{list_all, list_any, zip};
+ghost use Rattle.far_types.specs.declared.cell.Cell.{Cell};
+ghost use Rattle.far_types.specs.declared.cell.Kind.{Kind};
 ghost use Rattle.far_types.specs.declared.edit.Edit.TheVariants as edit;
 ghost use Rattle.far_types.specs.Cells.{is_of_kind, is_too_long};
 ghost use Rattle.far_types.specs.declared.limits.Limits.{Limits};
@@ -50,6 +52,41 @@ fn has_too_long(row: &Row) -> bool
     row.as_slice().iter().any(|cell| is_too_long(cell))
 }
 
+/// Returns whether a cell may stand in a column of this kind, and is no text that is too long.
+fn may_stand(kind: Kind, cell: &Cell) -> bool
+    ensures { result ≡ (is_of_kind kind cell.now && not (is_too_long cell.now)) }
+{
+    is_of_kind(kind, cell) && !is_too_long(cell)
+}
+
+/// Returns whether each cell may stand in its column, at the columns that schema and row both have. It looks at each cell once.
+fn each_may_stand(schema: &Schema, row: &Row) -> bool
+    ensures { result ≡ list_all (λ (at : Kind × Cell). is_of_kind at.0 at.1 && not (is_too_long at.1)) (zip schema.now row.now) }
+{
+    schema
+        .as_slice()
+        .iter()
+        .zip(row.as_slice())
+        .all(|(kind, cell)| may_stand(*kind, cell))
+}
+
+/// Returns whether a row has a cell for each column, and each may stand there.
+fn is_faultless(schema: &Schema, row: &Row) -> bool
+    ensures { result ≡ ((length row.now == length schema.now) && list_all (λ (at : Kind × Cell). is_of_kind at.0 at.1 && not (is_too_long at.1)) (zip schema.now row.now)) }
+{
+    row.len() == schema.len() && each_may_stand(schema, row)
+}
+
+/// Checks that a table of `len` places may have one more. Refused with `TableFull` (10).
+fn one_more(limits: &Limits, len: usize) -> Result<(), Refusal>
+    ensures { refusal_in result ≡ first_of ((len == limits.now.places, Refusal.TableFull) ∷ []) }
+{
+    if len == limits.places as usize {
+        return Err(Refusal::TableFull);
+    }
+    Ok(())
+}
+
 /// Checks a new row behind `len` places. Refused with the first of these that applies: `WrongKind` (5), `RowWidth` (6),
 /// `TextTooLong` (7), `TableFull` (10).
 pub(crate) fn row_faults(
@@ -60,6 +97,10 @@ pub(crate) fn row_faults(
 ) -> Result<(), Refusal>
     ensures { (places : List Place) → length places ≡ len → refusal_in result ≡ first_of (edit_faults schema.now limits.now places (edit.Insert row.now)) }
 {
+    // Most rows have no fault of their own.
+    if is_faultless(schema, row) {
+        return one_more(limits, len);
+    }
     if !kinds_fit(schema, row) {
         return Err(Refusal::WrongKind);
     }
@@ -69,10 +110,7 @@ pub(crate) fn row_faults(
     if has_too_long(row) {
         return Err(Refusal::TextTooLong);
     }
-    if len == limits.places as usize {
-        return Err(Refusal::TableFull);
-    }
-    Ok(())
+    one_more(limits, len)
 }
 
 /// Checks a new cell of a column, at a place that is alive, dead or not there. Refused with the first of these that applies:

@@ -4,6 +4,7 @@
 
 mod contents;
 mod copies;
+mod extrema;
 mod far_group;
 mod faults;
 mod live_table;

@@ -1,49 +1,42 @@
-// A run of row groups that one worker folds.
-ghost use Rattle.std.specs.Prelude.{◌≡◌, ◌+◌, ◌-◌, ◌*◌, ◌<◌, ◌≤◌, ◌^◌, ℕ, [], ◌∷◌, length, IfOk};
+// A piece of a table: a run of row groups that one worker folds as if it were one row group.
+ghost use Rattle.std.specs.Prelude.{◌≡◌, ◌+◌, ◌*◌, ◌<◌, ◌≤◌, ◌^◌, ℕ, [], ◌∷◌, length, IfOk};
 ghost use Rattle.far_store.specs.Faults.{faults_in, RefusedBy};
+ghost use Rattle.far_offload.specs.Partials.{partial_of};
 ghost use Rattle.far_rows.specs.Jobs.{AreAt};
 ghost use Rattle.far_rows.specs.Places.{places_in};
-ghost use Rattle.far_aggregates.specs.Recounting.{partial_at, partials_from};
+ghost use Rattle.far_aggregates.specs.Accumulators.{pairs_here};
 ghost use Rattle.far_table.specs.MixedGroups.{MayFold};
-ghost use Rattle.far_table.specs.Pieces.{IsPiece};
+ghost use Rattle.far_table.specs.Pieces.{begin_of, run_of, IsPiece};
 
-use crate::contents::contents_away;
-use crate::mixed_group::MixedGroup;
-use far_aggregates::fold_group;
+use crate::extrema::observe_run;
+use crate::totals::total_run;
 use far_offload::PartialDone;
 use far_rows::Rows;
 use far_store::{FarRead, Meter};
-use far_types::{Refusal, Spec};
+use far_types::{Fold, Refusal, Spec};
 use std::alloc::Global;
 
-/// The partial aggregates of a piece's row groups, in order, and how many faults occurred.
+/// What the rows of a piece come to, and how many faults occurred.
 #[derive(Drop)]
 pub(crate) struct Piece {
-    pub(crate) partials: Result<Vec<PartialDone>, Refusal>,
+    pub(crate) partial: Result<PartialDone, Refusal>,
     pub(crate) meter: Meter,
 }
 
-// Folds a row group: a local column is read in place, any other through its ticket.
-fn fold_at<S: FarRead>(
-    alloc: Global,
-    rows: &Rows<S>,
-    store: &S,
-    meter: &mut Meter,
-    spec: &Spec,
-    group: u32,
-) -> Result<PartialDone, Refusal>
-    requires few { meter.old < 2 ^ 63 }
-    requires here { AreAt S.is_of (S.store_id store.now) rows.now }
-    requires begun { group * rows.now.size < length rows.now.alive }
-    requires may_fold { MayFold rows.now spec.now }
-    ensures partial { IfOk result (λ done. done ≡ partial_at spec.now rows.now.size (places_in S.content rows.now) group) }
-    ensures faults { meter.new ≡ meter.old + faults_in result }
-    ensures refused { RefusedBy (21 ∷ 1 ∷ []) result }
+/// How row groups are cut into pieces of `long` row groups, of which the last may have fewer.
+#[derive(Clone, Copy)]
+pub(crate) struct Cut {
+    /// How many row groups there are.
+    pub(crate) count: u32,
+    pub(crate) long: u32,
+}
+
+/// Returns the row group with which a piece begins, and the one before it ends.
+fn begin_of(cut: Cut, piece: usize) -> u32
+    requires { piece ≤ 64 }
+    ensures { result ≡ begin_of cut.count cut.long piece }
 {
-    // For the proof: gives `AreRows`, so how many places there are.
-    let _len = rows.len();
-    let contents = contents_away(alloc, rows, store, meter, spec, group)?;
-    fold_group(alloc, spec, &MixedGroup::new(rows, group, spec, &contents))
+    (piece * cut.long as usize).min(cut.count as usize) as u32
 }
 
 // Folds the row groups from one up to another.
@@ -55,39 +48,45 @@ fn fold_run<S: FarRead>(
     spec: &Spec,
     from: u32,
     to: u32,
-) -> Result<Vec<PartialDone>, Refusal>
+) -> Result<PartialDone, Refusal>
     requires few { meter.old < 2 ^ 63 }
     requires here { AreAt S.is_of (S.store_id store.now) rows.now }
     requires order { from ≤ to }
     requires begun { (group : ℕ) → group < to → group * rows.now.size < length rows.now.alive }
     requires may_fold { MayFold rows.now spec.now }
-    ensures partials { IfOk result (λ partials. partials.items ≡ partials_from spec.now rows.now.size (places_in S.content rows.now) from (to - from)) }
+    ensures partial { IfOk result (λ done. done ≡ partial_of spec.now.fold (pairs_here spec.now (run_of rows.now.size from to (places_in S.content rows.now)))) }
     ensures faults { meter.new ≡ meter.old + faults_in result }
     ensures refused { RefusedBy (21 ∷ 1 ∷ []) result }
 {
-    let mut partials = Vec::new(alloc);
-    for group in from..to {
-        partials.push(fold_at(alloc, rows, store, meter, spec, group)?)?;
+    match spec.fold {
+        Fold::Totals => Ok(PartialDone::Totals(total_run(
+            alloc, rows, store, meter, spec, from, to,
+        )?)),
+        Fold::Extrema => Ok(PartialDone::Extrema(observe_run(
+            alloc, rows, store, meter, spec, from, to,
+        )?)),
     }
-    Ok(partials)
 }
 
-/// Folds the row groups from one up to another, with a meter of their own.
+/// Folds a piece, with a meter of its own.
 pub(crate) fn fold_piece<S: FarRead>(
     alloc: Global,
     rows: &Rows<S>,
     store: &S,
     spec: &Spec,
-    from: u32,
-    to: u32,
+    cut: Cut,
+    piece: usize,
 ) -> Piece
     requires here { AreAt S.is_of (S.store_id store.now) rows.now }
-    requires order { from ≤ to }
-    requires begun { (group : ℕ) → group < to → group * rows.now.size < length rows.now.alive }
+    requires begun { (group : ℕ) → group < cut.count → group * rows.now.size < length rows.now.alive }
+    requires all { length rows.now.alive ≤ cut.count * rows.now.size }
     requires may_fold { MayFold rows.now spec.now }
-    ensures { IsPiece spec.now rows.now.size (places_in S.content rows.now) from to result }
+    requires few { piece < 64 }
+    ensures { IsPiece spec.now (cut.long * rows.now.size) (places_in S.content rows.now) piece result }
 {
+    let from = begin_of(cut, piece);
+    let to = begin_of(cut, piece + 1);
     let mut meter = Meter::new();
-    let partials = fold_run(alloc, rows, store, &mut meter, spec, from, to);
-    Piece { partials, meter }
+    let partial = fold_run(alloc, rows, store, &mut meter, spec, from, to);
+    Piece { partial, meter }
 }

@@ -1,105 +1,106 @@
-// Pieces of a table that are folded separately, on threads, and put together.
-ghost use Rattle.std.specs.Prelude.{◌≡◌, ◌+◌, ◌*◌, ◌<◌, ◌≤◌, ◌^◌, ◌++◌, ℕ, length, max, IfOk, IfErr, IsOk, OnOk, slice_index_or};
+// An aggregate that is computed from scratch: pieces of the table are folded separately, on threads, and put together.
+ghost use Rattle.std.specs.Prelude.{◌≡◌, ◌+◌, ◌*◌, ◌<◌, ◌≤◌, ◌^◌, ◌++◌, ◌∷◌, [], ℕ, length, max, IfOk, IfErr, IsOk, OnOk, slice_index_or};
+ghost use Rattle.far_types.specs.Answers.{answer_over};
+ghost use Rattle.far_types.specs.Table.{groups, rows_of};
 ghost use Rattle.far_rows.specs.Jobs.{AreAt};
 ghost use Rattle.far_rows.specs.Places.{places_in};
 ghost use Rattle.far_table.specs.MixedGroups.{MayFold};
-ghost use Rattle.far_table.specs.Pieces.{begin_of, IsPiece, all_partials, partials_in, AreWhole, HaveFewFaults};
+ghost use Rattle.far_table.specs.Pieces.{IsPiece, all_partials, AreWhole, HaveFewFaults};
 ghost use Rattle.far_table.specs.Recounting.{FoldRefusal};
 
-use crate::piece::{Piece, fold_piece};
+use crate::piece::{Cut, Piece, fold_piece};
+use far_aggregates::{answer_of, group_count};
 use far_offload::PartialDone;
 use far_rows::Rows;
 use far_store::{FarRead, Meter};
-use far_types::{Refusal, Spec};
+use far_types::{Answer, Refusal, Spec};
 use std::alloc::{AllocError, Global};
 use std::thread::{self, Threads};
 
-/// How row groups are cut into consecutive pieces of one length, of which the last may have fewer.
-#[derive(Clone, Copy)]
-pub(crate) struct Cut {
-    pub(crate) long: u32,
-    pub(crate) pieces: usize,
-}
-
-/// Cuts `count` row groups into at most as many pieces as there are workers.
-pub(crate) fn cut_for(count: u32, workers: u32) -> Cut
+/// How many row groups a piece has, if there are no more pieces than workers.
+fn long_for(count: u32, workers: u32) -> u32
     requires some { 0 < workers }
-    ensures few { result.pieces ≤ workers }
-    ensures all { count ≤ result.pieces * result.long }
-    ensures some { 0 < result.long }
-    ensures short { result.long ≤ max count 1 }
+    ensures all { count ≤ workers * result }
+    ensures some { 0 < result }
+    ensures short { result ≤ max count 1 }
 {
-    let long = count.div_ceil(workers).max(1);
-    Cut {
-        long,
-        pieces: count.div_ceil(long) as usize,
-    }
+    count.div_ceil(workers).max(1)
 }
 
-/// Returns where a piece begins, and the one before it ends.
-pub(crate) fn begin_of(count: u32, long: u32, piece: usize) -> u32
-    requires { piece ≤ 64 }
-    ensures { result ≡ begin_of count long piece }
+/// A cut of a table, as if it had wider row groups: a piece is one of them.
+#[derive(Clone, Copy)]
+struct WideCut {
+    cut: Cut,
+    /// How many places a piece has.
+    size: u32,
+    pieces: usize,
+}
+
+/// Cuts a table of `places` places into no more pieces than there are workers.
+fn wide_cut(size: u32, places: usize, workers: u32) -> WideCut
+    requires size { 0 < size }
+    requires small { size ≤ 2 ^ 16 }
+    requires few { places ≤ 2 ^ 24 }
+    requires some { 0 < workers }
+    ensures count { result.cut.count ≡ groups size places }
+    ensures size { result.size ≡ result.cut.long * size }
+    ensures some { 0 < result.size }
+    ensures pieces { result.pieces ≡ groups result.size places }
+    ensures few { result.pieces ≤ workers }
 {
-    (piece * long as usize).min(count as usize) as u32
+    let count = group_count(size, places) as u32;
+    let long = long_for(count, workers);
+    let wide = long * size;
+    WideCut {
+        cut: Cut { count, long },
+        size: wide,
+        pieces: group_count(wide, places),
+    }
 }
 
 /// Folds at most 64 pieces, each in a thread of its own if one can be made.
 ///
 /// Refused if memory runs out.
-pub(crate) fn fold_pieces<R: Threads + Sync, S: FarRead>(
+fn fold_pieces<R: Threads + Sync, S: FarRead>(
     rt: &R,
     alloc: Global,
     rows: &Rows<S>,
     store: &S,
     spec: &Spec,
-    count: u32,
     cut: Cut,
+    pieces: usize,
 ) -> Result<Vec<Piece>, AllocError>
     requires here { AreAt S.is_of (S.store_id store.now) rows.now }
-    requires begun { (group : ℕ) → group < count → group * rows.now.size < length rows.now.alive }
+    requires begun { (group : ℕ) → group < cut.count → group * rows.now.size < length rows.now.alive }
+    requires all { length rows.now.alive ≤ cut.count * rows.now.size }
     requires may_fold { MayFold rows.now spec.now }
-    requires few { cut.pieces ≤ 64 }
-    ensures len { IfOk result (λ pieces. length pieces.items ≡ cut.pieces) }
-    ensures each { IfOk result (λ pieces. (i : ℕ) (d : Piece) → i < cut.pieces → IsPiece spec.now rows.now.size (places_in S.content rows.now) (begin_of count cut.long i) (begin_of count cut.long (i + 1)) (slice_index_or pieces.items i d)) }
+    requires few { pieces ≤ 64 }
+    ensures len { IfOk result (λ found. length found.items ≡ pieces) }
+    ensures each { IfOk result (λ found. (i : ℕ) (d : Piece) → i < pieces → IsPiece spec.now (cut.long * rows.now.size) (places_in S.content rows.now) i (slice_index_or found.items i d)) }
 {
-    let long = cut.long;
     let fold = |i: usize| -> Piece
-        requires { AreAt S.is_of (S.store_id store.now) rows.now × ((group : ℕ) → group < count → group * rows.now.size < length rows.now.alive) × MayFold rows.now spec.now × (i < 64) }
-        ensures { IsPiece spec.entry.now rows.entry.now.size (places_in S.content rows.entry.now) (begin_of count long i) (begin_of count long (i + 1)) result }
-    { fold_from(alloc, rows, store, spec, count, long, i) };
-    thread::map_indices(rt, alloc, cut.pieces, &fold)
+        requires { AreAt S.is_of (S.store_id store.now) rows.now × ((group : ℕ) → group < cut.count → group * rows.now.size < length rows.now.alive) × (length rows.now.alive ≤ cut.count * rows.now.size) × MayFold rows.now spec.now × (i < 64) }
+        ensures { IsPiece spec.entry.now (cut.long * rows.entry.now.size) (places_in S.content rows.entry.now) i result }
+    { fold_piece(alloc, rows, store, spec, cut, i) };
+    thread::map_indices(rt, alloc, pieces, &fold)
 }
 
-// Folds a piece.
-fn fold_from<S: FarRead>(
-    alloc: Global,
-    rows: &Rows<S>,
-    store: &S,
-    spec: &Spec,
-    count: u32,
-    long: u32,
-    piece: usize,
-) -> Piece
-    requires here { AreAt S.is_of (S.store_id store.now) rows.now }
-    requires begun { (group : ℕ) → group < count → group * rows.now.size < length rows.now.alive }
-    requires may_fold { MayFold rows.now spec.now }
-    requires few { piece < 64 }
-    ensures { IsPiece spec.now rows.now.size (places_in S.content rows.now) (begin_of count long piece) (begin_of count long (piece + 1)) result }
+// Appends the partial aggregate of a piece, if it was not refused.
+fn append(
+    partials: &mut Vec<PartialDone>,
+    partial: Result<PartialDone, Refusal>,
+) -> Result<(), Refusal>
+    ensures whole { OnOk result (IsOk partial) }
+    ensures appended { OnOk result (IfOk partial (λ done. partials.new.items ≡ partials.old.items ++ done ∷ [])) }
 {
-    let from = begin_of(count, long, piece);
-    let to = begin_of(count, long, piece + 1);
-    fold_piece(alloc, rows, store, spec, from, to)
+    partials.push(partial?)?;
+    Ok(())
 }
 
-/// Gathers the partial aggregates of all pieces' row groups, in order. Adds the faults of the pieces to the caller's.
+/// Gathers the partial aggregates of all pieces, in order. Adds the faults of the pieces to the caller's.
 ///
 /// Refused with `FarFault` (21) exactly if the meter rises, else with `NoMemory` (1).
-pub(crate) fn gather(
-    alloc: Global,
-    pieces: Vec<Piece>,
-    meter: &mut Meter,
-) -> Result<Vec<PartialDone>, Refusal>
+fn gather(alloc: Global, pieces: Vec<Piece>, meter: &mut Meter) -> Result<Vec<PartialDone>, Refusal>
     requires few { meter.old < 2 ^ 63 }
     requires pieces_few { length pieces.items ≤ 64 }
     requires faults_few { HaveFewFaults pieces.items }
@@ -114,7 +115,7 @@ pub(crate) fn gather(
     let mut whole = true;
     for piece in pieces {
         meter.join(piece.meter);
-        whole &= append(&mut partials, piece.partials).is_ok();
+        whole &= append(&mut partials, piece.partial).is_ok();
     }
     if meter.faults() > before {
         return Err(Refusal::FarFault);
@@ -125,15 +126,34 @@ pub(crate) fn gather(
     Ok(partials)
 }
 
-// Appends the partial aggregates of a piece, if it was not refused.
-fn append(
-    partials: &mut Vec<PartialDone>,
-    piece: Result<Vec<PartialDone>, Refusal>,
-) -> Result<(), Refusal>
-    ensures whole { OnOk result (IsOk piece) }
-    ensures appended { OnOk result (IfOk piece (λ more. partials.new.items ≡ partials.old.items ++ more.items)) }
+/// Returns the answer of an aggregate over the rows, whichever objects are away. At most `workers` threads fold the row groups,
+/// in consecutive pieces. So what is merged in the end is one partial aggregate for each worker.
+///
+/// Refused with `FarFault` (21) exactly if the meter rises, else with `NoMemory` (1).
+pub(crate) fn recount_rows<R: Threads + Sync, S: FarRead>(
+    rt: &R,
+    alloc: Global,
+    rows: &Rows<S>,
+    store: &S,
+    meter: &mut Meter,
+    spec: &Spec,
+    size: u32,
+    workers: u32,
+) -> Result<Answer, Refusal>
+    requires few { meter.old < 2 ^ 63 }
+    requires here { AreAt S.is_of (S.store_id store.now) rows.now }
+    requires may_fold { MayFold rows.now spec.now }
+    requires size { size ≡ rows.now.size }
+    requires some { 0 < workers }
+    requires workers { workers ≤ 64 }
+    ensures answer { IfOk result (λ answer. answer ≡ answer_over spec.now (rows_of (places_in S.content rows.now))) }
+    ensures none { OnOk result (meter.new ≡ meter.old) }
+    ensures refused { IfErr result (FoldRefusal meter.old meter.new) }
+    ensures most { meter.new ≤ meter.old + workers }
 {
-    let mut more = piece?;
-    partials.append(&mut more)?;
-    Ok(())
+    let places = rows.len();
+    let wide = wide_cut(size, places, workers);
+    let pieces = fold_pieces(rt, alloc, rows, store, spec, wide.cut, wide.pieces)?;
+    let partials = gather(alloc, pieces, meter)?;
+    answer_of(alloc, spec, partials, wide.size, places)
 }

@@ -7,7 +7,7 @@ use Rattle.std.proofs.lemmas.List.{length-append}
 use Rattle.std.proofs.lemmas.Option.{none-some, same_Some, slice_get_within}
 use Rattle.std.specs.declared.result.Result.TheVariants.{Ok, Err}
 use Rattle.far_history.specs.Histories.{Planned, by_session, gauge_of}
-use Rattle.far_history.specs.Sessions.{Told, newcomer}
+use Rattle.far_history.specs.Sessions.{SessionState, newcomer}
 use Rattle.far_history.specs.declared.reading.Reading.{Reading}
 use Rattle.far_sessions.specs.Known.{Known, at, number_of, newcomers, newcomer_at_all}
 use Rattle.far_threads.specs.Runs.{inserts}
@@ -94,19 +94,19 @@ of-ok A (Err e) P ok holds = absurd (not-ok A e ok)
 -- who keeps its number at one stripe, and all at the others, keeps its number
 number-kept : (k : ℕ) (before after : Known) → (at after k).by ≡ (at before k).by → ((i : ℕ) → i < 4 → i ≢ k → at after i ≡ at before i) → number_of after ≡ number_of before
 number-kept k before after by others =
-    dite (ℕ_discrete 0 k) (λ is. subst (λ (i : ℕ). (at after i).by ≡ (at before i).by) (sym is) by) (λ other. ap (λ (told : Told). told.by) (others 0 (omega arith) other))
+    dite (ℕ_discrete 0 k) (λ is. subst (λ (i : ℕ). (at after i).by ≡ (at before i).by) (sym is) by) (λ other. ap (λ (s : SessionState). s.by) (others 0 (omega arith) other))
 
 -- a session that was new made its inserts at stripe k, and looked there
 gauged-at : (p : Planned) (s n k : ℕ) (ended : Ended) (me : Known) (reading : Reading) → k ≡ s % 4 → Makes k n (newcomer_at_all s) ended.session → Looked p k ended me reading → IsGauged p s n me reading
 gauged-at p s n k ended me reading home made looked =
     let new : at (newcomer_at_all s) k ≡ newcomer s = new-at s k in
-    let by : (at me k).by ≡ s = looked.sees.by ∙ made.by ∙ ap (λ (told : Told). told.by) new in
-    let mine : (at me k).mine ≡ inserts s n = looked.sees.mine ∙ made.mine ∙ ap (λ (told : Told). told.mine ++ inserts told.by n) new in
+    let by : (at me k).by ≡ s = looked.sees.by ∙ made.by ∙ ap (λ (s : SessionState). s.by) new in
+    let mine : (at me k).mine ≡ inserts s n = looked.sees.mine ∙ made.mine ∙ ap (λ (s : SessionState). s.mine ++ inserts s.by n) new in
     record {
       number = number-kept k ended.session me looked.sees.by looked.others ∙ number-kept k (newcomer_at_all s) ended.session made.by made.others;
       none = λ i low other.
           let away : i ≢ k = subst (λ (h : ℕ). i ≢ h) (sym home) other in
-          ap (λ (told : Told). told.mine) (looked.others i low away ∙ made.others i low away ∙ new-at s i);
+          ap (λ (s : SessionState). s.mine) (looked.others i low away ∙ made.others i low away ∙ new-at s i);
       made = subst (λ (h : ℕ). (at me h).mine ≡ inserts s n) home mine;
       own = subst (λ (h : ℕ). by_session s (at me h).seen ≡ inserts s n) home (ap (λ (t : ℕ). by_session t (at me k).seen) (sym by) ∙ looked.sees.own ∙ mine);
       is = looked.is ∙ ap (λ (h : ℕ). gauge_of p (at me h).seen) home;

@@ -2,8 +2,8 @@
 ghost use Rattle.std.specs.Prelude.{◌≡◌};
 
 use crate::outcome::Stop;
-use far_history::Naming;
-use far_shared::{Shared, Site};
+use far_history::PlanTag;
+use far_shared::{Shared, TableTag};
 use far_store::{FarStore, Meter};
 use far_types::Refusal;
 use std::sync::Wait;
@@ -15,7 +15,7 @@ use std::sync::Wait;
 ///
 /// - `Memory`, if a call runs out of memory;
 /// - `Turns`, if the edit was refused for a reason that no other try mends.
-pub(crate) fn clear_way<N: Naming, B: Site, S: FarStore, R: Wait>(
+pub(crate) fn clear_way<N: PlanTag, B: TableTag, S: FarStore, R: Wait>(
     rt: &R,
     shared: &Shared<N, B, S>,
     store: &S,

@@ -11,9 +11,9 @@ ghost use Rattle.far_threads.specs.Working.{AreLeft, HasHomes, IsLineOf};
 
 use crate::outcome::{Outcome, Stop};
 use far_frame::Frame;
-use far_history::Naming;
+use far_history::PlanTag;
 use far_sessions::Session;
-use far_shared::{Four, Shared, Site, answer_four};
+use far_shared::{Four, Shared, TableTag, answer_four};
 use far_store::FarTickets;
 use far_types::Answer;
 use std::alloc::Global;
@@ -35,7 +35,7 @@ fn accepted<T, E: Drop>(given: Result<T, E>) -> T
 }
 
 /// Closes a table with all its sessions. So it cannot be refused for a missing one.
-fn close_all<N: Naming, B: Site, S: FarTickets, R: Wait>(
+fn close_all<N: PlanTag, B: TableTag, S: FarTickets, R: Wait>(
     rt: &R,
     shared: Shared<N, B, S>,
     sessions: Vec<Session<B>>,
@@ -107,7 +107,7 @@ fn have_same_line(one: &Answer, other: &Answer) -> bool
 ///
 /// - `Memory`, if a call runs out of memory;
 /// - `Turns`, if the two answers differ.
-pub(crate) fn end<N: Naming, B: Site, S: FarTickets, R: Wait>(
+pub(crate) fn end<N: PlanTag, B: TableTag, S: FarTickets, R: Wait>(
     rt: &R,
     alloc: Global,
     shared: Shared<N, B, S>,

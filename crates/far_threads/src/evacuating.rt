@@ -2,8 +2,8 @@
 ghost use Rattle.std.specs.Prelude.{◌≡◌};
 
 use crate::outcome::Stop;
-use far_history::Naming;
-use far_shared::{Shared, Site};
+use far_history::PlanTag;
+use far_shared::{Shared, TableTag};
 use far_store::{FarStore, Meter};
 use far_types::Refusal;
 use std::sync::Wait;
@@ -11,7 +11,7 @@ use std::sync::Wait;
 /// Makes `tries` evacuations, one stripe after the other. It skips one that is refused.
 ///
 /// Ends with `Memory` if one runs out of memory.
-pub(crate) fn evacuate_all<N: Naming, B: Site, S: FarStore, R: Wait>(
+pub(crate) fn evacuate_all<N: PlanTag, B: TableTag, S: FarStore, R: Wait>(
     rt: &R,
     shared: &Shared<N, B, S>,
     store: &S,

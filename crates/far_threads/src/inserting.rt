@@ -5,9 +5,9 @@ ghost use Rattle.far_threads.specs.Working.{Makes};
 
 use crate::clearing::clear_way;
 use crate::outcome::Stop;
-use far_history::Naming;
+use far_history::PlanTag;
 use far_sessions::Session;
-use far_shared::{Shared, Site};
+use far_shared::{Shared, TableTag};
 use far_store::FarStore;
 use far_types::{Cell, Edit, Row};
 use std::alloc::Global;
@@ -26,7 +26,7 @@ fn row_of_one(alloc: Global) -> Result<Row, Stop>
 }
 
 /// Inserts a row on a stripe, with as many tries as allowed. At the other stripes the session stays the same.
-fn insert_one<N: Naming, B: Site, S: FarStore, R: Wait>(
+fn insert_one<N: PlanTag, B: TableTag, S: FarStore, R: Wait>(
     rt: &R,
     alloc: Global,
     shared: &Shared<N, B, S>,
@@ -49,7 +49,7 @@ fn insert_one<N: Naming, B: Site, S: FarStore, R: Wait>(
 }
 
 /// Inserts `edits` rows on a stripe, and none elsewhere.
-pub(crate) fn insert_all<N: Naming, B: Site, S: FarStore, R: Wait>(
+pub(crate) fn insert_all<N: PlanTag, B: TableTag, S: FarStore, R: Wait>(
     rt: &R,
     alloc: Global,
     shared: &Shared<N, B, S>,

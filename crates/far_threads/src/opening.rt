@@ -7,8 +7,8 @@ ghost use Rattle.far_threads.specs.Working.{HasHomes};
 use crate::outcome::{Outcome, Stop};
 use crate::planning::plan_for;
 use crate::running::run_shared;
-use far_history::Naming;
-use far_shared::{Made, Plan, Site};
+use far_history::PlanTag;
+use far_shared::{Made, Plan, TableTag};
 use far_store::{AgentStore, FarStore};
 use std::alloc::Global;
 use std::marker::Brand;
@@ -19,13 +19,12 @@ use std::thread::Threads;
 const STORE_CAPACITY: u64 = 1_048_576;
 
 /// Opens a table whose cells and store have these names, and runs its sessions.
-fn opened<N: Naming + Send + Sync, B: Site + Send + Sync, S: FarStore, R: Threads + Wait + Sync>(
-    rt: &R,
-    alloc: Global,
-    made: Made<N, S>,
-    store: &S,
-    edits: u32,
-) -> Result<Outcome, Stop>
+fn opened<
+    N: PlanTag + Send + Sync,
+    B: TableTag + Send + Sync,
+    S: FarStore,
+    R: Threads + Wait + Sync,
+>(rt: &R, alloc: Global, made: Made<N, S>, store: &S, edits: u32) -> Result<Outcome, Stop>
     requires names { AreNamed made B.cells }
     requires store { S.store_id store.now ≡ B.store }
     requires homes { HasHomes N.plan }
@@ -38,7 +37,7 @@ fn opened<N: Naming + Send + Sync, B: Site + Send + Sync, S: FarStore, R: Thread
 }
 
 /// Gives the cells of a table and its store their names, and runs the sessions.
-fn named<N: Naming + Send + Sync, S: FarStore, R: Threads + Wait + Sync>(
+fn named<N: PlanTag + Send + Sync, S: FarStore, R: Threads + Wait + Sync>(
     rt: &R,
     alloc: Global,
     made: Made<N, S>,
@@ -52,7 +51,7 @@ fn named<N: Naming + Send + Sync, S: FarStore, R: Threads + Wait + Sync>(
 }
 
 /// Makes the table of a plan that has this name, and runs its sessions over a store.
-fn made_over<N: Naming + Send + Sync, S: FarStore, R: Threads + Wait + Sync>(
+fn made_over<N: PlanTag + Send + Sync, S: FarStore, R: Threads + Wait + Sync>(
     rt: &R,
     alloc: Global,
     plan: Plan,
@@ -70,7 +69,7 @@ fn made_over<N: Naming + Send + Sync, S: FarStore, R: Threads + Wait + Sync>(
 }
 
 /// Makes a store in this process, and runs the sessions of a plan that has this name.
-fn planned<N: Naming + Send + Sync, R: Threads + Wait + Sync>(
+fn planned<N: PlanTag + Send + Sync, R: Threads + Wait + Sync>(
     rt: &R,
     alloc: Global,
     plan: Plan,

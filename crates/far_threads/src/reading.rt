@@ -5,15 +5,15 @@ ghost use Rattle.far_threads.specs.Working.{AreGauged, AreLeft, AreWorked, IsRea
 
 use crate::outcome::{Outcome, Stop};
 use crate::worked::{Worked, home_of};
-use far_history::{Naming, Reading};
+use far_history::{PlanTag, Reading};
 use far_sessions::{Cells, Session};
-use far_shared::{Shared, Site};
+use far_shared::{Shared, TableTag};
 use far_store::FarStore;
 use std::alloc::Global;
 use std::sync::Wait;
 
 /// Returns a session that has made its edits, and what the gauge of its home stripe reads. Ends as the session did.
-fn read_gauge<N: Naming, B: Site, R: Wait>(
+fn read_gauge<N: PlanTag, B: TableTag, R: Wait>(
     rt: &R,
     cells: &Cells<N, B>,
     worked: Worked<B>,
@@ -30,7 +30,7 @@ fn read_gauge<N: Naming, B: Site, R: Wait>(
 }
 
 /// Returns the sessions and what the gauges of their home stripes read, both in order.
-fn read_gauges<N: Naming, B: Site, R: Wait>(
+fn read_gauges<N: PlanTag, B: TableTag, R: Wait>(
     rt: &R,
     alloc: Global,
     cells: &Cells<N, B>,
@@ -51,7 +51,7 @@ fn read_gauges<N: Naming, B: Site, R: Wait>(
 }
 
 /// Returns the sessions that have made their edits, and what they leave.
-pub(crate) fn read_all<N: Naming, B: Site, S: FarStore, R: Wait>(
+pub(crate) fn read_all<N: PlanTag, B: TableTag, S: FarStore, R: Wait>(
     rt: &R,
     alloc: Global,
     shared: &Shared<N, B, S>,

@@ -10,16 +10,16 @@ use crate::inserting::insert_all;
 use crate::outcome::{Outcome, Stop};
 use crate::reading::read_all;
 use crate::worked::{Worked, home_of};
-use far_history::Naming;
+use far_history::PlanTag;
 use far_sessions::Session;
-use far_shared::{Shared, Site};
+use far_shared::{Shared, TableTag};
 use far_store::FarStore;
 use std::alloc::Global;
 use std::sync::Wait;
 use std::thread::{self, Threads};
 
 /// Makes the edits of a session on its home stripe.
-fn work<N: Naming, B: Site, S: FarStore, R: Wait>(
+fn work<N: PlanTag, B: TableTag, S: FarStore, R: Wait>(
     rt: &R,
     alloc: Global,
     shared: &Shared<N, B, S>,
@@ -39,7 +39,12 @@ fn work<N: Naming, B: Site, S: FarStore, R: Wait>(
 }
 
 /// Makes the edits of all sessions, each in a thread of its own if one can be made.
-fn work_all<N: Naming + Send + Sync, B: Site + Send + Sync, S: FarStore, R: Threads + Wait + Sync>(
+fn work_all<
+    N: PlanTag + Send + Sync,
+    B: TableTag + Send + Sync,
+    S: FarStore,
+    R: Threads + Wait + Sync,
+>(
     rt: &R,
     alloc: Global,
     shared: &Shared<N, B, S>,
@@ -68,8 +73,8 @@ fn unless_stopped<T: Drop>(first: Result<(), Stop>, second: Result<T, Stop>) -> 
 
 /// Lets sessions make their edits while a worker in the background sends objects away.
 fn work_beside<
-    N: Naming + Send + Sync,
-    B: Site + Send + Sync,
+    N: PlanTag + Send + Sync,
+    B: TableTag + Send + Sync,
     S: FarStore,
     R: Threads + Wait + Sync,
 >(
@@ -99,7 +104,12 @@ fn work_beside<
 
 /// Lets sessions make their edits while a worker in the background sends objects away. Returns the sessions, and what they
 /// leave when all have ended.
-fn leave<N: Naming + Send + Sync, B: Site + Send + Sync, S: FarStore, R: Threads + Wait + Sync>(
+fn leave<
+    N: PlanTag + Send + Sync,
+    B: TableTag + Send + Sync,
+    S: FarStore,
+    R: Threads + Wait + Sync,
+>(
     rt: &R,
     alloc: Global,
     shared: &Shared<N, B, S>,
@@ -117,8 +127,8 @@ fn leave<N: Naming + Send + Sync, B: Site + Send + Sync, S: FarStore, R: Threads
 
 /// Lets sessions make their edits on a table, reads what they leave, and closes the table.
 pub(crate) fn run_shared<
-    N: Naming + Send + Sync,
-    B: Site + Send + Sync,
+    N: PlanTag + Send + Sync,
+    B: TableTag + Send + Sync,
     S: FarStore,
     R: Threads + Wait + Sync,
 >(

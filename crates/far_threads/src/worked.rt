@@ -4,17 +4,17 @@ ghost use Rattle.far_sessions.specs.Known.{number_of};
 
 use crate::outcome::Stop;
 use far_sessions::Session;
-use far_shared::Site;
+use far_shared::TableTag;
 use std::marker::Model;
 
 /// A session that has made its edits, or was stopped.
 #[derive(Drop)]
-pub(crate) struct Worked<B: Site> {
+pub(crate) struct Worked<B: TableTag> {
     pub(crate) session: Session<B>,
     pub(crate) outcome: Result<(), Stop>,
 }
 
-impl<B: Site> Model for Worked<B> {
+impl<B: TableTag> Model for Worked<B> {
     ghost use Rattle.far_threads.specs.Working.{Ended};
 
     ghost Value = { Ended };
@@ -23,7 +23,7 @@ impl<B: Site> Model for Worked<B> {
 }
 
 /// Returns the home stripe of a session.
-pub(crate) fn home_of<B: Site>(me: &Session<B>) -> u32
+pub(crate) fn home_of<B: TableTag>(me: &Session<B>) -> u32
     ensures { result ≡ number_of me.now % 4 }
 {
     (me.number() % 4) as u32

@@ -9,6 +9,7 @@ use far_store::FarTickets;
 use far_types::{Edit, Kind, Spec};
 
 /// Serves an edit.
+#[inline(always)]
 pub(super) fn edit<S: FarTickets>(frame: &mut Frame<S>, edit: Edit) -> Reply
     ensures changes { Changes S.content frame.old (Step.Edit edit) result frame.new }
     ensures here { (id : List ℕ) → AreAt S.is_of id frame.old.rows → AreAt S.is_of id frame.new.rows }

@@ -4,12 +4,10 @@ ghost use Rattle.far_rows.specs.Jobs.{AreAt};
 ghost use Rattle.far_table.specs.Recounting.{recount_refusal, IsAnswerNow, RecountRefusal};
 
 use super::LiveTable;
-use crate::recounting::{cut_for, fold_pieces, gather};
-use crate::totals::total_answer;
+use crate::recounting::recount_rows;
 use far_aggregates::laws::an_aggregate_is_served_by_the_columns_of_its_schema;
-use far_aggregates::{answer_of, group_count};
 use far_store::{FarRead, Meter};
-use far_types::{Answer, Fold, Refusal};
+use far_types::{Answer, Refusal};
 use std::thread::Threads;
 
 impl<S: FarRead> LiveTable<S> {
@@ -50,21 +48,6 @@ impl<S: FarRead> LiveTable<S> {
         an_aggregate_is_served_by_the_columns_of_its_schema();
         let held = self.rows.held();
         let size = self.rows.limits().group;
-        if let Fold::Totals = spec.fold {
-            return total_answer(rt, self.alloc, held, store, meter, spec, size, workers);
-        }
-        let places = self.rows.len();
-        let count = group_count(size, places) as u32;
-        let pieces = fold_pieces(
-            rt,
-            self.alloc,
-            held,
-            store,
-            spec,
-            count,
-            cut_for(count, workers),
-        )?;
-        let partials = gather(self.alloc, pieces, meter)?;
-        answer_of(self.alloc, spec, partials, size, places)
+        recount_rows(rt, self.alloc, held, store, meter, spec, size, workers)
     }
 }

@@ -3,4 +3,4 @@ use Rattle.far_history.proofs.Moves.{looks}
 use Rattle.far_history.proofs.steps.look.Goals as goal
 
 pub load_as-requires : goal.load_as-requires
-load_as-requires g c = (search rules, (search rules, (c.requires.cell, looks _ _ _ c.requires.sits)))
+load_as-requires g c = (search rules, (search rules, (c.requires.cell, looks _ _ _ c.requires.has_session)))

@@ -7,7 +7,7 @@ returns-clause-answer g c =
     let one = c.one.inside in
     let two = c.two.inside in
     let three = c.three.inside in
-    answers-told g.N.Naming.plan zero.keeper one.keeper two.keeper three.keeper zero.frame.table one.frame.table two.frame.table three.frame.table
+    answers-told g.N.PlanTag.plan zero.keeper one.keeper two.keeper three.keeper zero.frame.table one.frame.table two.frame.table three.frame.table
     c.zero.invariant.0 c.one.invariant.0 c.two.invariant.0 c.three.invariant.0
     c.args.a c.answer_four.result c.known.ensures.legal c.known-2.ensures.legal c.known-3.ensures.legal c.known-4.ensures.legal
     c.answer_four.ensures.answer c.answer_four.ensures.alike
@@ -32,7 +32,7 @@ returns-clause-asked g c =
       alike = told.alike;
       built = told.built;
       answer = told.answer;
-      refused = refusal-told g.N.Naming.plan zero.keeper one.keeper two.keeper three.keeper zero.frame.table one.frame.table two.frame.table three.frame.table
+      refused = refusal-told g.N.PlanTag.plan zero.keeper one.keeper two.keeper three.keeper zero.frame.table one.frame.table two.frame.table three.frame.table
           c.zero.invariant.0 c.one.invariant.0 c.two.invariant.0 c.three.invariant.0 c.args.a c.answer_four.result told.refused;
     }
 
@@ -42,6 +42,6 @@ returns-clause-gauge g c =
     let one = c.one.inside in
     let two = c.two.inside in
     let three = c.three.inside in
-    gauge-told g.N.Naming.plan zero.keeper one.keeper two.keeper three.keeper zero.frame.table one.frame.table two.frame.table three.frame.table
+    gauge-told g.N.PlanTag.plan zero.keeper one.keeper two.keeper three.keeper zero.frame.table one.frame.table two.frame.table three.frame.table
     c.zero.invariant.0 c.one.invariant.0 c.two.invariant.0 c.three.invariant.0
     c.args.a c.answer_four.result c.answer_four.ensures.refused

@@ -10,13 +10,13 @@ use Rattle.far_shared.proofs.editing.gauged.Goals as goal
 
 pub unreachable-requires : goal.unreachable-requires
 unreachable-requires g c =
-    let p = g.N.Naming.plan in
+    let p = g.N.PlanTag.plan in
     let places = c.args.frame.now.table.places in
     c.in_default.not-Some (folded p.gauge places) (c.plain.ensures ∙ ap (plain_in places) c.requires.gauge ∙ plain-read p.gauge places (plan-plain p c.requires.plan))
 
 pub returns : goal.returns
 returns g c =
-    let p = g.N.Naming.plan in
+    let p = g.N.PlanTag.plan in
     let places = c.args.frame.now.table.places in
     let read : c.plain.result ≡ Some (folded p.gauge places) = c.plain.ensures ∙ ap (plain_in places) c.requires.gauge ∙ plain-read p.gauge places (plan-plain p c.requires.plan) in
     let fits : SFits w128 c.in-Some.sum = search rules in

@@ -2,4 +2,4 @@ use Rattle.far_shared.proofs.RegisterLaws.{empty-stripe}
 use Rattle.far_shared.proofs.opening.under_lock.Goals as goal
 
 pub invariant_of-new : goal.invariant_of-new
-invariant_of-new g c = empty-stripe g.S.FarTickets.is_of g.N.Naming.plan _ g.B.Site.store c.args.keeper c.args.frame c.requires.new c.requires.empty
+invariant_of-new g c = empty-stripe g.S.FarTickets.is_of g.N.PlanTag.plan _ g.B.TableTag.store c.args.keeper c.args.frame c.requires.new c.requires.empty

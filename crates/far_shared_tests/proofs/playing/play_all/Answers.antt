@@ -6,7 +6,7 @@ use Rattle.far_shared_tests.proofs.playing.play_all.Goals as goal
 -- the closure holds a `&` to the runtime, to the four tables, to the store and to what is beside them
 pub map_vec-requires-sync-F : goal.map_vec-requires-sync-F
 map_vec-requires-sync-F g c κs within =
-    let all = shared_sync (param 0 g.row.N) (param 1 g.row.B) (param 2 g.row.S) (param 4 g.row.S-Ticket) g.B.Rooms g.N.Naming g.B.Site g.S.FarTickets c.type_bounds.send-S-Ticket c.type_bounds.sync-S-Ticket in
+    let all = shared_sync (param 0 g.row.N) (param 1 g.row.B) (param 2 g.row.S) (param 4 g.row.S-Ticket) g.B.CellsTag g.N.PlanTag g.B.TableTag g.S.FarTickets c.type_bounds.send-S-Ticket c.type_bounds.sync-S-Ticket in
     record {
       shared = λ x b o κ. (
         (

@@ -50,7 +50,7 @@ returns-in_err-serve_table-in-Schema-clause-err g c =
     handed-on c.from_residual-in_err-serve_table-in-Schema.result why _ c.from_residual-in_err-serve_table-in-Schema.ensures.1
     (breaks-table g.R.Read _ (IsUnseen g.R.Read g.R.Source.may_fail c.args.input.now c.serve_table.new.input) c.args.input.now c.first_command.new.input c.serve_table.new.input (g.W.Write.contents c.args.writer.now) (g.W.Write.contents c.first_command.new.writer) (g.W.Write.contents c.serve_table.new.writer)
     c.args.output.now.page c.first_command.new.output.page c.serve_table.new.output.page f.ok.0 f.ok.1 s.0 s.1 s.2 (opening.kinds.items, opening.limits) why c.requires f.ok.2 f.printed f.ok.3 asks s.3 s.4
-    (breaks-serving-as _ (IsUnseen g.R.Read g.R.Source.may_fail c.first_command.new.input c.serve_table.new.input) (IsUnseen g.R.Read g.R.Source.may_fail c.args.input.now c.serve_table.new.input) (IsOver g.R.Read c.serve_table.new.input s.1) (IsOver g.R.Read c.serve_table.new.input s.1) (opening.kinds.items, opening.limits) why s.0 s.2
+    (breaks-serving-as _ (IsUnseen g.R.Read g.R.Source.may_fail c.first_command.new.input c.serve_table.new.input) (IsUnseen g.R.Read g.R.Source.may_fail c.args.input.now c.serve_table.new.input) (IsOver g.R.Read c.serve_table.new.input s.1) (IsOver g.R.Read c.serve_table.new.input s.1) (opening.kinds.items, opening.limits) why s.0 s.1 s.2
     (always why _ (λ u. unseen-later g.R.Read g.R.Source.may_fail c.args.input.now c.first_command.new.input c.serve_table.new.input f.ok.0 f.ok.2 c.first_command.ensures.asked u)) (λ over. over) s.5))
 
 pub returns-in_err-print_sessions-in-Threads-clause-err : goal.returns-in_err-print_sessions-in-Threads-clause-err

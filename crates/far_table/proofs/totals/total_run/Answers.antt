@@ -1,16 +1,14 @@
-use Rattle.std.proofs.Common.{◌≡◌, ◌+◌, ◌-◌, ◌≤◌, ◌^◌, List, [], ◌∷◌, ◌++◌, length, refl, sym, ap, subst, ◌∙◌, arith}
+use Rattle.std.proofs.Common.{◌≡◌, ◌+◌, ◌-◌, ◌≤◌, ◌^◌, List, length, refl, sym, ap, subst, ◌∙◌, arith}
 use Rattle.far_types.specs.Answers.{Totals, totals}
 use Rattle.far_types.specs.Effects.{joined_totals}
 use Rattle.far_types.specs.Table.{Place}
 use Rattle.far_groups.specs.Live.{Live, CanJoin}
-use Rattle.far_offload.specs.declared.partial.PartialDone.{PartialDone}
-use Rattle.far_offload.specs.declared.partial.PartialDone.TheVariants as partial
 use Rattle.far_rows.specs.Places.{places_in}
 use Rattle.far_rows.specs.Rows.{cells_of}
 use Rattle.far_aggregates.specs.Accumulators.{pairs_here, group_pairs}
 use Rattle.far_table.specs.Pieces.{run_of}
 use Rattle.far_table.proofs.Places.{length-places}
-use Rattle.far_table.proofs.TotalRuns.{live_of, run-none, run-joins, run-joined}
+use Rattle.far_table.proofs.Runs.{live_of, run-none, run-joins, run-joined}
 use Rattle.far_table.proofs.totals.total_run.Goals as goal
 
 pub loop-group-init : goal.loop-group-init
@@ -57,17 +55,14 @@ loop-group-preserved g c =
       meter = omega (arith, c.in_ok-total_at.ensures.faults, inv.meter);
     }
 
-pub returns-clause-partials : goal.returns-clause-partials
-returns-clause-partials g c =
+pub returns-clause-totals : goal.returns-clause-totals
+returns-clause-totals g c =
     let r = c.args.rows.now in
     let spec = c.args.spec.now in
     let places = places_in g.S.FarTickets.content r in
     let inv = c.loop-group.invariant in
     let last : c.loop-group.group ≡ c.args.to = omega (arith, c.loop-group-test.false, inv.high) in
     let none : c.args.to - c.args.to ≡ 0 = omega arith in
-    let live = c.loop-group.live in
-    c.in_ok-push.ensures.items
-    ∙ ap (λ (l : List PartialDone). l ++ partial.Totals live ∷ []) c.in_ok-partials.ensures.items
-    ∙ ap (λ (l : Live). partial.Totals l ∷ []) (inv.totals
+    inv.totals
     ∙ ap (λ n. live_of (c.args.to - n) (totals (pairs_here spec (run_of r.size c.args.from n places)))) last
-    ∙ ap (λ n. live_of n (totals (pairs_here spec (run_of r.size c.args.from c.args.to places)))) none)
+    ∙ ap (λ n. live_of n (totals (pairs_here spec (run_of r.size c.args.from c.args.to places)))) none

@@ -9,16 +9,16 @@ use Rattle.far_threads.proofs.ending.end.Goals as goal
 use Rattle.far_threads.proofs.ending.end.Goals.{In_ok-sessions}
 
 -- what sessions have left
-left : (g : _) (c : In_ok-sessions g) → AreLeft g.N.Naming.plan c.args.edits c.in_ok-sessions.sessions.items c.in_ok-sessions.outcome
+left : (g : _) (c : In_ok-sessions g) → AreLeft g.N.PlanTag.plan c.args.edits c.in_ok-sessions.sessions.items c.in_ok-sessions.outcome
 left g c = rw c.in_ok-sessions.was at c.requires.left
 
 pub close_all-frames-requires-clause-whole : goal.close_all-frames-requires-clause-whole
-close_all-frames-requires-clause-whole g c κs within = gauged-whole g.N.Naming.plan c.args.edits c.in_ok-sessions.sessions.items _ (left g c).gauged
+close_all-frames-requires-clause-whole g c κs within = gauged-whole g.N.PlanTag.plan c.args.edits c.in_ok-sessions.sessions.items _ (left g c).gauged
 
 pub returns : goal.returns
 returns g c =
-    let there : AreLeft g.N.Naming.plan c.args.edits c.in_ok-sessions.sessions.items c.in_ok-sessions.outcome = rw c.in_ok-sessions.was at c.requires.left in
+    let there : AreLeft g.N.PlanTag.plan c.args.edits c.in_ok-sessions.sessions.items c.in_ok-sessions.outcome = rw c.in_ok-sessions.was at c.requires.left in
     let frames = c.close_all-frames in
     let same = c.have_same_line.ensures.0 c.if-not-have_same_line.false in
-    run-of g.N.Naming.plan c.args.edits c.in_ok-sessions.sessions.items _ _ _ _ frames.ensures.zero frames.ensures.one frames.ensures.two frames.ensures.three c.in_ok-sessions.outcome c.requires.homes there
+    run-of g.N.PlanTag.plan c.args.edits c.in_ok-sessions.sessions.items _ _ _ _ frames.ensures.zero frames.ensures.one frames.ensures.two frames.ensures.three c.in_ok-sessions.outcome c.requires.homes there
     (subst (λ (told : Answer). IfSome (spec_at frames.result.zero.table 0) (λ spec. told ≡ answer_over spec (all_rows frames.result.zero.table frames.result.one.table frames.result.two.table frames.result.three.table))) (same.3 ∙ sym same.2) c.in_ok-closed.ensures)

@@ -8,7 +8,7 @@ use Rattle.far_threads.proofs.running.work_all.Goals as goal
 
 pub map_vec-requires-sync-F : goal.map_vec-requires-sync-F
 map_vec-requires-sync-F g c κs within =
-    let all = shared_sync (param 0 g.row.N) (param 1 g.row.B) (param 2 g.row.S) (param 4 g.row.S-Ticket) g.B.Rooms g.N.Naming g.B.Site g.S.FarTickets c.type_bounds.send-S-Ticket c.type_bounds.sync-S-Ticket in
+    let all = shared_sync (param 0 g.row.N) (param 1 g.row.B) (param 2 g.row.S) (param 4 g.row.S-Ticket) g.B.CellsTag g.N.PlanTag g.B.TableTag g.S.FarTickets c.type_bounds.send-S-Ticket c.type_bounds.sync-S-Ticket in
     let word : IsSync (UInt w32) = search sendable in
     record {
       shared = λ x b o κ. (

@@ -13,7 +13,7 @@ as-before D false = λ x w. tt
 
 pub join-evacuated-requires : goal.join-evacuated-requires
 join-evacuated-requires g c =
-    let all = shared_sync (param 0 g.row.N) (param 1 g.row.B) (param 2 g.row.S) (param 4 g.row.S-Ticket) g.B.Rooms g.N.Naming g.B.Site g.S.FarTickets c.type_bounds.send-S-Ticket c.type_bounds.sync-S-Ticket in
+    let all = shared_sync (param 0 g.row.N) (param 1 g.row.B) (param 2 g.row.S) (param 4 g.row.S-Ticket) g.B.CellsTag g.N.PlanTag g.B.TableTag g.S.FarTickets c.type_bounds.send-S-Ticket c.type_bounds.sync-S-Ticket in
     let word : IsSync (UInt w32) = search sendable in
     λ k. (
       record {

@@ -38,7 +38,7 @@ returns-clause-undo g c =
     let before : KeepsAsBefore c.args.self.now c.reserve_all.new.registry = λ size places h. c.reserve_all.ensures.kept size places (subst (Keeps size places) (sym same) h) in
     let many : length c.apply_deltas.new.registry ≡ c.self.inside.registry.len = omega arith in
     let whole = written c.self.inside.registry.len c.apply_deltas.new.registry c.self.inside.registry.items many in
-    let pending : Pending = record { group = c.group_of-group.result; applied = c.in_ok-applied.applied; to_retract = c.clear.new.self } in
+    let pending : Pending = record { group = c.group_of-group.result; applied = c.in_ok-applied.applied; to_retract = c.new-to_retract.result } in
     let ensured = c.in_ok-applied.ensures in
     subst (λ (registry : List RegistryEntry). UndoesAll c.args.self.now registry pending) (sym whole)
     (retracts-undo (c.args.place / c.args.size) c.args.self.now c.reserve_all.new.registry c.apply_deltas.new.registry pending before c.group_of-group.ensures ensured.len ensured.may_undo ensured.undo)

@@ -29,6 +29,6 @@ returns-clause-retracts g c = λ places there kept.
     let before : KeepsAsBefore c.args.self.now c.reserve_all.new.registry = λ size places h. c.reserve_all.ensures.kept size places (subst (Keeps size places) (sym same) h) in
     let many : length c.reserve_all.new.registry ≡ c.self.inside.registry.len = omega arith in
     let whole = written c.self.inside.registry.len c.reserve_all.new.registry c.self.inside.registry.items many in
-    let pending : Pending = record { group = c.group_of-group.result; applied = c.clear.new.self; to_retract = c.in_ok-to_retract.to_retract } in
+    let pending : Pending = record { group = c.group_of-group.result; applied = c.new-applied.result; to_retract = c.in_ok-to_retract.to_retract } in
     subst (λ (registry : List RegistryEntry). RetractsAll c.args.size (c.args.place / c.args.size) (changed_at removed c.args.place places) registry pending) (sym whole)
     (remove-retracts c.args.size c.args.place (g.R.LendCells.cells c.args.row.now) c.args.self.now c.reserve_all.new.registry pending c.requires.size (subst (λ n. AreReserved n c.reserve_all.new.registry) c.group_of-group.ensures c.reserve_all.ensures.reserved) before c.group_of-group.ensures c.in_ok-to_retract.ensures.ok places there kept)

@@ -1,4 +1,4 @@
-use Rattle.std.proofs.Common.{◌≡◌, ◌+◌, ◌<◌, [], ◌∷◌, ◌++◌, length, take, get_or, refl, sym, ap, subst, ◌∙◌, arith}
+use Rattle.std.proofs.Common.{◌≡◌, ◌+◌, ◌<◌, [], ◌∷◌, ◌++◌, length, take, get_or, refl, sym, ap, ◌∙◌, arith}
 use Rattle.std.proofs.lemmas.List.{length-set, take_all}
 use Rattle.far_rows.specs.declared.column_index.ColumnIndex.TheVariants as column_index
 use Rattle.far_rows.specs.ColumnIndexes.{Values, row_of}
@@ -15,12 +15,8 @@ put-requires-clause-within c =
     let row = c.into_cells-cells.result.items in
     let is : row ≡ c.args.row = c.into_cells-cells.ensures.cells in
     let n = c.loop-column.column in
-    let cell = c.replace-cell.result in
     let below : n < length row = omega (arith, c.loop-column-test.true, c.len-column-end.ensures) in
     let within : n < length c.args.column_indexes.now = omega (arith, below, ap length is, c.requires.width) in
-    let there = c.index_mut.result.now in
-    let same : there ≡ get_or row n there = c.index_mut.ensures.value ∙ same-next c.loop-column.cells.items row n there c.loop-column.invariant.rest in
-    let read : cell ≡ get_or row n cell = subst (λ d. d ≡ get_or row n d) (sym c.replace-cell.ensures.value) same in
     within-still c.loop-column.self c.args.self.now c.args.column_indexes.now n (column_index.Number 0) c.requires.column_indexes.within within c.loop-column.invariant.numbers c.loop-column.invariant.texts
 
 pub put-requires-clause-of_kind : goal.put-requires-clause-of_kind
@@ -28,12 +24,10 @@ put-requires-clause-of_kind c =
     let row = c.into_cells-cells.result.items in
     let is : row ≡ c.args.row = c.into_cells-cells.ensures.cells in
     let n = c.loop-column.column in
-    let cell = c.replace-cell.result in
     let below : n < length row = omega (arith, c.loop-column-test.true, c.len-column-end.ensures) in
     let within : n < length c.args.column_indexes.now = omega (arith, below, ap length is, c.requires.width) in
-    let there = c.index_mut.result.now in
-    let same : there ≡ get_or row n there = c.index_mut.ensures.value ∙ same-next c.loop-column.cells.items row n there c.loop-column.invariant.rest in
-    let read : cell ≡ get_or row n cell = subst (λ d. d ≡ get_or row n d) (sym c.replace-cell.ensures.value) same in
+    let cell = c.index_mut.result.now in
+    let read : cell ≡ get_or row n cell = c.index_mut.ensures.value ∙ same-next c.loop-column.cells.items row n cell c.loop-column.invariant.rest in
     kind-next c.args.column_indexes.now row n n (column_index.Number 0) cell (rw is c.requires.of_kinds) refl within (below, read)
 
 pub put-requires-clause-short : goal.put-requires-clause-short
@@ -41,12 +35,9 @@ put-requires-clause-short c =
     let row = c.into_cells-cells.result.items in
     let is : row ≡ c.args.row = c.into_cells-cells.ensures.cells in
     let n = c.loop-column.column in
-    let cell = c.replace-cell.result in
     let below : n < length row = omega (arith, c.loop-column-test.true, c.len-column-end.ensures) in
-    let within : n < length c.args.column_indexes.now = omega (arith, below, ap length is, c.requires.width) in
-    let there = c.index_mut.result.now in
-    let same : there ≡ get_or row n there = c.index_mut.ensures.value ∙ same-next c.loop-column.cells.items row n there c.loop-column.invariant.rest in
-    let read : cell ≡ get_or row n cell = subst (λ d. d ≡ get_or row n d) (sym c.replace-cell.ensures.value) same in
+    let cell = c.index_mut.result.now in
+    let read : cell ≡ get_or row n cell = c.index_mut.ensures.value ∙ same-next c.loop-column.cells.items row n cell c.loop-column.invariant.rest in
     ap is_too_long read ∙ short-at row n cell (rw is c.requires.short) below
 
 pub loop-column-preserved : goal.loop-column-preserved
@@ -54,12 +45,10 @@ loop-column-preserved c =
     let row = c.into_cells-cells.result.items in
     let is : row ≡ c.args.row = c.into_cells-cells.ensures.cells in
     let n = c.loop-column.column in
-    let cell = c.replace-cell.result in
     let below : n < length row = omega (arith, c.loop-column-test.true, c.len-column-end.ensures) in
     let within : n < length c.args.column_indexes.now = omega (arith, below, ap length is, c.requires.width) in
-    let there = c.index_mut.result.now in
-    let same : there ≡ get_or row n there = c.index_mut.ensures.value ∙ same-next c.loop-column.cells.items row n there c.loop-column.invariant.rest in
-    let read : cell ≡ get_or row n cell = subst (λ d. d ≡ get_or row n d) (sym c.replace-cell.ensures.value) same in
+    let cell = c.index_mut.result.now in
+    let read : cell ≡ get_or row n cell = c.index_mut.ensures.value ∙ same-next c.loop-column.cells.items row n cell c.loop-column.invariant.rest in
     let values = c.loop-column.self in
     let s = get_or c.args.column_indexes.now n (column_index.Number 0) in
     let lies = within-still values c.args.self.now c.args.column_indexes.now n (column_index.Number 0) c.requires.column_indexes.within within c.loop-column.invariant.numbers c.loop-column.invariant.texts in
@@ -68,8 +57,8 @@ loop-column-preserved c =
       row = ap (row_of (take (n + 1) c.args.column_indexes.now)) c.put.ensures
           ∙ row-more values c.args.column_indexes.now n (column_index.Number 0) cell c.requires.column_indexes.once within lies of_kind
           ∙ taken-more row _ n cell below read c.loop-column.invariant.row;
-      rest = same-later c.loop-column.cells.items row n _ _ c.loop-column.invariant.rest;
-      long = length-set _ n _ ∙ length-set c.loop-column.cells.items n _ ∙ c.loop-column.invariant.long;
+      rest = same-later c.loop-column.cells.items row n _ c.loop-column.invariant.rest;
+      long = length-set c.loop-column.cells.items n _ ∙ c.loop-column.invariant.long;
       numbers = ap (λ (v : Values). length v.numbers) c.put.ensures ∙ numbers-kept values s cell ∙ c.loop-column.invariant.numbers;
       texts = ap (λ (v : Values). length v.texts) c.put.ensures ∙ texts-kept values s cell ∙ c.loop-column.invariant.texts;
     }

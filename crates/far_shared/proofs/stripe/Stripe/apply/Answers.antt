@@ -9,8 +9,8 @@ pub change-requires-clause-few : goal.change-requires-clause-few
 change-requires-clause-few g c κs inside =
     let s = c.self.inside in
     let look = c.look-before.ensures in
-    let legal = subst (IsLegal g.N.Naming.plan) look.whole look.seen.legal in
-    subst (λ (r : Reading). r.edits < 2 ^ 63) (sym look.reading) (few g.N.Naming.plan s.keeper s.frame.table c.self.invariant.0 legal)
+    let legal = subst (IsLegal g.N.PlanTag.plan) look.whole look.seen.legal in
+    subst (λ (r : Reading). r.edits < 2 ^ 63) (sym look.reading) (few g.N.PlanTag.plan s.keeper s.frame.table c.self.invariant.0 legal)
 
 pub change-requires-clause-column_indexes : goal.change-requires-clause-column_indexes
 change-requires-clause-column_indexes g c κs inside =
@@ -26,9 +26,9 @@ add-requires g c =
         (
           omega arith,
           (
-            rw (c.look-before.ensures.history, c.of-told.ensures) (same-refusal g.N.Naming.plan s.keeper s.frame.table c.self.invariant.0 c.args.edit ∙ made.may),
-            rw (c.look-before.ensures.history, c.of-told.ensures)
-                (reads-edited g.N.Naming.plan s.keeper s.frame.table c.self.invariant.0 _ c.args.edit c.look-before.result _ _ c.look-before.ensures.reading made.made made.after),
+            rw (c.look-before.ensures.history, c.of-copy.ensures) (same-refusal g.N.PlanTag.plan s.keeper s.frame.table c.self.invariant.0 c.args.edit ∙ made.may),
+            rw (c.look-before.ensures.history, c.of-copy.ensures)
+                (reads-edited g.N.PlanTag.plan s.keeper s.frame.table c.self.invariant.0 _ c.args.edit c.look-before.result _ _ c.look-before.ensures.reading made.made made.after),
           ),
         ),
       ),
@@ -37,7 +37,7 @@ add-requires g c =
 pub returns-in_err-changed-clause-why : goal.returns-in_err-changed-clause-why
 returns-in_err-changed-clause-why g c =
     let s = c.self.inside in
-    rw (← c.self.view_is) (let why = same-why g.N.Naming.plan s.keeper s.frame.table c.self.invariant.0 c.args.edit _ c.in_err-changed.ensures.refused in search rules)
+    rw (← c.self.view_is) (let why = same-why g.N.PlanTag.plan s.keeper s.frame.table c.self.invariant.0 c.args.edit _ c.in_err-changed.ensures.refused in search rules)
 
 pub returns-clause-accepted : goal.returns-clause-accepted
 returns-clause-accepted g c = rw (← c.self.view_is) c.in_ok-changed.ensures.accepted
@@ -46,8 +46,8 @@ pub invariant_of-self-2 : goal.invariant_of-self-2
 invariant_of-self-2 g c =
     let s = c.self.inside in
     let made = c.in_ok-changed.ensures in
-    let longer = rw (c.look-before.ensures.history, c.of-told.ensures) at c.add.ensures.history in (
-      stripe-made g.N.Naming.plan s.keeper s.frame.table c.self.invariant.0 _ c.args.edit _ _ longer made.made,
-      made.here g.B.Site.store c.self.invariant.1,
-      still-of g.N.Naming.plan.schema _ _ _ made.columns c.self.invariant.2,
+    let longer = rw (c.look-before.ensures.history, c.of-copy.ensures) at c.add.ensures.history in (
+      stripe-made g.N.PlanTag.plan s.keeper s.frame.table c.self.invariant.0 _ c.args.edit _ _ longer made.made,
+      made.here g.B.TableTag.store c.self.invariant.1,
+      still-of g.N.PlanTag.plan.schema _ _ _ made.columns c.self.invariant.2,
     )

@@ -8,7 +8,7 @@ use Rattle.far_shared.proofs.stripe.Stripe.check.Goals as goal
 pub returns-clause-allowed : goal.returns-clause-allowed
 returns-clause-allowed g c =
     let s = c.self.inside in
-    either-carried c.check.result _ _ (check-allowed g.N.Naming.plan s.keeper s.frame.table c.self.invariant.0 _ c.args.spec.now c.schema.ensures) c.check.ensures.ok
+    either-carried c.check.result _ _ (check-allowed g.N.PlanTag.plan s.keeper s.frame.table c.self.invariant.0 _ c.args.spec.now c.schema.ensures) c.check.ensures.ok
 
 pub returns-clause-refused : goal.returns-clause-refused
 returns-clause-refused g c =

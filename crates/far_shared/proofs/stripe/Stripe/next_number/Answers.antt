@@ -10,4 +10,4 @@ returns-clause-free g c = rw (← c.self.view_is) c.free_number.ensures
 pub returns-clause-number : goal.returns-clause-number
 returns-clause-number g c =
     let s = c.self.inside in
-    next-number g.N.Naming.plan s.keeper s.frame.table c.self.invariant.0 c.free_number.result c.free_number.ensures
+    next-number g.N.PlanTag.plan s.keeper s.frame.table c.self.invariant.0 c.free_number.result c.free_number.ensures

@@ -19,7 +19,7 @@ pub invariant_of-self : goal.invariant_of-self
 invariant_of-self g c =
     let s = c.self.inside in
     let done = c.scan_on.ensures in (
-      stripe-kept g.N.Naming.plan s.keeper s.frame.table c.scan_on.new.frame.table done.keeps c.self.invariant.0,
-      subst (AreAt g.S.FarTickets.is_of g.B.Site.store) (sym done.rows) c.self.invariant.1,
-      still-of g.N.Naming.plan.schema _ _ _ (same-columns _ _ done.rows) c.self.invariant.2,
+      stripe-kept g.N.PlanTag.plan s.keeper s.frame.table c.scan_on.new.frame.table done.keeps c.self.invariant.0,
+      subst (AreAt g.S.FarTickets.is_of g.B.TableTag.store) (sym done.rows) c.self.invariant.1,
+      still-of g.N.PlanTag.plan.schema _ _ _ (same-columns _ _ done.rows) c.self.invariant.2,
     )

@@ -11,5 +11,5 @@ returns g c =
 pub invariant_of-self : goal.invariant_of-self
 invariant_of-self g c =
     let s = c.self.inside in
-    held-unwatch g.S.FarTickets.content s.frame c.unwatch-done.new.self g.N.Naming.plan s.keeper c.self.invariant.0 g.S.FarTickets.is_of g.B.Site.store c.self.invariant.1 _ c.self.invariant.2
+    held-unwatch g.S.FarTickets.content s.frame c.unwatch-done.new.self g.N.PlanTag.plan s.keeper c.self.invariant.0 g.S.FarTickets.is_of g.B.TableTag.store c.self.invariant.1 _ c.self.invariant.2
     c.args.a c.requires c.unwatch-done.result c.unwatch-done.ensures.ok c.unwatch-done.ensures.err

@@ -9,5 +9,5 @@ returns g c =
     let s = c.self.inside in record {
       log = s.keeper;
       legal = c.known.ensures.legal;
-      stripe = subst (λ (table : Table). IsStripe g.N.Naming.plan s.keeper table) (sym (ap (λ (x : State g.row.S-Ticket.Denot). x.table) c.scope.ensures)) c.self.invariant.0;
+      stripe = subst (λ (table : Table). IsStripe g.N.PlanTag.plan s.keeper table) (sym (ap (λ (x : State g.row.S-Ticket.Denot). x.table) c.scope.ensures)) c.self.invariant.0;
     }

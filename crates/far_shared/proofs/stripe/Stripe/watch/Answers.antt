@@ -18,10 +18,10 @@ returns-clause-err g c =
 pub returns-clause-refused : goal.returns-clause-refused
 returns-clause-refused g c =
     let s = c.self.inside in
-    if-err c.watch.result _ _ (λ e h. refused-watched g.S.FarTickets.content s.frame c.watch.new.self g.N.Naming.plan s.keeper c.self.invariant.0 c.args.spec e h) c.watch.ensures.err
+    if-err c.watch.result _ _ (λ e h. refused-watched g.S.FarTickets.content s.frame c.watch.new.self g.N.PlanTag.plan s.keeper c.self.invariant.0 c.args.spec e h) c.watch.ensures.err
 
 pub invariant_of-self : goal.invariant_of-self
 invariant_of-self g c =
     let s = c.self.inside in
-    held-watch g.S.FarTickets.content s.frame c.watch.new.self g.N.Naming.plan s.keeper c.self.invariant.0 c.known.ensures.legal g.S.FarTickets.is_of g.B.Site.store c.self.invariant.1 _ c.self.invariant.2
+    held-watch g.S.FarTickets.content s.frame c.watch.new.self g.N.PlanTag.plan s.keeper c.self.invariant.0 c.known.ensures.legal g.S.FarTickets.is_of g.B.TableTag.store c.self.invariant.1 _ c.self.invariant.2
     c.args.spec c.watch.result c.watch.ensures.ok c.watch.ensures.err

@@ -1,0 +1,69 @@
+// The lists of edits, from one edit to the next.
+ghost use Rattle.std.specs.Prelude.{◌≡◌, []};
+
+use super::deltas::Delta;
+use super::pairs::Pair;
+use super::pending::Pending;
+use super::spare_keys::SpareKeys;
+use std::alloc::Global;
+use std::mem;
+
+/// The lists of edits that have ended. The next edit uses them, so it makes none. No answer depends on them.
+#[derive(Drop)]
+pub struct SpareLists {
+    deltas: Vec<Option<Delta>>,
+    pairs: Vec<Option<Pair>>,
+}
+
+impl SpareLists {
+    /// Returns lists that have no memory yet. Allocates nothing.
+    pub fn new(alloc: Global) -> SpareLists
+        ensures deltas { result.deltas.items ≡ [] }
+        ensures pairs { result.pairs.items ≡ [] }
+    {
+        SpareLists {
+            deltas: Vec::new(alloc),
+            pairs: Vec::new(alloc),
+        }
+    }
+
+    /// Takes the list of deltas. Allocates nothing.
+    #[inline(always)]
+    pub fn take_deltas(&mut self, alloc: Global) -> Vec<Option<Delta>>
+        ensures deltas { self.new.deltas.items ≡ [] }
+        ensures pairs { self.new.pairs ≡ self.old.pairs }
+    {
+        mem::replace(&mut self.deltas, Vec::new(alloc))
+    }
+
+    /// Takes the list of pairs. Allocates nothing.
+    #[inline(always)]
+    pub fn take_pairs(&mut self, alloc: Global) -> Vec<Option<Pair>>
+        ensures deltas { self.new.deltas ≡ self.old.deltas }
+        ensures pairs { self.new.pairs.items ≡ [] }
+    {
+        mem::replace(&mut self.pairs, Vec::new(alloc))
+    }
+
+    /// Empties the lists of an edit that has ended, and keeps them. Their text keys become spare ones. A list that the edit did
+    /// not take stays here: an insert retracts no pairs, and a removal applies no deltas. Allocates nothing.
+    #[inline(always)]
+    pub fn keep(&mut self, pending: Pending, keys: &mut SpareKeys)
+        ensures deltas { self.old.deltas.items ≡ [] → self.new.deltas.items ≡ [] }
+        ensures pairs { self.old.pairs.items ≡ [] → self.new.pairs.items ≡ [] }
+    {
+        let Pending {
+            mut applied,
+            mut to_retract,
+            ..
+        } = pending;
+        if applied.capacity() > 0 {
+            keys.keep_deltas(&mut applied);
+            self.deltas = applied;
+        }
+        if to_retract.capacity() > 0 {
+            keys.keep_pairs(&mut to_retract);
+            self.pairs = to_retract;
+        }
+    }
+}

@@ -1,0 +1,77 @@
+// A row group whose rows are observed in extrema.
+ghost use Rattle.std.specs.Prelude.{◌≡◌, None, Some, OnOk, IfErr};
+ghost use Rattle.far_types.specs.Answers.{extrema};
+ghost use Rattle.far_types.specs.Effects.{joined_extrema};
+ghost use Rattle.far_offload.specs.Partials.{pairs_over};
+
+use crate::column::{Column, find};
+use crate::filtering::value_at;
+use crate::keys::key_at;
+use crate::plain::min_max_of;
+use far_extrema::GroupExtrema;
+use far_types::{Refusal, Spec};
+use std::alloc::Global;
+
+/// Observes rows without key column.
+fn observe_plain(
+    observed: &mut GroupExtrema,
+    spec: &Spec,
+    columns: &[Column<'_>],
+    alive: &[bool],
+) -> Result<(), Refusal>
+    requires { spec.now.key ≡ None }
+    ensures ok { OnOk result (observed.new ≡ joined_extrema observed.old (extrema (pairs_over spec.now columns.now alive.now))) }
+    ensures memory { IfErr result (λ e. e ≡ Refusal.NoMemory) }
+{
+    match min_max_of(spec, columns, alive) {
+        Some((least, greatest)) => observed.observe_rows(None, least, greatest),
+        None => Ok(()),
+    }
+}
+
+/// Observes rows with a key column.
+fn observe_keyed(
+    alloc: Global,
+    observed: &mut GroupExtrema,
+    spec: &Spec,
+    column: u32,
+    columns: &[Column<'_>],
+    alive: &[bool],
+) -> Result<(), Refusal>
+    requires { spec.now.key ≡ Some column }
+    ensures ok { OnOk result (observed.new ≡ joined_extrema observed.old (extrema (pairs_over spec.now columns.now alive.now))) }
+    ensures memory { IfErr result (λ e. e ≡ Refusal.NoMemory) }
+{
+    let values = find(columns, spec.value);
+    let keys = find(columns, column);
+    let mut key = None;
+    for place in 0..alive.len() {
+        if let Some(value) = value_at(spec, columns, values, place, alive[place]) {
+            key = key_at(alloc, keys, place, key)?;
+            if key.is_some() {
+                observed.observe_under(&key, value)?;
+            }
+        }
+    }
+    Ok(())
+}
+
+/// Observes the live places of a row group in extrema, which may have rows of other row groups. There is a place for each flag.
+/// Each place gives what it gives in `fold`.
+///
+/// Refused with `NoMemory` (1) alone. A refused call may have observed some of the places.
+pub fn observe_into(
+    alloc: Global,
+    observed: &mut GroupExtrema,
+    spec: &Spec,
+    columns: &[Column<'_>],
+    alive: &[bool],
+) -> Result<(), Refusal>
+    ensures ok { OnOk result (observed.new ≡ joined_extrema observed.old (extrema (pairs_over spec.now columns.now alive.now))) }
+    ensures memory { IfErr result (λ e. e ≡ Refusal.NoMemory) }
+{
+    match spec.key {
+        Some(column) => observe_keyed(alloc, observed, spec, column, columns, alive),
+        None => observe_plain(observed, spec, columns, alive),
+    }
+}

@@ -1,0 +1,96 @@
+// What a session is.
+ghost use Rattle.std.specs.Prelude.{◌≡◌, ℕ};
+ghost use Rattle.far_history.specs.Histories.{gauge_of};
+ghost use Rattle.far_sessions.specs.Known.{at, SeesMore};
+
+use crate::stripe_cell::{CellsTag, StripeCell};
+use far_history::reading::reading_of;
+use far_history::steps::look;
+use far_history::{Pass, PlanTag, Reading};
+use std::marker::{Model, PhantomData};
+use std::sync::Wait;
+
+/// A session at stripe I. Contracts see its number, the history that it has seen, and its own entries in it.
+///
+/// ```
+/// let Session {
+///     number: _,
+///     zero,
+///     one,
+///     two,
+///     three,
+/// } = session;
+/// keepers.zero.end_session(rt, cells.zero(), zero);
+/// keepers.one.end_session(rt, cells.one(), one);
+/// keepers.two.end_session(rt, cells.two(), two);
+/// keepers.three.end_session(rt, cells.three(), three);
+/// ```
+#[derive(Drop)]
+pub struct SessionAt<B: CellsTag, const I: usize> {
+    pub(crate) pass: Pass,
+    pub(crate) of: PhantomData<B>,
+}
+
+impl<B: CellsTag, const I: usize> Model for SessionAt<B, I> {
+    ghost use Rattle.std.specs.Prelude.{◌≡◌};
+    ghost use Rattle.crossbeam_utils.specs.Seq.{cell_view};
+    ghost use Rattle.far_history.specs.Sessions.{SessionState, session_state, IsSession};
+
+    ghost Value = { SessionState };
+
+    ghost view = { λ s. session_state (cell_view s.pass) };
+
+    ghost invariant = { λ s. (s.pass.table_id ≡ B.cells I) × IsSession (cell_view s.pass) };
+}
+
+/// A session, at each of the four stripes.
+///
+/// Reads a stripe's gauge without its lock:
+///
+/// ```
+/// let Ok(reading) = cells.gauge(rt, &mut me, home) else {
+///     unreachable!()
+/// };
+/// ```
+#[derive(Drop)]
+pub struct Session<B: CellsTag> {
+    pub(crate) number: u64,
+    /// The session at stripe 0.
+    pub zero: SessionAt<B, 0>,
+    /// The session at stripe 1.
+    pub one: SessionAt<B, 1>,
+    /// The session at stripe 2.
+    pub two: SessionAt<B, 2>,
+    /// The session at stripe 3.
+    pub three: SessionAt<B, 3>,
+}
+
+impl<B: CellsTag> Model for Session<B> {
+    ghost use Rattle.std.specs.Prelude.{◌≡◌};
+    ghost use Rattle.far_sessions.specs.Known.{Known};
+
+    ghost Value = { Known };
+
+    ghost view = { λ s. record { zeroth = s.zero; first = s.one; second = s.two; third = s.three } };
+
+    ghost invariant = { λ s. (s.number ≡ s.zero.by) × (s.one.by ≡ s.zero.by) × (s.two.by ≡ s.zero.by) × (s.three.by ≡ s.zero.by) };
+}
+
+impl<B: CellsTag> Session<B> {
+    /// Returns the session's number, counted from 0.
+    pub fn number(&self) -> u64
+        ensures { (k : ℕ) → (at self.now k).by ≡ result }
+    {
+        self.number
+    }
+}
+
+impl<N: PlanTag, B: CellsTag, const I: usize> StripeCell<N, B, I> {
+    /// Returns what the gauge reads after the history so far. Takes no stripe's lock.
+    pub fn gauge<R: Wait>(&self, rt: &R, me: &mut SessionAt<B, I>) -> Reading
+        ensures reading { result ≡ gauge_of N.plan me.new.seen }
+        ensures seen { SeesMore N.plan me.old me.new }
+    {
+        reading_of(look(rt, &self.cell, &mut me.pass))
+    }
+}

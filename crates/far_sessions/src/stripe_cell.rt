@@ -1,0 +1,41 @@
+// The tag of the four cells, and the cell of one stripe.
+ghost use Rattle.std.specs.Prelude.{◌≡◌};
+
+use far_history::{Cell, PlanTag};
+use std::marker::{Brand, PhantomData};
+
+/// Names the four cells. It has no functions: a caller picks a type, as `Brand`.
+///
+/// ```
+/// opened::<N, Brand, S, R>(rt, alloc, made, store, edits)
+/// ```
+pub trait CellsTag {
+    ghost use Rattle.std.specs.Prelude.{ℕ};
+    ghost use Rattle.atomic_table.specs.Seated.{TableId};
+
+    ghost cells: { ℕ → TableId };
+}
+
+impl CellsTag for Brand {
+    ghost use Rattle.far_sessions.specs.Cells.{no_cell};
+
+    ghost cells = { λ _. no_cell };
+}
+
+/// The cell of stripe I, outside any lock.
+///
+/// ```
+/// match stripe {
+///     0 => Ok(self.zero().gauge(rt, &mut me.zero)),
+///     1 => Ok(self.one().gauge(rt, &mut me.one)),
+///     2 => Ok(self.two().gauge(rt, &mut me.two)),
+///     3 => Ok(self.three().gauge(rt, &mut me.three)),
+///     _ => Err(Refusal::OutOfRange),
+/// }
+/// ```
+#[derive(Drop)]
+pub struct StripeCell<N: PlanTag, B: CellsTag, const I: usize> {
+    pub(crate) cell: Cell<N>,
+    pub(crate) of: PhantomData<B>,
+    ghost is: { cell.table.shared.table_id ≡ B.cells I },
+}
