@@ -7,7 +7,7 @@ use crate::scopes::calls::last_reply;
 use crate::scopes::script::{Line, Script, WRONG};
 use far_fixtures::{agent, no_objects};
 use far_scopes::{Objects, Renewal};
-use far_store::{FarStore, FaultyStore, Meter};
+use far_store::{FarStore, Meter};
 use far_types::Refusal;
 use std::alloc::Global;
 use std::sync::Wait;
@@ -34,7 +34,7 @@ fn first_wrong<R: Wait + Sync + Copy + Drop>(
     script: &Script,
 ) -> Result<Option<usize>, Refusal> {
     let store = agent(rt, alloc, 4);
-    play_between(alloc, store, agent(rt, alloc, script.capacity), script)
+    play_between(alloc, store, agent(rt, alloc, 4), script)
 }
 
 // The same over two stores, if they were made. It knows no store, so to take them out of their results costs it little.
@@ -44,8 +44,7 @@ fn play_between<S: FarStore, N: FarStore>(
     next: Result<N, Refusal>,
     script: &Script,
 ) -> Result<Option<usize>, Refusal> {
-    let store = FaultyStore::new(store?, 0, script.failing_get);
-    play_over(alloc, &store, &next?, script)
+    play_over(alloc, &store?, &next?, script)
 }
 
 fn play_over<S: FarStore, N: FarStore>(
@@ -98,16 +97,14 @@ fn play_on<S: FarStore, N: FarStore>(
 ) -> Result<Option<usize>, Refusal>
     requires { AreHere S.is_of (S.store_id store.now) objects }
 {
-    let before = script.lines.len();
-    let are_refused = are_refused(alloc, store, &objects, next, script.refused);
-    if !are_refused || script.after.is_empty() {
+    if script.after.is_empty() {
         drop(objects);
-        return Ok(if are_refused { None } else { Some(before) });
+        return Ok(None);
     }
     match renewal(alloc, store, &objects, next) {
         Ok(renewal) => {
             let mut objects = renewed(objects, next, renewal);
-            let wrong = play(alloc, next, &mut objects, script.after, before);
+            let wrong = play(alloc, next, &mut objects, script.after, script.lines.len());
             drop(objects);
             Ok(wrong)
         }
@@ -116,24 +113,6 @@ fn play_on<S: FarStore, N: FarStore>(
             Err(refusal)
         }
     }
-}
-
-/// Whether the objects that are away do not go into another store, once for each of these refusals.
-fn are_refused<S: FarStore, N: FarStore>(
-    alloc: Global,
-    store: &S,
-    objects: &Objects<i64, S>,
-    next: &N,
-    refused: &[Refusal],
-) -> bool
-    requires { AreHere S.is_of (S.store_id store.now) objects.now }
-{
-    for refusal in refused {
-        if renewal(alloc, store, objects, next).err() != Some(*refusal) {
-            return false;
-        }
-    }
-    true
 }
 
 /// Puts the objects that are away into another store, once more where the first try finds no memory.
