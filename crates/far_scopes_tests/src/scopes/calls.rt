@@ -3,6 +3,7 @@ ghost use Rattle.std.specs.Prelude.{◌≡◌, ◌<◌, ◌^◌, ℕ, List, leng
 ghost use Rattle.far_scopes.specs.Movement.{AreHere};
 
 use crate::scopes::script::{Call, Change, Fact, WRONG, found};
+use crate::writing::write_over;
 use far_fixtures::{digest_of, send_away};
 use far_scopes::{Objects, Replacement, Scope};
 use far_store::{FarStore, FarTickets};
@@ -40,7 +41,6 @@ fn reply<S: FarStore>(
         Call::Create(group, list) => create(objects, *group, list),
         Call::On(o, change) => change_one(alloc, store, objects, *o, change),
         Call::Find(o, fact) => find(store, objects, *o, fact),
-        Call::GiveBoth(second, first) => give_both(alloc, objects, second, first),
         Call::PinTogether(listed, pins) => pin_three(alloc, objects, *listed, *pins, false),
         Call::PinAndUnpin(listed, pins) => pin_three(alloc, objects, *listed, *pins, true),
         Call::Compact(segment) => objects.compact(alloc, *segment),
@@ -77,6 +77,8 @@ fn change_one<S: FarStore>(
     }
     match change {
         Change::Write(list) => write_over(objects, o, list),
+        Change::Give([]) => Err(WRONG),
+        Change::Give(list) => give(objects, replacement(alloc, o, list)?),
         Change::Pin(times) => pin_often(objects, o, *times),
         Change::Leave => send_away(alloc, objects, store, o),
         Change::Touch => {
@@ -84,22 +86,6 @@ fn change_one<S: FarStore>(
             Ok(())
         }
     }
-}
-
-fn write_over<S: FarTickets>(
-    objects: &mut Objects<i64, S>,
-    o: u32,
-    list: &[i64],
-) -> Result<(), Refusal>
-    requires { o < length objects.old.records }
-    ensures { (id : List ℕ) → AreHere S.is_of id objects.old → AreHere S.is_of id objects.new }
-{
-    objects.may_write(o)?;
-    let lent = objects.lend_mut(o);
-    if lent.len() == list.len() {
-        lent.copy_from_slice(list);
-    }
-    Ok(())
 }
 
 fn pin_often<S: FarTickets>(
@@ -194,23 +180,16 @@ fn enter<S: FarTickets>(
     Ok(scope)
 }
 
-/// Gives the objects 1 and 0 other lists, both or none.
-fn give_both<S: FarTickets>(
-    alloc: Global,
+/// Gives an object another list by the call that gives several.
+fn give<S: FarTickets>(
     objects: &mut Objects<i64, S>,
-    second: &[i64],
-    first: &[i64],
+    replacement: Replacement<i64>,
 ) -> Result<(), Refusal>
+    requires some { 0 < length replacement.list.items }
+    requires within { replacement.object < length objects.old.records }
     ensures { (id : List ℕ) → AreHere S.is_of id objects.old → AreHere S.is_of id objects.new }
 {
-    if second.is_empty() || first.is_empty() || objects.count() < 2 {
-        return Err(WRONG);
-    }
-    let lists = [
-        replacement(alloc, 1, second)?,
-        replacement(alloc, 0, first)?,
-    ];
-    objects.replace_all(&lists)
+    objects.replace_all(&[replacement])
 }
 
 /// A list for an object.

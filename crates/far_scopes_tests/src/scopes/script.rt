@@ -11,8 +11,6 @@ pub struct Script {
     pub name: &'static str,
     pub limits: ObjectLimits,
     pub lines: &'static [Line],
-    /// What is played once the far copies are in another store. They go there if there is such a line.
-    pub after: &'static [Line],
 }
 
 /// A script of no line.
@@ -20,7 +18,6 @@ pub const SCRIPT: Script = Script {
     name: "",
     limits: TWO_OF_FOUR,
     lines: &[],
-    after: &[],
 };
 
 /// Two segments of four numbers; two writes and one leaving of each object.
@@ -39,8 +36,6 @@ pub enum Call {
     On(u32, Change),
     /// Finds this of an object.
     Find(u32, Fact),
-    /// Gives the objects 1 and 0 these lists by one call, in this order.
-    GiveBoth(&'static [i64], &'static [i64]),
     /// Pins the listed objects together, and takes back so many pins.
     PinTogether([u32; 3], u32),
     /// Likewise, but takes a pin off the first object before.
@@ -54,6 +49,8 @@ pub enum Call {
 pub enum Change {
     /// Writes a list over the object's, which is as long.
     Write(&'static [i64]),
+    /// Gives it another list by the call that gives several.
+    Give(&'static [i64]),
     /// Pins it so many times.
     Pin(u32),
     Touch,

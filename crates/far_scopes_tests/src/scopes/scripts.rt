@@ -1,9 +1,7 @@
 // Worked examples.
 use crate::scopes::play::play_all;
-use crate::scopes::script::Call::{
-    Coldest, Compact, Create, Find, GiveBoth, On, PinAndUnpin, PinTogether,
-};
-use crate::scopes::script::Change::{Leave, Pin, Touch, Write};
+use crate::scopes::script::Call::{Coldest, Compact, Create, Find, On, PinAndUnpin, PinTogether};
+use crate::scopes::script::Change::{Give, Leave, Pin, Touch, Write};
 use crate::scopes::script::Fact::{Dirty, List, Pins, PutBefore, Version};
 use crate::scopes::script::{SCRIPT, Script, TWO_OF_FOUR};
 use far_scopes::ObjectLimits;
@@ -80,19 +78,18 @@ static SCRIPTS: &[Script] = &[
         ..SCRIPT
     },
     Script {
-        name: "several objects get other lists together",
+        name: "an object gets another list",
         lines: &[
             (Create(0, &[1, 2]), Ok(())),
-            (Create(1, &[3, 4]), Ok(())),
-            (GiveBoth(&[5], &[6, 7]), Ok(())),
-            (Find(0, List(&[6, 7])), Ok(())),
-            (Find(1, List(&[5])), Ok(())),
+            (Create(1, &[3]), Ok(())),
+            (On(0, Give(&[6, 7, 8])), Ok(())),
+            (Find(0, List(&[6, 7, 8])), Ok(())),
+            (Find(1, List(&[3])), Ok(())),
         ],
         ..SCRIPT
     },
-    // The second goes away first.
     Script {
-        name: "contents are put into another store by ascending object number",
+        name: "an object that goes away first is put first",
         lines: &[
             (Create(0, &[3]), Ok(())),
             (Create(1, &[3]), Ok(())),
@@ -100,7 +97,6 @@ static SCRIPTS: &[Script] = &[
             (On(0, Leave), Ok(())),
             (Find(1, PutBefore(0)), Ok(())),
         ],
-        after: &[(Find(0, PutBefore(1)), Ok(()))],
         ..SCRIPT
     },
 ];
