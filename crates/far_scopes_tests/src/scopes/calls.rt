@@ -4,7 +4,7 @@ ghost use Rattle.far_scopes.specs.Movement.{AreHere};
 
 use crate::scopes::script::{Call, Change, Fact, WRONG, found};
 use crate::writing::write_over;
-use far_fixtures::{digest_of, send_away};
+use far_fixtures::{bring_back, digest_of, send_away};
 use far_scopes::{Objects, Replacement, Scope};
 use far_store::{FarStore, FarTickets};
 use far_types::{Name, Refusal};
@@ -81,6 +81,7 @@ fn change_one<S: FarStore>(
         Change::Give(list) => give(objects, replacement(alloc, o, list)?),
         Change::Pin(times) => pin_often(objects, o, *times),
         Change::Leave => send_away(alloc, objects, store, o),
+        Change::Arrive => bring_back(alloc, objects, store, o),
         Change::Touch => {
             objects.touch(o);
             Ok(())

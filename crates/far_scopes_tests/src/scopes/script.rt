@@ -55,6 +55,7 @@ pub enum Change {
     Pin(u32),
     Touch,
     Leave,
+    Arrive,
 }
 
 /// What is known of an object.

@@ -1,7 +1,7 @@
 // Worked examples.
 use crate::scopes::play::play_all;
 use crate::scopes::script::Call::{Coldest, Compact, Create, Find, On, PinAndUnpin, PinTogether};
-use crate::scopes::script::Change::{Give, Leave, Pin, Touch, Write};
+use crate::scopes::script::Change::{Arrive, Give, Leave, Pin, Touch, Write};
 use crate::scopes::script::Fact::{Dirty, List, Pins, PutBefore, Version};
 use crate::scopes::script::{SCRIPT, Script, TWO_OF_FOUR};
 use far_scopes::ObjectLimits;
@@ -60,6 +60,8 @@ static SCRIPTS: &[Script] = &[
                 }),
             ),
             (Find(0, Pins(0)), Ok(())),
+            (On(1, Arrive), Ok(())),
+            (Find(1, List(&[2])), Ok(())),
         ],
         ..SCRIPT
     },
