@@ -1,4 +1,5 @@
-// Tests of far_offload: worked row groups that are folded at hand, and a job that is carried at the second call.
+// Tests of far_offload: worked row groups, carried and folded at hand, and what a refusal leaves: the repeat gives the
+// answer.
 mod cases;
 mod folding;
 mod jobs;

@@ -1,2 +1,5 @@
+mod Walking
+mod Sized
+mod Layouts
 mod Told
 mod Found

@@ -8,5 +8,3 @@ mod evacuator;
 mod scopes;
 #[cfg(test)]
 mod vector;
-#[cfg(test)]
-mod writing;
