@@ -38,17 +38,19 @@ piece_of column places = record { cells = column_of column places; flags = flags
 abbrev pub lent_part : Table → ℕ → ℕ → ℕ → List Piece
 lent_part table column from to = map (piece_of column) (pieces_of table.places table.limits.group from to)
 
--- a lent piece of numbers, and one of texts
+-- a lent piece of numbers
 abbrev pub ints_lent : List (Option ℤ) × List Bool → Piece
 ints_lent lent = record { cells = map int_cell lent.0; flags = lent.1 }
 
+-- a lent piece of texts
 abbrev pub texts_lent : List (Option (List ℕ) × Bool) → Piece
 texts_lent lent = record { cells = map (λ cell. text_cell cell.0) lent; flags = map (λ cell. cell.1) lent }
 
--- a copied one
+-- a copied piece of numbers
 abbrev pub int_piece : IntPiece → Piece
 int_piece copy = record { cells = map int_cell copy.values.items; flags = copy.flags.items }
 
+-- a copied piece of texts
 abbrev pub text_piece : TextPiece → Piece
 text_piece copy = record { cells = map text_cell copy.values.items; flags = copy.flags.items }
 

@@ -61,9 +61,11 @@ module _ {K : Type 0} (r : Rows K) where
     abbrev pub absent_in : ℕ → Bool × Refusal
     absent_in g = option_map_or (absent_at column g) (slice_get r.column_indexes column) (false, refusal.StaleJob)
 
+  -- why a cell is not read (`cell`)
   abbrev pub cell_refusal : ℕ → ℕ → Option Refusal
   cell_refusal column place = first_of (no_column column ∷ no_row place ∷ absent_in column (place / r.size) ∷ [])
 
+  -- why a text is not read (`text`)
   abbrev pub text_refusal : ℕ → ℕ → Option Refusal
   text_refusal column place = first_of (no_column column ∷ of_numbers column ∷ no_row place ∷ absent_in column (place / r.size) ∷ [])
 

@@ -18,6 +18,7 @@ module _ {X K : Type 0} where
   pins_overflow m [] = None
   pins_overflow m (o ∷ objects) = if pins_of m o == 65535 then Some refusal.EditsUsedUp else pins_overflow (after_pin m o) objects
 
+  -- why a scope of these objects is not entered (`enter`)
   abbrev pub enter_refusal : Movement X K → List ℕ → Option Refusal
   enter_refusal m objects = option_or (first_absent m objects) (pins_overflow m objects)
 

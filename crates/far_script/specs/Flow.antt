@@ -59,6 +59,7 @@ module _ {R : Type 0} (read : Ghosts R) where
   TakesLine old (line.Last byte_range) new =
       (list_any (λ c. c == 10) (bytes_in new byte_range) ≡ false) × (unread new ≡ []) × (new.source.ended ≡ true) × Reads old (bytes_in new byte_range) new
 
+  -- the range of bytes that a line was taken from
   abbrev pub byte_range_of : Line → ByteRange
   byte_range_of (line.Whole byte_range) = byte_range
   byte_range_of (line.Last byte_range) = byte_range

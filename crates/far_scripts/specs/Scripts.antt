@@ -19,6 +19,7 @@ pub record Turn : Type 0 where
 abbrev pub bytes_of : Turn → List ℕ
 bytes_of turn = turn.line ++ 10 ∷ turn.rows
 
+-- the text that a turn prints
 abbrev pub text_of : Turn → List ℕ
 text_of turn = turn.text
 
