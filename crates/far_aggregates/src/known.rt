@@ -146,7 +146,7 @@ impl KnownExtrema {
         self.live.reserve_for(group, extrema)
     }
 
-    /// As `observe_under`, for a row under no key. If its min-max is noted, a value within it costs no look-up, and nothing is
+    /// Does what `observe_under` does, for a row under no key. If its min-max is noted, a value within it costs no look-up, and nothing is
     /// written.
     fn observe_plain(&mut self, group: u32, value: i64) -> Result<Option<MinMax>, Refusal>
         requires { group < length self.old.groups }
@@ -203,7 +203,7 @@ impl KnownExtrema {
         }
     }
 
-    /// As `shrink`, for a row under no key. If its min-max is noted, a value strictly within it costs no look-up.
+    /// Does what `shrink` does, for a row under no key. If its min-max is noted, a value strictly within it costs no look-up.
     fn shrink_plain<R: RowsLeft>(&mut self, group: u32, value: i64, rows: &R)
         requires reserved { group < length self.old.groups }
         requires at_hand { R.at_hand rows.now }

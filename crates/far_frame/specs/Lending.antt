@@ -83,8 +83,8 @@ module _ {K : Type 0} where
   abbrev pub all_used : Rows K → ℕ → List ℕ → Rows K
   all_used r column lent = fold (λ rows g. option_map_or (after_touch rows) (object_at rows column g) rows) r lent
 
-  -- why a part of a column is not lent: there is no such column; the places are not all there; the object of a row group that
-  -- has some of them is away, the first such
+  -- why a part of a column is not lent. There is no such column. The places are not all there. The object of a row group that has some
+  -- of them is away, and the first such is named
   abbrev pub lend_refusal : Rows K → ℕ → ℕ → ℕ → Option Refusal
   lend_refusal r column from to = first_of (no_column r column ∷ no_range r from to ∷ map (absent_in r column) (overlapped_groups r.size from to))
 

@@ -98,8 +98,8 @@ module _ {K : Type 0} (r : Rows K) where
   abbrev pub some_written_out : ℕ → Bool × Refusal
   some_written_out g = (list_any (is_written_out g) r.column_indexes, refusal.EditsUsedUp)
 
-  -- the tests of an appended row: an object of its row group is away; a text object would be too long; the text objects that
-  -- it writes, which have these lengths, do not fit; or its objects of numbers; an object was written too often
+  -- the tests of an appended row. An object of its row group is away. A text object would be too long. The text objects that it writes,
+  -- which have these lengths, do not fit, or its objects of numbers do not. An object was written too often
   abbrev pub append_tests : Bool → List ℕ → List (Bool × Refusal)
   append_tests too_long lengths =
       let g : ℕ = length r.alive / r.size

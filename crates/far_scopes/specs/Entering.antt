@@ -22,7 +22,7 @@ module _ {X K : Type 0} where
   abbrev pub enter_refusal : Movement X K → List ℕ → Option Refusal
   enter_refusal m objects = option_or (first_absent m objects) (pins_overflow m objects)
 
-  -- the objects once a scope's pins are taken back, one for each listing if the object has one; and how many pins that were
+  -- the objects once a scope's pins are removed, one for each listing if the object has one; and how many pins that were
   abbrev pub after_close : Movement X K → List ℕ → Movement X K × ℕ
   after_close m [] = (m, 0)
   after_close m (o ∷ objects) =

@@ -47,7 +47,7 @@ impl Cell {
         Ok(Cell::Text(Text::from_str(alloc, text)?))
     }
 
-    /// An equal cell. Refused with `NoMemory` (1) alone.
+    /// Returns an equal cell. Refused with `NoMemory` (1) alone.
     pub fn clone(&self) -> Result<Cell, Refusal>
         ensures equal { IfOk result (λ cell. cell ≡ self.now) }
         ensures memory { IfErr result (λ e. e ≡ Refusal.NoMemory) }

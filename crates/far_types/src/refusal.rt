@@ -72,7 +72,7 @@ pub enum Refusal {
 }
 
 impl Refusal {
-    /// The number by which a script and its documentation name the refusal. Allocates nothing.
+    /// Returns the number by which a script and its documentation name the refusal. Allocates nothing.
     pub fn number(&self) -> u32
         ensures { result ≡ number_of self.now }
     {
@@ -103,7 +103,7 @@ impl Refusal {
         }
     }
 
-    /// The refusal's name, without what it carries. Allocates nothing.
+    /// Returns the refusal's name, without what it carries. Allocates nothing.
     pub fn name(&self) -> &'static str
         ensures { result.now ≡ name_of self.now }
     {
