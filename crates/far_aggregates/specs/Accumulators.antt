@@ -83,11 +83,11 @@ abbrev pub IsKept : ℕ → List Place → Aggregate → Accumulator → Type 0
 IsKept size places a (accumulator.Totals live) = (live.totals ≡ totals (scanned_pairs a.spec size a.pending 0 places)) × (live.left ≡ left a.pending)
 IsKept size places a (accumulator.Extrema live) = ((g : ℕ) → group_at live.groups g ≡ scanned_group a.spec size a.pending places g) × (live.left ≡ left a.pending)
 
--- an entry of the registry has an accumulator of its own fold, and that is what computing from scratch would give
+-- the accumulator of a registry entry is of its fold, and is what computing from scratch would give
 abbrev pub KeepsEntry : ℕ → List Place → RegistryEntry → Type 0
 KeepsEntry size places None = Unit {0}
 KeepsEntry size places (Some a) = (fold_of a.accumulator ≡ a.spec.fold) × IsKept size places a a.accumulator
 
--- each entry of the registry has such an accumulator
+-- so is the accumulator of each registry entry
 abbrev pub Keeps : ℕ → List Place → List RegistryEntry → Type 0
 Keeps size places registry = AllByRecursion (KeepsEntry size places) registry

@@ -105,7 +105,7 @@ module _ {K : Type 0} where
       pub name : job.name ≡ Some record { column = column; group = group }
       pub work : IsEvacWork job.work
 
-    -- the work of a fetch of it, begun now
+    -- the work of a fetch of the object, begun now
     abbrev pub IsFetchWork : WorkOf K → Type 0
     IsFetchWork (work.Fetch fetch) = IsFetchBegun r column group fetch
     IsFetchWork _ = ⊥

@@ -12,7 +12,7 @@ pub record Known : Type 0 where
   pub second : SessionState
   pub third : SessionState
 
--- what it knows of history s
+-- what a session knows of history s
 abbrev pub at : Known → ℕ → SessionState
 at s = four s.zeroth s.first s.second s.third
 

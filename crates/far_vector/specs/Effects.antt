@@ -10,7 +10,7 @@ module _ {X : Type 0} where
   abbrev pub is_full : Vector X → Bool
   is_full v = v.len == length v.objects * v.size
 
-  -- the name of the next row group's object, and its list
+  -- the name of the next row group's object
   abbrev pub next_name : Vector X → Name
   next_name v = record { column = v.column; group = length v.objects }
 

@@ -44,7 +44,7 @@ module _ {X K : Type 0} (m : Movement X K) (v : Vector X) where
   abbrev pub part_refusal : ℕ → ℕ → Option Refusal
   part_refusal from to = first_of (no_range v from to ∷ crosses v from to ∷ unless_empty from to (absent m (object_at v from)) ∷ [])
 
-  -- why a part is not written
+  -- why a part is not written (`part_mut`)
   abbrev pub write_part_refusal : ℕ → ℕ → Option Refusal
   write_part_refusal from to =
       first_of (no_range v from to ∷ crosses v from to ∷ unless_empty from to (absent m (object_at v from)) ∷ unless_empty from to (written_out m (object_at v from)) ∷ [])
