@@ -10,7 +10,7 @@ use thiserror::Error;
 ///
 /// If several refusals apply, a call returns the first in this order: 2 to 10, 12 to 15, 20, 16, 11, 17 to 19, 21, 22, 24, 1. There is
 /// no number 23. Two kinds of calls may return another:
-/// - An edit, and a call under it that places several text objects, may return 1 before it checks for 17 or 24.
+/// - A call of the layers below that places several text objects (`push_texts`, `replace_all`) may return 1 before it checks for 17 or 24.
 /// - An edit of a stripe returns 14 for the stripe before it checks the edit.
 ///
 /// It prints a sentence. Here that is `2: a table may not have this schema or these limits`:
