@@ -81,7 +81,7 @@ impl<S: FarTickets> Frame<S> {
     }
 
     /// Records that a part of a column was lent, as the step `Lend` records it. Each row group that has some of it is accessed,
-    /// in order, and its object marked as recently used. Use it after reading the part in a view, where no value is copied.
+    /// in order, and its object marked as recently used. Use it after reading the part in a view, which copies no value.
     /// Allocates nothing.
     ///
     /// Refused with the first of these that applies:
