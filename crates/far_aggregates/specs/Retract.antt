@@ -24,8 +24,8 @@ retracted g here None change = None
 retracted g here (Some a) None = Some a
 retracted g here (Some a) (Some pair) = Some (record a { accumulator = accumulator_less a.spec g here a.accumulator pair })
 
--- a pair may be retracted: totals have it (`CanTake`); in extrema the min-max under its key is that of the rows that are left,
--- widened by its value
+-- a pair may be retracted. Totals have it (`CanTake`). In extrema the min-max under its key is that of the rows that are left, widened
+-- by its value
 abbrev pub AccumulatorMayRetract : Spec → ℕ → List Place → Accumulator → Pair → Type 0
 AccumulatorMayRetract spec g here (accumulator.Totals live) pair = CanTake pair.1 (fin.get live.totals pair.0)
 AccumulatorMayRetract spec g here (accumulator.Extrema live) pair = fin.get (group_at live.groups g) pair.0 ≡ Some (widened pair.1 (fin.get (extrema (pairs_here spec here)) pair.0))

@@ -74,8 +74,8 @@ module _ {K : Type 0} where
     IsWorkCarried (work.Offload build) (work.Offloaded carried) = carried ≡ build
     IsWorkCarried begun _ = ⊥
 
-    -- a job that was begun is carried: the store has its form, or its bytes are the content of its ticket, or the contents of its
-    -- tickets were read
+    -- a job that was begun is carried. The store has the form of an evacuation. A fetch has the content of its ticket. The contents of
+    -- the tickets of an offloaded build were read
     pub record IsCarried (job done : JobRecord K) : Type 0 where
       pub name : done.name ≡ job.name
       pub work : IsWorkCarried job.work done.work

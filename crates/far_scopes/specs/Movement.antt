@@ -9,8 +9,8 @@ use Rattle.far_scopes.specs.declared.object_record.ObjectRecord.{ObjectRecord}
 use Rattle.far_scopes.specs.Recency.{has, Once}
 use Rattle.far_scopes.specs.Memory.{Memory, place_of, list_in}
 
--- objects of lists over X, with far copies under tickets of type K: the frame's number, how often each object may be written, and how often
--- it may go away. Then come the local memory, the record of each object, and the local ones in the order of use, the last used first
+-- objects of lists over X, with far copies under tickets of type K. They have the frame's number, and how often each object may be written
+-- and may go away. Then come the local memory, the record of each object, and the local ones in the order of use, the last used first
 pub record Movement (X K : Type 0) : Type 0 where
   pub number : ℕ
   pub max_writes : ℕ

@@ -38,7 +38,7 @@ module _ {K : Type 0} where
   HaveOneNumber number_of (Some own) None = ⊥
   HaveOneNumber number_of None ticket = ⊥
 
-  -- a test for each column of these indexes, of which the first is the n-th of the table: the aggregate needs the column, and the far
+  -- a test for each column of these indexes, of which the first is the n-th of the table. The aggregate needs the column, and the far
   -- store does not have the row group as it is now
   abbrev pub dirty_from : Rows K → Spec → ℕ → ℕ → List ColumnIndex → List (Bool × Refusal)
   dirty_from r spec g n [] = []

@@ -39,7 +39,7 @@ unwatch_refusal None = Some refusal.NoAggregate
 unwatch_refusal (Some aggregate) = None
 
 module _ {K : Type 0} where
-  -- the columns that an aggregate needs, among those of these indexes, of which the first is the n-th of the table: the object of
+  -- a test for each column of these indexes, of which the first is the n-th of the table. The aggregate needs the column, and its object of
   -- the row group is away
   abbrev pub needed_from : Rows K → Spec → ℕ → ℕ → List ColumnIndex → List (Bool × Refusal)
   needed_from r spec g n [] = []
