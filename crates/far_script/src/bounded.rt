@@ -11,7 +11,7 @@ pub const MAX_BYTES: u32 = 16_777_216;
 /// The most reads that are made for a script. The one that finds its end counts.
 pub const MAX_READS: u32 = 1_048_576;
 
-/// A reader with the reads and the bytes that are left for it. An [`Input`](super::input::Input) returns how many are left:
+/// A reader with the reads and the bytes that are left for it. `Input` returns how many are left:
 ///
 /// ```
 /// for _ in 0..3 {
