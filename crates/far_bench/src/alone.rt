@@ -32,7 +32,7 @@ fn set_all<S: FarTickets>(frame: &mut Frame<S>, edits: u32) -> bool {
     true
 }
 
-/// The nanoseconds that so many edits take of a table of these rows.
+/// Returns the nanoseconds that so many edits of a table of these rows take.
 fn time_edits<S: FarTickets, R: Clock>(
     rt: &R,
     alloc: Global,
@@ -52,7 +52,7 @@ fn time_edits<S: FarTickets, R: Clock>(
     Ok(since(rt, start))
 }
 
-/// The nanoseconds that so many edits take of a table of one's own, without a lock or a history.
+/// Returns the nanoseconds that so many edits of a session's own table take, without a lock or a history.
 pub(crate) fn measure<S: FarTickets, R: Clock>(
     rt: &R,
     alloc: Global,

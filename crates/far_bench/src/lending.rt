@@ -4,7 +4,7 @@
 // rest of it does, and here it costs nothing.
 use far_types::Refusal;
 
-/// What the work gives on a thing, if that was made.
+/// Lends a thing to the work, if it was made, and returns what the work returns.
 pub(crate) fn lend<T: Drop, U, F: FnOnce(&mut T) -> Result<U, Refusal> + Drop>(
     made: Result<T, Refusal>,
     work: F,
@@ -17,7 +17,7 @@ pub(crate) fn lend<T: Drop, U, F: FnOnce(&mut T) -> Result<U, Refusal> + Drop>(
     }
 }
 
-/// What the work gives on two things, if they were made: it has the first lent, and takes the second.
+/// Gives two things to the work, if they were made: lends it the first, and moves the second to it. Returns what the work returns.
 pub(crate) fn lend_first<A: Drop, B: Drop, U, F: FnOnce(&A, B) -> Result<U, Refusal> + Drop>(
     made: Result<(A, B), Refusal>,
     work: F,

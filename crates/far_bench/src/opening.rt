@@ -56,7 +56,7 @@ fn planned<N: PlanTag + Send + Sync, S: FarTickets, R: Threads + Wait + Clock + 
     made.and_then(|made: Made<N, S>| -> Result<Times, Refusal> { named(rt, alloc, made, duties) })
 }
 
-/// The times of the slowest of so many sessions.
+/// Returns the times of the slowest of so many sessions.
 pub(crate) fn measure<R: Threads + Wait + Clock + Sync>(
     rt: &R,
     alloc: Global,

@@ -19,7 +19,7 @@ pub(crate) const LIMITS: Limits = Limits {
     text_size: 64,
 };
 
-/// One column of numbers.
+/// Returns a schema of one column of numbers.
 pub(crate) fn schema(alloc: Global) -> Result<Schema, Refusal>
     ensures { IfOk result (λ schema. schema ≡ Kind.Int ∷ []) }
 {
@@ -29,7 +29,7 @@ pub(crate) fn schema(alloc: Global) -> Result<Schema, Refusal>
     Schema::new(kinds)
 }
 
-/// A table for so many sessions, with the totals of the column as its gauge.
+/// Returns the plan of a table for so many sessions, with the totals of the column as its gauge.
 pub(crate) fn plan(alloc: Global, sessions: u64) -> Result<Plan, Refusal>
     ensures schema { IfOk result (λ plan. plan.schema ≡ Kind.Int ∷ []) }
     ensures sessions { IfOk result (λ plan. plan.sessions ≡ sessions) }
@@ -40,7 +40,7 @@ pub(crate) fn plan(alloc: Global, sessions: u64) -> Result<Plan, Refusal>
     Plan::new(schema, LIMITS, Spec::totals(alloc, 0), sessions)
 }
 
-/// A row of the number 1.
+/// Returns a row of the number 1.
 pub(crate) fn row(alloc: Global) -> Result<Row, AllocError> {
     let Ok(cells) = Vec::from_array(alloc, [Cell::Int(1)]) else {
         return Err(AllocError);

@@ -45,7 +45,7 @@ const NO_TIMES: Times = Times {
     readings_beside: 0,
 };
 
-/// The stripe of a session: the writers' own, and those that readers read, from 0 on.
+/// Returns the stripe of a session: the writers' own, and those that readers read, from 0 on.
 fn stripe_of<B: TableTag>(me: &Session<B>, duties: Duties) -> u32
     ensures { result < 4 }
 {
@@ -134,7 +134,7 @@ fn read_until<N: PlanTag, B: TableTag, R: Wait>(
     Err(Refusal::OutOfRange)
 }
 
-/// What a session's edits take, and as many readings after them.
+/// Measures a session's edits, and as many readings after them.
 fn time_writer<N: PlanTag, B: TableTag, S: FarTickets, R: Wait + Clock>(
     rt: &R,
     alloc: Global,
@@ -162,7 +162,7 @@ fn time_writer<N: PlanTag, B: TableTag, S: FarTickets, R: Wait + Clock>(
     })
 }
 
-/// What a session's readings take, from the writer's first set to its last.
+/// Measures a session's readings, from the writer's first set to its last.
 fn time_reader<N: PlanTag, B: TableTag, R: Wait + Clock>(
     rt: &R,
     cells: &Cells<N, B>,
@@ -186,7 +186,7 @@ fn time_reader<N: PlanTag, B: TableTag, R: Wait + Clock>(
     })
 }
 
-/// What a session's duty takes.
+/// Measures a session's duty.
 fn time_session<N: PlanTag, B: TableTag, S: FarTickets, R: Wait + Clock>(
     rt: &R,
     alloc: Global,
@@ -202,7 +202,7 @@ fn time_session<N: PlanTag, B: TableTag, S: FarTickets, R: Wait + Clock>(
     }
 }
 
-/// The times of all sessions, each in a thread of its own.
+/// Returns the times of all sessions, each in a thread of its own.
 fn time_each<
     N: PlanTag + Send + Sync,
     B: TableTag + Send + Sync,
@@ -221,7 +221,7 @@ fn time_each<
     thread::map_vec(rt, sessions, &time_one)
 }
 
-/// The slowest.
+/// Returns the slowest.
 fn slowest(all: Vec<Result<Times, Refusal>>) -> Result<Times, Refusal> {
     let mut slowest = NO_TIMES;
     for times in all {
@@ -236,7 +236,7 @@ fn slowest(all: Vec<Result<Times, Refusal>>) -> Result<Times, Refusal> {
     Ok(slowest)
 }
 
-/// The times of the slowest session, when all do their duties at once.
+/// Returns the times of the slowest session, when all do their duties at once.
 pub(crate) fn time_all<
     N: PlanTag + Send + Sync,
     B: TableTag + Send + Sync,

@@ -18,8 +18,8 @@ pub(crate) static NAMES: [&str; 7] = [
     "reading of a gauge while another session writes its stripe",
 ];
 
-/// The nanoseconds of so many calls of each kind, by the slowest session that makes them. Returns how often a gauge was read while
-/// another session wrote its stripe: as often as it could be, so that this time is reckoned from all of these readings.
+/// Returns the nanoseconds of so many calls of each kind, by the slowest session that makes them. Also returns how often a gauge was read
+/// while another session wrote its stripe: as often as it could be, so that this time is reckoned from all of these readings.
 pub(crate) fn measure<R: Threads + Wait + Clock + Sync>(
     rt: &R,
     alloc: Global,

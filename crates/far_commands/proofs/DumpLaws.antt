@@ -99,7 +99,7 @@ module _ (u : Option (List ℕ)) (held front : List ℕ) (places : List Place) w
   gather-skip v k reply i dead g = subst (λ (rows : List (List Cell)). (text : List ℕ) × Prints u held text v k × (text ++ reply ≡ front ++ texts_of row_line rows)) (sym (row-none places i dead)) g
 
   module _ (v : Option (List ℕ)) (k reply : List ℕ) (i : ℕ) (g : IsGathered u held front places i v k reply) where
-    -- memory is wanted for the next row
+    -- memory runs out at the next row
     pub gather-memory : PrintsCut fault.Memory (λ said. said ≡ all) u held v k
     gather-memory =
         let later = texts_of row_line (rows_of (drop i places)) in

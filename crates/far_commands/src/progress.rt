@@ -5,8 +5,8 @@ use far_frame::World;
 use far_store::FarStore;
 use std::marker::Model;
 
-/// Where a script stands. Contracts see the world of its table, and the number of the last command. A command meets one fault of the store
-/// at most.
+/// The state of a script. Contracts see the world of its table, and the number of the last command. A command meets at most one fault of
+/// the store.
 ///
 /// ```
 /// let mut progress = open(resources, opening, output)?;
@@ -30,7 +30,7 @@ impl<S: FarStore> Model for Progress<S> {
 }
 
 impl<S: FarStore> Progress<S> {
-    /// A script behind its first command, which opened this table.
+    /// Returns a script behind its first command, which opened this table.
     pub fn new(world: World<S>) -> Progress<S>
         requires few { world.faults ≤ 1 }
         ensures { result ≡ record { world = world; number = 1 } }

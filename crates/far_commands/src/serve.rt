@@ -25,7 +25,7 @@ use far_types::Refusal;
 use std::alloc::Global;
 use std::io::Write;
 
-/// What a step is answered that is done and has nothing to say.
+/// Returns the text of the reply to a step that returns nothing.
 fn done(step: &Step) -> &'static str
     ensures { result.now ≡ done_text step.now }
 {
@@ -35,8 +35,7 @@ fn done(step: &Step) -> &'static str
     }
 }
 
-/// Makes a page the line of a reply, or the lines of an answer or of a part of a column. The text is that of a reply that has nothing
-/// to say. It is a function of its own: built into each way to it, it would call what adds to a page.
+/// Prints a reply. `done` is the text for `Reply::Done`. It is not inlined, so that the calls it makes are inlined into it.
 #[inline(never)]
 fn print_reply(page: &mut Page, done: &str, reply: &Reply) -> Result<(), Refusal>
     ensures ok { OnOk result (page.new ≡ reply_text done.now reply.now) }
@@ -56,8 +55,8 @@ fn print_reply(page: &mut Page, done: &str, reply: &Reply) -> Result<(), Refusal
     }
 }
 
-/// Takes the step that lends a part of a column, and prints the part where it lies, so that no value is copied. False if it cannot
-/// be lent; then the world is as it was.
+/// Takes the step that lends a part of a column, and prints the part in place, so that no value is copied. Returns false if it cannot be
+/// lent; then the world is as it was.
 fn take_lending<S: FarStore>(
     world: &mut World<S>,
     column: u32,

@@ -140,7 +140,7 @@ not-below a b off = elim (cases_lt a b) [ inl less ↦ absurd (let on : true ≡
 is-below : (a b : ℕ) → not (nat_lt a b) ≡ false → a < b
 is-below a b off = elim (cases_lt a b) [ inl less ↦ less | inr past ↦ absurd (let on : true ≡ false = sym (ap not (le-ltb a b past)) ∙ off in cc) ]
 
--- each row group of a range is let through, or the first that is not is told
+-- each row group of a range is let through, or the first that is not is named
 off-range : (f : ℕ → Bool × Refusal) (a n : ℕ) → first_of (map f (range_with_len a n)) ≡ None → (k : ℕ) → a ≤ k → k < a + n → (f k).0 ≡ false
 off-range f a zero none k low high = absurd (omega (arith, low, high))
 off-range f a (suc n) none k low high =
@@ -316,7 +316,7 @@ are-held {K} content t held inside s is are places same_length limits of view = 
   size = ap (λ (r : Rows K). r.size) is ∙ same_length ∙ ap (λ (l : Limits). l.group) limits ∙ ap (λ (u : LiveState K). u.table.limits.group) view;
 }
 
--- what rows lend, told of the places that they hold
+-- what rows lend, said of the places that they hold
 module _ {K : Type 0} (content : K → List ℕ) (held : Rows K) (table : Table) (are : AreHeld content held table) (column : ℕ) where
   pub lent-ints : (from to : ℕ) (r : Result (List (Numbers × List Bool)) Refusal) → IfOk r (λ lents. lents ≡ lent_ints content held column from to) → refusal_in r ≡ ints_refusal held column from to
       → IfOk r (λ lents. map ints_lent lents ≡ lent_part table column from to)

@@ -113,7 +113,7 @@ module _ {K : Type 0} (content : K → List ℕ) (number_of : K → ℕ) where
     pub lent-flags : flat_map (λ piece. piece.flags) (pieces_in given) ≡ slice_range (flags_of old.state.table.places) from to
     lent-flags = given-flags old.state.table limits column from to (lends-low old.state.rows column from to lent.due) given lent.says
 
-  -- where the state stays, so does the world
+  -- if the state stays, so does the world
   same-world : (old new : World K) → new.state ≡ old.state → new ≡ record old { state = new.state } → new ≡ old
   same-world old new h k = k ∙ ap (λ (s : State K). record old { state = s }) h
 

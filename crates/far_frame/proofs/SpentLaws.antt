@@ -49,7 +49,7 @@ module _ {K : Type 0} where
         (λ served k. none-some k.carried.job (sym k.carried.waits ∙ none))
         (λ e k. none-why CarryRefusal (job_at old.jobs n) e none k.refused) h
 
-    -- a step that carries or ends a job is stale where no job stands under its number
+    -- a step that carries or ends a job is stale if no job stands under its number
     pub spent : (old : World K) (s : Step) → IsSomeAnd (job_of s) (λ n. job_at old.jobs n ≡ None) → (given : Reply) (new : World K) → IsStep content number_of old s given new → given ≡ reply.Refused refusal.StaleJob
     spent old (step.Carry n) none given new h = carry-spent n old new given none h
     spent old (step.Commit n) none given new h = ended-spent n old new given (Commits number_of old.state) (CommitRefusal number_of old.state) none h

@@ -33,6 +33,7 @@ abbrev pub IsOneOf : List ℕ → Refusal → Type 0
 IsOneOf numbers refusal = IsTrue (list_any (λ number. number == refusal_number refusal) numbers)
 
 module _ {K : Type 0} where
+  -- the kind of a work
   abbrev pub kind_of_work : WorkOf K → JobKind
   kind_of_work (work.Evac evac) = kind.Evac
   kind_of_work (work.Carried carried) = kind.Evac
@@ -52,6 +53,7 @@ module _ {K : Type 0} where
   kind_of job = kind_of_work job.work
 
   module _ (is_of : K → List ℕ → Type 0) (id : List ℕ) where
+    -- what a work holds is of the store with this id
     abbrev pub IsWorkAt : WorkOf K → Type 0
     IsWorkAt (work.Evac evac) = IsFormOf is_of id (of_either evac).form
     IsWorkAt (work.Carried carried) = is_of (of_either carried).ticket id
@@ -65,18 +67,20 @@ module _ {K : Type 0} where
     IsJobAt job = IsWorkAt job.work
 
   module _ (content : K → List ℕ) where
+    -- a begun work is carried
     abbrev pub IsWorkCarried : WorkOf K → WorkOf K → Type 0
     IsWorkCarried (work.Evac evac) (work.Carried carried) = IsCarriedEvac content evac carried
     IsWorkCarried (work.Fetch fetch) (work.Fetched fetched) = IsCarriedFetch content fetch fetched
     IsWorkCarried (work.Offload build) (work.Offloaded carried) = carried ≡ build
     IsWorkCarried begun _ = ⊥
 
-    -- a job that was begun is carried: the store has its form, or its bytes are the content of its ticket, or the contents of its
-    -- tickets were read
+    -- a job that was begun is carried. The store has the form of an evacuation. A fetch has the content of its ticket. The contents of
+    -- the tickets of an offloaded build were read
     pub record IsCarried (job done : JobRecord K) : Type 0 where
       pub name : done.name ≡ job.name
       pub work : IsWorkCarried job.work done.work
 
+  -- why a work is not carried
   abbrev pub WorkRefusal : WorkOf K → Refusal → Type 0
   WorkRefusal (work.Evac evac) given = IsOneOf (21 ∷ 22 ∷ 1 ∷ []) given
   WorkRefusal (work.Fetch fetch) given = IsOneOf (21 ∷ 1 ∷ []) given
@@ -90,6 +94,7 @@ module _ {K : Type 0} where
   CarryRefusal job given = WorkRefusal job.work given
 
   module _ (r : Rows K) (column group : ℕ) where
+    -- the work of an evacuation of the object, begun now
     abbrev pub IsEvacWork : WorkOf K → Type 0
     IsEvacWork (work.Evac evac) = IsEvacBegun r column group evac
     IsEvacWork _ = ⊥
@@ -100,6 +105,7 @@ module _ {K : Type 0} where
       pub name : job.name ≡ Some record { column = column; group = group }
       pub work : IsEvacWork job.work
 
+    -- the work of a fetch of the object, begun now
     abbrev pub IsFetchWork : WorkOf K → Type 0
     IsFetchWork (work.Fetch fetch) = IsFetchBegun r column group fetch
     IsFetchWork _ = ⊥
@@ -111,6 +117,7 @@ module _ {K : Type 0} where
       pub work : IsFetchWork job.work
 
   module _ (s : State K) (a g : ℕ) where
+    -- the work of an offloaded build, begun now
     abbrev pub IsOffloadWork : WorkOf K → Type 0
     IsOffloadWork (work.Offload build) = IsOffloadBegun (live s) a g build
     IsOffloadWork _ = ⊥

@@ -192,7 +192,7 @@ static MIGRATIONS: [Migration; 5] = [
     },
 ];
 
-/// A world over another store, or as it was and why, the second time where the first finds no memory.
+/// A world over another store, or as it was and why, the second time if the first finds no memory.
 fn migrated<S: FarStore>(
     world: World<S>,
     first: Result<S, Refusal>,
@@ -265,7 +265,7 @@ fn play_once<R: Threads + Wait + Sync>(
     )
 }
 
-/// The same, the second time where there was no memory for a table or its stores at the first.
+/// The same, the second time if there was no memory for a table or its stores at the first.
 fn play<R: Threads + Wait + Sync>(
     rt: &R,
     alloc: Global,

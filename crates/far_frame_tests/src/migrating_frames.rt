@@ -176,7 +176,7 @@ fn play_once<R: Threads + Wait + Sync>(
     )
 }
 
-/// The same, the second time where the first finds no memory.
+/// The same, the second time if the first finds no memory.
 fn play<R: Threads + Wait + Sync>(rt: &R, alloc: Global, to: Plan, due: Option<Refusal>) -> Told {
     match play_once(rt, alloc, to, due) {
         Err(Refusal::NoMemory) => play_once(rt, alloc, to, due),

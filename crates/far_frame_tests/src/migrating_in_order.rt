@@ -96,7 +96,7 @@ const ALL_AWAY: Calls = &[
     (Call::Commit(7), Due::Done),
 ];
 
-/// The lengths of their far forms: numbers of the first row group, and of the second, where one of two is missing; texts of the first,
+/// The lengths of their far forms: numbers of the first row group, and of the second, of which one of two is missing; texts of the first,
 /// three bytes and six, and of the second, five bytes and eight. A row group of numbers is as long as it can be.
 const IN_ORDER: u64 = 22_22_23_23_17_20_15_18;
 
@@ -184,7 +184,7 @@ fn lengths_once<R: Threads + Wait + Sync>(rt: &R, alloc: Global) -> Result<u64, 
     }
 }
 
-/// The same, the second time where the first finds no memory.
+/// The same, the second time if the first finds no memory.
 fn lengths<R: Threads + Wait + Sync>(rt: &R, alloc: Global) -> Result<u64, Refusal> {
     match lengths_once(rt, alloc) {
         Err(Refusal::NoMemory) => lengths_once(rt, alloc),

@@ -125,7 +125,7 @@ const WRITTEN: Calls = &[
     (Call::MayEvac(0, 0), NO_NUMBERS),
 ];
 
-/// Each kind has one object: the other goes first where one is pinned, and none if both are.
+/// Each kind has one object: the other goes first if one is pinned, and none if both are.
 const COLDEST: Calls = &[
     (Call::Coldest, Due::Coldest(None)),
     FIRST,

@@ -81,7 +81,7 @@ fn first_wrong_once<R: Threads + Wait + Sync>(
     }
 }
 
-/// The same, the second time where the first finds no memory.
+/// The same, the second time if the first finds no memory.
 fn first_wrong<R: Threads + Wait + Sync>(rt: &R, alloc: Global) -> Result<Option<usize>, Refusal> {
     match first_wrong_once(rt, alloc) {
         Err(Refusal::NoMemory) => first_wrong_once(rt, alloc),

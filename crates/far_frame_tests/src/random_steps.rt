@@ -41,7 +41,7 @@ struct Run {
 }
 
 impl Run {
-    /// The store of a turn. Where the table is looked at after each step none fails; the others do, and are full before the end.
+    /// The store of a turn. If the table is looked at after each step none fails; the others do, and are full before the end.
     fn plan(&self, turn: u64) -> Plan {
         let n = self.seed.wrapping_add(turn.wrapping_mul(3));
         if self.at_each_step {
@@ -107,7 +107,7 @@ fn run_with_space(seed: u64) -> Run {
 }
 
 /// What was told so far, a bit for each kind of step that was accepted and, by its number, for each refusal of one. A proposal counts
-/// where it names a row group, and the coldest object where there is one.
+/// if it names a row group, and the coldest object if there is one.
 fn with_told(told: u64, call: Call, due: Due<'_>) -> u64 {
     match due {
         Due::Refused(refusal) => told | 1u64.wrapping_shl(refusal.number()),
@@ -190,7 +190,7 @@ struct Running {
     told: u64,
 }
 
-/// Whether the next step of a run answers what it should, and the table is as it should be where it is looked at then.
+/// Whether the next step of a run answers what it should, and the table is as it should be if it is looked at then.
 fn is_next_right<S: FarStore, R: Threads + Sync>(
     rt: &R,
     alloc: Global,
@@ -322,7 +322,7 @@ fn play_once<R: Threads + Wait + Sync>(
     wrong
 }
 
-// The same, the second time where the first finds no memory.
+// The same, the second time if the first finds no memory.
 fn play<R: Threads + Wait + Sync>(
     rt: &R,
     alloc: Global,

@@ -50,7 +50,7 @@ pub fn play_all<R: Threads + Wait + Sync>(
     Ok(None)
 }
 
-// Plays a script, the second time where there was no memory for its table or its store at the first.
+// Plays a script, the second time if there was no memory for its table or its store at the first.
 fn play<R: Threads + Wait + Sync>(
     rt: &R,
     alloc: Global,
@@ -117,7 +117,7 @@ pub fn first_wrong<S: FarStore, R: Threads + Sync>(
     Ok(None)
 }
 
-/// Whether a call answers this, the second time where the first finds no memory.
+/// Whether a call answers this, the second time if the first finds no memory.
 pub fn is_answered<S: FarStore, R: Threads + Sync>(
     rt: &R,
     alloc: Global,
@@ -131,7 +131,7 @@ pub fn is_answered<S: FarStore, R: Threads + Sync>(
     }
 }
 
-// Whether a call answers this. Nothing can be said where it finds no memory.
+// Whether a call answers this. Nothing can be said if it finds no memory.
 fn is_answered_once<S: FarStore, R: Threads + Sync>(
     rt: &R,
     alloc: Global,
@@ -338,7 +338,7 @@ fn answer_or_refusal(found: Result<Answer, Refusal>, faults: u64) -> Reply {
     }
 }
 
-// The same, the second time where the first finds no memory.
+// The same, the second time if the first finds no memory.
 fn recounted_once_more<S: FarStore, R: Threads + Sync>(
     rt: &R,
     frame: &Frame<S>,
@@ -359,7 +359,7 @@ fn is_refused(reply: &Reply, refusal: Refusal) -> bool {
     is_reply(reply, Due::Refused(refusal), 1)
 }
 
-// What a recount answers after one that was refused for a fault, where their meter shows that one fault both times.
+// What a recount answers after one that was refused for a fault, if their meter shows that one fault both times.
 fn recounted_again<S: FarStore, R: Threads + Sync>(
     rt: &R,
     frame: &Frame<S>,

@@ -175,7 +175,7 @@ pub front-within : (start plain all : ℕ) → start + plain ≤ all → start �
 front-within start plain all h = omega (arith, h)
 
 module _ {R : Type 0} (read : Ghosts R) where
-  -- nothing is read where nothing comes any more
+  -- nothing is read if nothing comes any more
   pub spent-nothing : (old new : Input R read) (bytes : List ℕ) → IsSpent read old → Reads read old bytes new → bytes ≡ []
   spent-nothing old new bytes spent p =
       no-first bytes (unread read new) (sym p.taken ∙ ap (λ (t : List ℕ). unread read old ++ t) (p.none spent.1) ∙ append-nil (unread read old) ∙ spent.0)

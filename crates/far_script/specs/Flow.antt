@@ -59,6 +59,7 @@ module _ {R : Type 0} (read : Ghosts R) where
   TakesLine old (line.Last byte_range) new =
       (list_any (λ c. c == 10) (bytes_in new byte_range) ≡ false) × (unread new ≡ []) × (new.source.ended ≡ true) × Reads old (bytes_in new byte_range) new
 
+  -- the range of bytes that a line was taken from
   abbrev pub byte_range_of : Line → ByteRange
   byte_range_of (line.Whole byte_range) = byte_range
   byte_range_of (line.Last byte_range) = byte_range
@@ -67,7 +68,7 @@ module _ {R : Type 0} (read : Ghosts R) where
   abbrev pub IsSpent : Input R read → Type 0
   IsSpent input = (unread input ≡ []) × (input.source.ended ≡ true)
 
-  -- the end of a script was not seen, before and now, though the reader was asked, or may not be asked any more; and why no more came
+  -- the end of a script was not seen, before and now. The reader was asked, or may not be asked any more. And why no more came
   abbrev pub IsUnseen : Type 0 → Input R read → Input R read → Type 0
   IsUnseen may_fail old new = (old.source.ended ≡ false) × (new.source.ended ≡ false) × (0 < new.source.reads → new.source.reads < old.source.reads)
       × IsCut may_fail old.source.reads old.source.bytes new.source.reads new.source.bytes (read.remaining old.source.reader)
@@ -76,7 +77,7 @@ module _ {R : Type 0} (read : Ghosts R) where
   abbrev pub IsOver : Input R read → List ℕ → Type 0
   IsOver new rest = (new.source.ended ≡ true) × (rest ≡ [])
 
-  -- why a load lacks bytes, with the rest of the script, which did not come: the end was seen, and there is no rest; or it was not seen
+  -- why a load lacks bytes, with the rest of the script, which did not come. The end was seen, and there is no rest. Or it was not seen
   abbrev pub IsShort : Type 0 → Input R read → Input R read → List ℕ → Type 0
   IsShort may_fail old new rest = IsOver new rest ⊎ IsUnseen may_fail old new
 

@@ -29,7 +29,7 @@ fn read_first(alloc: Global, line: &str, output: &mut Output) -> Result<FirstLin
     }
 }
 
-/// The first command of a script. Where there is none, or it is no first line, the fault is `BadStart`.
+/// Returns the first command of a script. If there is none, or it is no first line, the fault is `BadStart`.
 pub fn first_command<R: Source + Drop, W: Write>(
     alloc: Global,
     input: &mut Input<R>,

@@ -11,7 +11,7 @@ use far_types::Refusal;
 /// How many contents the first store of a script takes.
 const STORE_CAPACITY: u64 = 1_048_576;
 
-/// The table that a first line asks for, over a new store. Where the store is refused memory, the fault is `Memory`. Where the table is
+/// Opens the table that a first line asks for, over a new store. If the store cannot be allocated, the fault is `Memory`. If the table is
 /// refused with `BadSchema` (2), that is printed, and the fault is `BadStart`.
 pub fn open<S: FarStore, A: Resources<S>>(
     resources: &A,

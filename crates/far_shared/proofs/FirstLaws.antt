@@ -19,7 +19,7 @@ free-two [] n (false, e) d free = free-last n d free
 free-two ((true, e) ∷ a) n c d free = absurd cc
 free-two ((false, e) ∷ a) n c d free = free-two a n c d free
 
--- where no test refuses, none of some of them does
+-- if no test refuses, none of some of them does
 pub free-plain : (xs a n : List (Bool × Refusal)) (c d : Bool × Refusal) → first_of (xs ++ (a ++ (c ∷ (n ++ d ∷ [])))) ≡ None → first_of (xs ++ c ∷ d ∷ []) ≡ None
 free-plain [] a n c d free = free-two a n c d free
 free-plain ((true, e) ∷ xs) a n c d free = absurd cc
@@ -42,7 +42,7 @@ module _ (P : Refusal → Type 0) where
   or_other plain (inr other) = inr (refl, other)
 
   -- what refuses is one of some tests, or one of the others, and then the first ones do not refuse. The last of the others are known
-  -- where the test before them does not refuse
+  -- if the test before them does not refuse
   pub found-plain : (xs a n : List (Bool × Refusal)) (c d : Bool × Refusal) (g : Refusal) → AllTell P a → (c.0 ≡ false → AllTell P n) → first_of (xs ++ (a ++ (c ∷ (n ++ d ∷ [])))) ≡ Some g
       → (first_of (xs ++ c ∷ d ∷ []) ≡ Some g) ⊎ ((first_of xs ≡ None) × P g)
   found-plain [] a n c d g of_a of_n due = or_other (first_of (c ∷ d ∷ []) ≡ Some g) (found-two a n c d g of_a of_n due)

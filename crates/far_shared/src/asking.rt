@@ -84,7 +84,7 @@ fn read_under<'a, N: PlanTag, B: TableTag, S: FarTickets, const I: usize, R: Wai
 ) -> RwLockReadGuard<'a, Stripe<N, B, S, I>>
     requires own { stripe ≡ I }
 {
-    // For the proof: which stripe the lock is of.
+    // For the proof: gives which stripe the lock is of.
     let _own = stripe;
     lock.read(rt)
 }

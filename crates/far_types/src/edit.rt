@@ -30,7 +30,7 @@ pub enum Edit {
 }
 
 impl Edit {
-    /// An equal edit. Refused with `NoMemory` (1) alone.
+    /// Returns an equal edit. Refused with `NoMemory` (1) alone.
     pub fn clone(&self) -> Result<Edit, Refusal>
         ensures equal { IfOk result (λ edit. edit ≡ self.now) }
         ensures memory { IfErr result (λ e. e ≡ Refusal.NoMemory) }

@@ -47,7 +47,7 @@ pub fn keys_of(kind: Kind) -> &'static [Value] {
     }
 }
 
-/// The kind of a column; of numbers where there is none.
+/// The kind of a column; of numbers if there is none.
 pub fn kind_of(column: u32) -> Kind {
     KINDS[column as usize % 4]
 }

@@ -120,7 +120,7 @@ impl Plain {
         if object.dirty { None } else { object.ticket }
     }
 
-    // A build of a row group into an aggregate. It cannot be begun where the store has not all of what it needs.
+    // A build of a row group into an aggregate. It cannot be begun if the store has not all of what it needs.
     fn offload_job(&self, a: u32, group: u32) -> Job {
         let aggregate = self.aggregate(a);
         let first = group.saturating_mul(SIZE);

@@ -123,7 +123,7 @@ impl Plain {
         }
     }
 
-    /// The object of a row group of a column; where there is none, any.
+    /// The object of a row group of a column; if there is none, any.
     pub fn object(&self, column: u32, group: u32) -> Object {
         self.objects[index(column, group) % OBJECTS]
     }
