@@ -4,9 +4,7 @@ ghost use Rattle.far_codec.specs.TextForm.{IsTextsForm};
 use crate::cases::{Case, is_list};
 use crate::codec::case::all_hold;
 use crate::codec::forms::THREE_TEXTS;
-use far_codec::{
-    Elem, count_texts, form_of, form_with, form_with_next, length_with, length_with_next,
-};
+use far_codec::{Elem, count_texts, form_with, form_with_next, length_with, length_with_next};
 use far_types::{Refusal, Text};
 use std::alloc::Global;
 
@@ -46,20 +44,9 @@ fn changed(alloc: Global, bytes: &[u8], i: usize, word: Option<&str>) -> Result<
     }
 }
 
-/// The form of one text that is short or missing.
-fn one_text(alloc: Global, word: Option<&str>) -> Result<Vec<u8>, Refusal> {
-    let text = text(alloc, word)?;
-    if let Some(long) = &text
-        && long.len() >= 100
-    {
-        return Ok(Vec::new(alloc));
-    }
-    form_of(Vec::new(alloc), &text)
-}
-
-/// A text, the changes that are made to its form, and the form that it is then.
+/// A form, the changes that are made to it, and the form that it is then.
 struct Changes {
-    first: Option<&'static str>,
+    from: &'static [u8],
     /// Text `i` becomes this one, or it comes behind the others.
     changes: &'static [(usize, Option<&'static str>)],
     to: &'static [u8],
@@ -67,7 +54,7 @@ struct Changes {
 
 impl Case for Changes {
     fn is_right(&self, alloc: Global) -> Result<bool, Refusal> {
-        let mut form = one_text(alloc, self.first);
+        let mut form = Ok(Vec::from_slice(alloc, self.from)?);
         for (i, word) in self.changes {
             form = match &form {
                 Ok(form) => changed(alloc, form.as_slice(), *i, *word),
@@ -78,10 +65,16 @@ impl Case for Changes {
     }
 }
 
-/// The mask comes with a missing text, and goes with it.
+/// From no texts on. The mask comes with a missing text, and goes with it.
 static CHANGES: [Changes; 1] = [Changes {
-    first: Some("longer"),
-    changes: &[(1, Some("")), (2, None), (0, Some("a")), (2, Some("bc"))],
+    from: &[1, 1, 0, 0, 0, 0],
+    changes: &[
+        (0, Some("longer")),
+        (1, Some("")),
+        (2, None),
+        (0, Some("a")),
+        (2, Some("bc")),
+    ],
     to: THREE_TEXTS,
 }];
 
