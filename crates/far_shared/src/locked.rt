@@ -1,5 +1,6 @@
 // Work in the background, under the lock of one stripe. A carry holds no lock.
 ghost use Rattle.std.specs.Prelude.{◌≡◌, ◌+◌, ◌<◌, ◌≤◌, ◌^◌, [], ◌∷◌, None, length, IfOk, IfErr, IfSome, IsErrOf, OnOk};
+ghost use Rattle.std.specs.Fn.{FnOnceReturnsAt, FnOnceTakesAt};
 ghost use Rattle.far_store.specs.Faults.{RefusedBy, faults_in};
 ghost use Rattle.far_frame.specs.Jobs.{IsJobAt, kind_of};
 ghost use Rattle.far_shared.specs.Works.{IsJobOf, IsBuildOf, IsBuildingAt, begin_refusals, begun_kind, columns_for, end_refusals, job_refusals, stripe_of};
@@ -75,18 +76,18 @@ fn scan_under<N: PlanTag, B: TableTag, S: FarTickets, const I: usize, R: Wait>(
 
 /// Ends a job that was carried, or returns why it was not.
 ///
-/// It takes a job of any type. For the proof: taking a job out of a result costs the proof of a function minutes, and here it
-/// costs none.
-fn once_carried<J: Drop, F: FnOnce(J) -> Result<(), Refusal> + Drop>(
+/// It takes a job of any type, and lends it. For the proof: to take a job out of a result, or to own it in the closure, costs the
+/// proof of a function much, and here it costs none.
+fn once_carried<J: Drop, F: FnOnce(&J) -> Result<(), Refusal> + Drop>(
     carried: Result<J, (Refusal, J)>,
     finish: F,
 ) -> Result<(), Refusal>
-    requires { IfOk carried (λ job. F.pre finish job) }
-    ensures ended { IfOk carried (λ job. F.post finish job result) }
+    requires { IfOk carried (FnOnceTakesAt F.FnOnce finish) }
+    ensures ended { IfOk carried (λ job. FnOnceReturnsAt F.FnOnce finish job result) }
     ensures refused { IfErr carried (λ back. IsErrOf result back.0) }
 {
     match carried {
-        Ok(job) => finish(job),
+        Ok(job) => finish(&job),
         Err((refusal, _)) => Err(refusal),
     }
 }
@@ -110,12 +111,12 @@ fn complete_under<N: PlanTag, B: TableTag, S: FarStore, const I: usize, R: Wait>
 {
     once_carried(
         job.carry(alloc, store, meter),
-        |carried: Job<S>| -> Result<(), Refusal>
+        |carried: &Job<S>| -> Result<(), Refusal>
             requires own { stripe ≡ I }
             requires store { S.store_id store.now ≡ B.store }
-            requires here { IsJobAt S.is_of B.store carried }
-            ensures { RefusedBy (end_refusals (kind_of carried)) result }
-        { finish_under(rt, lock, stripe, store, &carried) },
+            requires here { IsJobAt S.is_of B.store carried.now }
+            ensures { RefusedBy (end_refusals (kind_of carried.now)) result }
+        { finish_under(rt, lock, stripe, store, carried) },
     )
 }
 

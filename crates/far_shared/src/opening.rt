@@ -64,21 +64,20 @@ fn all_four<T: Drop>(
     })
 }
 
-/// Returns what `make` makes of two values. Refused as the first was; else with `NoMemory` (1) if the second found no memory.
+/// Returns both values. Refused as the first was; else with `NoMemory` (1) if the second found no memory.
 ///
 /// It takes values of any type, for the same reason as `all_four`.
-fn both<A: Drop, B: Drop, T, F: FnOnce(A, B) -> T + Drop>(
+fn both<A: Drop, B: Drop>(
     one: Result<A, Refusal>,
     other: Result<B, AllocError>,
-    make: F,
-) -> Result<T, Refusal>
-    requires { IfOk one (λ x. IfOk other (λ y. F.pre make x y)) }
-    ensures made { IfOk result (λ made. IsOkAnd one (λ x. IsOkAnd other (λ y. F.post make x y made))) }
+) -> Result<(A, B), Refusal>
+    ensures one { IfOk result (λ both. IsOkAnd one (λ x. x ≡ both.0)) }
+    ensures other { IfOk result (λ both. IsOkAnd other (λ y. y ≡ both.1)) }
     ensures memory { IfErr one (λ e. e ≡ Refusal.NoMemory) → IfErr result (λ e. e ≡ Refusal.NoMemory) }
     ensures refused { IfErr result (λ e. IsErrOf one e ⊎ (IsOk one × IsErr other × (e ≡ Refusal.NoMemory))) }
 {
     match (one, other) {
-        (Ok(one), Ok(other)) => Ok(make(one, other)),
+        (Ok(one), Ok(other)) => Ok((one, other)),
         (Err(refusal), _) => Err(refusal),
         (_, Err(_)) => Err(Refusal::NoMemory),
     }
@@ -94,6 +93,19 @@ fn with_other<A: Drop, B: Drop>(one: A, other: Result<B, AllocError>) -> Result<
     match other {
         Ok(other) => Ok((one, other)),
         Err(_) => Err(Refusal::NoMemory),
+    }
+}
+
+/// Returns the value, if the work on it was done. Refused as the work was; the value is then dropped.
+///
+/// It takes a value of any type, for the same reason as `all_four`.
+fn once_done<T: Drop, U: Drop>(value: T, done: Result<U, Refusal>) -> Result<T, Refusal>
+    ensures ok { IfOk result (λ kept. (kept ≡ value) × IsOk done) }
+    ensures refused { IfErr result (IsErrOf done) }
+{
+    match done {
+        Ok(_) => Ok(value),
+        Err(refusal) => Err(refusal),
     }
 }
 
@@ -129,9 +141,15 @@ fn open_frame<S: FarTickets>(alloc: Global, plan: &Plan, number: u32) -> Result<
     ensures ok { IfOk result (IsEmpty S.is_of plan.now number) }
     ensures memory { IfErr result (λ e. e ≡ Refusal.NoMemory) }
 {
-    let mut frame = Frame::<S>::open(alloc, plan.schema.clone()?, plan.limits, number)?;
-    frame.watch(plan.gauge.clone()?)?;
-    Ok(frame)
+    let schema = plan.schema.clone()?;
+    let gauge = plan.gauge.clone()?;
+    match Frame::<S>::open(alloc, schema, plan.limits, number) {
+        Ok(mut frame) => {
+            let watched = frame.watch(gauge);
+            once_done(frame, watched)
+        }
+        Err(refusal) => Err(refusal),
+    }
 }
 
 /// Opens four such tables. Refused with `NoMemory` (1) alone.
@@ -160,25 +178,18 @@ impl Plan {
     {
         let count = self.sessions;
         let columns = self.schema.len() as u64;
-        both(
+        match both(
             open_frames(alloc, &self),
             far_sessions::Made::<N>::make(alloc),
-            |frames: Four<Frame<S>>, cells: far_sessions::Made<N>| -> Made<N, S>
-                requires count { count ≡ N.plan.sessions }
-                requires columns { columns ≡ length N.plan.schema }
-                requires zero { IsEmpty S.is_of N.plan 0 frames.zero }
-                requires one { IsEmpty S.is_of N.plan 1 frames.one }
-                requires two { IsEmpty S.is_of N.plan 2 frames.two }
-                requires three { IsEmpty S.is_of N.plan 3 frames.three }
-            {
-                Made {
-                    sessions: count,
-                    columns,
-                    cells,
-                    frames,
-                }
-            },
-        )
+        ) {
+            Ok((frames, cells)) => Ok(Made {
+                sessions: count,
+                columns,
+                cells,
+                frames,
+            }),
+            Err(refusal) => Err(refusal),
+        }
     }
 }
 
