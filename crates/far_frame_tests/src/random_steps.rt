@@ -163,6 +163,20 @@ fn is_right<S: FarStore, R: Threads + Sync>(
     }
 }
 
+/// Whether a look answers what it should, if there is one.
+fn is_seen_right<S: FarStore, R: Threads + Sync>(
+    rt: &R,
+    alloc: Global,
+    world: &mut World<S>,
+    plain: &mut Plain,
+    seen: Option<Call>,
+) -> Result<bool, Refusal> {
+    match seen {
+        Some(call) => is_right(rt, alloc, world, plain, call, &mut 0),
+        None => Ok(true),
+    }
+}
+
 /// Whether the table is as it should be, by so many looks of each kind.
 fn agree<S: FarStore, R: Threads + Sync>(
     rt: &R,
@@ -172,11 +186,9 @@ fn agree<S: FarStore, R: Threads + Sync>(
     reach: u32,
 ) -> Result<bool, Refusal> {
     for n in 0..reach.saturating_mul(8) {
-        if let Some(call) = look(n % 8, n / 8) {
-            match is_right(rt, alloc, world, plain, call, &mut 0) {
-                Ok(true) => {}
-                wrong => return wrong,
-            }
+        let right = is_seen_right(rt, alloc, world, plain, look(n % 8, n / 8));
+        if right != Ok(true) {
+            return right;
         }
     }
     Ok(true)
@@ -261,7 +273,7 @@ fn first_wrong_of<S: FarStore, R: Threads + Sync>(
 ) -> Result<Option<u32>, Refusal> {
     let mut wrong = first_wrong(rt, alloc, &mut world, plain, running);
     for (store, turn) in others.zip(1..STORES) {
-        let (next, refused) = migrate(world, Ok(store));
+        let (next, refused) = migrate(world, store);
         world = next;
         let due = plain.migrate(running.run.plan(turn));
         wrong = match so_far(wrong, is_due(refused, due, &mut running.told)) {
