@@ -102,8 +102,6 @@ pub enum Call {
     Merge(u64),
     Compact(Kind, u32),
     Prefetch(u32),
-    /// Takes all pins off an object, puts them on again, and tells how many there are.
-    Repin(u32, u32),
     /// Looks at the row of a place.
     Row(u32),
     /// Looks whether a place is alive: `RemovedRow` says no.

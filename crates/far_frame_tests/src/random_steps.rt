@@ -1,8 +1,7 @@
 //! Random steps of every kind on a world that goes over several stores, against plain lists, reply by reply.
 //!
 //! The lists know how long each list and far form is, so where each lies, when one does not fit, and which object goes away first. How
-//! many pins an object has no call tells, so at each look all are taken off and put on again. How old a far copy of a dirty one is, none
-//! tells either.
+//! many pins an object has, later unpins and evacuations tell. How old a far copy of a dirty one is, no call tells.
 mod aggregates;
 mod drawing;
 mod edits;
@@ -185,8 +184,8 @@ fn agree<S: FarStore, R: Threads + Sync>(
     plain: &mut Plain,
     reach: u32,
 ) -> Result<bool, Refusal> {
-    for n in 0..reach.saturating_mul(8) {
-        let right = is_seen_right(rt, alloc, world, plain, look(n % 8, n / 8));
+    for n in 0..reach.saturating_mul(7) {
+        let right = is_seen_right(rt, alloc, world, plain, look(n % 7, n / 7));
         if right != Ok(true) {
             return right;
         }

@@ -220,7 +220,6 @@ fn is_served<S: FarStore>(
 ) -> Result<bool, Refusal> {
     let size = world.frame().limits().group;
     match call {
-        Call::Repin(column, group) => is_due(repinned(world, column, group), due, size),
         Call::Faults(_)
         | Call::IsAlive(_)
         | Call::MayEvac(_, _)
@@ -257,45 +256,6 @@ fn stepped<S: FarStore>(world: &mut World<S>, step: Result<Step, Refusal>) -> Re
     match step {
         Ok(step) => served(world, step),
         Err(refusal) => Reply::Refused(refusal),
-    }
-}
-
-// Whether a step is done that says no more.
-fn is_done<S: FarStore>(world: &mut World<S>, step: Step) -> bool {
-    let reply = served(world, step);
-    let done = is_reply(&reply, Due::Done, 1);
-    drop(reply);
-    done
-}
-
-// Takes all pins off an object, and says how many it had.
-fn unpinned<S: FarStore>(world: &mut World<S>, column: u32, group: u32) -> u32 {
-    for turn in 0..65_536 {
-        if !is_done(world, Step::Unpin { column, group }) {
-            return turn;
-        }
-    }
-    65_536
-}
-
-// Puts so many pins on an object.
-fn is_pinned<S: FarStore>(world: &mut World<S>, column: u32, group: u32, count: u32) -> bool {
-    let mut done = true;
-    for _ in 0..count {
-        done = is_done(world, Step::Pin { column, group }) && done;
-    }
-    done
-}
-
-// How many pins an object has, told as a place is; or why none is taken off. All are put on again.
-fn repinned<S: FarStore>(world: &mut World<S>, column: u32, group: u32) -> Reply {
-    let count = unpinned(world, column, group);
-    if !is_pinned(world, column, group, count) {
-        Reply::Refused(Refusal::Pinned)
-    } else if count > 0 {
-        Reply::Place(count)
-    } else {
-        served(world, Step::Unpin { column, group })
     }
 }
 
