@@ -281,7 +281,7 @@ impl Plain {
             && self.offload_refusal(job.aggregate, job.group).is_none()
     }
 
-    // The row group of a build is scanned.
+    // The row group of a build into a registered aggregate is scanned.
     fn merge(&mut self, job: &Job) -> Option<Refusal> {
         if self.holds(job) {
             self.build(job.aggregate, job.group);
