@@ -57,6 +57,17 @@ module _ (c : ℕ) (places : List Place) (from to : ℕ) where
   pub piece-range : record { cells = slice_range (column_of c places) from to; flags = slice_range (flags_of places) from to } ≡ piece_of c (slice_range places from to)
   piece-range = λ i. record { cells = cells-range i; flags = flags-range i }
 
+-- the part of one place is its cell
+one-taken : {A : Type 0} (xs : List A) (p : ℕ) (x : A) → slice_get xs p ≡ Some x → take 1 (drop p xs) ≡ x ∷ []
+one-taken [] p x is = absurd (omega (arith, slice_get_within [] p x is))
+one-taken (y ∷ ys) zero x is = (let same : y ≡ x = same_Some y x is in ap (λ z. z ∷ []) same)
+one-taken (y ∷ ys) (suc p) x is = one-taken ys p x is
+
+pub part-one : (table : Table) (column place : ℕ) (one : Cell) → slice_get (column_of column table.places) place ≡ Some one → part column place (place + 1) table.places ≡ one ∷ []
+part-one table column place one is =
+    let alone : place + 1 - place ≡ 1 = omega arith in
+    ap (λ n. take n (drop place (column_of column table.places))) alone ∙ one-taken (column_of column table.places) place one is
+
 -- numbers that are those of a column of some places, lent row group by row group with the flags of the places
 module _ (size : ℕ) (some : 0 < size) (c : ℕ) (nums : Numbers) (places : List Place) (same : column_of c places ≡ map int_cell nums) where
   abbrev IsCut : ℕ → ℕ → Type 0

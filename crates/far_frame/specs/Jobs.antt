@@ -5,7 +5,7 @@ use Rattle.far_types.specs.declared.name.Name.{Name}
 use Rattle.far_types.specs.declared.refusal.Refusal.{Refusal}
 use Rattle.far_types.specs.declared.refusal.Refusal.TheVariants as refusal
 use Rattle.far_types.specs.Refusals.{number_of as refusal_number}
-use Rattle.far_evacuator.specs.Jobs.{Evacuation, CarriedEvacuation, Fetch, CarriedFetch, IsFormOf}
+use Rattle.far_evacuator.specs.Jobs.{Evacuation, CarriedEvacuation, Fetch, CarriedFetch, IsDirtyForm, IsFormOf}
 use Rattle.far_rows.specs.declared.job.ByKind.{ByKind}
 use Rattle.far_rows.specs.Rows.{Rows}
 use Rattle.far_rows.specs.Coldest.{coldest}
@@ -78,14 +78,15 @@ module _ {K : Type 0} where
       pub work : IsWorkCarried job.work done.work
 
   abbrev pub WorkRefusal : WorkOf K → Refusal → Type 0
-  WorkRefusal (work.Evac evac) given = IsOneOf (21 ∷ 22 ∷ 1 ∷ []) given
+  WorkRefusal (work.Evac evac) given = IsDirtyForm (of_either evac).form × IsOneOf (21 ∷ 22 ∷ 1 ∷ []) given
   WorkRefusal (work.Fetch fetch) given = IsOneOf (21 ∷ 1 ∷ []) given
   WorkRefusal (work.Carried carried) given = given ≡ refusal.StaleJob
   WorkRefusal (work.Fetched fetched) given = given ≡ refusal.StaleJob
   WorkRefusal (work.Offload build) given = IsOneOf (21 ∷ 1 ∷ []) given
   WorkRefusal (work.Offloaded build) given = given ≡ refusal.StaleJob
 
-  -- why a job is not carried: it was already; else the store failed or was full, or memory ran out
+  -- why a job is not carried: it was already; else the store failed or was full, or memory ran out. An evacuation that was
+  -- begun on a clean object asks the store for nothing, so it is carried
   abbrev pub CarryRefusal : JobRecord K → Refusal → Type 0
   CarryRefusal job given = WorkRefusal job.work given
 
@@ -127,7 +128,28 @@ module _ {K : Type 0} where
     IsColdestJob None = coldest r ≡ None
     IsColdestJob (Some job) = IsSomeAnd job.name (λ name. (coldest r ≡ Some name) × IsEvacJob r name.column name.group job)
 
+  -- a job is an offloaded build whose aggregate is not registered
+  abbrev pub IsForgotten : State K → WorkOf K → Type 0
+  IsForgotten s (work.Offload build) = aggregate_at s.table build.aggregate ≡ None
+  IsForgotten s (work.Offloaded build) = aggregate_at s.table build.aggregate ≡ None
+  IsForgotten s _ = ⊥
+
   module _ (number_of : K → ℕ) (old : State K) where
+    -- a job is an evacuation that was carried, and what it rests on still holds
+    abbrev pub MayCommit : WorkOf K → Type 0
+    MayCommit (work.Carried carried) = IsEvacAccepted number_of old.rows carried
+    MayCommit _ = ⊥
+
+    -- likewise a fetch
+    abbrev pub MayInstall : WorkOf K → Type 0
+    MayInstall (work.Fetched fetched) = IsFetchAccepted number_of old.rows fetched
+    MayInstall _ = ⊥
+
+    -- likewise an offloaded build
+    abbrev pub MayMerge : WorkOf K → Type 0
+    MayMerge (work.Offloaded build) = IsMergeable number_of (live old) build
+    MayMerge _ = ⊥
+
     -- a job is an evacuation that was carried and is accepted, and its object is away
     abbrev pub Commits : WorkOf K → State K → Type 0
     Commits (work.Carried carried) new = Alters (IsMoved (IsCommitted number_of carried)) old new
@@ -144,9 +166,11 @@ module _ {K : Type 0} where
     Merges (work.Offloaded build) new = Alters (λ before after. IsMerged number_of before build after) old new
     Merges _ new = ⊥
 
-    -- or it is not: its aggregate is not registered, what it rests on holds no more, or memory ran out. Any other job is stale
-    -- here
+    -- or it is not: its aggregate is not registered, what it rests on holds no more, or memory ran out. A build that was not
+    -- carried is stale if its aggregate is registered. A job of another kind is stale here
     abbrev pub MergeRefusal : WorkOf K → Refusal → Type 0
+    MergeRefusal (work.Offload build) given = ((given ≡ refusal.NoAggregate) × (aggregate_at old.table build.aggregate ≡ None))
+        ⊎ ((given ≡ refusal.StaleJob) × IsSome (aggregate_at old.table build.aggregate))
     MergeRefusal (work.Offloaded build) given = ((given ≡ refusal.NoAggregate) × (aggregate_at old.table build.aggregate ≡ None))
         ⊎ (((given ≡ refusal.StaleJob) × IsSome (aggregate_at old.table build.aggregate) × ¬ (IsMergeable number_of (live old) build))
         ⊎ ((given ≡ refusal.NoMemory) × ¬ (¬ (IsMergeable number_of (live old) build))))

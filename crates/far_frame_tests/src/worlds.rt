@@ -308,7 +308,7 @@ const OUTDATED: Calls = &[
     (Call::Ask(1), Due::Lines(&[(Missing, 4, 26)])),
 ];
 
-/// A build keeps its number while its aggregate is forgotten, and is not that of another.
+/// A build keeps its number while its aggregate is forgotten, carried or not, and is not that of another.
 const FORGOTTEN: Calls = &[
     (Call::Watch(TOTALS), Due::Aggregate(1)),
     (Call::Evac(0, 0), Due::Job(0)),
@@ -322,6 +322,14 @@ const FORGOTTEN: Calls = &[
     (Call::Merge(1), Due::Refused(Refusal::StaleJob)),
     (Call::Unwatch(1), Due::Done),
     (Call::Merge(1), Due::Refused(Refusal::StaleJob)),
+    (Call::Watch(TOTALS), Due::Aggregate(1)),
+    (Call::Offload(1, 0), Due::Job(2)),
+    (Call::Unwatch(1), Due::Done),
+    (Call::Merge(2), Due::Refused(Refusal::NoAggregate)),
+    (Call::Carry(2), Due::Done),
+    (Call::Merge(2), Due::Refused(Refusal::NoAggregate)),
+    (Call::Watch(TOTALS), Due::Aggregate(1)),
+    (Call::Merge(2), Due::Refused(Refusal::StaleJob)),
 ];
 
 /// A build that was not carried is stale at its end, and so is one at the end of another job.
