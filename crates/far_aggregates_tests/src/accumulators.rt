@@ -4,5 +4,4 @@
 // What is tested is made in one place and lent to the function that plays the case, so no way out of that drops it.
 mod extrema;
 mod live_extrema;
-mod many_keys;
 mod totals;

@@ -23,23 +23,3 @@ pub fn all_are_right<R: Abort, C: NamedCase>(rt: &R, alloc: Global, cases: &[C])
         assert!(rt; case.is_right(alloc) == Ok(true), "{name}");
     }
 }
-
-/// What is compared with another of its kind.
-pub trait Same: Drop {
-    fn is_same(&self, other: &Self) -> bool;
-}
-
-/// Whether two values that were made are the same.
-pub fn are_same<T: Same>(
-    one: Result<T, Refusal>,
-    other: Result<T, Refusal>,
-) -> Result<bool, Refusal> {
-    let one = one?;
-    let other = other?;
-    Ok(one.is_same(&other))
-}
-
-/// Whether both answers are yes; the first that is not, if there is one.
-pub fn both(one: Result<bool, Refusal>, other: Result<bool, Refusal>) -> Result<bool, Refusal> {
-    if one == Ok(true) { other } else { one }
-}

@@ -8,8 +8,6 @@ pub enum Name {
     Nobody,
     Number(i64),
     Word(&'static str),
-    /// The text that a number is written as. No line is named so.
-    Written(i64),
 }
 
 /// The name of a row's key, and the row's value.
@@ -33,10 +31,6 @@ pub fn key_of(alloc: Global, name: Name) -> Result<Option<Key>, Refusal> {
         Name::Nobody => Ok(None),
         Name::Number(number) => Ok(Some(Key::Int(number))),
         Name::Word(word) => Ok(Some(Key::Text(text(alloc, word)?))),
-        Name::Written(number) => {
-            let written = format!(in alloc; "{number}")?;
-            Ok(Some(Key::Text(Text::new(written))))
-        }
     }
 }
 

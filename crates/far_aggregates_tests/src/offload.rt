@@ -1,5 +1,4 @@
-// Tests of far_offload: worked row groups, carried and folded at hand, and what a refusal leaves: the repeat gives the
-// answer.
+// Tests of far_offload: worked row groups that are folded at hand, and a job that is carried at the second call.
 mod cases;
 mod folding;
 mod jobs;

@@ -134,17 +134,3 @@ fn changes_part_by_part() -> bool {
 fn each_change_keeps_the_other_parts(rt: HostRuntime) {
     assert!(rt; changes_part_by_part());
 }
-
-/// Whether no change changes a word, and it has no mark.
-fn stays(away: Word) -> bool {
-    away.with_dirty() == away
-        && away.with_hot(true) == away
-        && away.with_at(AT_1) == away
-        && !away.dirty()
-        && !away.hot()
-}
-
-#[test]
-fn a_remote_word_stays_as_it_is(rt: HostRuntime) {
-    assert!(rt; stays(Word::remote()));
-}

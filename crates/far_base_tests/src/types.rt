@@ -1,5 +1,4 @@
 // Tests of far_types: what no clause says, and that calls succeed with ample memory.
-mod aggregates;
 mod answers;
 mod clones;
 mod examples;

@@ -119,7 +119,7 @@ impl NamedCase for Groups {
     }
 }
 
-static GROUPS: [Groups; 4] = [
+static GROUPS: [Groups; 2] = [
     Groups {
         name: "a group is merged",
         merged: &[(Name::Nobody, 3), (Name::Nobody, 4)],
@@ -131,36 +131,6 @@ static GROUPS: [Groups; 4] = [
         merged: &[(Name::Nobody, 3), (Name::Nobody, 4)],
         set: (0, &[(Name::Nobody, 4)]),
         lines: &[(Name::Nobody, 4, 4)],
-    },
-    Groups {
-        name: "a merged group is replaced by one without rows",
-        merged: &[(Name::Nobody, 3), (Name::Nobody, 4)],
-        set: (0, &[]),
-        lines: &[],
-    },
-    // The second row group has no row.
-    Groups {
-        name: "keys of all groups ascend, each with the extremes of all",
-        merged: &[
-            (Name::Number(7), i64::MAX),
-            (Name::Word("b"), 1),
-            (Name::Number(7), -5),
-        ],
-        set: (
-            2,
-            &[
-                (Name::Word("ab"), 2),
-                (Name::Number(-2), i64::MIN),
-                (Name::Word("b"), -4),
-                (Name::Number(7), 6),
-            ],
-        ),
-        lines: &[
-            (Name::Number(-2), i64::MIN, i64::MIN),
-            (Name::Number(7), -5, i64::MAX),
-            (Name::Word("ab"), 2, 2),
-            (Name::Word("b"), -4, 1),
-        ],
     },
 ];
 
@@ -183,42 +153,25 @@ impl RowsLeft for Left {
     }
 }
 
-/// Whether what stands under a key of row group 1 follows two rows, of which the second goes, is put to another and follows
-/// one more.
+/// Whether a min-max follows two rows, of which the second goes.
 fn follows_rows(live: &mut LiveExtrema, key: &Option<Key>) -> Result<bool, Refusal> {
     live.make_room(1);
-    let before = live.min_max(1, key);
     live.observe_under(1, key, 4)?;
-    let Some(min_max) = live.min_max(1, key) else {
-        return Ok(false);
-    };
-    live.observe_over(1, key, 9, min_max);
+    live.observe_under(1, key, 9)?;
     if live.min_max(1, key) != Some((4, 9)) {
         return Ok(false);
     }
-    let left = live.shrink(1, key, 9, &Left(Some((4, 4))));
-    if left != Some((4, 4)) || live.min_max(1, key) != Some((4, 4)) {
-        return Ok(false);
-    }
-    live.put_min_max(1, key, Some((3, 5)));
-    live.observe_under(1, key, -1)?;
-    Ok(before.is_none() && live.min_max(1, key) == Some((-1, 5)))
+    Ok(live.shrink(1, key, 9, &Left(Some((4, 4)))) == Some((4, 4)))
 }
 
-/// Whether a min-max follows rows in its own row group, and the row groups around it have nothing under its key.
-fn follows_rows_alone(live: &mut LiveExtrema, key: &Option<Key>) -> Result<bool, Refusal> {
-    let follows = follows_rows(live, key)?;
-    Ok(follows && live.min_max(0, key).is_none() && live.min_max(2, key).is_none())
-}
-
-fn a_min_max_follows_rows_alone(alloc: Global) -> Result<bool, Refusal> {
+fn follows_rows_under_a_text(alloc: Global) -> Result<bool, Refusal> {
     let key = key_of(alloc, Name::Word("a"))?;
-    follows_rows_alone(&mut LiveExtrema::new(alloc, 0), &key)
+    follows_rows(&mut LiveExtrema::new(alloc, 0), &key)
 }
 
 #[test]
-fn a_min_max_follows_a_row_and_is_put_back(rt: HostRuntime) {
-    must_be(&rt, a_min_max_follows_rows_alone(rt.alloc()), Ok(true));
+fn a_min_max_follows_rows(rt: HostRuntime) {
+    must_be(&rt, follows_rows_under_a_text(rt.alloc()), Ok(true));
 }
 
 /// Whether rows under a key that a row group has are observed without memory, and each call returns what stood there. The first row

@@ -1,24 +1,13 @@
 // A row group that is folded, and the lines of its answer.
-ghost use Rattle.std.specs.Prelude.{◌≡◌, ◌<◌, ◌^◌, length, All, IsTrue};
-ghost use Rattle.far_codec.specs.Lent.{IsForm};
+ghost use Rattle.std.specs.Prelude.{◌<◌, ◌^◌, length, IsTrue};
 ghost use Rattle.far_codec.specs.TextForm.{IsTextsForm};
 
 use crate::cases::NamedCase;
 use crate::lines::{Lines, text};
-use crate::offload::rows::{form_of, put_ints, put_texts};
-use far_offload::{Column, OffloadJob, PartialDone, fold};
-use far_store::{FarStore, Meter};
-use far_types::{Answer, Filter, Fold, Op, Refusal, Spec, Test};
+use crate::offload::rows::form_of;
+use far_offload::{Column, PartialDone, fold};
+use far_types::{Answer, Filter, Fold, Refusal, Spec, Test};
 use std::alloc::Global;
-
-/// Which rows pass: by their number, or by their text.
-#[derive(Clone, Copy)]
-pub enum Passing {
-    All,
-    Number(Op, i64),
-    TextBegins(&'static str),
-    TextIs(&'static str),
-}
 
 /// A row group of a column of numbers and one of texts.
 #[derive(Clone, Copy)]
@@ -33,28 +22,17 @@ pub struct Case {
     pub name: &'static str,
     pub rows: RowGroup,
     pub key: Option<u32>,
-    pub passing: Passing,
+    /// The rows pass whose text begins so, and all where there is nothing.
+    pub prefix: Option<&'static str>,
     pub lines: Lines<'static>,
 }
 
-fn tests_of(alloc: Global, passing: Passing) -> Result<Vec<Test>, Refusal> {
-    let test = match passing {
-        Passing::All => return Ok(Vec::new(alloc)),
-        Passing::Number(op, value) => Test::Int {
-            column: 0,
-            op,
-            value,
-        },
-        Passing::TextBegins(word) => Test::TextBegins {
-            column: 1,
-            text: text(alloc, word)?,
-        },
-        Passing::TextIs(word) => Test::TextIs {
-            column: 1,
-            text: text(alloc, word)?,
-        },
+fn tests_of(alloc: Global, prefix: Option<&str>) -> Result<Vec<Test>, Refusal> {
+    let Some(prefix) = prefix else {
+        return Ok(Vec::new(alloc));
     };
-    Ok(Vec::from_array(alloc, [test])?)
+    let text = text(alloc, prefix)?;
+    Ok(Vec::from_array(alloc, [Test::TextBegins { column: 1, text }])?)
 }
 
 fn answer_of(alloc: Global, done: &PartialDone) -> Result<Answer, Refusal> {
@@ -76,51 +54,8 @@ pub fn is_told(
     }
 }
 
-/// What was carried, or the refusal alone.
-fn without_job<D: Drop, J: Drop>(carried: Result<D, (Refusal, J)>) -> Result<D, Refusal> {
-    match carried {
-        Ok(done) => Ok(done),
-        Err((refusal, _)) => Err(refusal),
-    }
-}
-
-/// What a job comes to, at the second call where the first is refused, which is counted.
-fn carry_again<S: FarStore>(
-    alloc: Global,
-    store: &S,
-    job: OffloadJob<S>,
-    refused: &mut u64,
-) -> Result<PartialDone, Refusal>
-    requires here { All (λ ticket. S.is_of ticket.1 (S.store_id store.now)) job.tickets }
-    requires none { refused.old ≡ 0 }
-{
-    match job.carry(alloc, store, &mut Meter::new()) {
-        Ok(done) => Ok(done),
-        Err((_, job)) => {
-            *refused += 1;
-            without_job(job.carry(alloc, store, &mut Meter::new()))
-        }
-    }
-}
-
-/// Whether a job comes to these lines, once it was refused so often.
-fn comes_to<S: FarStore>(
-    alloc: Global,
-    store: &S,
-    job: OffloadJob<S>,
-    refused: u64,
-    lines: Lines<'_>,
-) -> Result<bool, Refusal>
-    requires { All (λ ticket. S.is_of ticket.1 (S.store_id store.now)) job.tickets }
-{
-    let mut met = 0;
-    let done = carry_again(alloc, store, job, &mut met);
-    let are_right = is_told(alloc, lines, done);
-    if met == refused { are_right } else { Ok(false) }
-}
-
 /// The columns of a row group at hand: the numbers in a list and the texts in a form.
-pub fn columns<'a>(numbers: &'a [Option<i64>], form: &'a [u8]) -> [Column<'a>; 2]
+fn columns<'a>(numbers: &'a [Option<i64>], form: &'a [u8]) -> [Column<'a>; 2]
     requires { IsTextsForm form.now }
 {
     [Column::of_numbers(0, numbers), Column::of_form(1, form)]
@@ -136,7 +71,7 @@ impl RowGroup {
 }
 
 impl Case {
-    pub fn spec(&self, alloc: Global) -> Result<Spec, Refusal> {
+    fn spec(&self, alloc: Global) -> Result<Spec, Refusal> {
         let fold = match self.lines {
             Lines::Totals(_) => Fold::Totals,
             Lines::Extrema(_) => Fold::Extrema,
@@ -145,47 +80,8 @@ impl Case {
             fold,
             value: 0,
             key: self.key,
-            filter: Filter::new(tests_of(alloc, self.passing)?),
+            filter: Filter::new(tests_of(alloc, self.prefix)?),
         })
-    }
-
-    /// Whether a job over numbers, in column 0, and texts, in column 1, has the lines, once it was refused so often.
-    fn is_carried_over<S: FarStore>(
-        &self,
-        alloc: Global,
-        store: &S,
-        spec: Spec,
-        ints: S::Ticket,
-        texts: S::Ticket,
-        refused: u64,
-    ) -> Result<bool, Refusal>
-        requires ints { S.is_of ints (S.store_id store.now) }
-        requires ints_form { IsForm (S.content ints) }
-        requires texts { S.is_of texts (S.store_id store.now) }
-        requires texts_form { IsForm (S.content texts) }
-        requires alive { length self.now.rows.alive.now < 2 ^ 26 }
-    {
-        let mut tickets = Vec::new(alloc);
-        tickets.push((0, ints))?;
-        tickets.push((1, texts))?;
-        let job = OffloadJob::new(spec, tickets, Vec::from_slice(alloc, self.rows.alive)?);
-        comes_to(alloc, store, job, refused, self.lines)
-    }
-
-    /// Whether a job over the contents of the row group in a store has the lines, once it was refused so often.
-    pub fn is_carried<S: FarStore>(
-        &self,
-        alloc: Global,
-        store: &S,
-        refused: u64,
-    ) -> Result<bool, Refusal> {
-        if !self.rows.is_short() {
-            return Ok(false);
-        }
-        let ints = put_ints(alloc, store, self.rows.numbers)?;
-        let texts = put_texts(alloc, store, self.rows.words)?;
-        let spec = self.spec(alloc)?;
-        self.is_carried_over(alloc, store, spec, ints, texts, refused)
     }
 }
 

@@ -1,15 +1,13 @@
-// A job that is kept, and what stands under one key.
+// A job that is kept, meets a fault, and is carried again.
 ghost use Rattle.std.specs.Prelude.{All};
 
 use crate::cases::must_be;
-use crate::lines::{Lines, Name, key_of, text};
-use crate::offload::cases::SIX_ROWS;
-use crate::offload::folding::{columns, is_told};
-use crate::offload::rows::{form_of, put_ints};
-use far_extrema::MinMax;
-use far_offload::{OffloadJob, min_max_under};
-use far_store::{AgentStore, FarStore, Meter};
-use far_types::{Key, Refusal, Spec, Test};
+use crate::lines::{Lines, Name};
+use crate::offload::folding::is_told;
+use crate::offload::rows::put_ints;
+use far_offload::{OffloadJob, PartialDone};
+use far_store::{AgentStore, FarStore, FaultyStore, Meter};
+use far_types::{Refusal, Spec};
 use std::alloc::Global;
 
 static ALIVE: [bool; 4] = [true, false, true, true];
@@ -26,57 +24,71 @@ fn is_kept<S: FarStore>(alloc: Global, store: &S, job: &OffloadJob<S>) -> Result
     if kept { folded } else { Ok(false) }
 }
 
-/// Whether a job over the numbers from 1 to 4 is kept, in a store.
-fn keeps_a_job<S: FarStore>(alloc: Global, store: &S) -> Result<bool, Refusal> {
+/// What was carried, or the refusal alone.
+fn without_job<D: Drop, J: Drop>(carried: Result<D, (Refusal, J)>) -> Result<D, Refusal> {
+    match carried {
+        Ok(done) => Ok(done),
+        Err((refusal, _)) => Err(refusal),
+    }
+}
+
+/// What a job comes to at the second call, where the first meets a fault.
+fn carry_again<S: FarStore>(
+    alloc: Global,
+    store: &S,
+    job: OffloadJob<S>,
+) -> Result<PartialDone, Refusal>
+    requires { All (λ ticket. S.is_of ticket.1 (S.store_id store.now)) job.tickets }
+{
+    match job.carry(alloc, store, &mut Meter::new()) {
+        Ok(done) => {
+            drop(done);
+            Err(Refusal::StaleJob)
+        }
+        Err((Refusal::FarFault, job)) => { without_job(job.carry(alloc, store, &mut Meter::new())) }
+        Err((refusal, job)) => {
+            drop(job);
+            Err(refusal)
+        }
+    }
+}
+
+/// Whether a job is kept, and carried once it met a fault.
+fn is_carried<S: FarStore>(alloc: Global, store: &S, job: OffloadJob<S>) -> Result<bool, Refusal>
+    requires { All (λ ticket. S.is_of ticket.1 (S.store_id store.now)) job.tickets }
+{
+    match is_kept(alloc, store, &job) {
+        Ok(true) => is_told(alloc, LINES, carry_again(alloc, store, job)),
+        reply => {
+            drop(job);
+            reply
+        }
+    }
+}
+
+/// The same of a job over the numbers from 1 to 4, of which the second has a dead place.
+fn carries_a_job<S: FarStore>(alloc: Global, store: &S) -> Result<bool, Refusal> {
     let ints = put_ints(alloc, store, &[Some(1), Some(2), Some(3), Some(4)])?;
     let mut tickets = Vec::new(alloc);
     tickets.push((0, ints))?;
     let alive = Vec::from_array(alloc, ALIVE)?;
     let job = OffloadJob::new(Spec::totals(alloc, 0), tickets, alive);
-    is_kept(alloc, store, &job)
+    is_carried(alloc, store, job)
 }
 
-/// The same, if the store was made.
-fn keeps_a_job_once_made<S: FarStore>(
+/// The same over a store, if it was made, whose second get fails. It is the first of a carry.
+fn carries_a_job_once_made<S: FarStore>(
     alloc: Global,
     store: Result<S, Refusal>,
 ) -> Result<bool, Refusal> {
     match store {
-        Ok(store) => keeps_a_job(alloc, &store),
+        Ok(store) => carries_a_job(alloc, &FaultyStore::new(store, 0, 2)),
         Err(refusal) => Err(refusal),
     }
 }
 
 #[test]
-fn a_job_that_is_kept_gives_its_partial(rt: HostRuntime) {
+fn a_job_that_is_kept_and_met_a_fault_is_carried_again(rt: HostRuntime) {
     let store = AgentStore::new(&rt, rt.alloc(), 8);
-    must_be(&rt, keeps_a_job_once_made(rt.alloc(), store), Ok(true));
-}
-
-/// The extrema by text, over the rows whose text begins with `a`.
-fn under_texts_with_a(alloc: Global) -> Result<Spec, Refusal> {
-    let text = text(alloc, "a")?;
-    Spec::extrema(alloc, 0)
-        .by(1)
-        .only(Test::TextBegins { column: 1, text })
-}
-
-/// The extrema of the six rows under a key.
-fn min_max_in(alloc: Global, spec: &Spec, key: &Option<Key>) -> Result<Option<MinMax>, Refusal> {
-    let form = form_of(alloc, SIX_ROWS.words)?;
-    let columns = columns(SIX_ROWS.numbers, &form);
-    Ok(min_max_under(spec, &columns, SIX_ROWS.alive, key))
-}
-
-/// The least and the greatest number of the six rows with this text, of those whose text begins with `a`.
-fn min_max_of(alloc: Global, word: &'static str) -> Result<Option<MinMax>, Refusal> {
-    let spec = under_texts_with_a(alloc)?;
-    let key = key_of(alloc, Name::Word(word))?;
-    min_max_in(alloc, &spec, &key)
-}
-
-#[test]
-fn a_min_max_is_that_of_the_live_rows_under_its_key(rt: HostRuntime) {
-    must_be(&rt, min_max_of(rt.alloc(), "ab"), Ok(Some((3, 3))));
-    must_be(&rt, min_max_of(rt.alloc(), "b"), Ok(None));
+    must_be(&rt, carries_a_job_once_made(rt.alloc(), store), Ok(true));
 }

@@ -50,17 +50,3 @@ pub fn form_of(alloc: Global, words: &[Option<&str>]) -> Result<Vec<u8>, Refusal
     }
     Ok(form)
 }
-
-/// A ticket for these texts.
-pub fn put_texts<S: FarStore>(
-    alloc: Global,
-    store: &S,
-    words: &[Option<&str>],
-) -> Result<S::Ticket, Refusal>
-    ensures here { IfOk result (λ ticket. S.is_of ticket (S.store_id store.now)) }
-    ensures form { IfOk result (λ ticket. IsForm (S.content ticket)) }
-{
-    let mut meter = Meter::new();
-    let form = form_of(alloc, words)?;
-    store.put(alloc, &mut meter, &form)
-}

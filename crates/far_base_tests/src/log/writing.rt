@@ -1,4 +1,4 @@
-// Callers that write through what the region lends.
+// A caller that writes through what the region lends.
 ghost use Rattle.std.specs.Prelude.{◌<◌, IsSomeAnd, length, Some, slice_set};
 ghost use Rattle.far_log.specs.RegionState.{part_of};
 ghost use Rattle.far_log.specs.Effects.{ChangesOnly};
@@ -22,22 +22,5 @@ pub fn write_first<T: Elem>(region: &mut Region<T>, at: At, value: T) -> bool {
         return false;
     }
     set_first(region, at, value);
-    true
-}
-
-/// Writes a value over a range of a part; false where it has none.
-pub fn write_range<T: Elem>(
-    region: &mut Region<T>,
-    at: At,
-    from: usize,
-    to: usize,
-    value: T,
-) -> bool {
-    if !region.holds(at) || from > to || to > region.part(at).len() {
-        return false;
-    }
-    for element in region.range_mut(at, from, to).iter_mut() {
-        *element = value;
-    }
     true
 }

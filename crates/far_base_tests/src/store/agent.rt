@@ -1,11 +1,9 @@
 // The agent store: worked examples, four threads at once, and memory that is refused.
 use crate::store::case::{AGENT, Case, all_hold};
 use crate::store::generic::Why::Full;
-use crate::store::script::Line::{
-    Fill, FourThreads, FromShelf, Get, Put, StaysFull, TellsApart, ToShelf,
-};
+use crate::store::script::Line::{Fill, FourThreads, FromShelf, Get, Put, StaysFull, ToShelf};
 
-static CASES: [Case; 8] = [
+static CASES: [Case; 6] = [
     Case {
         name: "a store of capacity one takes one content and keeps it",
         capacity: 1,
@@ -38,23 +36,6 @@ static CASES: [Case; 8] = [
             StaysFull(1_000_000, 1 << 20),
             Get(Ok(&[0x61])),
         ],
-        ..AGENT
-    },
-    Case {
-        name: "a get replaces what the buffer had",
-        lines: &[
-            Put(&[9, 9, 9], Ok(0)),
-            Get(Ok(&[9, 9, 9])),
-            Put(&[7; 300], Ok(1)),
-            Get(Ok(&[7; 300])),
-            Put(&[], Ok(2)),
-            Get(Ok(&[])),
-        ],
-        ..AGENT
-    },
-    Case {
-        name: "the tickets of two contents are told apart",
-        lines: &[Put(&[7; 300], Ok(0)), TellsApart(&[])],
         ..AGENT
     },
     Case {

@@ -5,8 +5,8 @@ use crate::store::generic::Why::{Fault, Full, NoMemory};
 use crate::store::planned_engine::Turn;
 use crate::store::script::Line::{self, FourThreads, FromShelf, Get, Put, ToShelf};
 use crate::store::script::plays;
-use far_byte_log::{ByteLog, LogFull};
-use far_store::{EngineStore, Failure};
+use far_byte_log::ByteLog;
+use far_store::EngineStore;
 use far_types::Refusal;
 use std::alloc::Global;
 use std::sync::Wait;
@@ -79,27 +79,26 @@ static IN_FIVE_BYTES: [Line; 6] = [
 ];
 
 // Whether a store over a log of five bytes answers each line as it should, and uses all of them then.
+fn uses_all<R: Threads + Wait + Sync + Drop>(
+    rt: &R,
+    alloc: Global,
+    store: &EngineStore<ByteLog, &R>,
+) -> bool {
+    plays(rt, store, alloc, &IN_FIVE_BYTES) && store.engine().used() == 5
+}
+
+// The same, if the store is made.
 fn uses_all_of_five<R: Threads + Wait + Sync + Drop>(
     rt: &R,
     alloc: Global,
 ) -> Result<bool, Refusal> {
     let store = EngineStore::new(rt, alloc, ByteLog::new(alloc, 5)?, 8)?;
-    Ok(plays(rt, &store, alloc, &IN_FIVE_BYTES) && store.engine().used() == 5)
+    let uses_all = uses_all(rt, alloc, &store);
+    drop(store);
+    Ok(uses_all)
 }
 
 #[test]
 fn a_content_that_does_not_fit_into_the_log_leaves_its_space(rt: HostRuntime) {
     must_be(&rt, uses_all_of_five(&rt, rt.alloc()), Ok(true));
-}
-
-// Whether a failure prints why the engine failed.
-fn prints_its_reason(alloc: Global) -> Result<bool, Refusal> {
-    let failure = Failure::Engine(LogFull);
-    let printed = format!(in alloc; "{failure}")?;
-    Ok(printed.as_str() == "the engine failed: the log has no room for so many bytes")
-}
-
-#[test]
-fn a_failure_prints_its_reason(rt: HostRuntime) {
-    must_be(&rt, prints_its_reason(rt.alloc()), Ok(true));
 }

@@ -2,20 +2,12 @@
 use crate::store::case::{AGENT, Base, Case, LOG, all_hold};
 use crate::store::generic::Why::{Fault, Full, NoMemory};
 use crate::store::planned_engine::Turn;
-use crate::store::script::Line::{self, FourThreads, Get, JoinsMeters, Put};
+use crate::store::script::Line::{self, FourThreads, Get, Put};
 
-// What five puts draw of which the first fails, the second or the third: the one that fails draws nothing.
+// What five puts draw of which the first fails, or the third: the one that fails draws nothing.
 const FIRST_FAILS: &[Line] = &[
     Put(&[1], Err(Fault)),
     Put(&[1], Ok(0)),
-    Put(&[1], Ok(1)),
-    Put(&[1], Ok(2)),
-    Put(&[1], Ok(3)),
-];
-
-const SECOND_FAILS: &[Line] = &[
-    Put(&[1], Ok(0)),
-    Put(&[1], Err(Fault)),
     Put(&[1], Ok(1)),
     Put(&[1], Ok(2)),
     Put(&[1], Ok(3)),
@@ -29,17 +21,11 @@ const THIRD_FAILS: &[Line] = &[
     Put(&[1], Ok(3)),
 ];
 
-static CASES: [Case; 11] = [
+static CASES: [Case; 6] = [
     Case {
         name: "the first put fails once and its repeat is served",
         failing_put: 1,
         lines: FIRST_FAILS,
-        ..AGENT
-    },
-    Case {
-        name: "the second put fails once and its repeat is served",
-        failing_put: 2,
-        lines: SECOND_FAILS,
         ..AGENT
     },
     Case {
@@ -49,18 +35,6 @@ static CASES: [Case; 11] = [
         ..AGENT
     },
     Case {
-        name: "the planned put into a log fails once",
-        failing_put: 2,
-        lines: SECOND_FAILS,
-        ..LOG
-    },
-    Case {
-        name: "the planned put does not reach the log under it",
-        failing_put: 3,
-        lines: THIRD_FAILS,
-        ..LOG
-    },
-    Case {
         name: "the planned get fails once and leaves nothing",
         failing_get: 2,
         lines: &[
@@ -68,20 +42,6 @@ static CASES: [Case; 11] = [
             Get(Ok(&[1, 2])),
             Get(Err(Fault)),
             Get(Ok(&[1, 2])),
-        ],
-        ..AGENT
-    },
-    Case {
-        name: "a 0 plans no fault",
-        failing_put: 0,
-        failing_get: 0,
-        lines: &[
-            Put(&[0], Ok(0)),
-            Get(Ok(&[0])),
-            Put(&[1], Ok(1)),
-            Get(Ok(&[1])),
-            Put(&[2], Ok(2)),
-            Get(Ok(&[2])),
         ],
         ..AGENT
     },
@@ -116,13 +76,6 @@ static CASES: [Case; 11] = [
             Put(&[1], Err(Fault)),
             Put(&[1], Err(Full)),
         ],
-        ..AGENT
-    },
-    Case {
-        name: "joined meters add up",
-        failing_put: 2,
-        failing_get: 1,
-        lines: &[Put(&[1], Ok(0)), JoinsMeters],
         ..AGENT
     },
     Case {

@@ -1,9 +1,7 @@
 // What a gate does to a put, which no clause can say.
-use crate::cases::must_be;
-use crate::store::case::logged;
 use crate::store::generic::Why::{self, Fault};
 use crate::store::generic::put;
-use crate::store::script::Line::{self, Get, Put};
+use crate::store::script::Line::{self, Put};
 use crate::store::script::plays;
 use crate::store::threads::had;
 use far_store::{AgentStore, FarStore, GateStore};
@@ -20,8 +18,6 @@ enum Opener {
     Release,
     // The second put.
     SecondPut,
-    // A release before any put.
-    Early,
 }
 
 // What is tried on a gate.
@@ -39,11 +35,6 @@ fn gated<S: FarStore>(store: S, opener: Opener) -> GateStore<S> {
     match opener {
         Opener::Release => GateStore::new(store),
         Opener::SecondPut => GateStore::two(store),
-        Opener::Early => {
-            let gate = GateStore::new(store);
-            gate.release();
-            gate
-        }
     }
 }
 
@@ -151,34 +142,10 @@ static CASES: [Case; 5] = [
         Opener::SecondPut,
         UNRELEASED,
     ),
-    (
-        "an open gate lets everything through",
-        Opener::Early,
-        Trial::Plays(&[
-            Put(&[0], Ok(0)),
-            Get(Ok(&[0])),
-            Put(&[1], Ok(1)),
-            Get(Ok(&[1])),
-        ]),
-    ),
+    ("nobody releases a put", Opener::Release, UNRELEASED),
 ];
 
 #[test]
 fn a_gate_over_an_agent_opens_as_each_case_says(rt: HostRuntime) {
     all_come_out(&rt, rt.alloc(), &CASES);
-}
-
-static NEVER_RELEASED: [Case; 1] = [("nobody releases a put", Opener::Release, UNRELEASED)];
-
-#[test]
-fn a_put_that_nobody_releases_is_a_fault(rt: HostRuntime) {
-    all_come_out(&rt, rt.alloc(), &NEVER_RELEASED);
-}
-
-#[test]
-fn a_held_put_into_a_log_goes_on_when_it_is_released(rt: HostRuntime) {
-    let log = logged(&rt, rt.alloc(), 8, &[], 8);
-    let trial = Trial::ServesTheReleased;
-    let came_out = comes_out_on(&rt, rt.alloc(), log, Opener::Release, trial);
-    must_be(&rt, came_out, Ok(true));
 }

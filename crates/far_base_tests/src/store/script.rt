@@ -4,7 +4,7 @@ ghost use Rattle.std.specs.Prelude.{IfOk, IfSome};
 use crate::store::carrying::{is_carried_from_shelf, is_carried_to_shelf};
 use crate::store::generic::{Why, get, put};
 use crate::store::threads::read_back_by_four;
-use far_store::{FarRead, FarStore, FarTickets, Meter};
+use far_store::{FarRead, FarStore, FarTickets};
 use std::alloc::Global;
 use std::thread::Threads;
 
@@ -19,14 +19,10 @@ pub enum Line {
     Fill(u64),
     // So many puts of so many bytes find the store full.
     StaysFull(u32, usize),
-    // The ticket of these bytes is not the same as the one before, and its copy is.
-    TellsApart(&'static [u8]),
     // The generic callers are served by the store and a shelf, which is full then.
     ToShelf,
     // The generic callers are served by a shelf and the store.
     FromShelf,
-    // The meter of a put that meets a fault has 1, so has that of such a get, and joined they have 2.
-    JoinsMeters,
     // Of four threads that put so many contents each, so many read back all of their own, and so many meet a fault.
     FourThreads(u64, usize, usize),
 }
@@ -66,10 +62,8 @@ impl Line {
             Line::Get(wanted) => is_got(store, alloc, last, buffer, wanted),
             Line::Fill(count) => are_drawn(store, alloc, count),
             Line::StaysFull(puts, length) => stays_full(store, alloc, puts, length),
-            Line::TellsApart(bytes) => is_told_distinct(store, alloc, last, bytes),
             Line::ToShelf => is_carried_to_shelf(store, alloc),
             Line::FromShelf => is_carried_from_shelf(store, alloc),
-            Line::JoinsMeters => are_joined(store, alloc, last, buffer),
             Line::FourThreads(puts, read, faults) => {
                 read_back_by_four(rt, store, alloc, puts) == Ok((read, faults))
             }
@@ -170,39 +164,4 @@ fn stays_full<S: FarStore>(store: &S, alloc: Global, puts: u32, length: usize) -
         }
     }
     true
-}
-
-// Whether the ticket of a content is not the same as the last.
-fn is_told_distinct<S: FarStore>(
-    store: &S,
-    alloc: Global,
-    last: &Option<S::Ticket>,
-    bytes: &[u8],
-) -> bool
-    requires { IfSome last.now (λ t. S.is_of t (S.store_id store.now)) }
-{
-    match (last, put(store, alloc, bytes)) {
-        (Some(earlier), Ok(ticket)) => !store.same(earlier, &ticket),
-        _ => false,
-    }
-}
-
-// Whether the meters of a put and a get that meet a fault have 1 each, and joined they have 2.
-fn are_joined<S: FarStore>(
-    store: &S,
-    alloc: Global,
-    last: &Option<S::Ticket>,
-    buffer: &mut Vec<u8>,
-) -> bool
-    requires { IfSome last.now (λ t. S.is_of t (S.store_id store.now)) }
-{
-    let Some(ticket) = last else {
-        return false;
-    };
-    let (mut first, mut second) = (Meter::new(), Meter::new());
-    let _ = store.put(alloc, &mut first, &[1]).err();
-    let _ = store.get(alloc, &mut second, ticket, buffer).err();
-    let distinct = [first.faults(), second.faults()];
-    first.join(second);
-    distinct == [1, 1] && first.faults() == 2
 }

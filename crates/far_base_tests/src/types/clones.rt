@@ -1,6 +1,6 @@
 // A clone is equal.
 use crate::cases::{all, must_be};
-use crate::types::samples::{row_of, schema, spec, text_key};
+use crate::types::samples::{row, schema, spec, text_key};
 use far_types::{Cell, Edit, Key, Kind, Refusal, Schema, Spec, clone_key};
 use std::alloc::Global;
 
@@ -28,11 +28,9 @@ impl Cloned for Schema {
     }
 }
 
-fn has_cells(cells: &[Cell], number: i64, bytes: &str) -> bool {
-    match cells {
-        [Cell::Int(n), Cell::Text(t)] => *n == number && t.as_str() == bytes,
-        _ => false,
-    }
+/// Whether these are the cells of the row of 1 and `a`.
+fn are_cells(cells: &[Cell]) -> bool {
+    matches!(cells, [Cell::Int(1), Cell::Text(text)] if text.as_str() == "a")
 }
 
 /// An edit, and so its row, the cells of that and a text.
@@ -42,7 +40,7 @@ impl Cloned for Edit {
     }
 
     fn is_clone_of(&self, _: &Edit) -> bool {
-        matches!(self, Edit::Insert(row) if has_cells(row.as_slice(), 1, "a"))
+        matches!(self, Edit::Insert(row) if are_cells(row.as_slice()))
     }
 }
 
@@ -70,9 +68,9 @@ impl Cloned for Spec {
 fn are_cloned(alloc: Global) -> Result<bool, Refusal> {
     all(&[
         is_cloned(schema(alloc)),
-        is_cloned(Ok(Edit::Insert(row_of(alloc, Some(1), "a")?))),
+        is_cloned(Ok(Edit::Insert(row(alloc)?))),
         is_cloned(Ok(Some(text_key(alloc, "a")?))),
-        is_cloned(spec(alloc, 0, 1, 1)),
+        is_cloned(spec(alloc)),
     ])
 }
 

@@ -1,8 +1,7 @@
 // The examples in the comments of far_types, and that they come out: a table of breads and how many of each were sold.
 use crate::cases::{all, must_be};
 use far_types::{
-    Answer, Cell, ExtremaLines, Filter, Key, Kind, Limits, Op, Refusal, Row, Schema, Spec, Test,
-    TotalLines,
+    Answer, Cell, Filter, Key, Kind, Limits, Op, Refusal, Row, Schema, Spec, Test, TotalLines,
 };
 use std::alloc::Global;
 
@@ -88,18 +87,18 @@ fn told_of_no_column(alloc: Global) -> Result<String, Refusal> {
 fn are_rows_right(alloc: Global) -> Result<bool, Refusal> {
     let row = sale(alloc, "rye", 3)?;
     let filter = many_ryes(alloc)?;
-    Ok(row.len() == 2 && is_whole(&row) && filter.keeps(&row) && filter.iter().count() == 2)
+    Ok(is_whole(&row) && filter.keeps(&row))
 }
 
 fn are_cells_right(alloc: Global) -> Result<bool, Refusal> {
     let row = Row::from(cells(alloc)?);
-    Ok(row.iter().count() == 3 && !is_whole(&row))
+    Ok(row.len() == 3 && !is_whole(&row))
 }
 
 fn is_spec_right(alloc: Global) -> Result<bool, Refusal> {
     let schema = breads(alloc)?;
     let spec = sold_by_bread(alloc)?;
-    Ok(spec.check(&schema) == Ok(()) && schema.iter().count() == 2)
+    Ok(spec.check(&schema) == Ok(()))
 }
 
 fn is_sentence_right(alloc: Global) -> Result<bool, Refusal> {
@@ -107,27 +106,12 @@ fn is_sentence_right(alloc: Global) -> Result<bool, Refusal> {
     Ok(told.as_str() == "2: a table may not have this schema or these limits")
 }
 
-/// Whether one of two lines is counted, and a loop comes by both.
+/// Whether one of two lines is counted.
 fn are_totals_right(alloc: Global) -> Result<bool, Refusal> {
     let one = (Some(Key::from(1i64)), 1, 5);
     let other = (Some(Key::from(2i64)), 1, -5);
     let lines = TotalLines::new(Vec::from_array(alloc, [one, other])?);
-    let come_by = (&lines).into_iter().count();
-    Ok(come_by == 2 && lines_above_zero(&Answer::Totals(lines)) == 1)
-}
-
-/// The same of extrema.
-fn are_extrema_right(alloc: Global) -> Result<bool, Refusal> {
-    let lines = ExtremaLines::new(Vec::from_array(alloc, [(None, 1, 5)])?);
-    let come_by = (&lines).into_iter().count();
-    Ok(come_by == 1 && lines_above_zero(&Answer::Extrema(lines)) == 1)
-}
-
-/// Whether loops come by two kinds and two tests.
-fn are_loops_right(alloc: Global) -> Result<bool, Refusal> {
-    let schema = breads(alloc)?;
-    let filter = many_ryes(alloc)?;
-    Ok((&schema).into_iter().count() == 2 && (&filter).into_iter().count() == 2)
+    Ok(lines_above_zero(&Answer::Totals(lines)) == 1)
 }
 
 #[test]
@@ -141,8 +125,6 @@ fn the_examples_of_the_words_come_out(rt: HostRuntime) {
         is_spec_right(alloc),
         is_sentence_right(alloc),
         are_totals_right(alloc),
-        are_extrema_right(alloc),
-        are_loops_right(alloc),
     ]);
     must_be(&rt, are_right, Ok(true));
 }
