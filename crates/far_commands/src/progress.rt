@@ -8,9 +8,10 @@ use std::marker::Model;
 /// Where a script stands. Contracts see the world of its table, and the number of the last command. A command meets one fault of the store
 /// at most.
 ///
+/// The lines behind a first command are answered over it:
+///
 /// ```
-/// let mut progress = open(resources, opening, output)?;
-/// serve_lines(resources, &mut progress, input, output, writer)?;
+/// let served = serve_lines(resources, &mut progress, input, output, writer);
 /// ```
 #[derive(Drop)]
 pub struct Progress<S: FarStore> {

@@ -1,5 +1,5 @@
 // The table that a first line asks for, as it is opened.
-ghost use Rattle.std.specs.Prelude.{◌≡◌, ◌≢◌, ℕ, List, ◌++◌, codes, IfOk, IfErr, OnOk};
+ghost use Rattle.std.specs.Prelude.{◌≡◌, ◌≢◌, ℕ, List, ◌++◌, codes, IfOk, IfErr, IsErrOf, IsOk, OnOk};
 ghost use Rattle.far_scripts.specs.Breaks.{IsRefused, Rejection};
 ghost use Rattle.far_scripts.specs.Scripts.{IsNew};
 
@@ -10,6 +10,20 @@ use far_types::Refusal;
 
 /// How many contents the first store of a script takes.
 const STORE_CAPACITY: u64 = 1_048_576;
+
+/// Returns the value if its reply was added. If memory ran out instead, the fault is that of the reply, and the value is dropped.
+///
+/// It takes a value of any type. For the proof: a way out that drops a table costs the proof of a function much, and here it costs
+/// none.
+fn once_said<T: Drop>(value: T, said: Result<(), ShellFault>) -> Result<T, ShellFault>
+    ensures ok { IfOk result (λ kept. (kept ≡ value) × IsOk said) }
+    ensures err { IfErr result (IsErrOf said) }
+{
+    match said {
+        Ok(()) => Ok(value),
+        Err(fault) => Err(fault),
+    }
+}
 
 /// The table that a first line asks for, over a new store. Where the store is refused memory, the fault is `Memory`. Where the table is
 /// refused with `BadSchema` (2), that is printed, and the fault is `BadStart`.
@@ -29,8 +43,8 @@ pub fn open<S: FarStore, A: Resources<S>>(
     };
     match open_table(resources.alloc(), store, opening) {
         Ok(world) => {
-            output.add_text("ok\n")?;
-            Ok(Progress::new(world))
+            let said = output.add_text("ok\n");
+            once_said(Progress::new(world), said)
         }
         Err(Refusal::NoMemory) => Err(ShellFault::Memory),
         Err(refusal) => {

@@ -26,7 +26,13 @@ pub fn serve_table<S: FarStore, A: Resources<S>, R: Source + Drop, W: Write>(
     ensures failed { IfErr result (λ fault. fault ≡ ShellFault.Output → has_failed output.new ≡ true) }
     ensures asked { input.new.source.reads ≤ input.old.source.reads }
 {
-    let mut progress = open(resources, opening, output)?;
-    serve_lines(resources, &mut progress, input, output, writer)?;
-    Ok(())
+    match open(resources, opening, output) {
+        Ok(mut progress) => {
+            let served = serve_lines(resources, &mut progress, input, output, writer);
+            // For the proof: a call drops the table, since a function that drops it itself is long to prove.
+            drop(progress);
+            served
+        }
+        Err(fault) => Err(fault),
+    }
 }

@@ -16,7 +16,11 @@ use std::sync::{RwLock, RwLockReadGuard, Wait};
 ///
 /// ```
 /// match shared.scope(rt, stripe) {
-///     Ok(scope) => first_number(&scope.view()),
+///     Ok(scope) => {
+///         let seen = first_row(&scope.view(), signals, times);
+///         drop(scope);
+///         seen
+///     }
 ///     Err(refusal) => Err(refusal),
 /// }
 /// ```

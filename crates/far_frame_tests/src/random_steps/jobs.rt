@@ -120,7 +120,7 @@ impl Plain {
         if object.dirty { None } else { object.ticket }
     }
 
-    // A build of a row group into an aggregate. It cannot be begun where the store has not all of what it needs.
+    // A build of a row group into an aggregate. It cannot be begun if the store has not all of what it needs.
     fn offload_job(&self, a: u32, group: u32) -> Job {
         let aggregate = self.aggregate(a);
         let first = group.saturating_mul(SIZE);
@@ -283,11 +283,11 @@ impl Plain {
 
     // The row group of a build into a registered aggregate is scanned.
     fn merge(&mut self, job: &Job) -> Option<Refusal> {
-        if !self.holds(job) {
-            Some(Refusal::StaleJob)
-        } else {
+        if self.holds(job) {
             self.build(job.aggregate, job.group);
             None
+        } else {
+            Some(Refusal::StaleJob)
         }
     }
 }
