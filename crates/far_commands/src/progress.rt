@@ -10,6 +10,8 @@ use std::marker::Model;
 ///
 /// The lines behind a first command are answered over it:
 ///
+/// The lines behind a first command are answered over it:
+///
 /// ```
 /// let served = serve_lines(resources, &mut progress, input, output, writer);
 /// ```
