@@ -12,10 +12,9 @@ ghost use Rattle.far_commands.specs.Listings.{IsHere, cell_text, cells_at, field
 use far_frame::{Frame, View};
 use far_rows::RowRef;
 use far_script::print::numbered;
-use far_script::{Output, Page, ShellFault};
+use far_script::{Output, Page, ShellFault, Sink};
 use far_store::FarTickets;
 use far_types::{CellRef, Refusal};
-use std::io::Write;
 
 /// How many bytes of rows are gathered before they are added to the output.
 const GATHERED: usize = 4_096;
@@ -123,7 +122,7 @@ fn live_rows<S: FarTickets>(frame: &Frame<S>) -> u64
 }
 
 /// Adds the reply at hand to the output if it is long, and makes it empty.
-fn add_if_long<W: Write>(output: &mut Output, writer: &mut W) -> Result<(), ShellFault>
+fn add_if_long<W: Sink>(output: &mut Output<W>, writer: &mut W) -> Result<(), ShellFault>
     ensures ok { OnOk result ((text : List ℕ) × Prints (W.contents writer.old) output.old.page text (W.contents writer.new) output.new.page × (output.old.reply ≡ text ++ output.new.reply)) }
     ensures err { IfErr result (λ fault. PrintsCut fault (λ said. said ≡ output.old.reply) (W.contents writer.old) output.old.page (W.contents writer.new) output.new.page) }
     ensures fault { IfErr result (λ fault. fault ≢ ShellFault.Input) }
@@ -141,9 +140,9 @@ fn add_if_long<W: Write>(output: &mut Output, writer: &mut W) -> Result<(), Shel
 /// Prints `rows COUNT`, and the live rows in the order of their places, as the csv writer writes them. If an object of any row group is
 /// away, prints that refusal in place of all of this, also if no row of the group is alive.
 #[inline(never)]
-pub fn dump<S: FarTickets, W: Write>(
+pub fn dump<S: FarTickets, W: Sink>(
     frame: &Frame<S>,
-    output: &mut Output,
+    output: &mut Output<W>,
     writer: &mut W,
 ) -> Result<(), ShellFault>
     ensures ok { OnOk result (Prints (W.contents writer.old) output.old.page (listing_of (live frame.now)) (W.contents writer.new) output.new.page) }

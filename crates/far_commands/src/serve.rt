@@ -19,11 +19,10 @@ use super::renewing::renew;
 use super::resources::Resources;
 use far_frame::{Reply, Step, World};
 use far_script::print::{answer, numbered, refused};
-use far_script::{ByteRange, Input, Output, Page, ShellFault, Source};
+use far_script::{ByteRange, Input, Output, Page, ShellFault, Sink, Source};
 use far_store::FarStore;
 use far_types::Refusal;
 use std::alloc::Global;
-use std::io::Write;
 
 /// Returns the text of the reply to a step that returns nothing.
 fn done(step: &Step) -> &'static str
@@ -121,12 +120,12 @@ fn take_step<S: FarStore>(world: &mut World<S>, step: Step, reply: &mut Page) ->
 }
 
 /// Loads the rows behind a line, which have this many bytes, and prints the reply.
-fn serve_load<S: FarStore, R: Source + Drop, W: Write>(
+fn serve_load<S: FarStore, R: Source + Drop, W: Sink>(
     alloc: Global,
     world: &mut World<S>,
     count: u32,
     input: &mut Input<R>,
-    output: &mut Output,
+    output: &mut Output<W>,
     writer: &mut W,
 ) -> Result<(), ShellFault>
     ensures ok { OnOk result ((rows : List ℕ) × (text : List ℕ) × Reads R.Read input.old rows input.new × Prints (W.contents writer.old) output.old.page text (W.contents writer.new) output.new.page × Serves S.FarTickets world.old (Command.Load count) rows text world.new) }
@@ -142,12 +141,12 @@ fn serve_load<S: FarStore, R: Source + Drop, W: Write>(
 }
 
 /// Serves a command, with the bytes behind its line that belong to it, and prints its reply.
-fn serve_command<S: FarStore, A: Resources<S>, R: Source + Drop, W: Write>(
+fn serve_command<S: FarStore, A: Resources<S>, R: Source + Drop, W: Sink>(
     resources: &A,
     world: &mut World<S>,
     command: Command,
     input: &mut Input<R>,
-    output: &mut Output,
+    output: &mut Output<W>,
     writer: &mut W,
 ) -> Result<(), ShellFault>
     requires few { world.old.faults < 2 ^ 62 }
@@ -177,7 +176,7 @@ fn serve_command<S: FarStore, A: Resources<S>, R: Source + Drop, W: Write>(
 }
 
 /// Prints `syntax command NUMBER`, the reply to a line that is no command.
-fn print_syntax(output: &mut Output, number: u32) -> Result<(), ShellFault>
+fn print_syntax<W: Sink>(output: &mut Output<W>, number: u32) -> Result<(), ShellFault>
     ensures ok { OnOk result (output.new.page ≡ output.old.page ++ numbered_text (codes "syntax command") number) }
     ensures err { OnErr result (output.new.page ≡ output.old.page) }
     ensures memory { IfErr result (λ fault. fault ≡ ShellFault.Memory) }
@@ -188,12 +187,12 @@ fn print_syntax(output: &mut Output, number: u32) -> Result<(), ShellFault>
 }
 
 /// Answers a line: an empty one is no command, and any other the next one.
-pub fn answer_line<S: FarStore, A: Resources<S>, R: Source + Drop, W: Write>(
+pub fn answer_line<S: FarStore, A: Resources<S>, R: Source + Drop, W: Sink>(
     resources: &A,
     progress: &mut Progress<S>,
     line: ByteRange,
     input: &mut Input<R>,
-    output: &mut Output,
+    output: &mut Output<W>,
     writer: &mut W,
 ) -> Result<(), ShellFault>
     requires held { Holds R.Read input.old line }

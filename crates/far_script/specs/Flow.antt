@@ -4,6 +4,8 @@ use Rattle.std.specs.List.{list_any}
 use Rattle.std.specs.Io.BufRead.{strip_last}
 use Rattle.std.specs.Io.KnownBytes.{Appends, Consumes}
 use Rattle.std.specs.declared.io.traits.Read.{Ghosts}
+use Rattle.std.specs.declared.io.traits.Write.{Ghosts as Writes}
+use Rattle.far_script.specs.declared.sink.Sink.{Ghosts as Sinks}
 use Rattle.far_script.specs.declared.fault.ShellFault.{ShellFault}
 use Rattle.far_script.specs.declared.input.Input.{Input}
 use Rattle.far_script.specs.declared.input.ByteRange.{ByteRange}
@@ -17,7 +19,7 @@ abbrev pub Prints : Option (List ℕ) → List ℕ → List ℕ → Option (List
 Prints old held text new left = (sent : List ℕ) × Appends old new sent × (held ++ text ≡ sent ++ left)
 
 -- whether a write failed
-abbrev pub has_failed : Output → Bool
+abbrev pub has_failed : {W : Type 0} {sink : Sinks W} {write : Writes W} → Output W sink write → Bool
 has_failed output = output.failed
 
 -- the bytes of a script, if they are known, are these and the rest behind them; and these are within the bound

@@ -4,7 +4,7 @@ ghost use Rattle.far_scripts.specs.Breaks.{IsRefused, Rejection};
 ghost use Rattle.far_scripts.specs.Scripts.{IsNew};
 
 use far_commands::{Progress, Resources, open_table};
-use far_script::{Opening, Output, ShellFault};
+use far_script::{Opening, Output, ShellFault, Sink};
 use far_store::FarStore;
 use far_types::Refusal;
 
@@ -27,10 +27,10 @@ fn once_said<T: Drop>(value: T, said: Result<(), ShellFault>) -> Result<T, Shell
 
 /// Opens the table that a first line asks for, over a new store. If the store cannot be allocated, the fault is `Memory`. If the table is
 /// refused with `BadSchema` (2), that is printed, and the fault is `BadStart`.
-pub fn open<S: FarStore, A: Resources<S>>(
+pub fn open<S: FarStore, A: Resources<S>, W: Sink>(
     resources: &A,
     opening: Opening,
-    output: &mut Output,
+    output: &mut Output<W>,
 ) -> Result<Progress<S>, ShellFault>
     ensures ok { IfOk result (IsNew S.FarTickets (opening.kinds.items, opening.limits)) }
     ensures said { OnOk result (output.new.page ≡ output.old.page ++ codes "ok\n") }

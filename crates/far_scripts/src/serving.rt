@@ -7,18 +7,17 @@ ghost use Rattle.far_scripts.specs.Scripts.{IsServed};
 use super::lines::serve_lines;
 use super::opening::open;
 use far_commands::Resources;
-use far_script::{Input, Opening, Output, ShellFault, Source};
+use far_script::{Input, Opening, Output, ShellFault, Sink, Source};
 use far_store::FarStore;
-use std::io::Write;
 
 /// Answers a script behind a first command that asks for a table. Opens the table over a new store, and answers its lines up to the end
 /// of the script. If the store cannot be allocated, the fault is `Memory`. If the table is refused, the refusal is printed, and the fault
 /// is `BadStart`.
-pub fn serve_table<S: FarStore, A: Resources<S>, R: Source + Drop, W: Write>(
+pub fn serve_table<S: FarStore, A: Resources<S>, R: Source + Drop, W: Sink>(
     resources: &A,
     opening: Opening,
     input: &mut Input<R>,
-    output: &mut Output,
+    output: &mut Output<W>,
     writer: &mut W,
 ) -> Result<(), ShellFault>
     ensures ok { OnOk result ((bytes : List ℕ) × (text : List ℕ) × Reads R.Read input.old bytes input.new × Prints (W.contents writer.old) output.old.page text (W.contents writer.new) output.new.page × IsServed S.FarTickets (opening.kinds.items, opening.limits) bytes text × IsSpent R.Read input.new) }

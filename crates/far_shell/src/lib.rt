@@ -9,6 +9,6 @@ pub mod laws;
 mod script;
 mod threads;
 
-pub use far_script::{Fallible, Input, ShellFault, Source};
+pub use far_script::{Fallible, Input, ShellFault, Sink, Source};
 pub use script::{run_input, run_script};
 pub use threads::run_threads;
