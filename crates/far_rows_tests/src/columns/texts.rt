@@ -63,25 +63,25 @@ fn two_texts(alloc: Global) -> Result<[Option<Text>; 2], Refusal> {
 }
 
 /// What is tried on objects of texts of which there is none.
-trait Trial {
-    fn comes_out<S: FarTickets>(
-        &self,
-        alloc: Global,
-        objects: &mut Objects<u8, S>,
-        texts: &[Option<Text>; 2],
-    ) -> Result<bool, Refusal>;
+#[derive(Clone, Copy)]
+enum Trial {
+    OneColumn,
+    TwoColumns,
 }
 
-fn comes_out_with<S: FarTickets, T: Trial>(
+fn comes_out_with<S: FarTickets>(
     alloc: Global,
     objects: &mut Objects<u8, S>,
-    trial: &T,
+    trial: Trial,
 ) -> Result<bool, Refusal> {
     let texts = two_texts(alloc)?;
-    trial.comes_out(alloc, objects, &texts)
+    match trial {
+        Trial::OneColumn => one::comes_out(alloc, objects, &texts),
+        Trial::TwoColumns => all::comes_out(alloc, objects, &texts),
+    }
 }
 
-fn comes_out<S: FarTickets, T: Trial>(alloc: Global, trial: &T) -> Result<bool, Refusal> {
+fn comes_out<S: FarTickets>(alloc: Global, trial: Trial) -> Result<bool, Refusal> {
     match Objects::<u8, S>::new(alloc, 7, LIMITS) {
         Ok(mut objects) => {
             let answer = comes_out_with(alloc, &mut objects, trial);
@@ -95,14 +95,12 @@ fn comes_out<S: FarTickets, T: Trial>(alloc: Global, trial: &T) -> Result<bool, 
 /// The store of the objects is not made, since one that is here asks it for nothing.
 #[test]
 fn texts_are_pushed_set_and_lent(rt: HostRuntime) {
-    assert!(rt;
-        comes_out::<AgentStore<&'_ HostRuntime>, _>(rt.alloc(), &one::OneColumn) == Ok(true)
-    );
+    assert!(rt; comes_out::<AgentStore<&'_ HostRuntime>>(rt.alloc(), Trial::OneColumn) == Ok(true));
 }
 
 #[test]
 fn each_of_two_columns_gets_its_own_text(rt: HostRuntime) {
     assert!(rt;
-        comes_out::<AgentStore<&'_ HostRuntime>, _>(rt.alloc(), &all::TwoColumns) == Ok(true)
+        comes_out::<AgentStore<&'_ HostRuntime>>(rt.alloc(), Trial::TwoColumns) == Ok(true)
     );
 }

@@ -4,7 +4,7 @@ ghost use Rattle.far_texts.specs.Texts.{lists_of};
 ghost use Rattle.far_texts.specs.Columns.{AreTextColumns};
 ghost use Rattle.far_texts.specs.Together.{AreColumns};
 
-use super::{Layout, Trial, column_of, no_texts};
+use super::{Layout, column_of, no_texts};
 use far_scopes::Objects;
 use far_store::FarTickets;
 use far_texts::{TextColumn, push_texts};
@@ -73,21 +73,16 @@ fn get_their_own<S: FarTickets>(
     Ok(has_text(objects, columns, 0, "one") && has_text(objects, columns, 1, "two"))
 }
 
-/// Two columns of texts in row groups of two places.
-pub struct TwoColumns;
-
-impl Trial for TwoColumns {
-    fn comes_out<S: FarTickets>(
-        &self,
-        alloc: Global,
-        objects: &mut Objects<u8, S>,
-        texts: &[Option<Text>; 2],
-    ) -> Result<bool, Refusal> {
-        let layout = Layout {
-            columns: 2,
-            group: 2,
-        };
-        let mut columns = no_texts(alloc, layout)?;
-        get_their_own(alloc, objects, &mut columns, 2, texts)
-    }
+/// Whether each of two columns of texts in row groups of two places gets its own text.
+pub fn comes_out<S: FarTickets>(
+    alloc: Global,
+    objects: &mut Objects<u8, S>,
+    texts: &[Option<Text>; 2],
+) -> Result<bool, Refusal> {
+    let layout = Layout {
+        columns: 2,
+        group: 2,
+    };
+    let mut columns = no_texts(alloc, layout)?;
+    get_their_own(alloc, objects, &mut columns, 2, texts)
 }

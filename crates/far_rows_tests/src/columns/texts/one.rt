@@ -1,7 +1,6 @@
 // A column of texts: what is pushed and set reads back, and is lent with the flags of its places.
 ghost use Rattle.far_texts.specs.Texts.{lists_of, IsTextColumn};
 
-use super::Trial;
 use crate::cell::Cell::Text as Letters;
 use crate::cell::Word;
 use crate::columns::flags::flags;
@@ -142,18 +141,13 @@ fn is_right<S: FarTickets>(
     is_bounded(alloc, objects, column)
 }
 
-/// A column of texts in row groups of two places.
-pub struct OneColumn;
-
-impl Trial for OneColumn {
-    fn comes_out<S: FarTickets>(
-        &self,
-        alloc: Global,
-        objects: &mut Objects<u8, S>,
-        texts: &[Option<Text>; 2],
-    ) -> Result<bool, Refusal> {
-        let alive = flags(alloc, 3)?;
-        let mut column = TextColumn::new(alloc, 0, 2, 64);
-        is_right(alloc, objects, &mut column, texts, &alive)
-    }
+/// Whether a column of texts in row groups of two places gives back what is pushed and set.
+pub fn comes_out<S: FarTickets>(
+    alloc: Global,
+    objects: &mut Objects<u8, S>,
+    texts: &[Option<Text>; 2],
+) -> Result<bool, Refusal> {
+    let alive = flags(alloc, 3)?;
+    let mut column = TextColumn::new(alloc, 0, 2, 64);
+    is_right(alloc, objects, &mut column, texts, &alive)
 }
