@@ -98,7 +98,7 @@ pub observed-length : (g : ℕ) (gs : List Extrema) (o : Change) → length (gro
 observed-length g gs None = refl
 observed-length g gs (Some p) = length-written gs g _
 
--- where all other row groups have the places that they had
+-- if all other row groups have the places that they had
 module _ (spec : Spec) (size : ℕ) (pending : List Bool) (g : ℕ) (ps qs : List Place) (others : (h : ℕ) → h ≢ g → in_group size h qs ≡ in_group size h ps) where
   other-group : (h : ℕ) → h ≢ g → scanned_group spec size pending ps h ≡ scanned_group spec size pending qs h
   other-group h n = ap (λ l. cond (is_pending pending h) fin.empty (extrema (filter_map (place_pair spec) l))) (sym (others h n))

@@ -30,7 +30,7 @@ pub known-at : (plain : List (Option (ℤ × ℤ))) (groups : List Extrema) (g :
 known-at plain groups g None known h = tt
 known-at plain groups g (Some min_max) known h = known g min_max h
 
--- a row group that changes, where what stands under no key stays, or is noted anew
+-- a row group that changes, if what stands under no key stays, or is noted anew
 
 pub known-elsewhere : (plain : List (Option (ℤ × ℤ))) (groups : List Extrema) (g : ℕ) (m : Extrema) → g < length groups → fin.get m None ≡ fin.get (group_at groups g) None → AreKnown plain groups → AreKnown plain (slice_set groups g m)
 known-elsewhere plain groups g m within same known h min_max noted = elim (same_or_not h g) [
@@ -50,7 +50,7 @@ known-noted plain more groups g m o within is known note h min_max noted = elim 
   | inr e ↦ ap (λ (x : Extrema). fin.get x None) (get_or-set_other groups g h m fin.empty e.0) ∙ known h min_max e.1
 ]
 
--- what stands under no key, where a key changes
+-- what stands under no key, if a key changes
 
 get_put : (m : Extrema) (k : Option Key) (o : Option (ℤ × ℤ)) (q : Option Key) → fin.get (put_min_max m k o) q ≡ cond (eq_by_cmp line_cmp q k) o (fin.get m q)
 get_put m k None q = fin.get-remove line_total m k q

@@ -20,7 +20,7 @@ use Rattle.far_aggregates.specs.Lending.{IsOfPlaces, IsLent, IsServed}
 abbrev pub IsHere : List Place → ℕ → ℕ × List Cell → Type 0
 IsHere here value column = (column.0 ≡ value) ⊎ IsOfPlaces here column
 
--- a column that is there shows the cells of the places, where it has not that number
+-- a column that is there shows the cells of the places, if it has not that number
 shows : (here : List Place) (value : ℕ) (columns : Columns) (c i : ℕ) (place : Place) → (value ≡ c → ⊥) → AllByRecursion (IsHere here value) columns → list_any (is_number c) columns ≡ true → slice_get here i ≡ Some place → cells_at columns i c ≡ cells_of place.cells c
 shows here value [] c i place other are there at = cc
 shows here value (column ∷ columns) c i place other are there at =

@@ -177,7 +177,7 @@ fold-scanned spec size g ps (accumulator.Totals live) k' s = ap fold_of s
 fold-scanned spec size g ps (accumulator.Extrema live) (accumulator.Totals new) s = absurd s
 fold-scanned spec size g ps (accumulator.Extrema live) (accumulator.Extrema new) s = refl
 
--- and where it was not
+-- and if it was not
 same-in : (size : ℕ) (ps : List Place) (a : Aggregate) (k k' : Accumulator) → IsSame k k' → IsKept size ps a k → IsKept size ps a k'
 same-in size ps a (accumulator.Totals live) k' s h = subst (IsKept size ps a) (sym s) h
 same-in size ps a (accumulator.Extrema live) (accumulator.Totals new) s h = absurd s

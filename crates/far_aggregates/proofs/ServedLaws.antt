@@ -13,7 +13,7 @@ use Rattle.far_types.specs.Bounds.{column_of, has_long_constant, needs, is_withi
 use Rattle.far_aggregates.specs.Lending.{IsServed}
 use Rattle.far_aggregates.proofs.LendLaws.{or-cases}
 
--- no refusal of a list is due where the first is not
+-- no refusal of a list is due if the first is not
 not-first : (b : Bool) (r : Refusal) (rest : Option Refusal) → cond b (Some r) rest ≡ None → (b ≡ false) × (rest ≡ None)
 not-first true r rest h = cc
 not-first false r rest h = (refl, h)

@@ -58,6 +58,7 @@ group_pairs spec size g places = pairs_here spec (in_group size g places)
 abbrev pub scanned_group : Spec → ℕ → List Bool → List Place → ℕ → Extrema
 scanned_group spec size pending places g = cond (is_pending pending g) fin.empty (extrema (group_pairs spec size g places))
 
+-- the fold of an accumulator
 abbrev pub fold_of : Accumulator → Fold
 fold_of (accumulator.Totals live) = fold.Totals
 fold_of (accumulator.Extrema live) = fold.Extrema
@@ -82,9 +83,11 @@ abbrev pub IsKept : ℕ → List Place → Aggregate → Accumulator → Type 0
 IsKept size places a (accumulator.Totals live) = (live.totals ≡ totals (scanned_pairs a.spec size a.pending 0 places)) × (live.left ≡ left a.pending)
 IsKept size places a (accumulator.Extrema live) = ((g : ℕ) → group_at live.groups g ≡ scanned_group a.spec size a.pending places g) × (live.left ≡ left a.pending)
 
+-- the accumulator of a registry entry is of its fold, and is what computing from scratch would give
 abbrev pub KeepsEntry : ℕ → List Place → RegistryEntry → Type 0
 KeepsEntry size places None = Unit {0}
 KeepsEntry size places (Some a) = (fold_of a.accumulator ≡ a.spec.fold) × IsKept size places a a.accumulator
 
+-- so is the accumulator of each registry entry
 abbrev pub Keeps : ℕ → List Place → List RegistryEntry → Type 0
 Keeps size places registry = AllByRecursion (KeepsEntry size places) registry

@@ -8,6 +8,7 @@ use Rattle.far_types.specs.Answers.{answer_over}
 use Rattle.far_types.specs.Table.{Place, Registered, rows_of, is_pending, left}
 use Rattle.far_aggregates.specs.Accumulators.{RegistryEntry, registered_of}
 
+-- an optional option as one option
 abbrev pub joined : {A : Type 0} → Option (Option A) → Option A
 joined None = None
 joined (Some inner) = inner

@@ -37,6 +37,7 @@ abbrev pub accumulator_more : ℕ → Accumulator → Pair → Accumulator
 accumulator_more g (accumulator.Totals live) pair = accumulator.Totals (record live { totals = with_pair live.totals pair })
 accumulator_more g (accumulator.Extrema live) pair = accumulator.Extrema (record live { groups = slice_set live.groups g (with_observed (group_at live.groups g) pair) })
 
+-- an entry of the registry with a delta applied, if both are there
 abbrev pub added : ℕ → RegistryEntry → Option Delta → RegistryEntry
 added g None delta = None
 added g (Some a) None = Some a
@@ -47,6 +48,7 @@ abbrev pub accumulator_undo : ℕ → Accumulator → Delta → Accumulator
 accumulator_undo g (accumulator.Totals live) delta = accumulator.Totals (record live { totals = without_pair live.totals delta.pair })
 accumulator_undo g (accumulator.Extrema live) delta = accumulator.Extrema (record live { groups = slice_set live.groups g (put_min_max (group_at live.groups g) delta.pair.0 delta.previous) })
 
+-- an entry of the registry with its last delta undone, if both are there
 abbrev pub undo : ℕ → RegistryEntry → Option Delta → RegistryEntry
 undo g None delta = None
 undo g (Some a) None = Some a
@@ -62,11 +64,13 @@ abbrev pub AccumulatorMayUndo : ℕ → Accumulator → Pair → Type 0
 AccumulatorMayUndo g (accumulator.Totals live) pair = CanTake pair.1 (fin.get live.totals pair.0)
 AccumulatorMayUndo g (accumulator.Extrema live) pair = (g < length live.groups) × (fin.get (group_at live.groups g) pair.0 ≢ None)
 
+-- the delta of an entry may be undone
 abbrev pub MayUndo : ℕ → RegistryEntry → Option Delta → Type 0
 MayUndo g None delta = Unit {0}
 MayUndo g (Some a) None = Unit {0}
 MayUndo g (Some a) (Some delta) = AccumulatorMayUndo g a.accumulator delta.pair
 
+-- the deltas of the first n entries may be undone
 abbrev pub EachMayUndo : ℕ → ℕ → List RegistryEntry → List (Option Delta) → Type 0
 EachMayUndo g n registry deltas = (k : ℕ) (s : RegistryEntry) (c : Option Delta) → k < n → slice_get registry k ≡ Some s → slice_get deltas k ≡ Some c → MayUndo g s c
 
@@ -75,10 +79,12 @@ abbrev pub AccumulatorFits : ℕ → Accumulator → Delta → Type 0
 AccumulatorFits g (accumulator.Totals live) delta = AccumulatorFolds (accumulator.Totals live)
 AccumulatorFits g (accumulator.Extrema live) delta = (g < length live.groups) × (delta.previous ≡ fin.get (group_at live.groups g) delta.pair.0)
 
+-- the delta of an entry fits its accumulator
 abbrev pub Fits : ℕ → RegistryEntry → Option Delta → Type 0
 Fits g None delta = Unit {0}
 Fits g (Some a) None = Unit {0}
 Fits g (Some a) (Some delta) = AccumulatorFits g a.accumulator delta
 
+-- each delta fits the accumulator of its entry
 abbrev pub EachFits : ℕ → List RegistryEntry → List (Option Delta) → Type 0
 EachFits g registry deltas = (k : ℕ) (s : RegistryEntry) (c : Option Delta) → slice_get registry k ≡ Some s → slice_get deltas k ≡ Some c → Fits g s c

@@ -32,27 +32,31 @@ abbrev pub change_of : ℕ → ℕ → Gives → RegistryEntry → Change
 change_of size i gives None = None
 change_of size i gives (Some a) = cond (is_pending a.pending (i / size)) None (gives a.spec)
 
--- one pair more or less, if there is one
+-- totals with one pair more, if there is one
 abbrev pub with_change : Totals → Change → Totals
 with_change totals None = totals
 with_change totals (Some pair) = with_pair totals pair
 
+-- totals with one pair less, if there is one
 abbrev pub without_change : Totals → Change → Totals
 without_change totals None = totals
 without_change totals (Some pair) = without_pair totals pair
 
+-- extrema that observe a pair, if there is one
 abbrev pub with_observed_change : Extrema → Change → Extrema
 with_observed_change extrema None = extrema
 with_observed_change extrema (Some pair) = with_observed extrema pair
 
--- totals are those of some pairs, which are few
+-- the totals of an accumulator are those of some pairs, which are few
 abbrev pub AccumulatorFolds : Accumulator → Type 0
 AccumulatorFolds (accumulator.Totals live) = (pairs : List Pair) × (live.totals ≡ totals pairs) × PairsFit pairs × (length pairs ≤ 2 ^ 24)
 AccumulatorFolds (accumulator.Extrema live) = Unit {0}
 
+-- an entry of the registry has totals of some pairs, which are few
 abbrev pub Folds : RegistryEntry → Type 0
 Folds None = Unit {0}
 Folds (Some a) = AccumulatorFolds a.accumulator
 
+-- each entry of the registry has such totals
 abbrev pub EachFolds : List RegistryEntry → Type 0
 EachFolds registry = (k : ℕ) (s : RegistryEntry) → slice_get registry k ≡ Some s → Folds s

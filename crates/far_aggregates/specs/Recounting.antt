@@ -22,7 +22,7 @@ abbrev pub partials_from : Spec → ℕ → List Place → ℕ → ℕ → List 
 partials_from spec size places g zero = []
 partials_from spec size places g (suc n) = partial_at spec size places g ∷ partials_from spec size places (g + 1) n
 
--- a partial of the same fold may be merged: a row group is pending; the counts stay small, and no row of the row group is in the extrema
+-- a partial of the same fold may be merged. A row group is pending. Counts stay small, and extrema have no row of the row group
 abbrev pub AccumulatorMayMerge : ℕ → PartialDone → Accumulator → Type 0
 AccumulatorMayMerge g (partial.Totals done) (accumulator.Totals live) = (live.left ≡ 0 → ⊥) × CanJoin live.totals done.totals
 AccumulatorMayMerge g (partial.Totals done) (accumulator.Extrema live) = ⊥

@@ -12,10 +12,12 @@ abbrev pub AccumulatorIsReserved : ℕ → Accumulator → Type 0
 AccumulatorIsReserved g (accumulator.Totals live) = Unit {0}
 AccumulatorIsReserved g (accumulator.Extrema live) = g < length live.groups
 
+-- an entry of the registry is reserved for a row group
 abbrev pub IsReserved : ℕ → RegistryEntry → Type 0
 IsReserved g None = Unit {0}
 IsReserved g (Some a) = AccumulatorIsReserved g a.accumulator
 
+-- each entry of the registry is reserved for a row group
 abbrev pub AreReserved : ℕ → List RegistryEntry → Type 0
 AreReserved g registry = AllByRecursion (IsReserved g) registry
 
@@ -24,6 +26,7 @@ abbrev pub accumulator_reserved : ℕ → Accumulator → Accumulator
 accumulator_reserved g (accumulator.Totals live) = accumulator.Totals live
 accumulator_reserved g (accumulator.Extrema live) = accumulator.Extrema (record live { groups = with_reserved g live.groups })
 
+-- an entry of the registry once it is reserved for a row group
 abbrev pub reserved : ℕ → RegistryEntry → RegistryEntry
 reserved g None = None
 reserved g (Some a) = Some (record a { accumulator = accumulator_reserved g a.accumulator })

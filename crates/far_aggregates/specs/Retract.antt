@@ -18,22 +18,25 @@ abbrev pub accumulator_less : Spec → ℕ → List Place → Accumulator → Pa
 accumulator_less spec g here (accumulator.Totals live) pair = accumulator.Totals (record live { totals = without_pair live.totals pair })
 accumulator_less spec g here (accumulator.Extrema live) pair = accumulator.Extrema (record live { groups = slice_set live.groups g (put_min_max (group_at live.groups g) pair.0 (fin.get (extrema (pairs_here spec here)) pair.0)) })
 
+-- an entry of the registry with its pair retracted, if both are there
 abbrev pub retracted : ℕ → List Place → RegistryEntry → Change → RegistryEntry
 retracted g here None change = None
 retracted g here (Some a) None = Some a
 retracted g here (Some a) (Some pair) = Some (record a { accumulator = accumulator_less a.spec g here a.accumulator pair })
 
--- a pair may be retracted: totals have it (`CanTake`); in extrema the min-max under its key is that of the rows that are left,
--- widened by its value
+-- a pair may be retracted. Totals have it (`CanTake`). In extrema the min-max under its key is that of the rows that are left, widened
+-- by its value
 abbrev pub AccumulatorMayRetract : Spec → ℕ → List Place → Accumulator → Pair → Type 0
 AccumulatorMayRetract spec g here (accumulator.Totals live) pair = CanTake pair.1 (fin.get live.totals pair.0)
 AccumulatorMayRetract spec g here (accumulator.Extrema live) pair = fin.get (group_at live.groups g) pair.0 ≡ Some (widened pair.1 (fin.get (extrema (pairs_here spec here)) pair.0))
 
+-- the pair of an entry may be retracted
 abbrev pub MayRetract : ℕ → List Place → RegistryEntry → Change → Type 0
 MayRetract g here None change = Unit {0}
 MayRetract g here (Some a) None = Unit {0}
 MayRetract g here (Some a) (Some pair) = AccumulatorMayRetract a.spec g here a.accumulator pair
 
+-- the pair of each entry may be retracted
 abbrev pub EachMayRetract : ℕ → List Place → List RegistryEntry → List Change → Type 0
 EachMayRetract g here registry pairs = (k : ℕ) (s : RegistryEntry) (c : Change) → slice_get registry k ≡ Some s → slice_get pairs k ≡ Some c → MayRetract g here s c
 
@@ -42,10 +45,12 @@ abbrev pub AccumulatorIsPlain : Accumulator → Type 0
 AccumulatorIsPlain (accumulator.Totals live) = Unit {0}
 AccumulatorIsPlain (accumulator.Extrema live) = ⊥
 
+-- the pair of an entry is retracted without reading rows
 abbrev pub IsPlain : RegistryEntry → Change → Type 0
 IsPlain None change = Unit {0}
 IsPlain (Some a) None = Unit {0}
 IsPlain (Some a) (Some pair) = AccumulatorIsPlain a.accumulator
 
+-- the pair of each entry is retracted without reading rows
 abbrev pub EachIsPlain : List RegistryEntry → List Change → Type 0
 EachIsPlain registry pairs = (k : ℕ) (s : RegistryEntry) (c : Change) → slice_get registry k ≡ Some s → slice_get pairs k ≡ Some c → IsPlain s c

@@ -17,6 +17,7 @@ abbrev pub has_pending : ℕ → RegistryEntry → Bool
 has_pending g None = false
 has_pending g (Some a) = is_pending a.pending g
 
+-- an entry of the registry once a row group is scanned into its aggregate
 abbrev pub scanned_entry : ℕ → Option Registered → Option Registered
 scanned_entry g None = None
 scanned_entry g (Some aggregate) = Some (scanned_in g aggregate)

@@ -40,7 +40,7 @@ use std::marker::Model;
 /// ```
 /// let pending = self
 ///     .aggregates
-///     .apply_deltas(self.alloc, &self.rows.new_row_ref(), group, place)?;
+///     .apply_deltas(self.alloc, &self.rows.new_row_ref(), size, place)?;
 /// if let Err(refusal) = self.rows.push(self.alloc) {
 ///     // The rows are as before, and now the aggregates are too.
 ///     self.aggregates.undo(pending);

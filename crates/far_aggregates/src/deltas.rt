@@ -115,7 +115,7 @@ fn apply_under(
     }
 }
 
-/// As `apply_under`, if the key is a text. The text is written into the string of a spare key.
+/// Does what `apply_under` does, for a key that is a text. The text is written into the string of a spare key.
 #[inline(never)]
 fn apply_under_text(
     keys: &mut SpareKeys,

@@ -116,7 +116,7 @@ impl KnownExtrema {
     ghost use Rattle.far_extrema.specs.Live.{with_reserved, IsReservedFor};
     ghost use Rattle.far_extrema.specs.MinMaxes.{put_min_max};
 
-    /// As `LiveExtrema::new`.
+    /// Does what `LiveExtrema::new` does.
     pub fn new(alloc: Global, left: u32) -> KnownExtrema
         ensures left { result.left ≡ left }
         ensures empty { result.groups ≡ [] }
@@ -127,14 +127,14 @@ impl KnownExtrema {
         }
     }
 
-    /// As `LiveExtrema::make_room`.
+    /// Does what `LiveExtrema::make_room` does.
     pub fn reserve(&mut self, group: u32)
         ensures { self.new ≡ record self.old { groups = with_reserved group self.old.groups } }
     {
         self.live.make_room(group);
     }
 
-    /// As `LiveExtrema::reserve_for`.
+    /// Does what `LiveExtrema::reserve_for` does.
     pub fn reserve_for(&mut self, group: u32, extrema: &GroupExtrema) -> Result<(), Refusal>
         ensures left { self.new.left ≡ self.old.left }
         ensures groups { OnOk result (self.new.groups ≡ with_reserved group self.old.groups) }
@@ -146,7 +146,7 @@ impl KnownExtrema {
         self.live.reserve_for(group, extrema)
     }
 
-    /// As `observe_under`, for a row under no key. If its min-max is noted, a value within it costs no look-up, and nothing is
+    /// Does what `observe_under` does, for a row under no key. If its min-max is noted, a value within it costs no look-up, and nothing is
     /// written.
     fn observe_plain(&mut self, group: u32, value: i64) -> Result<Option<MinMax>, Refusal>
         requires { group < length self.old.groups }
@@ -170,7 +170,7 @@ impl KnownExtrema {
         Ok(previous)
     }
 
-    /// As `LiveExtrema::observe_under`.
+    /// Does what `LiveExtrema::observe_under` does.
     #[inline(always)]
     pub fn observe_under(
         &mut self,
@@ -191,7 +191,7 @@ impl KnownExtrema {
         }
     }
 
-    /// As `LiveExtrema::put_min_max`.
+    /// Does what `LiveExtrema::put_min_max` does.
     pub fn put_min_max(&mut self, group: u32, key: &Option<Key>, min_max: Option<MinMax>)
         requires reserved { group < length self.old.groups }
         requires there { fin.get (group_at self.old.groups group) key.now ≢ None }
@@ -203,7 +203,7 @@ impl KnownExtrema {
         }
     }
 
-    /// As `shrink`, for a row under no key. If its min-max is noted, a value strictly within it costs no look-up.
+    /// Does what `shrink` does, for a row under no key. If its min-max is noted, a value strictly within it costs no look-up.
     fn shrink_plain<R: RowsLeft>(&mut self, group: u32, value: i64, rows: &R)
         requires reserved { group < length self.old.groups }
         requires at_hand { R.at_hand rows.now }
@@ -219,7 +219,7 @@ impl KnownExtrema {
         note(&mut self.plain, group as usize, left);
     }
 
-    /// As `LiveExtrema::shrink`.
+    /// Does what `LiveExtrema::shrink` does.
     pub fn shrink<R: RowsLeft>(&mut self, group: u32, key: &Option<Key>, value: i64, rows: &R)
         requires reserved { group < length self.old.groups }
         requires at_hand { R.at_hand rows.now }
@@ -234,7 +234,7 @@ impl KnownExtrema {
         }
     }
 
-    /// As `LiveExtrema::merge`.
+    /// Does what `LiveExtrema::merge` does.
     pub fn merge(&mut self, group: u32, extrema: GroupExtrema)
         requires reserved { group < length self.old.groups }
         requires keys { IsReservedFor extrema self.old }
@@ -248,7 +248,7 @@ impl KnownExtrema {
         note(&mut self.plain, group as usize, min_max);
     }
 
-    /// As `LiveExtrema::answer`.
+    /// Does what `LiveExtrema::answer` does.
     pub fn answer(&self, alloc: Global) -> Result<Answer, Refusal>
         ensures ok { IfOk result (λ answer. answer ≡ Answer.Extrema (extrema_lines (all_groups self.now.groups))) }
         ensures built { OnOk result (self.now.left ≡ 0) }

@@ -50,7 +50,7 @@ pub fn answer_of(
     ensures memory { IfErr result (λ e. e ≡ Refusal.NoMemory) }
 {
     let mut aggregate = new_aggregate(alloc, spec.clone()?, 0, size, places)?;
-    // For the proof: how few row groups there are.
+    // For the proof: gives how few row groups there are.
     let _groups = group_count(size, places);
     let mut number = 0;
     for partial in partials {

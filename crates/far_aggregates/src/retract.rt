@@ -45,7 +45,7 @@ impl<'a, G: LendGroup> RowsLeft for Left<'a, G> {
 
     ghost extremes = { λ left. fin.get (extrema (pairs_here left.spec.now (G.places left.group.now))) left.key.now };
 
-    /// It is not inlined, so that its callers keep no stack space for columns that are rarely read.
+    /// Reads the rows that are left. It is not inlined, so that its callers keep no stack space for columns that are rarely read.
     #[inline(never)]
     fn min_max(&self) -> Option<MinMax> {
         min_max_left(self.spec, self.group, self.key)

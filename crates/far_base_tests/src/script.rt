@@ -1,17 +1,18 @@
 // A script that is read, and what is said of the faults that end one.
 use crate::cases::{Case, all_are_right, must_be};
-use far_script::{Input, Output, ShellFault, Source};
+use far_script::{Fallible, Input, Output, ShellFault, Sink, Source};
 use far_types::Refusal;
 use std::alloc::Global;
+use std::io;
 
 /// Two lines, which come at one read.
 const SCRIPT: &[u8] = b"schema 4 int\ninsert 1\n";
 
 /// How many reads and bytes are left of a script once two lines and its end were read.
-fn left_behind<R: Source + Drop>(
+fn left_behind<R: Source + Drop, W: Sink>(
     input: &mut Input<R>,
-    output: &mut Output,
-    replies: &mut Vec<u8>,
+    output: &mut Output<W>,
+    replies: &mut W,
 ) -> Result<(u32, u32), ShellFault> {
     for _ in 0..3 {
         input.line(output, replies)?;
@@ -21,13 +22,40 @@ fn left_behind<R: Source + Drop>(
 
 fn left_of(alloc: Global, script: &[u8]) -> Result<(u32, u32), ShellFault> {
     let mut input = Input::new(alloc, script)?;
-    left_behind(&mut input, &mut Output::new(alloc), &mut Vec::new(alloc))
+    left_behind(&mut input, &mut Output::new(alloc), &mut io::sink())
 }
 
 #[test]
 fn a_script_takes_its_reads_and_bytes_off_the_bounds(rt: HostRuntime) {
     let left = left_of(rt.alloc(), SCRIPT);
     must_be(&rt, left, Ok((1_048_574, 16_777_194)));
+}
+
+/// What a writer with space for 11 bytes takes of two replies.
+const TAKEN: &[u8] = b"place 0\npla";
+
+/// Writes a reply, and then another one.
+fn write_two<W: Sink>(alloc: Global, writer: &mut W) -> Result<(), ShellFault> {
+    let mut output = Output::new(alloc);
+    output.add_text("place 0\n")?;
+    output.flush(writer)?;
+    output.add_text("place 1\n")?;
+    output.flush(writer)
+}
+
+#[test]
+fn a_writer_that_takes_all_is_no_fault(rt: HostRuntime) {
+    let ended = write_two(rt.alloc(), &mut io::sink());
+    must_be(&rt, ended, Ok(()));
+}
+
+#[test]
+fn a_writer_that_is_full_is_the_fault_output(rt: HostRuntime) {
+    let mut bytes = [0; 11];
+    let ended = write_two(rt.alloc(), &mut Fallible(&mut bytes[..]));
+    must_be(&rt, ended, Err(ShellFault::Output));
+    let taken = &bytes[..];
+    assert!(&rt; taken == TAKEN);
 }
 
 /// A fault, and what is printed of it.

@@ -14,7 +14,7 @@ each-pushed P (x ∷ xs) y each last (suc i) = each-pushed (λ j. P (suc j)) xs 
 pub at-index : {A : Type 0} (P : A → Type 0) (found : Option A) (x : A) → found ≡ Some x → IfSome found P → P x
 at-index P found x is held = subst (λ o. IfSome o P) is held
 
--- one more of what the list's elements give, where the next is found
+-- one more of what the list's elements give, if the next is found
 pub take-next : {A B : Type 0} (f : A → B) (xs : List A) (i : ℕ) (x : A) → slice_get xs i ≡ Some x → take (i + 1) (map f xs) ≡ take i (map f xs) ++ f x ∷ []
 take-next f xs i x found =
     let within = slice_get_within xs i x found in

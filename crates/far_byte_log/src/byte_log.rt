@@ -64,7 +64,7 @@ impl SlotRule<u8> for AnyByte {
 }
 
 impl ByteLog {
-    /// An empty log for so many bytes. Refused for lack of memory alone.
+    /// Returns an empty log for so many bytes. Fails only if out of memory.
     pub fn new(alloc: Global, size: usize) -> Result<ByteLog, AllocError>
         ensures { IfOk result (λ log. length log ≡ size) }
     {
@@ -76,14 +76,14 @@ impl ByteLog {
         })
     }
 
-    /// How many bytes the log can hold. Allocates nothing.
+    /// Returns how many bytes the log can hold. Allocates nothing.
     pub fn size(&self) -> usize
         ensures { result ≡ length self.now }
     {
         self.slots.len()
     }
 
-    /// How many bytes are in use, those of a write that is under way among them. Allocates nothing.
+    /// Returns how many bytes are in use, those of a write that is under way among them. Allocates nothing.
     pub fn used(&self) -> usize {
         self.used.load(Ordering::SeqCst)
     }
@@ -123,14 +123,14 @@ impl ByteLog {
     }
 }
 
-// Where so many slots from an offset on end, if that is within the log.
+// Returns the end of so many slots from an offset on, if that is within the log.
 fn end_of(offset: usize, count: usize, size: usize) -> Option<usize>
     ensures { IfSome result (λ end. (end ≡ offset + count) × (end ≤ size)) }
 {
     offset.checked_add(count).filter(|end| *end <= size)
 }
 
-// The n-th of a list of any type. What the compiler knows to have no bytes, as a token, it does not index.
+// Returns the n-th of a list of any type. What the compiler knows to have no bytes, as a token, it does not index.
 fn nth<T>(list: &Vec<T>, n: usize) -> &T
     requires { n < length list.now.items }
     ensures { slice_get list.now.items n ≡ Some result.now }

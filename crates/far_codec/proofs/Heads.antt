@@ -117,7 +117,7 @@ front_made kind version_byte n flags count missing v m e len =
     ∙ ap (λ l. version flags ∷ kind ∷ get_or l 0 0 ∷ get_or l 1 0 ∷ get_or l 2 0 ∷ get_or l 3 0 ∷ []) e
     ∙ ap (λ k. version flags ∷ kind ∷ to_le_bytes w32 k) len
 
--- the same where a value is missing
+-- the same if a value is missing
 pub masked_front : (kind n : ℕ) (flags : List Bool) (count : List ℕ) → some_missing flags ≡ true → count ≡ to_le_bytes w64 n → n ≡ length flags → 2 ∷ kind ∷ get_or count 0 0 ∷ get_or count 1 0 ∷ get_or count 2 0 ∷ get_or count 3 0 ∷ [] ≡ version flags ∷ kind ∷ to_le_bytes w32 (length flags)
 masked_front kind n flags count any e len = front_made kind 2 n flags count true refl (sym any) e len
 

@@ -160,7 +160,7 @@ words_joined fields words is none =
     ∙ ap (λ l. flat_map (λ x. x) (first_chunks 8 n fields) ++ l) (sym all)
     ∙ chunks_joined 8 n (n * 8) fields refl
 
--- fields are the words of numbers where their words are
+-- fields are the words of numbers if their words are
 pub fields_from_words : (fields : List ℕ) (words : List (List ℕ)) (numbers : List (Option ℤ)) → words ≡ first_chunks 8 (length fields / 8) fields → length fields % 8 ≡ 0 → words ≡ map number_bytes numbers → fields ≡ flat_map number_bytes numbers
 fields_from_words fields words numbers is none same = sym (words_joined fields words is none) ∙ ap (flat_map (λ x. x)) same ∙ flat_map-map (λ x. x) number_bytes numbers
 

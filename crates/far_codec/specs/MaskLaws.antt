@@ -9,6 +9,7 @@ use Rattle.std.proofs.Math.Nat.{pow-suc}
 use Rattle.far_codec.specs.FarForm.{mask_byte, mask_bytes, mask_of, some_missing}
 use Rattle.far_codec.specs.Reading.{is_missing}
 
+-- a flag as a bit
 abbrev pub bit : Bool → ℕ
 bit b = cond b 1 0
 
@@ -39,6 +40,7 @@ mask_byte-lt (b ∷ flags) = omega (arith, bit_le b, mask_byte-lt flags, pow-suc
 pub flag_of_part : (flags : List Bool) (k j : ℕ) → j < 8 → get_or (take 8 (drop (8 * k) flags)) j false ≡ get_or flags (8 * k + j) false
 flag_of_part flags k j h = get_or-take 8 (drop (8 * k) flags) j false h ∙ get_or-drop (8 * k) flags j false
 
+-- the byte of a mask for eight flags from 8 * k on
 abbrev pub part : List Bool → ℕ → ℕ
 part flags k = mask_byte (take 8 (drop (8 * k) flags))
 

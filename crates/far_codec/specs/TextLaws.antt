@@ -19,6 +19,7 @@ use Rattle.far_codec.specs.MaskLaws.{missing_by_mask}
 use Rattle.far_codec.specs.ReadingLaws.{head_read}
 use Rattle.far_codec.specs.TextForm.{bytes_of, bytes_before, ends_of, texts_form, texts_of, ends_in, texts_meaning, AreTexts}
 
+-- texts, each of which may be missing
 abbrev pub Texts : Type 0
 Texts = List (Option (List ℕ))
 

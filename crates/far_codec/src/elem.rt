@@ -46,7 +46,7 @@ pub trait Elem: Copy + Drop + Send + Sync {
         ensures only { (list : List Self) → IsSpelled in_range has_spelling spelling list bytes.now → IfOk result (λ read. option_map (λ found. found.items) read ≡ Some list) }
         ensures memory { IfErr result (λ e. e ≡ Refusal.NoMemory) };
 
-    /// Whether the bytes are the spelling of the list. Allocates nothing, and stops at the first difference.
+    /// Returns whether the bytes are the spelling of the list. Allocates nothing, and stops at the first difference.
     fn spells(bytes: &[u8], view: &[Self]) -> bool
         ensures exact { IsTrue result ↔ (bytes.now ≡ spelling view.now) }
         ensures range { IsTrue result → All in_range view.now };

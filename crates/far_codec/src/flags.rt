@@ -13,21 +13,21 @@ pub(crate) trait Flags {
     /// Whether each is missing.
     ghost flags: { Self → List Bool };
 
-    /// How many values there are.
+    /// Returns how many values there are.
     fn count(&self) -> usize
         ensures { result ≡ length (flags self.now) };
 
-    /// Whether value `i` is missing.
+    /// Returns whether value `i` is missing.
     fn is_missing(&self, i: usize) -> bool
         requires { i < length (flags self.now) }
         ensures { result ≡ slice_index_or (flags self.now) i false };
 
-    /// Whether one is missing.
+    /// Returns whether one is missing.
     fn any_missing(&self) -> bool
         ensures { result ≡ some_missing (flags self.now) };
 }
 
-/// Whether a value other than value `i` is missing. Without a mask none is, and no flag is read. Else the search ends at the first.
+/// Returns whether a value other than value `i` is missing. Without a mask none is, and no flag is read. Else the search ends at the first.
 pub(crate) fn other_missing(mask: &[u8], count: usize, i: usize) -> bool
     ensures { result ≡ some_missing (slice_set (flags_of mask.now count) i false) }
 {
@@ -43,7 +43,7 @@ pub(crate) fn other_missing(mask: &[u8], count: usize, i: usize) -> bool
     false
 }
 
-/// Whether a value is missing.
+/// Returns whether a value is missing.
 fn any_none<T>(values: &[Option<T>]) -> bool
     ensures { result ≡ list_any is_none values.now }
 {

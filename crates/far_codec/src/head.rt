@@ -12,7 +12,7 @@ pub(crate) struct Masked<'a> {
     pub fields: &'a [u8],
 }
 
-/// Whether value `i` is missing.
+/// Returns whether value `i` is missing.
 pub(crate) fn is_set(mask: &[u8], i: usize) -> bool
     ensures { result ≡ is_missing mask.now i }
 {
@@ -22,14 +22,14 @@ pub(crate) fn is_set(mask: &[u8], i: usize) -> bool
     }
 }
 
-/// Whether a byte is not 0.
+/// Returns whether a byte is not 0.
 pub(crate) fn has_bit(mask: &[u8]) -> bool
     ensures { result ≡ list_any (λ byte. not (byte == 0)) mask.now }
 {
     mask.iter().any(|byte| *byte != 0)
 }
 
-/// Whether the bytes are the mask of their own flags, and one of them is set.
+/// Returns whether the bytes are the mask of their own flags, and one of them is set.
 fn is_mask(mask: &[u8], count: usize) -> bool
     requires { length mask.now ≡ (count + 7) / 8 }
     ensures { IsTrue result ↔ ((mask.now ≡ mask_of (flags_of mask.now count)) × (some_missing (flags_of mask.now count) ≡ true)) }

@@ -23,7 +23,7 @@ pub(crate) struct IntParts<'a> {
     pub words: &'a [[u8; 8]],
 }
 
-/// Whether the word of each missing number is 0.
+/// Returns whether the word of each missing number is 0.
 fn missing_are_zero(mask: &[u8], words: &[[u8; 8]]) -> bool
     ensures { IsTrue result ↔ ((i : ℕ) → i < length words.now → is_missing mask.now i ≡ true → slice_index_or words.now i [] ≡ number_bytes None) }
 {
@@ -82,7 +82,7 @@ pub(crate) fn read_ints(alloc: Global, parts: &IntParts<'_>) -> Result<Vec<Optio
     Ok(numbers)
 }
 
-/// How many bytes the far form of numbers has.
+/// Returns how many bytes the far form of numbers has.
 pub fn ints_length(numbers: &[Option<i64>]) -> usize
     requires { length numbers.now < 2 ^ 32 }
     ensures { result ≡ ints_length numbers.now }
@@ -110,14 +110,14 @@ pub fn encode_ints(alloc: Global, numbers: &[Option<i64>]) -> Result<Vec<u8>, Re
     Ok(form)
 }
 
-/// Whether the bytes say that a value is missing, if they are a far form.
+/// Returns whether the bytes say that a value is missing, if they are a far form.
 fn tells_missing(bytes: &[u8]) -> bool
     ensures { result ≡ (slice_index_or bytes.now 0 0 == 2) }
 {
     !bytes.is_empty() && bytes[0] == 2
 }
 
-/// Whether the bytes are the far form of numbers of which one is missing. Stops at the first difference.
+/// Returns whether the bytes are the far form of numbers of which one is missing. Stops at the first difference.
 fn spells_masked(bytes: &[u8], numbers: &[Option<i64>]) -> bool
     ensures found { IsTrue result → (bytes.now ≡ ints_form numbers.now) × AllByRecursion (λ number. IfSome number (FitsSigned w64)) numbers.now }
     ensures only { bytes.now ≡ ints_form numbers.now → list_any is_none numbers.now ≡ true → IsTrue result }

@@ -9,7 +9,7 @@ use crate::text_forms::{bytes_in, form_parts};
 use crate::texts::text_in;
 use far_types::Text;
 
-/// How many bytes a borrowed text has; a missing one has none.
+/// Returns how many bytes a borrowed text has; a missing one has none.
 fn lent_length(text: Option<&str>) -> usize
     ensures { result ≡ length (bytes_of (option_copied text.entry)) }
 {
@@ -19,7 +19,7 @@ fn lent_length(text: Option<&str>) -> usize
     }
 }
 
-/// How many bytes the mask of `count` values has.
+/// Returns how many bytes the mask of `count` values has.
 fn mask_size(missing: bool, count: usize) -> usize
     requires { count ≤ 2 ^ 32 }
     ensures { result ≡ cond missing ((count + 7) / 8) 0 }
@@ -27,7 +27,7 @@ fn mask_size(missing: bool, count: usize) -> usize
     if missing { (count + 7) / 8 } else { 0 }
 }
 
-/// The length of the form of `count` texts that have `bytes` bytes together.
+/// Returns the length of the form of `count` texts that have `bytes` bytes together.
 pub(crate) fn length_of(missing: bool, count: usize, bytes: usize) -> usize
     requires few { count ≤ 2 ^ 32 }
     requires space { bytes < 2 ^ 63 + 2 ^ 33 }
@@ -36,7 +36,7 @@ pub(crate) fn length_of(missing: bool, count: usize, bytes: usize) -> usize
     6 + mask_size(missing, count) + 4 * count + bytes
 }
 
-/// How many bytes the far form has once text `i` is this one.
+/// Returns how many bytes the far form has once text `i` is this one.
 pub fn length_with(form: &[u8], i: usize, text: &Option<Text>) -> usize
     requires form { IsTextsForm form.now }
     requires there { i < length (texts_meaning form.now) }
@@ -53,7 +53,7 @@ pub fn length_with(form: &[u8], i: usize, text: &Option<Text>) -> usize
     )
 }
 
-// How many bytes the far form has once this text is appended, computed from the form's parts.
+// Returns how many bytes the far form has once this text is appended, computed from the form's parts.
 fn parted_length_with_next(form: &[u8], text: &Option<Text>) -> usize
     requires { IsTextsForm form.now }
     ensures { result ≡ texts_length (texts_meaning form.now ++ text.now ∷ []) }
@@ -64,7 +64,7 @@ fn parted_length_with_next(form: &[u8], text: &Option<Text>) -> usize
     length_of(missing, count + 1, parts.body.len() + bytes_in(text).len())
 }
 
-/// How many bytes the far form has once this text is appended.
+/// Returns how many bytes the far form has once this text is appended.
 pub fn length_with_next(form: &[u8], text: &Option<Text>) -> usize
     requires { IsTextsForm form.now }
     ensures { result ≡ texts_length (texts_meaning form.now ++ text.now ∷ []) }

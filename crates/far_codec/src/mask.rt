@@ -8,7 +8,7 @@ use crate::flags::Flags;
 use crate::head::has_bit;
 use std::alloc::AllocError;
 
-/// How many bytes the mask of values has.
+/// Returns how many bytes the mask of values has.
 pub(crate) fn mask_length<T>(values: &[Option<T>]) -> usize
     ensures { result ≡ mask_length values.now }
 {
@@ -19,14 +19,14 @@ pub(crate) fn mask_length<T>(values: &[Option<T>]) -> usize
     }
 }
 
-/// The first byte of a form.
+/// Returns the first byte of a form.
 fn version(masked: bool) -> u8
     ensures { result ≡ cond masked 2 1 }
 {
     if masked { 2 } else { 1 }
 }
 
-/// The mask byte of the eight values from `8 * k` on.
+/// Returns the mask byte of the eight values from `8 * k` on.
 fn byte_at<F: Flags>(flags: &F, k: usize) -> u8
     requires { 8 * k ≤ length (F.flags flags.now) }
     ensures { result ≡ mask_byte (take 8 (drop (8 * k) (F.flags flags.now))) }

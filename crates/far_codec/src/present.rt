@@ -58,7 +58,7 @@ pub(crate) fn push_present(form: &mut Vec<u8>, numbers: &[Option<i64>]) -> Resul
     push_few(form, rest)
 }
 
-/// Whether the words are those of numbers of which none is missing. Stops at the first difference.
+/// Returns whether the words are those of numbers of which none is missing. Stops at the first difference.
 fn are_present(words: &[[u8; 8]], numbers: &[Option<i64>]) -> bool
     ensures found { IsTrue result → (words.now ≡ map number_bytes numbers.now) × AllByRecursion IsThere numbers.now }
     ensures only { words.now ≡ map number_bytes numbers.now → list_any is_none numbers.now ≡ false → IsTrue result }
@@ -74,7 +74,7 @@ fn are_present(words: &[[u8; 8]], numbers: &[Option<i64>]) -> bool
     true
 }
 
-/// Whether the bytes are the far form of numbers of which none is missing. Stops at the first difference.
+/// Returns whether the bytes are the far form of numbers of which none is missing. Stops at the first difference.
 pub(crate) fn spells_present(bytes: &[u8], numbers: &[Option<i64>]) -> bool
     ensures found { IsTrue result → (bytes.now ≡ ints_form numbers.now) × AllByRecursion IsThere numbers.now }
     ensures only { bytes.now ≡ ints_form numbers.now → list_any is_none numbers.now ≡ false → IsTrue result }

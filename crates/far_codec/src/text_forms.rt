@@ -23,7 +23,7 @@ pub(crate) fn bytes_in(text: &Option<Text>) -> &[u8]
     }
 }
 
-/// How many bytes the texts have.
+/// Returns how many bytes the texts have.
 fn count_bytes(texts: &[Option<Text>]) -> usize
     requires { text_bytes texts.now < 2 ^ 62 }
     ensures { result ≡ text_bytes texts.now }
@@ -35,7 +35,7 @@ fn count_bytes(texts: &[Option<Text>]) -> usize
     total
 }
 
-/// How many bytes the far form of texts has.
+/// Returns how many bytes the far form of texts has.
 pub fn texts_length(texts: &[Option<Text>]) -> usize
     requires count { length texts.now < 2 ^ 32 }
     requires bytes { text_bytes texts.now < 2 ^ 62 }
@@ -95,7 +95,7 @@ pub fn text_at(bytes: &[u8], i: usize) -> Option<&str>
     text_in(parts, i)
 }
 
-/// How many bytes the mask of `count` values has, by the first byte of a form.
+/// Returns how many bytes the mask of `count` values has, by the first byte of a form.
 pub(crate) fn mask_size(version: u8, count: usize) -> usize
     requires { count < 2 ^ 32 }
     ensures { result ≡ cond (version == 2) ((count + 7) / 8) 0 }
@@ -118,7 +118,7 @@ pub(crate) fn form_parts(form: &[u8]) -> TextParts<'_>
     TextParts { mask, ends, body }
 }
 
-/// How many texts a far form of texts has. Allocates nothing, and reads the head alone.
+/// Returns how many texts a far form of texts has. Allocates nothing, and reads the head alone.
 pub fn count_texts(form: &[u8]) -> usize
     requires { IsTextsForm form.now }
     ensures { result ≡ length (texts_meaning form.now) }

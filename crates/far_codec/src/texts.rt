@@ -18,14 +18,14 @@ pub(crate) struct TextParts<'a> {
     pub body: &'a [u8],
 }
 
-/// The end that four bytes are.
+/// Returns the end that four bytes spell.
 pub(crate) fn end_in(word: &[u8; 4]) -> usize
     ensures { result ≡ from_le_bytes w32 word.now }
 {
     u32::from_le_bytes(*word) as usize
 }
 
-/// Where text `i` begins: where the one before it ends.
+/// Returns where text `i` begins: where the one before it ends.
 pub(crate) fn start_in(ends: &[[u8; 4]], i: usize) -> usize
     requires { i ≤ length ends.now }
     ensures { result ≡ slice_index (0 ∷ ends_in ends.now) i }
@@ -33,7 +33,7 @@ pub(crate) fn start_in(ends: &[[u8; 4]], i: usize) -> usize
     if i == 0 { 0 } else { end_in(&ends[i - 1]) }
 }
 
-/// Whether the ends ascend from 0 to the last.
+/// Returns whether the ends ascend from 0 to the last.
 fn ascend_to(ends: &[[u8; 4]], last: usize) -> bool
     ensures { IsTrue result ↔ Ascend (ends_in ends.now) last }
 {
@@ -48,7 +48,7 @@ fn ascend_to(ends: &[[u8; 4]], last: usize) -> bool
     start == last
 }
 
-/// Whether each missing text ends where it begins.
+/// Returns whether each missing text ends where it begins.
 fn missing_are_empty(mask: &[u8], ends: &[[u8; 4]]) -> bool
     ensures { IsTrue result ↔ MissingAreEmpty mask.now (ends_in ends.now) }
 {
@@ -63,14 +63,14 @@ fn missing_are_empty(mask: &[u8], ends: &[[u8; 4]]) -> bool
     true
 }
 
-/// Whether the bytes are UTF-8.
+/// Returns whether the bytes are UTF-8.
 fn is_utf8(bytes: &[u8]) -> bool
     ensures { IsTrue result ↔ IsUtf8 bytes.now }
 {
     str::from_utf8(bytes).is_ok()
 }
 
-/// Whether each text is UTF-8.
+/// Returns whether each text is UTF-8.
 fn are_utf8(ends: &[[u8; 4]], body: &[u8]) -> bool
     requires { Ascend (ends_in ends.now) (length body.now) }
     ensures { IsTrue result ↔ AreUtf8 (ends_in ends.now) body.now }
@@ -85,7 +85,7 @@ fn are_utf8(ends: &[[u8; 4]], body: &[u8]) -> bool
     true
 }
 
-/// Whether the parts are those of texts. If all text bytes are ASCII, no text is checked by itself.
+/// Returns whether the parts are those of texts. If all text bytes are ASCII, no text is checked by itself.
 fn are_texts(mask: &[u8], ends: &[[u8; 4]], body: &[u8]) -> bool
     ensures { IsTrue result ↔ AreTextParts mask.now (ends_in ends.now) body.now }
 {

@@ -84,7 +84,7 @@ pub(crate) fn push_words<T: Word>(form: &mut Vec<u8>, list: &[T]) -> Result<(), 
     Ok(())
 }
 
-/// Whether the words are those of the list. Stops at the first difference.
+/// Returns whether the words are those of the list. Stops at the first difference.
 pub(crate) fn are_words<T: Word>(words: &[[u8; 8]], list: &[T]) -> bool
     ensures exact { IsTrue result ↔ (words.now ≡ map T.written list.now) }
     ensures range { IsTrue result → AllByRecursion T.in_range list.now }

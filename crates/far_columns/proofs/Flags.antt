@@ -25,7 +25,7 @@ pub joined-values : (pieces : List Numbers) (flags : List Bool) → flat_map (λ
 joined-values [] flags = refl
 joined-values (piece ∷ pieces) flags = ap (λ rest. piece ++ rest) (joined-values pieces (drop (length piece) flags))
 
--- the flags of the pieces, joined, are all flags, where there are as many as places
+-- the flags of the pieces, joined, are all flags, if there are as many as places
 module _ (piece : List (Option ℤ)) (pieces : List Numbers) (flags : List Bool) (same_length : length flags ≡ length (flat_map (λ piece. piece) (piece ∷ pieces))) where
   both : length flags ≡ length piece + length (flat_map (λ piece. piece) pieces)
   both = same_length ∙ length-append piece (flat_map (λ piece. piece) pieces)

@@ -84,7 +84,7 @@ module _ {K : Type 0} where
     pins-kept : pins_of mid p ≡ pins_of m p
     pins-kept = ap (λ object_record. option_map_or (λ e. e.pins) object_record 0) (keeps.records p below)
 
-    -- a row group that is begun stays so, where its object keeps its word and its record
+    -- a row group that is begun stays so, if its object keeps its word and its record
     pub begun-kept : (c : Vector (Option ℤ)) → IsBegun m p c → IsBegun mid p c
     begun-kept c begun = record { alone = begun.alone; last = begun.last; local = local-kept ∙ begun.local; unpinned = pins-kept ∙ begun.unpinned }
 

@@ -58,7 +58,7 @@ module _ (columns : NumberColumns) (sizes : List ℕ) where
       let all : k ≡ length columns = omega (arith, past, within) in
       subst (λ n. All (λ size. 0 < size) (take n sizes)) all (subst (All (λ size. 0 < size)) (sym (so ∙ take_all k (map (λ c. c.size) columns) (omega (arith, past, length-map columns (λ c. c.size))))) (All-map (λ size. 0 < size) (λ c. c.size) columns (λ k d below. (shaped k d below).some)))
 
--- where the first list does not fit, they do not all
+-- if the first list does not fit, they do not all
 pub none-fits : (spaces : List ℕ) (n : ℕ) (ns : List ℕ) → is_some (lowest_for spaces n) ≡ false → fit_in_order spaces (n ∷ ns) ≡ false
 none-fits spaces n ns full = on-none (λ i. fit_in_order (slice_set spaces i (slice_index spaces i - n)) ns) (lowest_for spaces n) full
   where

@@ -46,7 +46,7 @@ both-begin c d has other size len begins =
       ]
     ]
 
--- a row group that is begun is not full, so a number is pushed where its object may be written
+-- a row group that is begun is not full, so a number is pushed if its object may be written
 pub push-free : {K : Type 0} (m : Movement (Option ℤ) K) (v : Vector (Option ℤ)) → is_full v ≡ false → None ≡ write_refusal m (object_at v v.len) → push_refusal m v ≡ None
 push-free m v begun free = ap (λ (b : Bool). cond b (first_of (no_space m (length m.records) v.size ∷ [])) (write_refusal m (object_at v v.len))) begun ∙ sym free
 
@@ -87,7 +87,7 @@ next-within v shaped begun =
 pub next-disjoint : (v w : Vector (Option ℤ)) → IsShaped v → IsShaped w → is_full v ≡ false → is_full w ≡ false → AreDisjoint v w → object_at w w.len ≢ object_at v v.len
 next-disjoint v w shaped other begun begun_too disjoint same = disjoint (v.len / v.size) 0 (next-within v shaped begun) (w.len / w.size) 0 (next-within w other begun_too) (sym same)
 
--- where a number may be pushed and its row group is begun, no push is refused
+-- if a number may be pushed and its row group is begun, no push is refused
 pub none-refused : (due : Option Refusal) (full : Bool) (e : Refusal) → due ≡ None → full ≡ false → (due ≡ Some e) ⊎ ((due ≡ None) × (full ≡ true) × (e ≡ refusal.NoMemory)) → ⊥
 none-refused due full e free begun (inl some) = absurd (let two = sym free ∙ some in cc)
 none-refused due full e free begun (inr rest) = absurd (let two = sym begun ∙ rest.1 in cc)
@@ -134,13 +134,13 @@ same_length-pushed n (c ∷ rest) same_length =
     (same_length-all_disjoint c n (n + 1) rest (pairs-head (λ c d. (c.size ≡ d.size) × (c.len ≡ d.len)) c rest same_length))
     (same_length-pushed (n + 1) rest (pairs-tail (λ c d. (c.size ≡ d.size) × (c.len ≡ d.len)) c rest same_length))
 
--- the refusals where row groups are begun
+-- the refusals if row groups are begun
 pub due-begun : {K : Type 0} (m : Movement (Option ℤ) K) (columns : NumberColumns) → all_begin columns ≡ false → push_numbers_refusal m columns ≡ option_or (first_of (absents m columns)) (first_of (some_written_out m columns ∷ []))
 due-begun m columns begun =
     ap (λ (b : Bool). first_of (cond b (no_space_for_groups m columns ∷ []) (absents m columns ++ some_written_out m columns ∷ []))) begun
     ∙ first-append (absents m columns) (some_written_out m columns ∷ [])
 
--- where no number is refused and the row groups are begun, no push is
+-- if no number is refused and the row groups are begun, no push is
 or-none : (a b : Option Refusal) → option_or a b ≡ None → (None ≡ a) × (None ≡ b)
 or-none (Some e) b is = absurd cc
 or-none None b is = (refl, sym is)

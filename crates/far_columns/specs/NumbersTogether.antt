@@ -66,5 +66,6 @@ module _ {K : Type 0} where
     abbrev pub no_space_for_groups : Bool × Refusal
     no_space_for_groups = (not (fit_in_order (spaces_of m.memory.state) (map (λ c. c.size) columns)), refusal.RegionFull)
 
+    -- why a number is not pushed to each of the columns (`push_numbers`)
     abbrev pub push_numbers_refusal : Option Refusal
     push_numbers_refusal = first_of (if all_begin columns then no_space_for_groups ∷ [] else absents ++ some_written_out ∷ [])

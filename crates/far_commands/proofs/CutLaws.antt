@@ -40,7 +40,7 @@ pub prints-cut-more : (why : ShellFault) (a b : List ℕ → Type 0) (u v w : Op
     → PrintsCut why a v mid w left → PrintsCut why b u held w left
 prints-cut-more why a b u v w held mid left f p q = (q.0, prints-nothing-then u v w held mid q.0 left p q.1, cut-more why a b q.0 f q.2)
 
--- memory is wanted, and nothing was printed
+-- memory ran out, and nothing was printed
 pub printed-err : {T : Type 0} (r : Result T ShellFault) (answer : List ℕ → Type 0) (u : Option (List ℕ)) (held left : List ℕ) → IfErr r (λ why. why ≡ fault.Memory) → OnErr r (left ≡ held)
     → IfErr r (λ why. PrintsCut why answer u held u left)
 printed-err (Ok x) answer u held left is same = tt

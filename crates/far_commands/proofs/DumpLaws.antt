@@ -14,7 +14,7 @@ use Rattle.far_script.specs.Printing.{refusal_text, texts_of}
 use Rattle.far_script.specs.Flow.{Prints}
 use Rattle.far_commands.specs.Cuts.{CutOff, IsFront, PrintsCut}
 use Rattle.far_commands.specs.Listings.{cells_at, dump_text, is_live, listing_of, row_line}
-use Rattle.far_script.proofs.FlowLaws.{prints, prints-then}
+use Rattle.far_script.proofs.FlowLaws.{prints, prints-none, prints-then}
 
 rows-first : (b : Bool) (p : Place) (rest : List Place) → p.alive ≡ b → rows_of (p ∷ rest) ≡ (if b then p.cells ∷ rows_of rest else rows_of rest)
 rows-first true p rest h = rw h refl
@@ -99,7 +99,7 @@ module _ (u : Option (List ℕ)) (held front : List ℕ) (places : List Place) w
   gather-skip v k reply i dead g = subst (λ (rows : List (List Cell)). (text : List ℕ) × Prints u held text v k × (text ++ reply ≡ front ++ texts_of row_line rows)) (sym (row-none places i dead)) g
 
   module _ (v : Option (List ℕ)) (k reply : List ℕ) (i : ℕ) (g : IsGathered u held front places i v k reply) where
-    -- memory is wanted for the next row
+    -- memory runs out at the next row
     pub gather-memory : PrintsCut fault.Memory (λ said. said ≡ all) u held v k
     gather-memory =
         let later = texts_of row_line (rows_of (drop i places)) in
@@ -125,6 +125,10 @@ module _ (u : Option (List ℕ)) (held front : List ℕ) (places : List Place) w
       gather-cut why w left other p =
           let later = texts_of row_line (rows_of (drop (i + 1) places)) in
           (g.0 ++ p.0, prints-then u v w held g.0 k p.0 left g.1 p.1, cut-behind why whole all g.0 p.0 later other (sym (append_assoc g.0 whole later) ∙ ap (λ (t : List ℕ). t ++ later) gathered ∙ dump-rest front places (i + 1)) p.2)
+
+-- memory is wanted before anything is printed
+pub cut-at-once : (answer : List ℕ → Type 0) (u : Option (List ℕ)) (held : List ℕ) → PrintsCut fault.Memory answer u held u held
+cut-at-once answer u held = ([], prints-none u held, inl refl)
 
 module _ {K : Type 0} (s : State K) where
   -- an object is away

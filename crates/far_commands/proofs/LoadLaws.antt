@@ -21,7 +21,7 @@ use Rattle.far_script.specs.Printing.{numbered_text}
 use Rattle.far_commands.specs.Loading.{Remains, loaded_text}
 use Rattle.far_commands.specs.Replies.{AfterReply, Loads, insert_of_record}
 
--- where a record ended, no other is begun
+-- if a record ended, no other is begun
 abbrev EndsWell : Mode × Action → Type 0
 EndsWell at = is_end at.1 ≡ true → ends_at_end at.0 ≡ false
 
@@ -69,7 +69,7 @@ goes-on s fields field (c ∷ rest) p h = elim (read-or (is_end (step default_co
   | inr w ↦ let m = goes-on (step default_config s c).0 (fields_after (step default_config s c).1 fields field) (field_after (step default_config s c).1 c field) rest p w in (omega (arith, m.0), m.1)
 ]
 
--- a record takes a byte, where none was begun
+-- a record takes a byte, if none was begun
 shorter : (s : Mode) (xs : List ℕ) (p : Read) → ends_at_end s ≡ false → next_record default_config s [] [] xs ≡ Some p → length p.2 < length xs
 unfolding next_record
 shorter s [] p none h = elim (read-or (ends_at_end s) _ p None h) [

@@ -4,7 +4,7 @@ use Rattle.far_frame.specs.Lending.{Piece}
 use Rattle.far_commands.specs.Listings.{row_line}
 use Rattle.far_script.specs.Printing.{space, line_end, texts_of}
 
--- what stands for a place that is alive, and for one that is not
+-- the mark of a place that is alive, and of one that is not
 abbrev pub flag_text : Bool → List ℕ
 flag_text alive = if alive then codes "+" else codes "-"
 
@@ -12,7 +12,7 @@ flag_text alive = if alive then codes "+" else codes "-"
 abbrev pub piece_text : Piece → List ℕ
 piece_text piece = codes "piece " ++ texts_of flag_text piece.flags ++ space ++ row_line piece.cells
 
--- a part is its pieces, and `empty` where it has none
+-- a part is its pieces, and `empty` if it has none
 abbrev pub pieces_text : List Piece → List ℕ
 pieces_text [] = codes "empty\n"
 pieces_text (piece ∷ pieces) = texts_of piece_text (piece ∷ pieces)

@@ -6,7 +6,7 @@ use Rattle.far_types.specs.Table.{Table}
 use Rattle.far_table.specs.Recounting.{recount_refusal, IsAnswerNow, RecountRefusal}
 use Rattle.far_script.specs.Printing.{answer_text, refusal_text}
 
--- no recount by 4 workers: there is no such aggregate; or the store fails, which a meter of its own counts; or memory is wanted
+-- no recount by 4 workers: there is no such aggregate; or the store fails, which a meter of its own counts; or memory ran out
 abbrev pub IsNotRecounted : Table → ℕ → Refusal → Type 0
 IsNotRecounted table a why = (faults : ℕ) × RecountRefusal (recount_refusal table a 4) 0 faults why
 

@@ -8,7 +8,7 @@ use Rattle.far_frame.specs.Renewing.{IsMigratedTo}
 use Rattle.far_frame.specs.Worlds.{World}
 use Rattle.far_script.specs.Printing.{refusal_text}
 
--- no renewal: a store fails, or the new one is full, or memory is wanted. All is as it was but for the count of faults
+-- no renewal: a store fails, or the new one is full, or memory ran out. All is as it was but for the count of faults
 abbrev pub IsNotRenewed : {K : Type 0} → World K → Refusal → World K → Type 0
 IsNotRenewed old why new = IsOneOf (21 ∷ 22 ∷ 1 ∷ []) why × (new ≡ record old { faults = old.faults + faults_of why })
 

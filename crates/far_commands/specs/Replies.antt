@@ -24,7 +24,7 @@ use Rattle.far_commands.specs.Progress.{At}
 use Rattle.far_commands.specs.Recounts.{Recounts}
 use Rattle.far_commands.specs.Renewals.{Renews}
 
--- what a step is answered that is done and has nothing to say
+-- the text of the reply `Done` to a step
 abbrev pub done_text : Step → List ℕ
 done_text (step.Carry n) = codes "carried\n"
 done_text _ = codes "ok\n"

@@ -38,7 +38,7 @@ pub enum Command {
     Recount(u32),
 }
 
-/// `CSV`: exactly one record.
+/// Reads `CSV`: exactly one record.
 fn insert(alloc: Global, kinds: &[Kind], words: Words) -> Result<Option<Command>, Refusal>
     ensures command { IfOk result (λ command. command ≡ insert_of kinds.now words.entry) }
     ensures memory { IfErr result (λ e. e ≡ Refusal.NoMemory) }
@@ -52,7 +52,7 @@ fn insert(alloc: Global, kinds: &[Kind], words: Words) -> Result<Option<Command>
     }
 }
 
-/// `PLACE COLUMN CSV`: exactly one record of one field.
+/// Reads `PLACE COLUMN CSV`: exactly one record of one field.
 fn set(alloc: Global, kinds: &[Kind], mut words: Words) -> Result<Option<Command>, Refusal>
     ensures command { IfOk result (λ command. command ≡ set_of kinds.now words.entry) }
     ensures memory { IfErr result (λ e. e ≡ Refusal.NoMemory) }
@@ -76,7 +76,7 @@ fn set(alloc: Global, kinds: &[Kind], mut words: Words) -> Result<Option<Command
     }
 }
 
-/// `AGGREGATE GROUP`
+/// Reads `AGGREGATE GROUP`.
 fn scan(mut words: Words) -> Option<Command>
     ensures { result ≡ scan_of words.entry }
 {
@@ -85,7 +85,7 @@ fn scan(mut words: Words) -> Option<Command>
     Some(Command::Step(Step::ScanGroup(aggregate, group)))
 }
 
-/// `COLUMN FROM TO`
+/// Reads `COLUMN FROM TO`.
 fn lend(mut words: Words) -> Option<Step>
     ensures { result ≡ lend_of words.entry }
 {
@@ -95,7 +95,7 @@ fn lend(mut words: Words) -> Option<Step>
     Some(Step::Lend { column, from, to })
 }
 
-/// `COLUMN GROUP`
+/// Reads `COLUMN GROUP`.
 fn object(mut words: Words) -> Option<Name>
     ensures { result ≡ object_in words.entry }
 {
@@ -104,7 +104,7 @@ fn object(mut words: Words) -> Option<Name>
     Some(Name { column, group })
 }
 
-/// `KIND SEGMENT`
+/// Reads `KIND SEGMENT`.
 fn compact(mut words: Words) -> Option<Step>
     ensures { result ≡ compact_of words.entry }
 {
@@ -113,7 +113,7 @@ fn compact(mut words: Words) -> Option<Step>
     Some(Step::Compact(kind, segment))
 }
 
-/// `AGGREGATE GROUP`
+/// Reads `AGGREGATE GROUP`.
 fn offload(mut words: Words) -> Option<Step>
     ensures { result ≡ offload_of words.entry }
 {
@@ -122,7 +122,7 @@ fn offload(mut words: Words) -> Option<Step>
     Some(Step::BeginOffload { aggregate, group })
 }
 
-/// What a word that is about objects or jobs says with the rest of its line.
+/// Reads the rest of the line of a word about objects or jobs.
 fn movement_step(verb: Movement, words: Words) -> Option<Step>
     ensures { result ≡ movement_of verb words.entry }
 {
@@ -154,7 +154,7 @@ fn movement_step(verb: Movement, words: Words) -> Option<Step>
     }
 }
 
-/// `PLACE`
+/// Reads `PLACE`.
 fn remove(words: Words) -> Option<Command>
     ensures { result ≡ numbered (λ place. Command.Step (Step.Edit (Edit.Remove place))) words.entry }
 {
@@ -162,7 +162,7 @@ fn remove(words: Words) -> Option<Command>
     Some(Command::Step(Step::Edit(Edit::Remove(place))))
 }
 
-/// `AGGREGATE`
+/// Reads `AGGREGATE`.
 fn unwatch(words: Words) -> Option<Command>
     ensures { result ≡ numbered (λ a. Command.Step (Step.Unwatch a)) words.entry }
 {
@@ -170,7 +170,7 @@ fn unwatch(words: Words) -> Option<Command>
     Some(Command::Step(Step::Unwatch(aggregate)))
 }
 
-/// `AGGREGATE`
+/// Reads `AGGREGATE`.
 fn ask(words: Words) -> Option<Command>
     ensures { result ≡ numbered (λ a. Command.Step (Step.Ask a)) words.entry }
 {
@@ -178,7 +178,7 @@ fn ask(words: Words) -> Option<Command>
     Some(Command::Step(Step::Ask(aggregate)))
 }
 
-/// `FOLD COLUMN [by COLUMN] [if COLUMN OPERATOR CONSTANT]..`
+/// Reads `FOLD COLUMN [by COLUMN] [if COLUMN OPERATOR CONSTANT]..`.
 fn watch(alloc: Global, kinds: &[Kind], words: Words) -> Result<Option<Command>, Refusal>
     ensures command { IfOk result (λ command. command ≡ option_map (λ spec. Command.Step (Step.Watch spec)) (spec_of kinds.now words.entry)) }
     ensures memory { IfErr result (λ e. e ≡ Refusal.NoMemory) }
@@ -189,7 +189,7 @@ fn watch(alloc: Global, kinds: &[Kind], words: Words) -> Result<Option<Command>,
     }
 }
 
-/// A step about objects or jobs, where there is one.
+/// Returns the step of a word about objects or jobs, if the line spells one.
 fn movement(verb: Movement, words: Words) -> Option<Command>
     ensures { result ≡ option_map Command.Step (movement_of verb words.entry) }
 {
@@ -197,7 +197,7 @@ fn movement(verb: Movement, words: Words) -> Option<Command>
     Some(Command::Step(step))
 }
 
-/// What a verb says with the rest of its line.
+/// Reads the rest of the line of a verb.
 fn complete(
     alloc: Global,
     kinds: &[Kind],
@@ -236,8 +236,7 @@ fn complete(
     }
 }
 
-/// The command that a line spells over a table of these columns, or `None` if it spells none. Refused with `NoMemory`
-/// (1) alone.
+/// Returns the command that a line spells over a table of these columns, or `None` if it spells none. Refused with `NoMemory` (1) alone.
 pub fn parse(alloc: Global, kinds: &[Kind], line: &str) -> Result<Option<Command>, Refusal>
     ensures command { IfOk result (λ command. command ≡ command_of kinds.now line.now) }
     ensures memory { IfErr result (λ e. e ≡ Refusal.NoMemory) }

@@ -12,15 +12,14 @@ ghost use Rattle.far_commands.specs.Listings.{IsHere, cell_text, cells_at, field
 use far_frame::{Frame, View};
 use far_rows::RowRef;
 use far_script::print::numbered;
-use far_script::{Output, Page, ShellFault};
+use far_script::{Output, Page, ShellFault, Sink};
 use far_store::FarTickets;
 use far_types::{CellRef, Refusal};
-use std::io::Write;
 
-/// How many bytes of rows are gathered before they are added to what is on its way out.
+/// How many bytes of rows are gathered before they are added to the output.
 const GATHERED: usize = 4_096;
 
-/// A field of a record of one field, or of several.
+/// Prints a field of a record of one field, or of several.
 fn field(page: &mut Page, is_lone: bool, text: &[u8]) -> Result<(), Refusal>
     ensures ok { OnOk result (page.new ≡ page.old ++ field_in_record is_lone text.now) }
     ensures memory { IfErr result (λ e. e ≡ Refusal.NoMemory) }
@@ -32,7 +31,7 @@ fn field(page: &mut Page, is_lone: bool, text: &[u8]) -> Result<(), Refusal>
     }
 }
 
-/// A number as a field: it needs no quotes, alone in its record or not.
+/// Prints a number as a field: it needs no quotes, alone in its record or not.
 #[inline(always)]
 fn number(page: &mut Page, _is_lone: bool, value: i64) -> Result<(), Refusal>
     ensures ok { OnOk result (page.new ≡ page.old ++ field_in_record _is_lone (signed_decimal value)) }
@@ -41,7 +40,7 @@ fn number(page: &mut Page, _is_lone: bool, value: i64) -> Result<(), Refusal>
     page.signed(value)
 }
 
-/// A cell as a field. It is built into its callers, which know what kind of cell they lend.
+/// Prints a cell as a field. It is inlined, since the callers know the cell's kind.
 #[inline(always)]
 pub fn cell(page: &mut Page, is_lone: bool, cell: CellRef) -> Result<(), Refusal>
     ensures ok { OnOk result (page.new ≡ page.old ++ field_in_record is_lone (cell_text (lent_cell cell.entry))) }
@@ -54,7 +53,7 @@ pub fn cell(page: &mut Page, is_lone: bool, cell: CellRef) -> Result<(), Refusal
     }
 }
 
-/// The fields of a row behind its first.
+/// Prints the other fields of a row, behind the first.
 fn more_fields<S: FarTickets>(page: &mut Page, row: &RowRef<'_, S>) -> Result<(), Refusal>
     ensures ok { OnOk result (page.new ≡ page.old ++ fields_text default_writer (map cell_text (drop 1 row.now))) }
     ensures memory { IfErr result (λ e. e ≡ Refusal.NoMemory) }
@@ -69,7 +68,7 @@ fn more_fields<S: FarTickets>(page: &mut Page, row: &RowRef<'_, S>) -> Result<()
     Ok(())
 }
 
-/// A row as a line.
+/// Prints a row as a line.
 fn print_row<S: FarTickets>(page: &mut Page, row: &RowRef<'_, S>) -> Result<(), Refusal>
     ensures ok { OnOk result (page.new ≡ page.old ++ row_line row.now) }
     ensures memory { IfErr result (λ e. e ≡ Refusal.NoMemory) }
@@ -85,7 +84,7 @@ fn print_row<S: FarTickets>(page: &mut Page, row: &RowRef<'_, S>) -> Result<(), 
     Ok(())
 }
 
-/// The row of a place as a line. A row that is here is refused with `NoMemory` (1) alone.
+/// Prints the row of a place as a line. A row that is here is refused with `NoMemory` (1) alone.
 fn print_place<S: FarTickets>(
     page: &mut Page,
     view: &View<'_, S>,
@@ -98,7 +97,7 @@ fn print_place<S: FarTickets>(
     print_row(page, &cells)
 }
 
-/// Whether there is a row at a place.
+/// Returns whether there is a row at a place.
 fn is_live<S: FarTickets>(view: &View<'_, S>, place: u32) -> bool
     ensures { result ≡ is_live place view.now.table.places }
 {
@@ -108,7 +107,7 @@ fn is_live<S: FarTickets>(view: &View<'_, S>, place: u32) -> bool
     }
 }
 
-/// How many rows are alive.
+/// Returns how many rows are alive.
 fn live_rows<S: FarTickets>(frame: &Frame<S>) -> u64
     ensures { result ≡ length (rows_of frame.now.table.places) }
 {
@@ -122,8 +121,8 @@ fn live_rows<S: FarTickets>(frame: &Frame<S>) -> u64
     count
 }
 
-/// Adds the reply at hand to what is on its way out if it is long, and makes it empty.
-fn add_if_long<W: Write>(output: &mut Output, writer: &mut W) -> Result<(), ShellFault>
+/// Adds the reply at hand to the output if it is long, and makes it empty.
+fn add_if_long<W: Sink>(output: &mut Output<W>, writer: &mut W) -> Result<(), ShellFault>
     ensures ok { OnOk result ((text : List ℕ) × Prints (W.contents writer.old) output.old.page text (W.contents writer.new) output.new.page × (output.old.reply ≡ text ++ output.new.reply)) }
     ensures err { IfErr result (λ fault. PrintsCut fault (λ said. said ≡ output.old.reply) (W.contents writer.old) output.old.page (W.contents writer.new) output.new.page) }
     ensures fault { IfErr result (λ fault. fault ≢ ShellFault.Input) }
@@ -141,9 +140,9 @@ fn add_if_long<W: Write>(output: &mut Output, writer: &mut W) -> Result<(), Shel
 /// Prints `rows COUNT`, and the live rows in the order of their places, as the csv writer writes them. If an object of any row group is
 /// away, prints that refusal in place of all of this, also if no row of the group is alive.
 #[inline(never)]
-pub fn dump<S: FarTickets, W: Write>(
+pub fn dump<S: FarTickets, W: Sink>(
     frame: &Frame<S>,
-    output: &mut Output,
+    output: &mut Output<W>,
     writer: &mut W,
 ) -> Result<(), ShellFault>
     ensures ok { OnOk result (Prints (W.contents writer.old) output.old.page (listing_of (live frame.now)) (W.contents writer.new) output.new.page) }

@@ -20,14 +20,14 @@ use far_types::{Edit, Refusal, Row};
 use std::alloc::Global;
 use std::io::Read;
 
-/// How a load ended: how many rows were inserted, and what the next one was refused with, if one was.
+/// How a load ended: how many rows were inserted, and the refusal of the next one, if there was one.
 #[derive(Drop)]
 struct Loaded {
     count: u64,
     refusal: Option<Refusal>,
 }
 
-/// Inserts the fields of a record as a row. Refused with `NoMemory` (1) alone, where the insert was not taken.
+/// Inserts the fields of a record as a row. Refused with `NoMemory` (1) alone; then nothing was inserted.
 fn insert_record<S: FarStore>(
     alloc: Global,
     world: &mut World<S>,
@@ -41,7 +41,7 @@ fn insert_record<S: FarStore>(
     Ok(world.edit(Edit::Insert(Row::new(cells))))
 }
 
-/// Inserts what stands between the commas of a line as a row. Refused with `NoMemory` (1) alone, where the insert was not taken.
+/// Inserts what stands between the commas of a line as a row. Refused with `NoMemory` (1) alone; then nothing was inserted.
 fn insert_line<S: FarStore>(
     alloc: Global,
     world: &mut World<S>,
@@ -56,8 +56,8 @@ fn insert_line<S: FarStore>(
     Ok(world.edit(Edit::Insert(Row::new(cells))))
 }
 
-/// Inserts the lines of a text that are not empty, up to the first that is refused. Refused with `NoMemory` (1) alone. It is a
-/// function of its own, so that its loop has the registers for itself.
+/// Inserts the lines of a text that are not empty, up to the first that is refused. Refused with `NoMemory` (1) alone. It is not inlined,
+/// so that its loop has the registers for itself.
 #[inline(never)]
 fn load_lines<S: FarStore>(
     alloc: Global,
@@ -90,7 +90,7 @@ fn load_lines<S: FarStore>(
     })
 }
 
-/// The next record of a reader, and whether there was one. Refused with `NoMemory` (1) alone.
+/// Reads the next record of a reader. Returns whether there was one. Refused with `NoMemory` (1) alone.
 fn read_next<R: Read>(reader: &mut Reader<R>, fields: &mut StringRecord) -> Result<bool, Refusal>
     ensures none { IfOk result (λ found. found ≡ false → (rows : List (List (List ℕ))) → Remains R.remaining reader.old rows → rows ≡ []) }
     ensures some { IfOk result (λ found. found ≡ true → (rows : List (List (List ℕ))) → Remains R.remaining reader.old rows → (more : List (List (List ℕ))) × (rows ≡ fields_of fields.new ∷ more) × Remains R.remaining reader.new more) }
@@ -104,7 +104,7 @@ fn read_next<R: Read>(reader: &mut Reader<R>, fields: &mut StringRecord) -> Resu
 
 /// Inserts the records that a reader still has, up to the first that is refused. Refused with `NoMemory` (1) alone.
 ///
-/// The reader is lent, so that no way out of the loop drops it.
+/// The reader is borrowed, so that no early return drops it.
 fn insert_records<S: FarStore, R: Read>(
     alloc: Global,
     world: &mut World<S>,
@@ -132,8 +132,8 @@ fn insert_records<S: FarStore, R: Read>(
     Err(Refusal::NoMemory)
 }
 
-/// Inserts the records of a text by the csv reader. It is a function of its own, since the reader has a large frame, which each command
-/// would pay for.
+/// Inserts the records of a text by the csv reader. It is not inlined: the reader has a large stack frame, which each command would pay
+/// for.
 #[inline(never)]
 fn load_records<S: FarStore>(
     alloc: Global,
@@ -182,8 +182,8 @@ fn print_loaded(reply: &mut Page, loaded: &Loaded) -> Result<(), Refusal>
     }
 }
 
-/// Inserts the records of a text in order, up to the first that is refused, and prints `loaded COUNT` and the refusal, if
-/// there is one. Refused with `NoMemory` (1) alone, where the shell itself was refused memory.
+/// Inserts the records of a text in order, up to the first that is refused. Prints `loaded COUNT` and the refusal, if there is one. Refused
+/// with `NoMemory` (1) alone, if the shell itself runs out of memory.
 pub fn load<S: FarStore>(
     alloc: Global,
     world: &mut World<S>,

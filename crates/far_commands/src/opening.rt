@@ -9,7 +9,7 @@ use far_store::FarStore;
 use far_types::{Refusal, Schema};
 use std::alloc::Global;
 
-/// The table that a line asks for, over a store. Refused with `BadSchema` (2) exactly if its columns or its limits are not what a
+/// Opens the table that a line asks for, over a store. Refused with `BadSchema` (2) exactly if its columns or its limits are not what a
 /// table may have, else with `NoMemory` (1) alone.
 pub fn open_table<S: FarStore>(
     alloc: Global,

@@ -15,10 +15,10 @@ use far_types::{CellRef, Refusal, Text};
 
 /// A value of a piece, which may be missing.
 pub trait Value {
-    /// The cell that it is.
+    /// The cell of the value.
     ghost cell: { Self → Cell };
 
-    /// The value, lent in place as a cell.
+    /// Returns the value as a cell, borrowed in place.
     fn lend(&self) -> CellRef<'_>
         ensures { lent_cell result ≡ cell self.now };
 }
@@ -42,14 +42,14 @@ impl Value for Option<Text> {
     }
 }
 
-/// What stands for a place that is alive, and for one that is not.
+/// Returns the mark of a place that is alive, or of one that is not.
 pub fn mark(alive: bool) -> u8
     ensures { result ∷ [] ≡ flag_text alive }
 {
     if alive { b'+' } else { b'-' }
 }
 
-/// The marks of places.
+/// Prints the marks of places.
 fn marks(page: &mut Page, flags: &[bool]) -> Result<(), Refusal>
     ensures ok { OnOk result (page.new ≡ page.old ++ texts_of flag_text flags.now) }
     ensures memory { IfErr result (λ e. e ≡ Refusal.NoMemory) }
@@ -60,7 +60,7 @@ fn marks(page: &mut Page, flags: &[bool]) -> Result<(), Refusal>
     Ok(())
 }
 
-/// The fields of a row behind its first.
+/// Prints the other fields of a row, behind the first.
 fn more_values<V: Value>(page: &mut Page, values: &[V]) -> Result<(), Refusal>
     ensures ok { OnOk result (page.new ≡ page.old ++ fields_text default_writer (map cell_text (map V.cell values.now))) }
     ensures memory { IfErr result (λ e. e ≡ Refusal.NoMemory) }
@@ -72,7 +72,7 @@ fn more_values<V: Value>(page: &mut Page, values: &[V]) -> Result<(), Refusal>
     Ok(())
 }
 
-/// Values as a row, with the end of its line.
+/// Prints values as a row, with the end of its line.
 fn row<V: Value>(page: &mut Page, values: &[V]) -> Result<(), Refusal>
     ensures ok { OnOk result (page.new ≡ page.old ++ row_line (map V.cell values.now)) }
     ensures memory { IfErr result (λ e. e ≡ Refusal.NoMemory) }
@@ -87,7 +87,7 @@ fn row<V: Value>(page: &mut Page, values: &[V]) -> Result<(), Refusal>
     }
 }
 
-/// `piece FLAGS VALUES`
+/// Prints `piece FLAGS VALUES`.
 pub fn piece<V: Value>(page: &mut Page, values: &[V], flags: &[bool]) -> Result<(), Refusal>
     ensures ok { OnOk result (page.new ≡ page.old ++ piece_text record { cells = map V.cell values.now; flags = flags.now }) }
     ensures memory { IfErr result (λ e. e ≡ Refusal.NoMemory) }
@@ -98,7 +98,7 @@ pub fn piece<V: Value>(page: &mut Page, values: &[V], flags: &[bool]) -> Result<
     row(page, values)
 }
 
-/// The lines of pieces of numbers, or `empty`.
+/// Prints the lines of pieces of numbers, or `empty`.
 pub fn ints(page: &mut Page, pieces: &[IntPiece]) -> Result<(), Refusal>
     ensures ok { OnOk result (page.new ≡ page.old ++ pieces_text (map int_piece pieces.now)) }
     ensures memory { IfErr result (λ e. e ≡ Refusal.NoMemory) }
@@ -112,7 +112,7 @@ pub fn ints(page: &mut Page, pieces: &[IntPiece]) -> Result<(), Refusal>
     Ok(())
 }
 
-/// The lines of pieces of texts, or `empty`.
+/// Prints the lines of pieces of texts, or `empty`.
 pub fn texts(page: &mut Page, pieces: &[TextPiece]) -> Result<(), Refusal>
     ensures ok { OnOk result (page.new ≡ page.old ++ pieces_text (map text_piece pieces.now)) }
     ensures memory { IfErr result (λ e. e ≡ Refusal.NoMemory) }
@@ -126,7 +126,7 @@ pub fn texts(page: &mut Page, pieces: &[TextPiece]) -> Result<(), Refusal>
     Ok(())
 }
 
-/// `next` and the row groups, or `next none`.
+/// Prints `next` and the row groups, or `next none`.
 pub fn next(page: &mut Page, groups: &[u32]) -> Result<(), Refusal>
     ensures ok { OnOk result (page.new ≡ page.old ++ next_text groups.now) }
     ensures memory { IfErr result (λ e. e ≡ Refusal.NoMemory) }

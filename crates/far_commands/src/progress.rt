@@ -5,12 +5,15 @@ use far_frame::World;
 use far_store::FarStore;
 use std::marker::Model;
 
-/// Where a script stands. Contracts see the world of its table, and the number of the last command. A command meets one fault of the store
-/// at most.
+/// The state of a script. Contracts see the world of its table, and the number of the last command. A command meets at most one fault of
+/// the store.
+///
+/// The lines behind a first command are answered over it:
+///
+/// The lines behind a first command are answered over it:
 ///
 /// ```
-/// let mut progress = open(resources, opening, output)?;
-/// serve_lines(resources, &mut progress, input, output, writer)?;
+/// let served = serve_lines(resources, &mut progress, input, output, writer);
 /// ```
 #[derive(Drop)]
 pub struct Progress<S: FarStore> {
@@ -30,7 +33,7 @@ impl<S: FarStore> Model for Progress<S> {
 }
 
 impl<S: FarStore> Progress<S> {
-    /// A script behind its first command, which opened this table.
+    /// Returns a script behind its first command, which opened this table.
     pub fn new(world: World<S>) -> Progress<S>
         requires few { world.faults ≤ 1 }
         ensures { result ≡ record { world = world; number = 1 } }

@@ -13,8 +13,8 @@ use far_types::{Answer, Refusal};
 /// How many threads fold the rows of a recount at most.
 const WORKERS: u32 = 4;
 
-/// What an aggregate answers over the rows as they are, computed from scratch. Refused with `NoAggregate` (12); else with `FarFault`
-/// (21), where the store fails, and `NoMemory` (1). The world does not count the faults of a recount.
+/// Returns the answer of an aggregate, computed from scratch over the rows as they are. Refused with `NoAggregate` (12); else with
+/// `FarFault` (21) if the store fails, or `NoMemory` (1). The world does not count the faults of a recount.
 fn from_scratch<S: FarStore, A: Resources<S>>(
     resources: &A,
     world: &World<S>,
@@ -30,7 +30,7 @@ fn from_scratch<S: FarStore, A: Resources<S>>(
         .recount(rt, world.store(), &mut meter, aggregate, WORKERS)
 }
 
-/// Computes what an aggregate answers from scratch, and prints it, or the refusal.
+/// Computes the answer of an aggregate from scratch, and prints it, or the refusal.
 pub fn recount<S: FarStore, A: Resources<S>>(
     resources: &A,
     world: &World<S>,

@@ -23,7 +23,7 @@ const SMALLEST: Limits = Limits {
     text_size: 64,
 };
 
-/// An empty table, which stands in for another while that moves. Refused with `NoMemory` (1) alone.
+/// Returns an empty table, which stands in for another while that moves. Refused with `NoMemory` (1) alone.
 fn stand_in<S: FarStore, A: Resources<S>>(resources: &A) -> Result<World<S>, Refusal>
     ensures memory { IfErr result (λ e. e ≡ Refusal.NoMemory) }
 {
@@ -40,9 +40,9 @@ fn stand_in<S: FarStore, A: Resources<S>>(resources: &A) -> Result<World<S>, Ref
     }
 }
 
-/// Puts what moved in a place, or what came back where it was refused.
+/// Stores the moved value, or the returned one if the move was refused.
 ///
-/// It knows nothing of what that is: to take a table out of a result costs the proof of a function minutes, and here it costs none.
+/// Generic, since a proof over the table's own type takes minutes.
 fn put_back<T: Drop>(place: &mut T, moved: Result<T, (Refusal, T)>) -> Result<(), Refusal>
     ensures moved { OnOk result (IsOkAnd moved (λ new. place.new ≡ new)) }
     ensures back { IfErr result (λ e. IsErrAnd moved (λ back. (back.0 ≡ e) × (place.new ≡ back.1))) }
@@ -69,8 +69,8 @@ fn migrate<S: FarStore>(world: &mut World<S>, empty: World<S>, store: S) -> Resu
     put_back(world, old.migrate(store))
 }
 
-/// The same table with its far copies in a new store of this capacity. Refused as `World::migrate` is, and with `NoMemory` (1) where
-/// no store can be made; then the table is as it was, jobs included, but for its count of faults.
+/// Moves the far copies of the table to a new store of this capacity. Refused as `World::migrate` is, and with `NoMemory` (1) if the store
+/// cannot be allocated. Then the table is as it was, jobs included, but for its count of faults.
 fn go_on<S: FarStore, A: Resources<S>>(
     resources: &A,
     world: &mut World<S>,
@@ -85,8 +85,8 @@ fn go_on<S: FarStore, A: Resources<S>>(
     migrate(world, empty, store)
 }
 
-/// Goes on with a new store of this capacity, and prints `renewed`, or the refusal. It is a function of its own, since the tables that move
-/// have a large frame, which each command would pay for.
+/// Goes on with a new store of this capacity, and prints `renewed`, or the refusal. It is not inlined: the tables that move have a large
+/// stack frame, which each command would pay for.
 #[inline(never)]
 pub fn renew<S: FarStore, A: Resources<S>>(
     resources: &A,

@@ -1,4 +1,4 @@
-// What a script is run with.
+// The resources of a script.
 ghost use Rattle.std.specs.Prelude.{◌≡◌, IfOk, IfErr};
 
 use far_store::{AgentStore, FarTickets};
@@ -6,7 +6,7 @@ use far_types::Refusal;
 use std::alloc::Global;
 use std::thread::Threads;
 
-/// What a script is run with: its memory, what threads are made by, and what makes the stores of its table.
+/// The resources of a script: its allocator, the runtime that makes its threads, and what makes the stores of its table.
 ///
 /// ```
 /// let store = match resources.store(STORE_CAPACITY) {
@@ -15,17 +15,17 @@ use std::thread::Threads;
 /// };
 /// ```
 pub trait Resources<S: FarTickets> {
-    /// What threads are made by.
+    /// The type of the runtime.
     type Runtime: Threads + Sync;
 
-    /// The allocator.
+    /// Returns the allocator.
     fn alloc(&self) -> Global;
 
-    /// What threads are made by that read the table. It is lent, so that functions over all resources make them: a method in an
-    /// `impl` is not told that its type is `Sync`.
+    /// Borrows the runtime that makes the threads of a recount. A method of this trait cannot make them, since it does not know that its
+    /// type is `Sync`.
     fn runtime(&self) -> &Self::Runtime;
 
-    /// An empty store that gives out the numbers below `capacity`. Refused with `NoMemory` (1) alone.
+    /// Returns an empty store that gives out the numbers below `capacity`. Refused with `NoMemory` (1) alone.
     fn store(&self, capacity: u64) -> Result<S, Refusal>
         ensures capacity { IfOk result (λ store. S.capacity_of store ≡ capacity) }
         ensures memory { IfErr result (λ e. e ≡ Refusal.NoMemory) };
@@ -45,7 +45,7 @@ pub struct Agents<R> {
 }
 
 impl<R> Agents<R> {
-    /// What a script is run with that has this runtime and this memory.
+    /// Returns the resources of this runtime and this memory.
     pub fn new(rt: R, alloc: Global) -> Agents<R> {
         Agents { rt, alloc }
     }

@@ -19,13 +19,12 @@ use super::renewing::renew;
 use super::resources::Resources;
 use far_frame::{Reply, Step, World};
 use far_script::print::{answer, numbered, refused};
-use far_script::{ByteRange, Input, Output, Page, ShellFault, Source};
+use far_script::{ByteRange, Input, Output, Page, ShellFault, Sink, Source};
 use far_store::FarStore;
 use far_types::Refusal;
 use std::alloc::Global;
-use std::io::Write;
 
-/// What a step is answered that is done and has nothing to say.
+/// Returns the text of the reply to a step that returns nothing.
 fn done(step: &Step) -> &'static str
     ensures { result.now ≡ done_text step.now }
 {
@@ -35,8 +34,7 @@ fn done(step: &Step) -> &'static str
     }
 }
 
-/// Makes a page the line of a reply, or the lines of an answer or of a part of a column. The text is that of a reply that has nothing
-/// to say. It is a function of its own: built into each way to it, it would call what adds to a page.
+/// Prints a reply. `done` is the text for `Reply::Done`. It is not inlined, so that the calls it makes are inlined into it.
 #[inline(never)]
 fn print_reply(page: &mut Page, done: &str, reply: &Reply) -> Result<(), Refusal>
     ensures ok { OnOk result (page.new ≡ reply_text done.now reply.now) }
@@ -56,8 +54,8 @@ fn print_reply(page: &mut Page, done: &str, reply: &Reply) -> Result<(), Refusal
     }
 }
 
-/// Takes the step that lends a part of a column, and prints the part where it lies, so that no value is copied. False if it cannot
-/// be lent; then the world is as it was.
+/// Takes the step that lends a part of a column, and prints the part in place, so that no value is copied. Returns false if it cannot be
+/// lent; then the world is as it was.
 fn take_lending<S: FarStore>(
     world: &mut World<S>,
     column: u32,
@@ -122,12 +120,12 @@ fn take_step<S: FarStore>(world: &mut World<S>, step: Step, reply: &mut Page) ->
 }
 
 /// Loads the rows behind a line, which have this many bytes, and prints the reply.
-fn serve_load<S: FarStore, R: Source + Drop, W: Write>(
+fn serve_load<S: FarStore, R: Source + Drop, W: Sink>(
     alloc: Global,
     world: &mut World<S>,
     count: u32,
     input: &mut Input<R>,
-    output: &mut Output,
+    output: &mut Output<W>,
     writer: &mut W,
 ) -> Result<(), ShellFault>
     ensures ok { OnOk result ((rows : List ℕ) × (text : List ℕ) × Reads R.Read input.old rows input.new × Prints (W.contents writer.old) output.old.page text (W.contents writer.new) output.new.page × Serves S.FarTickets world.old (Command.Load count) rows text world.new) }
@@ -143,12 +141,12 @@ fn serve_load<S: FarStore, R: Source + Drop, W: Write>(
 }
 
 /// Serves a command, with the bytes behind its line that belong to it, and prints its reply.
-fn serve_command<S: FarStore, A: Resources<S>, R: Source + Drop, W: Write>(
+fn serve_command<S: FarStore, A: Resources<S>, R: Source + Drop, W: Sink>(
     resources: &A,
     world: &mut World<S>,
     command: Command,
     input: &mut Input<R>,
-    output: &mut Output,
+    output: &mut Output<W>,
     writer: &mut W,
 ) -> Result<(), ShellFault>
     requires few { world.old.faults < 2 ^ 62 }
@@ -178,7 +176,7 @@ fn serve_command<S: FarStore, A: Resources<S>, R: Source + Drop, W: Write>(
 }
 
 /// Prints `syntax command NUMBER`, the reply to a line that is no command.
-fn print_syntax(output: &mut Output, number: u32) -> Result<(), ShellFault>
+fn print_syntax<W: Sink>(output: &mut Output<W>, number: u32) -> Result<(), ShellFault>
     ensures ok { OnOk result (output.new.page ≡ output.old.page ++ numbered_text (codes "syntax command") number) }
     ensures err { OnErr result (output.new.page ≡ output.old.page) }
     ensures memory { IfErr result (λ fault. fault ≡ ShellFault.Memory) }
@@ -189,12 +187,12 @@ fn print_syntax(output: &mut Output, number: u32) -> Result<(), ShellFault>
 }
 
 /// Answers a line: an empty one is no command, and any other the next one.
-pub fn answer_line<S: FarStore, A: Resources<S>, R: Source + Drop, W: Write>(
+pub fn answer_line<S: FarStore, A: Resources<S>, R: Source + Drop, W: Sink>(
     resources: &A,
     progress: &mut Progress<S>,
     line: ByteRange,
     input: &mut Input<R>,
-    output: &mut Output,
+    output: &mut Output<W>,
     writer: &mut W,
 ) -> Result<(), ShellFault>
     requires held { Holds R.Read input.old line }

@@ -78,7 +78,7 @@ pub fn begin_evac<T: Elem, S: FarTickets>(
     })
 }
 
-// The number of the object that is wanted.
+// Returns the number of the object that is wanted.
 fn chosen<T: Elem, S: FarTickets>(objects: &Objects<T, S>, want: Want) -> Result<u32, Refusal>
     requires within { IsWanted objects.now want }
     requires tracked { AreTracked T.meaning S.content (IsSpelled T.in_range T.has_spelling T.spelling) objects.now }

@@ -53,7 +53,7 @@ pub fn commit<T: Elem, S: FarTickets>(
     Ok(())
 }
 
-// Whether what a carried evacuation rests on still holds. Allocates nothing.
+// Returns whether what a carried evacuation rests on still holds. Allocates nothing.
 fn is_committable<T: Elem, S: FarTickets>(
     objects: &Objects<T, S>,
     store: &S,
@@ -80,7 +80,7 @@ fn is_committable<T: Elem, S: FarTickets>(
         && is_still(objects, store, carried, list)
 }
 
-// Whether an object with this list is still what was carried. Allocates nothing.
+// Returns whether an object with this list is still what was carried. Allocates nothing.
 fn is_still<T: Elem, S: FarTickets>(
     objects: &Objects<T, S>,
     store: &S,

@@ -128,7 +128,7 @@ impl<T: Elem, S: FarStore> EvacJob<T, S> {
         }
     }
 
-    // The ticket of the form, which is put if the store does not have it.
+    // Returns the ticket of the form. Puts the form if the store does not have it.
     fn put(&self, alloc: Global, store: &S, meter: &mut Meter) -> Result<S::Ticket, Refusal>
         requires few { meter.old < 2 ^ 63 }
         requires here { IsFormOf S.is_of (S.store_id store.now) self.now.form }

@@ -69,7 +69,7 @@ fn read_form<T: Elem>(alloc: Global, bytes: &[u8], len: usize) -> Result<Vec<T>,
     }
 }
 
-// Whether what a fetch rests on still holds. Allocates nothing.
+// Returns whether what a fetch rests on still holds. Allocates nothing.
 fn is_installable<T: Elem, S: FarTickets>(
     objects: &Objects<T, S>,
     store: &S,

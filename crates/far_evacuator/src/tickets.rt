@@ -8,7 +8,7 @@ use far_codec::Elem;
 use far_scopes::Objects;
 use far_store::FarTickets;
 
-/// Whether the ticket of an object's newest far copy has the number of this one. Allocates nothing.
+/// Returns whether the ticket of an object's newest far copy has the number of this one. Allocates nothing.
 pub(crate) fn is_under<T: Elem, S: FarTickets>(
     objects: &Objects<T, S>,
     store: &S,

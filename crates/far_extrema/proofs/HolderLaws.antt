@@ -168,7 +168,7 @@ none_joined (suc n) = ap (λ o. merge_two join_min_maxes o None) (none_joined n)
 pub top-none : IsTopOf [] None
 top-none n below = none_joined n
 
--- the min-max of a key, where it has row groups
+-- the min-max of a key, if it has row groups
 abbrev pub top_in : Option Holding → Option (ℤ × ℤ)
 top_in None = None
 top_in (Some holding) = holding.top
@@ -272,7 +272,7 @@ more-reserved m count (suc more) kept =
       last_one zero = refl
       last_one (suc n) = ap (λ es. fin.empty ∷ es) (last_one n)
 
--- nothing is there where nothing is reserved
+-- nothing is there if nothing is reserved
 pub get-group_at : (m : Holders) (count g : ℕ) (q : Option Key) → AreReserved count m → fin.get (group_at (groups_in m count) g) q ≡ min_max_at m g q
 get-group_at m count g q kept = elim (order g count) [
   | inl l ↦ ap (λ e. fin.get e q) (group_at-in m count g l) ∙ get-group_in m g q

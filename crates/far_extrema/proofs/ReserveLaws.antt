@@ -1,4 +1,4 @@
--- Reserved keys: how what stands by key changes where one key's entry is written, and when a whole row group is.
+-- Reserved keys: how what stands by key changes if one key's entry is written, and if a whole row group is.
 use Rattle.std.proofs.Common.{◌≡◌, ◌≢◌, ℕ, ◌<◌, ◌==◌, ◌&&◌, true, false, Bool, cond, List, [], ◌∷◌, refl, sym, ap, ◌∙◌, arith, Option, None, Some, subst, Result, Ok, Err, OnOk, OnErr}
 use Rattle.std.specs.Prelude.{ℤ}
 use Rattle.std.specs.Ordering.{eq_by_cmp}
@@ -48,7 +48,7 @@ min_maxes-insert m k t own g q =
       | false ↦ λ e. refl
     ] refl
 
--- an entry is written that is reserved where its key was
+-- an entry is written that is reserved if its key was
 pub keeps-insert : (m : Holders) (k : Option Key) (t : Holding) → (reserved_at m k ≢ None → t.reserved ≡ true) → KeepsReserved m (fin.insert m k t)
 keeps-insert m k t own q had none =
     elim (eq_by_cmp line_cmp q k) as (λ b. eq_by_cmp line_cmp q k ≡ b → reserved_in (cond b (Some t) (fin.get m q)) ≡ None → ⊥) [
@@ -74,7 +74,7 @@ put-vacant m k t t' g there set none h q =
     ] refl
     ∙ put-set m k t t' g None there set h q
 
--- where a key has no row group left, it has not this one
+-- if a key has no row group left, it has not this one
 pub none-vacant : (old new : MinMaxes) (g : ℕ) (o : Option (ℤ × ℤ)) → IsSet old g o new → new ≡ [] → o ≡ None
 none-vacant old new g o set vacant = sym (ap (λ b. cond b o (at old g)) (own_test g)) ∙ sym (set g) ∙ ap (λ s. at s g) vacant
 
@@ -89,7 +89,7 @@ reserved-had m k t there had = elim t.reserved as (λ b. t.reserved ≡ b → b 
 pub reserved-other : (m : Holders) (k : Option Key) (t : Holding) (q : Option Key) → eq_by_cmp line_cmp q k ≡ false → reserved_at (fin.insert m k t) q ≡ reserved_at m q
 reserved-other m k t q e = ap reserved_in (fin.get-insert line_total m k t q) ∙ ap (λ b. reserved_in (cond b (Some t) (fin.get m q))) e
 
--- an entry that lost its last row group goes where it is not reserved
+-- an entry that lost its last row group goes if it is not reserved
 pub reserved-vacant : (m : Holders) (k : Option Key) (t t' : Holding) → fin.get m k ≡ Some t → t'.reserved ≡ t.reserved → t'.reserved ≡ false → HaveSameReserved m (fin.remove (fin.insert m k t') k)
 reserved-vacant m k t t' there kept none q =
     reserved-remove (fin.insert m k t') k (ap reserved_in (fin.get-insert line_total m k t' k ∙ ap (λ b. cond b (Some t') (fin.get m k)) (own_key k)) ∙ ap (λ b. cond b (Some true) None) none) q
@@ -231,7 +231,7 @@ AreCleared g old new = ((h : ℕ) → min_max_in new h ≡ cond (h == g) None (m
 nothing_cleared : (g : ℕ) → AreCleared g None None
 nothing_cleared g = (λ h. elim (h == g) as (λ b. None ≡ cond b None (min_max_in None h)) [ true ↦ refl | false ↦ refl ], refl)
 
--- what `retain` leaves of each key, where its closure clears a row group and stays as it was
+-- what `retain` leaves of each key, if its closure clears a row group and stays as it was
 pub cleared-at : {F : Type 0} (T : F → Option Key → Holding → Bool → Holding → F → Type 0) (g : ℕ) (f : F)
     → ((k : Option Key) (v : Holding) (b : Bool) (w : Holding) (f' : F) → T f k v b w f' → IsCleared g v b w × (f' ≡ f)) → (es kept : Entries) → HaveDistinctKeys es → RetainsPairs T f es kept
     → (q : Option Key) → AreCleared g (map_in.at es q) (map_in.at kept q) × (map_in.at es q ≡ None → map_in.at kept q ≡ None)

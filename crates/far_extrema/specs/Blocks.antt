@@ -3,6 +3,7 @@
 use Rattle.std.specs.Prelude.{ℕ, ◌+◌, ℤ, List, [], ◌∷◌, Option, None, Some}
 use Rattle.far_extrema.specs.Spreads.{MinMaxes}
 
+-- what a block holds: the min-maxes of its row groups, and the number of its first row group
 pub record BlockState : Type 0 where
   pub min_maxes : MinMaxes
   pub first : ℕ

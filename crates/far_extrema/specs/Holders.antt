@@ -14,6 +14,7 @@ pub record Holding : Type 0 where
   pub top : Option (ℤ × ℤ)
   pub reserved : Bool
 
+-- what is held of a key: its spread, if it has one, and whether it is reserved
 abbrev pub held : Option Spread → Bool → Holding
 held None reserved = record { min_maxes = []; top = None; reserved = reserved }
 held (Some spread) reserved = record { min_maxes = spread.min_maxes; top = spread.top; reserved = reserved }
@@ -26,6 +27,7 @@ Holders = ByKey Holding
 abbrev pub holders_of : List (Option Key × Holding) → Holders
 holders_of entries = fin.from_entries entries
 
+-- the min-max of a row group in what is held of a key
 abbrev pub min_max_in : Option Holding → ℕ → Option (ℤ × ℤ)
 min_max_in None group = None
 min_max_in (Some holding) group = at holding.min_maxes group
@@ -34,6 +36,7 @@ min_max_in (Some holding) group = at holding.min_maxes group
 abbrev pub min_max_at : Holders → ℕ → Option Key → Option (ℤ × ℤ)
 min_max_at holders group key = min_max_in (fin.get holders key) group
 
+-- whether what is held of a key is there and reserved
 abbrev pub reserved_in : Option Holding → Option (Bool)
 reserved_in None = None
 reserved_in (Some holding) = cond holding.reserved (Some true) None
@@ -79,9 +82,11 @@ IsPut old group key min_max new = (g : ℕ) → (q : Option Key) → min_max_at 
 abbrev pub IsGroup : Holders → ℕ → Extrema → Holders → Type 0
 IsGroup old group extrema new = (g : ℕ) → (q : Option Key) → min_max_at new g q ≡ cond (g == group) (fin.get extrema q) (min_max_at old g q)
 
+-- all min-maxes are as they were
 abbrev pub HaveSameMinMaxes : Holders → Holders → Type 0
 HaveSameMinMaxes old new = (g : ℕ) → (q : Option Key) → min_max_at new g q ≡ min_max_at old g q
 
+-- the same keys are reserved
 abbrev pub HaveSameReserved : Holders → Holders → Type 0
 HaveSameReserved old new = (q : Option Key) → reserved_at new q ≡ reserved_at old q
 

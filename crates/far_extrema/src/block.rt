@@ -43,7 +43,7 @@ impl Block {
         }
     }
 
-    /// The first and the last row group that may be here.
+    /// Returns the first and the last row group that may be here.
     pub fn reach(&self) -> (u32, u32)
         ensures first { result.0 ≡ self.now.first }
         ensures last { result.1 ≡ self.now.first + 15 }
@@ -53,7 +53,7 @@ impl Block {
         (self.first, self.first + (BLOCK_SIZE - 1))
     }
 
-    /// Whether a row group is in the range.
+    /// Returns whether a row group is in the range.
     pub fn covers(&self, group: u32) -> bool
         ensures first { IsTrue result → self.now.first ≤ group }
         ensures last { IsTrue result → group < self.now.first + 16 }
@@ -98,7 +98,7 @@ impl Block {
     }
 }
 
-/// The first and the last row group of the aligned range in which a row group is.
+/// Returns the first and the last row group of the aligned range in which a row group is.
 pub fn range_of(group: u32) -> (u32, u32)
     ensures first { result.0 ≡ group - group % 16 }
     ensures last { result.1 ≡ result.0 + 15 }

@@ -70,7 +70,7 @@ impl Holder {
         }
     }
 
-    /// Whether it has neither a row group nor memory for one.
+    /// Returns whether the holder has neither a row group nor memory for one.
     pub fn is_vacant(&self) -> bool
         ensures min_maxes { IsTrue result → self.now.min_maxes ≡ [] }
         ensures reserved { IsTrue result → self.now.reserved ≡ false }

@@ -72,7 +72,7 @@ impl LiveExtrema {
         }
     }
 
-    /// How many row groups are pending.
+    /// Returns how many row groups are pending.
     pub fn left(&self) -> u32
         ensures { result ≡ self.now.left }
     {

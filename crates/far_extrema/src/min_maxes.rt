@@ -24,14 +24,14 @@ pub fn merge_two(min_max: MinMax, more: MinMax) -> MinMax
     (min_max.0.min(more.0), min_max.1.max(more.1))
 }
 
-/// Whether a value is within a min-max, its ends included. Then it changes nothing there.
+/// Returns whether a value is within a min-max, its ends included. Then it changes nothing there.
 pub fn is_within(value: i64, min_max: MinMax) -> bool
     ensures { IsTrue result → (min_max.0 ≤ℤ value) × (value ≤ℤ min_max.1) }
 {
     min_max.0 <= value && value <= min_max.1
 }
 
-/// Whether a value is strictly within a min-max, its ends excluded. Then the min-max stays if the value goes.
+/// Returns whether a value is strictly within a min-max, its ends excluded. Then the min-max stays if the value goes.
 #[inline(always)]
 pub fn is_strictly_within(value: i64, min_max: MinMax) -> bool
     ensures { IsTrue result → (min_max.0 <ℤ value) × (value <ℤ min_max.1) }

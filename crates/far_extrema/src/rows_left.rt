@@ -25,7 +25,7 @@ pub trait RowsLeft {
     /// The least and the greatest of their values.
     ghost extremes: { Self → Option (ℤ × ℤ) };
 
-    /// The least and the greatest of their values, or `None` if there is no such row. Allocates nothing.
+    /// Returns the least and the greatest of their values, or `None` if there is no such row. Allocates nothing.
     fn min_max(&self) -> Option<MinMax>
         requires { at_hand self.now }
         ensures { result ≡ extremes self.now };

@@ -44,7 +44,7 @@ struct Branch {
 }
 
 impl Branch {
-    /// Whether a row group is in the range.
+    /// Returns whether a row group is in the range.
     fn reaches(&self, group: u32) -> bool
         ensures first { IsTrue result → self.now.first ≤ group }
         ensures last { IsTrue result → group ≤ self.now.last }
@@ -253,7 +253,7 @@ impl Tournament {
         }
     }
 
-    /// The first and the last row group that may be here.
+    /// Returns the first and the last row group that may be here.
     fn reach(&self) -> (u32, u32)
         ensures first { result.0 ≡ self.now.first }
         ensures last { result.1 ≡ self.now.last }

@@ -35,15 +35,15 @@ fn with_object<T: Element, S: FarTickets>(digest: u64, objects: &Objects<T, S>, 
     digest
 }
 
-/// Adds a number to the digest.
-pub fn with(digest: u64, number: u64) -> u64 {
+// Adds a number to the digest.
+fn with(digest: u64, number: u64) -> u64 {
     digest
         .wrapping_mul(1_099_511_628_211)
         .wrapping_add(number ^ 0x5555)
 }
 
-/// Adds a number, or the fact that there is none, to the digest.
-pub fn with_optional(digest: u64, number: Option<u64>) -> u64 {
+// Adds a number, or the fact that there is none, to the digest.
+fn with_optional(digest: u64, number: Option<u64>) -> u64 {
     match number {
         Some(number) => with(with(digest, 1), number),
         None => with(digest, 2),

@@ -1,8 +1,7 @@
 //! Elements of the objects of tests.
 ghost use Rattle.std.specs.Prelude.{IsTrue};
 
-use far_codec::{Elem, kind_of};
-use far_types::Kind;
+use far_codec::Elem;
 
 /// An element for tests: a test can tell whether a list of it has a far form, and can add it to a digest.
 ///
@@ -31,28 +30,5 @@ impl Element for i64 {
 
     fn number(&self) -> u64 {
         self.unsigned_abs()
-    }
-}
-
-impl Element for Option<i64> {
-    fn is_spelled(list: &[Option<i64>]) -> bool {
-        list.len() < 1 << 32
-    }
-
-    fn number(&self) -> u64 {
-        match self {
-            Some(number) => number.unsigned_abs(),
-            None => u64::MAX,
-        }
-    }
-}
-
-impl Element for u8 {
-    fn is_spelled(list: &[u8]) -> bool {
-        kind_of(list) == Some(Kind::Text)
-    }
-
-    fn number(&self) -> u64 {
-        u64::from(*self)
     }
 }

@@ -9,7 +9,7 @@ mod digest;
 mod element;
 mod moving;
 
-pub use beginning::{agent, no_objects, put};
-pub use digest::{digest_of, with, with_optional};
+pub use beginning::{agent, no_objects};
+pub use digest::digest_of;
 pub use element::Element;
 pub use moving::{bring_back, send_away};

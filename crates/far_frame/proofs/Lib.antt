@@ -13,3 +13,6 @@ mod GivenLaws
 mod ObservedLaws
 mod SpentLaws
 mod NumberLaws
+pub mod FirstLaws
+pub mod PlainLaws
+mod StaleLaws

@@ -208,7 +208,7 @@ module _ {K : Type 0} where
         (λ served k. inr (inr (inr (n, ap (λ (w : World K). w.begun) k.world, ap (λ (w : World K). w.jobs) k.world))))
         (λ e k. maybe-turns n (spends (Err e)) (ap (λ (w : World K). w.begun) k.world) (ap (λ (w : World K). w.jobs) k.world)) h
 
-    -- what an end does to its job: it is there and is spent, or it may be spent where it is refused
+    -- what an end does to its job: it is there and is spent, or it may be spent if it is refused
     abbrev Ends : ℕ → Reply → Type 0
     Ends n given = Replies (λ served. IsSome (job_at old.jobs n) × (new.begun ≡ old.begun) × (new.jobs ≡ without_job old.jobs n))
         (λ e. (new.begun ≡ old.begun) × (new.jobs ≡ cond (spends (Err e)) (without_job old.jobs n) old.jobs)) given

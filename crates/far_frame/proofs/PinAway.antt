@@ -1,4 +1,4 @@
--- What is told to be away has no pin, where all that have one are local.
+-- What is reported as away has no pin, if all that have one are local.
 use Rattle.std.proofs.Common.{◌≡◌, ◌≢◌, inl, inr, ℕ, Bool, true, false, not, List, map, [], ◌∷◌, Option, None, Some, IfSome, IsSomeAnd, refl, sym, ap, subst, ◌∙◌}
 use Rattle.std.specs.Prelude.{cond, option_map, slice_get}
 use Rattle.std.specs.Option.{option_and_then, option_map_or, option_or}
@@ -26,7 +26,7 @@ use Rattle.far_frame.proofs.PinLaws.{unpinned-some}
 use Rattle.far_frame.proofs.PinRows.{not-on, no-some, one-some, moves-pinned, moves-unpinned}
 
 module _ {K : Type 0} (r : Rows K) (column group : ℕ) where
-  -- the object of a row group of a column is told to be away where it is not local
+  -- the object of a row group of a column is reported as away if it is not local
   away-number : (found : Option ℕ) (o : Object) → option_map (λ p. object.Number p) found ≡ Some o → (option_map_or (absent r.number_objects) found (false, refusal.StaleJob)).0 ≡ not (is_here r o)
   away-number None o is = no-some o is
   away-number (Some p) o is = ap (λ (q : Object). not (is_here r q)) (one-some (object.Number p) o is)
@@ -61,7 +61,7 @@ module _ {K : Type 0} (r : Rows K) (column group : ℕ) where
   pin-here none o is =
       not-here (is_here r o) (sym (away-at o is) ∙ none-first (object_refusal r column group) (absent_in r column group) (option_map_or (pins_used r) (object_at r column group) (false, refusal.StaleJob) ∷ []) none)
 
-  -- what is told to be away has no pin
+  -- what is reported as away has no pin
   pub free-away : ArePinnedHere r → (absent_in r column group).0 ≡ true → (found : Option Object) → object_at r column group ≡ found → IfSome found (λ o. pins_at r o ≡ 0)
   free-away all away None is = tt
   free-away all away (Some o) is = elim (cases_eq (pins_at r o) 0) [

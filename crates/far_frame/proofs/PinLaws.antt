@@ -125,7 +125,7 @@ module _ {K : Type 0} where
   abbrev one_less : ObjectRecord K → ObjectRecord K
   one_less object_record = record object_record { pins = object_record.pins - 1 }
 
-  -- where there is no pin none is taken off
+  -- if there is no pin none is taken off
   pins-less : (records : List (ObjectRecord K)) (o p : ℕ) → says_pins (slice_get records p) ≡ 0 → says_pins (slice_get (with_record records o one_less) p) ≡ 0
   pins-less [] o p none = none
   pins-less (e ∷ records) zero zero none = omega (arith, none)

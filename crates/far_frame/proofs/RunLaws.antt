@@ -1,15 +1,17 @@
 -- A run goes on by one step.
 use Rattle.std.proofs.Common.{◌≡◌, ◌≢◌, ℕ, ◌+◌, ◌≤◌, ◌==◌, Bool, true, false, if◌then◌else◌, cond, arith, List, [], ◌∷◌, ◌++◌, IsSomeAnd, ap, sym, ◌∙◌, subst, refl, Option, None, Some}
-use Rattle.std.specs.Prelude.{slice_range}
+use Rattle.std.specs.Prelude.{option_map, slice_range}
 use Rattle.std.specs.List.{flat_map}
+use Rattle.std.proofs.lemmas.Option.{same_Some}
 use Rattle.far_types.specs.declared.answer.Answer.{Answer}
 use Rattle.far_types.specs.declared.refusal.Refusal.{Refusal}
 use Rattle.far_types.specs.Refusals.{number_of as refusal_number}
 use Rattle.far_store.specs.Faults.{faults_of}
 use Rattle.far_types.specs.Answers.{answer_over}
 use Rattle.far_types.specs.Bounds.{AreLimits}
-use Rattle.far_types.specs.Table.{Place, Registered, left, answer_now, rows_of, part}
+use Rattle.far_types.specs.Table.{Place, Registered, Table, left, answer_now, rows_of, part}
 use Rattle.far_aggregates.specs.Aggregates.{Answers}
+use Rattle.far_table.specs.Recounting.{IsAnswerNow}
 use Rattle.far_table.specs.State.{State as LiveState}
 use Rattle.far_frame.specs.State.{State, live}
 use Rattle.far_table.specs.Watching.{aggregate_at}
@@ -33,8 +35,34 @@ use Rattle.far_frame.specs.Waiting.{job_at}
 use Rattle.far_frame.specs.Worlds.{World, IsBegun, IsNotBegun, IsCarry, IsNoCarry, IsEnded, IsNotEnded}
 
 -- an aggregate that answers
-the-answer : (places : List Place) (o : Option Registered) (r : Registered) (x : Answer) → o ≡ Some r → Answers places o x → (left r.pending ≡ 0) × (x ≡ answer_over r.spec (rows_of places))
-the-answer places o r x h k = let P : Option Registered → Type 0 = λ q. Answers places q x in subst P h k
+answers-now : (places : List Place) (o : Option Registered) (x : Answer) → Answers places o x → IsSomeAnd o (λ r. x ≡ answer_over r.spec (rows_of places))
+answers-now places None x h = absurd h
+answers-now places (Some r) x h = h.1
+
+answers-built : (places : List Place) (o : Option Registered) (x : Answer) → Answers places o x → IsSomeAnd o (λ r. left r.pending ≡ 0)
+answers-built places None x h = absurd h
+answers-built places (Some r) x h = h.0
+
+one-answer : (o : Option Registered) (f : Registered → Answer) (x y : Answer) → IsSomeAnd o (λ r. x ≡ f r) → IsSomeAnd o (λ r. y ≡ f r) → x ≡ y
+one-answer None f x y h k = absurd h
+one-answer (Some r) f x y h k = h ∙ sym k
+
+-- two aggregates of one specification answer the same over the same rows
+alike : (o p : Option Registered) (these those : List Place) (x y : Answer) → these ≡ those → option_map (λ (r : Registered). r.spec) o ≡ option_map (λ (r : Registered). r.spec) p
+    → IsSomeAnd o (λ r. x ≡ answer_over r.spec (rows_of these)) → IsSomeAnd p (λ r. y ≡ answer_over r.spec (rows_of those)) → x ≡ y
+alike None p these those x y rows same h k = absurd h
+alike (Some r) None these those x y rows same h k = absurd k
+alike (Some r) (Some q) these those x y rows same h k = (let spec : r.spec ≡ q.spec = same_Some r.spec q.spec same in h ∙ (λ i. answer_over (spec i) (rows_of (rows i))) ∙ sym k)
+
+the-answer : (o : Option Registered) (r : Registered) (f : Registered → Answer) (x : Answer) → o ≡ Some r → IsSomeAnd o (λ q. x ≡ f q) → x ≡ f r
+the-answer None r f x is h = absurd h
+the-answer (Some q) r f x is h = h ∙ ap f (same_Some q r is)
+
+pub recounted-answer : (table : Table) (a : ℕ) (x : Answer) (r : Registered) → aggregate_at table a ≡ Some r → IsAnswerNow table a x → x ≡ answer_now r.spec table
+recounted-answer table a x r is h = the-answer (aggregate_at table a) r (λ q. answer_now q.spec table) x is h
+
+pub recounted-same : (table : Table) (a : ℕ) (one other : Answer) → IsAnswerNow table a one → IsAnswerNow table a other → one ≡ other
+recounted-same table a one other h k = one-answer (aggregate_at table a) (λ r. answer_now r.spec table) one other h k
 
 given-answer : (x y : Answer) → reply.Answer x ≡ reply.Answer y → y ≡ x
 given-answer x y h = cc
@@ -52,7 +80,7 @@ replied serves refuses (reply.Job n) f g h = f (reply.Job n) h
 replied serves refuses (reply.Next found) f g h = f (reply.Next found) h
 
 -- a reply that is no refusal serves
-served : (serves : Reply → Type 0) (refuses : Refusal → Type 0) (given : Reply) → is_refused given ≡ false → Replies serves refuses given → serves given
+pub served : (serves : Reply → Type 0) (refuses : Refusal → Type 0) (given : Reply) → is_refused given ≡ false → Replies serves refuses given → serves given
 served serves refuses (reply.Refused why) is h = absurd (let on : true ≡ false = is in cc)
 served serves refuses (reply.Place place) is h = h
 served serves refuses reply.Done is h = h
@@ -91,16 +119,18 @@ module _ {K : Type 0} (content : K → List ℕ) (number_of : K → ℕ) where
   runs-join old (s ∷ steps) (given ∷ replies) mid more others new h k = (h.0, h.1, runs-join h.0 steps replies mid more others new h.2 k)
 
   -- an answer is that of the aggregate
-  answered : (old : World K) (a : ℕ) (x : Answer) (new : World K) (r : Registered) → aggregate_at old.state.table a ≡ Some r → IsStep content number_of old (step.Ask a) (reply.Answer x) new → (left r.pending ≡ 0) × (x ≡ answer_now r.spec old.state.table)
-  answered old a x new r h k =
-      let same : k.0.0 ≡ x = given-answer x k.0.0 k.0.1 in
-      the-answer old.state.table.places (aggregate_at old.state.table a) r x h (subst (Answers old.state.table.places (aggregate_at old.state.table a)) same k.0.2)
+  answered : (old : World K) (a : ℕ) (x : Answer) (new : World K) → IsStep content number_of old (step.Ask a) (reply.Answer x) new → Answers old.state.table.places (aggregate_at old.state.table a) x
+  answered old a x new k = (let same : k.0.0 ≡ x = given-answer x k.0.0 k.0.1 in subst (Answers old.state.table.places (aggregate_at old.state.table a)) same k.0.2)
 
-  pub answer-now : (old : World K) (a : ℕ) (x : Answer) (new : World K) (r : Registered) → aggregate_at old.state.table a ≡ Some r → IsStep content number_of old (step.Ask a) (reply.Answer x) new → x ≡ answer_now r.spec old.state.table
-  answer-now old a x new r h k = (answered old a x new r h k).1
+  pub answer-now : (old : World K) (a : ℕ) (x : Answer) (new : World K) → IsStep content number_of old (step.Ask a) (reply.Answer x) new → IsAnswerNow old.state.table a x
+  answer-now old a x new k = answers-now old.state.table.places (aggregate_at old.state.table a) x (answered old a x new k)
 
-  pub answer-built : (old : World K) (a : ℕ) (x : Answer) (new : World K) (r : Registered) → aggregate_at old.state.table a ≡ Some r → IsStep content number_of old (step.Ask a) (reply.Answer x) new → left r.pending ≡ 0
-  answer-built old a x new r h k = (answered old a x new r h k).0
+  pub answer-built : (old : World K) (a : ℕ) (x : Answer) (new : World K) → IsStep content number_of old (step.Ask a) (reply.Answer x) new → IsSomeAnd (aggregate_at old.state.table a) (λ r. left r.pending ≡ 0)
+  answer-built old a x new k = answers-built old.state.table.places (aggregate_at old.state.table a) x (answered old a x new k)
+
+  pub answer-recounted : (table : Table) (a : ℕ) (counted : Answer) → IsAnswerNow table a counted → (old : World K) → old.state.table.places ≡ table.places → option_map (λ (r : Registered). r.spec) (aggregate_at old.state.table a) ≡ option_map (λ (r : Registered). r.spec) (aggregate_at table a)
+      → (x : Answer) (new : World K) → IsStep content number_of old (step.Ask a) (reply.Answer x) new → x ≡ counted
+  answer-recounted table a counted h old rows same x new k = alike (aggregate_at old.state.table a) (aggregate_at table a) old.state.table.places table.places x counted rows same (answer-now old a x new k) h
 
   -- what is lent is that part of its column
   module _ (old : World K) (limits : AreLimits old.state.table.limits) (column from to : ℕ) (given : Reply) (new : World K) (accepted : is_refused given ≡ false) (taken : IsStep content number_of old (step.Lend column from to) given new) where
@@ -113,7 +143,7 @@ module _ {K : Type 0} (content : K → List ℕ) (number_of : K → ℕ) where
     pub lent-flags : flat_map (λ piece. piece.flags) (pieces_in given) ≡ slice_range (flags_of old.state.table.places) from to
     lent-flags = given-flags old.state.table limits column from to (lends-low old.state.rows column from to lent.due) given lent.says
 
-  -- where the state stays, so does the world
+  -- if the state stays, so does the world
   same-world : (old new : World K) → new.state ≡ old.state → new ≡ record old { state = new.state } → new ≡ old
   same-world old new h k = k ∙ ap (λ (s : State K). record old { state = s }) h
 

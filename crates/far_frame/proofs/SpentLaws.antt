@@ -18,16 +18,16 @@ none-some : {A : Type 0} (x : A) → Some x ≡ None → ⊥
 none-some x h = cc
 
 -- a step that does not serve, and is refused for one reason alone, is refused for it
-refused-so : (serves : Reply → Type 0) (refuses : Refusal → Type 0) (given : Reply) → ((served : Reply) → serves served → ⊥) → ((why : Refusal) → refuses why → why ≡ refusal.StaleJob) → Replies serves refuses given → given ≡ reply.Refused refusal.StaleJob
-refused-so serves refuses (reply.Refused why) f g h = ap reply.Refused (g why h)
-refused-so serves refuses (reply.Place place) f g h = absurd (f (reply.Place place) h)
-refused-so serves refuses reply.Done f g h = absurd (f reply.Done h)
-refused-so serves refuses (reply.Aggregate a) f g h = absurd (f (reply.Aggregate a) h)
-refused-so serves refuses (reply.Answer x) f g h = absurd (f (reply.Answer x) h)
-refused-so serves refuses (reply.Ints pieces) f g h = absurd (f (reply.Ints pieces) h)
-refused-so serves refuses (reply.Texts pieces) f g h = absurd (f (reply.Texts pieces) h)
-refused-so serves refuses (reply.Job n) f g h = absurd (f (reply.Job n) h)
-refused-so serves refuses (reply.Next found) f g h = absurd (f (reply.Next found) h)
+pub refused-so : (due : Refusal) (serves : Reply → Type 0) (refuses : Refusal → Type 0) (given : Reply) → ((served : Reply) → serves served → ⊥) → ((why : Refusal) → refuses why → why ≡ due) → Replies serves refuses given → given ≡ reply.Refused due
+refused-so due serves refuses (reply.Refused why) f g h = ap reply.Refused (g why h)
+refused-so due serves refuses (reply.Place place) f g h = absurd (f (reply.Place place) h)
+refused-so due serves refuses reply.Done f g h = absurd (f reply.Done h)
+refused-so due serves refuses (reply.Aggregate a) f g h = absurd (f (reply.Aggregate a) h)
+refused-so due serves refuses (reply.Answer x) f g h = absurd (f (reply.Answer x) h)
+refused-so due serves refuses (reply.Ints pieces) f g h = absurd (f (reply.Ints pieces) h)
+refused-so due serves refuses (reply.Texts pieces) f g h = absurd (f (reply.Texts pieces) h)
+refused-so due serves refuses (reply.Job n) f g h = absurd (f (reply.Job n) h)
+refused-so due serves refuses (reply.Next found) f g h = absurd (f (reply.Next found) h)
 
 module _ {K : Type 0} where
   none-holds : (holds : JobRecord K → Type 0) (found : Option (JobRecord K)) → found ≡ None → IsSomeAnd found holds → ⊥
@@ -39,17 +39,17 @@ module _ {K : Type 0} where
   none-why why (Some job) given is h = absurd (none-some job is)
 
   ended-spent : (n : ℕ) (old new : World K) (given : Reply) (ends : WorkOf K → State K → Type 0) (why : WorkOf K → Refusal → Type 0) → job_at old.jobs n ≡ None → Replies (λ served. IsEnded ends n old served new) (λ e. IsNotEnded why n old e new) given → given ≡ reply.Refused refusal.StaleJob
-  ended-spent n old new given ends why none h = refused-so (λ served. IsEnded ends n old served new) (λ e. IsNotEnded why n old e new) given
+  ended-spent n old new given ends why none h = refused-so refusal.StaleJob (λ served. IsEnded ends n old served new) (λ e. IsNotEnded why n old e new) given
       (λ served k. none-holds (λ job. ends job.work new.state) (job_at old.jobs n) none k.ended)
       (λ e k. none-why (λ job. why job.work) (job_at old.jobs n) e none k.refused) h
 
   module _ (content : K → List ℕ) (number_of : K → ℕ) where
     carry-spent : (n : ℕ) (old new : World K) (given : Reply) → job_at old.jobs n ≡ None → IsStep content number_of old (step.Carry n) given new → given ≡ reply.Refused refusal.StaleJob
-    carry-spent n old new given none h = refused-so (λ served. IsCarry content n old served new) (λ e. IsNoCarry n old e new) given
+    carry-spent n old new given none h = refused-so refusal.StaleJob (λ served. IsCarry content n old served new) (λ e. IsNoCarry n old e new) given
         (λ served k. none-some k.carried.job (sym k.carried.waits ∙ none))
         (λ e k. none-why CarryRefusal (job_at old.jobs n) e none k.refused) h
 
-    -- a step that carries or ends a job is stale where no job stands under its number
+    -- a step that carries or ends a job is stale if no job stands under its number
     pub spent : (old : World K) (s : Step) → IsSomeAnd (job_of s) (λ n. job_at old.jobs n ≡ None) → (given : Reply) (new : World K) → IsStep content number_of old s given new → given ≡ reply.Refused refusal.StaleJob
     spent old (step.Carry n) none given new h = carry-spent n old new given none h
     spent old (step.Commit n) none given new h = ended-spent n old new given (Commits number_of old.state) (CommitRefusal number_of old.state) none h

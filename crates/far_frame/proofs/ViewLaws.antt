@@ -38,7 +38,7 @@ module _ {K : Type 0} (r : Rows K) where
   pub away-first : (g count : ℕ) (e : Refusal) → first_of (absents r g) ≡ Some e → first_of (absents_of r g (suc count)) ≡ Some e
   away-first g count e away = first-behind (absents r g) (absents_of r (g + 1) count) ∙ ap (λ o. option_or o (first_of (absents_of r (g + 1) count))) away
 
-  -- where none is away, none is away in any row group
+  -- if none is away, none is away in any row group
   pub each-here : (g count : ℕ) → first_of (absents_of r g count) ≡ None → (k : ℕ) → g ≤ k → k < g + count → first_of (absents r k) ≡ None
   each-here g zero free k low high = absurd (omega arith)
   each-here g (suc count) free k low high =

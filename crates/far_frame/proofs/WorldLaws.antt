@@ -1,4 +1,4 @@
--- What always holds of a world holds after each step, and what is known where one is refused.
+-- What always holds of a world holds after each step, and what is known if one is refused.
 use Rattle.std.proofs.Common.{◌≡◌, ℕ, Bool, true, false, cond, List, Option, Some, None, refl, sym, ap, subst, ◌∙◌, IfSome, IfErr, OnOk, OnErr, Result, IsSomeAnd, ◌⊎◌, ◌↔◌, inl, inr}
 use Rattle.std.specs.Prelude.{IsErrOf}
 use Rattle.std.specs.declared.result.Result.TheVariants.{Ok, Err}

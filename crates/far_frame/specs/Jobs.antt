@@ -5,7 +5,7 @@ use Rattle.far_types.specs.declared.name.Name.{Name}
 use Rattle.far_types.specs.declared.refusal.Refusal.{Refusal}
 use Rattle.far_types.specs.declared.refusal.Refusal.TheVariants as refusal
 use Rattle.far_types.specs.Refusals.{number_of as refusal_number}
-use Rattle.far_evacuator.specs.Jobs.{Evacuation, CarriedEvacuation, Fetch, CarriedFetch, IsFormOf}
+use Rattle.far_evacuator.specs.Jobs.{Evacuation, CarriedEvacuation, Fetch, CarriedFetch, IsDirtyForm, IsFormOf}
 use Rattle.far_rows.specs.declared.job.ByKind.{ByKind}
 use Rattle.far_rows.specs.Rows.{Rows}
 use Rattle.far_rows.specs.Coldest.{coldest}
@@ -33,6 +33,7 @@ abbrev pub IsOneOf : List ℕ → Refusal → Type 0
 IsOneOf numbers refusal = IsTrue (list_any (λ number. number == refusal_number refusal) numbers)
 
 module _ {K : Type 0} where
+  -- the kind of a work
   abbrev pub kind_of_work : WorkOf K → JobKind
   kind_of_work (work.Evac evac) = kind.Evac
   kind_of_work (work.Carried carried) = kind.Evac
@@ -52,6 +53,7 @@ module _ {K : Type 0} where
   kind_of job = kind_of_work job.work
 
   module _ (is_of : K → List ℕ → Type 0) (id : List ℕ) where
+    -- what a work holds is of the store with this id
     abbrev pub IsWorkAt : WorkOf K → Type 0
     IsWorkAt (work.Evac evac) = IsFormOf is_of id (of_either evac).form
     IsWorkAt (work.Carried carried) = is_of (of_either carried).ticket id
@@ -65,31 +67,35 @@ module _ {K : Type 0} where
     IsJobAt job = IsWorkAt job.work
 
   module _ (content : K → List ℕ) where
+    -- a begun work is carried
     abbrev pub IsWorkCarried : WorkOf K → WorkOf K → Type 0
     IsWorkCarried (work.Evac evac) (work.Carried carried) = IsCarriedEvac content evac carried
     IsWorkCarried (work.Fetch fetch) (work.Fetched fetched) = IsCarriedFetch content fetch fetched
     IsWorkCarried (work.Offload build) (work.Offloaded carried) = carried ≡ build
     IsWorkCarried begun _ = ⊥
 
-    -- a job that was begun is carried: the store has its form, or its bytes are the content of its ticket, or the contents of its
-    -- tickets were read
+    -- a job that was begun is carried. The store has the form of an evacuation. A fetch has the content of its ticket. The contents of
+    -- the tickets of an offloaded build were read
     pub record IsCarried (job done : JobRecord K) : Type 0 where
       pub name : done.name ≡ job.name
       pub work : IsWorkCarried job.work done.work
 
+  -- why a work is not carried
   abbrev pub WorkRefusal : WorkOf K → Refusal → Type 0
-  WorkRefusal (work.Evac evac) given = IsOneOf (21 ∷ 22 ∷ 1 ∷ []) given
+  WorkRefusal (work.Evac evac) given = IsDirtyForm (of_either evac).form × IsOneOf (21 ∷ 22 ∷ 1 ∷ []) given
   WorkRefusal (work.Fetch fetch) given = IsOneOf (21 ∷ 1 ∷ []) given
   WorkRefusal (work.Carried carried) given = given ≡ refusal.StaleJob
   WorkRefusal (work.Fetched fetched) given = given ≡ refusal.StaleJob
   WorkRefusal (work.Offload build) given = IsOneOf (21 ∷ 1 ∷ []) given
   WorkRefusal (work.Offloaded build) given = given ≡ refusal.StaleJob
 
-  -- why a job is not carried: it was already; else the store failed or was full, or memory ran out
+  -- why a job is not carried: it was already; else the store failed or was full, or memory ran out. An evacuation that was
+  -- begun on a clean object asks the store for nothing, so it is carried
   abbrev pub CarryRefusal : JobRecord K → Refusal → Type 0
   CarryRefusal job given = WorkRefusal job.work given
 
   module _ (r : Rows K) (column group : ℕ) where
+    -- the work of an evacuation of the object, begun now
     abbrev pub IsEvacWork : WorkOf K → Type 0
     IsEvacWork (work.Evac evac) = IsEvacBegun r column group evac
     IsEvacWork _ = ⊥
@@ -100,6 +106,7 @@ module _ {K : Type 0} where
       pub name : job.name ≡ Some record { column = column; group = group }
       pub work : IsEvacWork job.work
 
+    -- the work of a fetch of the object, begun now
     abbrev pub IsFetchWork : WorkOf K → Type 0
     IsFetchWork (work.Fetch fetch) = IsFetchBegun r column group fetch
     IsFetchWork _ = ⊥
@@ -111,6 +118,7 @@ module _ {K : Type 0} where
       pub work : IsFetchWork job.work
 
   module _ (s : State K) (a g : ℕ) where
+    -- the work of an offloaded build, begun now
     abbrev pub IsOffloadWork : WorkOf K → Type 0
     IsOffloadWork (work.Offload build) = IsOffloadBegun (live s) a g build
     IsOffloadWork _ = ⊥
@@ -127,7 +135,28 @@ module _ {K : Type 0} where
     IsColdestJob None = coldest r ≡ None
     IsColdestJob (Some job) = IsSomeAnd job.name (λ name. (coldest r ≡ Some name) × IsEvacJob r name.column name.group job)
 
+  -- a job is an offloaded build whose aggregate is not registered
+  abbrev pub IsForgotten : State K → WorkOf K → Type 0
+  IsForgotten s (work.Offload build) = aggregate_at s.table build.aggregate ≡ None
+  IsForgotten s (work.Offloaded build) = aggregate_at s.table build.aggregate ≡ None
+  IsForgotten s _ = ⊥
+
   module _ (number_of : K → ℕ) (old : State K) where
+    -- a job is an evacuation that was carried, and what it rests on still holds
+    abbrev pub MayCommit : WorkOf K → Type 0
+    MayCommit (work.Carried carried) = IsEvacAccepted number_of old.rows carried
+    MayCommit _ = ⊥
+
+    -- likewise a fetch
+    abbrev pub MayInstall : WorkOf K → Type 0
+    MayInstall (work.Fetched fetched) = IsFetchAccepted number_of old.rows fetched
+    MayInstall _ = ⊥
+
+    -- likewise an offloaded build
+    abbrev pub MayMerge : WorkOf K → Type 0
+    MayMerge (work.Offloaded build) = IsMergeable number_of (live old) build
+    MayMerge _ = ⊥
+
     -- a job is an evacuation that was carried and is accepted, and its object is away
     abbrev pub Commits : WorkOf K → State K → Type 0
     Commits (work.Carried carried) new = Alters (IsMoved (IsCommitted number_of carried)) old new
@@ -144,9 +173,11 @@ module _ {K : Type 0} where
     Merges (work.Offloaded build) new = Alters (λ before after. IsMerged number_of before build after) old new
     Merges _ new = ⊥
 
-    -- or it is not: its aggregate is not registered, what it rests on holds no more, or memory ran out. Any other job is stale
-    -- here
+    -- or it is not: its aggregate is not registered, what it rests on holds no more, or memory ran out. A build that was not
+    -- carried is stale if its aggregate is registered. A job of another kind is stale here
     abbrev pub MergeRefusal : WorkOf K → Refusal → Type 0
+    MergeRefusal (work.Offload build) given = ((given ≡ refusal.NoAggregate) × (aggregate_at old.table build.aggregate ≡ None))
+        ⊎ ((given ≡ refusal.StaleJob) × IsSome (aggregate_at old.table build.aggregate))
     MergeRefusal (work.Offloaded build) given = ((given ≡ refusal.NoAggregate) × (aggregate_at old.table build.aggregate ≡ None))
         ⊎ (((given ≡ refusal.StaleJob) × IsSome (aggregate_at old.table build.aggregate) × ¬ (IsMergeable number_of (live old) build))
         ⊎ ((given ≡ refusal.NoMemory) × ¬ (¬ (IsMergeable number_of (live old) build))))

@@ -38,17 +38,19 @@ piece_of column places = record { cells = column_of column places; flags = flags
 abbrev pub lent_part : Table → ℕ → ℕ → ℕ → List Piece
 lent_part table column from to = map (piece_of column) (pieces_of table.places table.limits.group from to)
 
--- a lent piece of numbers, and one of texts
+-- a lent piece of numbers
 abbrev pub ints_lent : List (Option ℤ) × List Bool → Piece
 ints_lent lent = record { cells = map int_cell lent.0; flags = lent.1 }
 
+-- a lent piece of texts
 abbrev pub texts_lent : List (Option (List ℕ) × Bool) → Piece
 texts_lent lent = record { cells = map (λ cell. text_cell cell.0) lent; flags = map (λ cell. cell.1) lent }
 
--- a copied one
+-- a copied piece of numbers
 abbrev pub int_piece : IntPiece → Piece
 int_piece copy = record { cells = map int_cell copy.values.items; flags = copy.flags.items }
 
+-- a copied piece of texts
 abbrev pub text_piece : TextPiece → Piece
 text_piece copy = record { cells = map text_cell copy.values.items; flags = copy.flags.items }
 
@@ -81,8 +83,8 @@ module _ {K : Type 0} where
   abbrev pub all_used : Rows K → ℕ → List ℕ → Rows K
   all_used r column lent = fold (λ rows g. option_map_or (after_touch rows) (object_at rows column g) rows) r lent
 
-  -- why a part of a column is not lent: there is no such column; the places are not all there; the object of a row group that
-  -- has some of them is away, the first such
+  -- why a part of a column is not lent. There is no such column. The places are not all there. The object of a row group that has some
+  -- of them is away, and the first such is named
   abbrev pub lend_refusal : Rows K → ℕ → ℕ → ℕ → Option Refusal
   lend_refusal r column from to = first_of (no_column r column ∷ no_range r from to ∷ map (absent_in r column) (overlapped_groups r.size from to))
 

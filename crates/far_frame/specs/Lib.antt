@@ -9,3 +9,4 @@ pub mod Pins
 pub mod Views
 pub mod Jobs
 pub mod Renewing
+pub mod PlainEdits

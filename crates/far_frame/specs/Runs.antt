@@ -7,6 +7,7 @@ use Rattle.far_frame.specs.declared.step.Step.TheVariants as step
 use Rattle.far_frame.specs.declared.step.Reply.{Reply}
 use Rattle.far_frame.specs.declared.step.Reply.TheVariants as reply
 
+-- whether a reply is a refusal
 abbrev pub is_refused : Reply → Bool
 is_refused (reply.Place place) = false
 is_refused reply.Done = false

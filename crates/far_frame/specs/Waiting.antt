@@ -15,6 +15,7 @@ use Rattle.far_frame.specs.Jobs.{JobRecord, IsJobAt, IsCarried}
 abbrev pub Waiting : Type 0 → Type 0
 Waiting K = List (ℕ × Option (JobRecord K))
 
+-- whether a number is that of a job
 abbrev pub is_number : ℕ → ℕ → Bool
 is_number n = is_at (nat_cmp n)
 

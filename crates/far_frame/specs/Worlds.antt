@@ -16,8 +16,8 @@ use Rattle.far_frame.specs.declared.step.Reply.TheVariants as reply
 use Rattle.far_frame.specs.Jobs.{JobRecord, WorkOf, CarryRefusal}
 use Rattle.far_frame.specs.Waiting.{Waiting, AreJobsAt, IsCarriedAt, RefusalAt, is_number, job_at, one_more, spends, without_job}
 
--- all that a step can see or change: the table and its objects, the id of the store that they go to, how many jobs were begun
--- and which are not spent, and how many faults of the store occurred
+-- all that a step can see or change: the table and its objects, and the id of the store that they go to. Then come how many jobs were
+-- begun, those that are not spent, and how many faults of the store occurred
 pub record World (K : Type 0) : Type 0 where
   pub state : State K
   pub store : List ℕ

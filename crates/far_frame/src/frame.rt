@@ -226,7 +226,7 @@ impl<S: FarTickets> Frame<S> {
     pub fn places(&self) -> u32
         ensures { result ≡ length self.now.table.places }
     {
-        // For the proof: a table has at most 16,777,216 places.
+        // For the proof: gives that a table has at most 16,777,216 places.
         let _limits = self.table.rows().limits();
         self.table.rows().len() as u32
     }

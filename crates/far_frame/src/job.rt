@@ -151,6 +151,8 @@ impl<S: FarStore> Job<S> {
     /// - `FarFault` (21): the store fails in this call, exactly if the meter rises, by one.
     /// - `FarFull` (22), for an evacuation alone: the number drawn from the store is not below its capacity.
     /// - `NoMemory` (1): an allocation fails.
+    ///
+    /// An evacuation that was begun on a clean object puts nothing, and is not refused.
     pub fn carry(
         self,
         alloc: Global,

@@ -1,16 +1,17 @@
 // The promises of a run in the subject's own words, which follow from the relation of steps.
-ghost use Rattle.std.specs.Prelude.{◌≡◌, ◌≢◌, ◌<◌, ◌≤◌, ℕ, List, ◌∷◌, [], ◌++◌, None, Some, IfSome, IsSome, IsSomeAnd, true, false, slice_range};
+ghost use Rattle.std.specs.Prelude.{◌≡◌, ◌≢◌, ◌<◌, ◌≤◌, ◌+◌, ℕ, List, ◌∷◌, [], ◌++◌, None, Some, IfSome, IsSome, IsSomeAnd, true, false, option_map, slice_get, slice_range};
 ghost use Rattle.std.specs.List.{flat_map};
 ghost use Rattle.far_types.specs.declared.answer.Answer.{Answer};
+ghost use Rattle.far_types.specs.declared.cell.Cell.{Cell};
 ghost use Rattle.far_types.specs.declared.cell.Kind.{Kind};
 ghost use Rattle.far_types.specs.declared.edit.Edit.{Edit};
 ghost use Rattle.far_types.specs.declared.limits.Limits.{Limits};
 ghost use Rattle.far_types.specs.declared.refusal.Refusal.{Refusal};
 ghost use Rattle.far_types.specs.declared.refusal.Refusal.TheVariants as refusal;
-ghost use Rattle.far_types.specs.Edits.{edited};
+ghost use Rattle.far_types.specs.Edits.{edited, edit_refusal};
 ghost use Rattle.far_types.specs.MayRefuse.{MayRefuse};
 ghost use Rattle.far_types.specs.Bounds.{AreLimits};
-ghost use Rattle.far_types.specs.Table.{Registered, Table, left, answer_now, part};
+ghost use Rattle.far_types.specs.Table.{Registered, Table, left, answer_now, column as column_of, part};
 ghost use Rattle.far_evacuator.specs.Jobs.{CarriedEvacuation};
 ghost use Rattle.far_rows.specs.declared.job.ByKind.{ByKind};
 ghost use Rattle.far_rows.specs.declared.object.Object.{Object};
@@ -28,13 +29,14 @@ ghost use Rattle.far_frame.specs.declared.step.Reply.TheVariants as reply;
 ghost use Rattle.far_frame.specs.declared.step.Step.{Step};
 ghost use Rattle.far_frame.specs.declared.step.Step.TheVariants as step;
 ghost use Rattle.far_frame.specs.Effects.{edit_reply};
-ghost use Rattle.far_frame.specs.Jobs.{JobRecord};
+ghost use Rattle.far_frame.specs.Jobs.{JobRecord, IsForgotten, MayCommit, MayInstall, MayMerge};
 ghost use Rattle.far_frame.specs.Lending.{flags_of, lent_part, pieces_in};
+ghost use Rattle.far_frame.specs.PlainEdits.{IsPlainRefusal};
 ghost use Rattle.far_frame.specs.Pins.{ArePinnedHere, is_here, is_pinning};
-ghost use Rattle.far_frame.specs.Renewing.{IsMigratedTo};
+ghost use Rattle.far_frame.specs.Renewing.{IsMigrated, IsMigratedTo};
 ghost use Rattle.far_frame.specs.Runs.{end_of, is_movement, is_refused, job_of, plain_rows};
 ghost use Rattle.far_frame.specs.Waiting.{job_at, without_job};
-ghost use Rattle.far_frame.specs.State.{live};
+ghost use Rattle.far_frame.specs.State.{State, live};
 ghost use Rattle.far_frame.specs.Steps.{IsStep, IsRun};
 ghost use Rattle.far_frame.specs.Worlds.{AreNumbered, IsSpent, World};
 
@@ -47,44 +49,56 @@ pub fn rows_are_those_of_the_plain_list<S: FarTickets>()
 {}
 
 /// An answer of an aggregate is what folding it over the table's rows as they are now gives. No row group is still pending in
-/// it.
+/// it. To ask changes nothing.
 pub fn an_answer_is_over_the_rows_now<S: FarTickets>()
-    ensures answer { (old : World S.Ticket) → (a : ℕ) → (answer : Answer) → (new : World S.Ticket) → (aggregate : Registered) → aggregate_at old.state.table a ≡ Some aggregate → IsStep S.content S.number_of old (step.Ask a) (reply.Answer answer) new → answer ≡ answer_now aggregate.spec old.state.table }
-    ensures built { (old : World S.Ticket) → (a : ℕ) → (answer : Answer) → (new : World S.Ticket) → (aggregate : Registered) → aggregate_at old.state.table a ≡ Some aggregate → IsStep S.content S.number_of old (step.Ask a) (reply.Answer answer) new → left aggregate.pending ≡ 0 }
+    ensures answer { (old : World S.Ticket) → (a : ℕ) → (answer : Answer) → (new : World S.Ticket) → IsStep S.content S.number_of old (step.Ask a) (reply.Answer answer) new → IsAnswerNow old.state.table a answer }
+    ensures built { (old : World S.Ticket) → (a : ℕ) → (answer : Answer) → (new : World S.Ticket) → IsStep S.content S.number_of old (step.Ask a) (reply.Answer answer) new → IsSomeAnd (aggregate_at old.state.table a) (λ aggregate. left aggregate.pending ≡ 0) }
     ensures same { (old : World S.Ticket) → (a : ℕ) → (answer : Answer) → (new : World S.Ticket) → IsStep S.content S.number_of old (step.Ask a) (reply.Answer answer) new → new ≡ old }
 {}
 
 /// An accepted edit does to the rows what it does to the plain list, and its reply is the plain list's.
 ///
-/// A refused edit is refused as there, or because an object is away or does not fit. If none of these holds, memory ran out.
+/// A refused edit is refused as there, or because an object is away or does not fit. If none of these holds, the plain list
+/// accepts it, and memory ran out.
 pub fn an_edit_is_that_of_the_plain_list<S: FarTickets>()
     ensures inserted { (old : World S.Ticket) → (e : Edit) → (place : ℕ) → (new : World S.Ticket) → IsStep S.content S.number_of old (step.Edit e) (reply.Place place) new → new.state.table ≡ edited e old.state.table }
     ensures done { (old : World S.Ticket) → (e : Edit) → (new : World S.Ticket) → IsStep S.content S.number_of old (step.Edit e) reply.Done new → new.state.table ≡ edited e old.state.table }
     ensures placed { (old : World S.Ticket) → (e : Edit) → (place : ℕ) → (new : World S.Ticket) → IsStep S.content S.number_of old (step.Edit e) (reply.Place place) new → reply.Place place ≡ edit_reply old.state.table e }
     ensures told { (old : World S.Ticket) → (e : Edit) → (new : World S.Ticket) → IsStep S.content S.number_of old (step.Edit e) reply.Done new → reply.Done ≡ edit_reply old.state.table e }
+    ensures accepted { (old : World S.Ticket) → (e : Edit) → (given : Reply) → (new : World S.Ticket) → is_refused given ≡ false → IsStep S.content S.number_of old (step.Edit e) given new → edit_refusal old.state.table e ≡ None }
     ensures refused { (old : World S.Ticket) → (e : Edit) → (given : Refusal) → (new : World S.Ticket) → IsStep S.content S.number_of old (step.Edit e) (reply.Refused given) new → MayRefuse (edit_due (live old.state) e) true given }
+    ensures plain { (old : World S.Ticket) → (e : Edit) → (given : Refusal) → (new : World S.Ticket) → IsStep S.content S.number_of old (step.Edit e) (reply.Refused given) new → IsPlainRefusal old.state.table e given }
 {}
 
 /// An answer of a recount is what folding the aggregate over the table's rows as they are now gives. That holds for every
 /// answer of `Frame::recount`: whichever row groups are still pending, whichever objects are away, and for every number of
 /// workers.
-pub fn a_recount_is_over_the_rows_now()
-    ensures { (table : Table) → (a : ℕ) → (answer : Answer) → (aggregate : Registered) → aggregate_at table a ≡ Some aggregate → IsAnswerNow table a answer → answer ≡ answer_now aggregate.spec table }
+///
+/// So two recounts of the same table give the same, and so does `Ask` once the aggregate is built: as long as the rows and the
+/// specification stay.
+pub fn a_recount_is_over_the_rows_now<S: FarTickets>()
+    ensures answer { (table : Table) → (a : ℕ) → (answer : Answer) → (aggregate : Registered) → aggregate_at table a ≡ Some aggregate → IsAnswerNow table a answer → answer ≡ answer_now aggregate.spec table }
+    ensures same { (table : Table) → (a : ℕ) → (one other : Answer) → IsAnswerNow table a one → IsAnswerNow table a other → one ≡ other }
+    ensures asked { (table : Table) → (a : ℕ) → (counted : Answer) → IsAnswerNow table a counted → (old : World S.Ticket) → old.state.table.places ≡ table.places → option_map (λ aggregate. aggregate.spec) (aggregate_at old.state.table a) ≡ option_map (λ aggregate. aggregate.spec) (aggregate_at table a) → (answer : Answer) → (new : World S.Ticket) → IsStep S.content S.number_of old (step.Ask a) (reply.Answer answer) new → answer ≡ counted }
 {}
 
-/// A table that goes on with another store, as by `World::migrate`, keeps its rows and aggregates, and so its answers.
+/// A table that goes on with another store, by `World::migrate` or by `Frame::migrate`, keeps its rows and aggregates, and so its
+/// answers.
 pub fn a_migration_keeps_the_table<S: FarTickets, N: FarTickets>()
-    ensures { (id : List ℕ) → (old : World S.Ticket) → (new : World N.Ticket) → IsMigratedTo S.content N.content id old new → new.state.table ≡ old.state.table }
+    ensures world { (id : List ℕ) → (old : World S.Ticket) → (new : World N.Ticket) → IsMigratedTo S.content N.content id old new → new.state.table ≡ old.state.table }
+    ensures frame { (old : State S.Ticket) → (new : State N.Ticket) → IsMigrated S.content N.content old new → new.table ≡ old.table }
 {}
 
 /// The pieces of a part of a column (`lent_part`), joined, are that part of its column, with the flags of its places. Dead
 /// places are in it too.
 ///
 /// The contracts of `View::ints` and of the two `record_lending` cite `lent_part`, as does the step `Lend`. `View::texts`
-/// returns the part in one piece: its contract says of the whole what is said here of the joined pieces.
+/// returns the part in one piece: its contract says of the whole what is said here of the joined pieces. The cell that
+/// `View::text` returns is the part of that place alone.
 pub fn a_lent_part_is_that_of_its_column()
     ensures cells { (table : Table) → AreLimits table.limits → (column from to : ℕ) → from ≤ to → flat_map (λ piece. piece.cells) (lent_part table column from to) ≡ part column from to table.places }
     ensures flags { (table : Table) → AreLimits table.limits → (column from to : ℕ) → from ≤ to → flat_map (λ piece. piece.flags) (lent_part table column from to) ≡ slice_range (flags_of table.places) from to }
+    ensures one { (table : Table) → (column place : ℕ) → (cell : Cell) → slice_get (column_of column table.places) place ≡ Some cell → part column place (place + 1) table.places ≡ cell ∷ [] }
 {}
 
 /// The pieces in the reply of a lending, joined, are that part of the column, with the flags of its places.
@@ -126,18 +140,31 @@ pub fn a_merge_is_a_scan<S: FarTickets>()
     ensures scan { (old : World S.Ticket) → (n : ℕ) → (job : JobRecord S.Ticket) → (build : Build S.Ticket) → job_at old.jobs n ≡ Some job → job.work ≡ work.Offloaded build → (new : World S.Ticket) → IsStep S.content S.number_of old (step.Merge n) reply.Done new → (scanned : World S.Ticket) → IsStep S.content S.number_of old (step.ScanGroup build.aggregate build.group) reply.Done scanned → new.state ≡ scanned.state }
 {}
 
-/// A stale job changes nothing but that its number is spent. These jobs are stale:
-///
-/// - one that was accepted, or is of another kind or phase;
-/// - one whose object was written or away since;
-/// - a build whose row group was edited or scanned otherwise, or whose aggregate is another now;
-/// - one that is spent or was never begun, whichever step names it.
+/// A stale job changes nothing but that its number is spent, and a stale carry changes nothing at all. A number under which no
+/// job stands, since it is spent or was never given out, is stale in every step that names it.
 pub fn a_stale_job_changes_nothing<S: FarTickets>()
     ensures committed { (old : World S.Ticket) → (n : ℕ) → (new : World S.Ticket) → IsStep S.content S.number_of old (step.Commit n) (reply.Refused Refusal.StaleJob) new → new ≡ record old { jobs = without_job old.jobs n } }
     ensures installed { (old : World S.Ticket) → (n : ℕ) → (new : World S.Ticket) → IsStep S.content S.number_of old (step.Install n) (reply.Refused Refusal.StaleJob) new → new ≡ record old { jobs = without_job old.jobs n } }
     ensures merged { (old : World S.Ticket) → (n : ℕ) → (new : World S.Ticket) → IsStep S.content S.number_of old (step.Merge n) (reply.Refused Refusal.StaleJob) new → new ≡ record old { jobs = without_job old.jobs n } }
     ensures carried { (old : World S.Ticket) → (n : ℕ) → (new : World S.Ticket) → IsStep S.content S.number_of old (step.Carry n) (reply.Refused Refusal.StaleJob) new → new ≡ old }
     ensures spent { (old : World S.Ticket) → (s : Step) → IsSomeAnd (job_of s) (λ n. job_at old.jobs n ≡ None) → (given : Reply) → (new : World S.Ticket) → IsStep S.content S.number_of old s given new → given ≡ reply.Refused refusal.StaleJob }
+{}
+
+/// A job is stale at its end unless what it rests on still holds. These jobs are stale:
+///
+/// - one of another kind than the end, or that was not carried;
+/// - one whose object was written or went away since, or came back;
+/// - a build whose row group was edited or scanned otherwise, or whose aggregate is another now;
+/// - one that was accepted before.
+///
+/// Only a build whose aggregate is not registered is none of these: it is refused with `NoAggregate`, and keeps its number.
+pub fn a_job_is_stale_once_what_it_rests_on_changed<S: FarTickets>()
+    ensures committed { (old : World S.Ticket) → (n : ℕ) → (job : JobRecord S.Ticket) → job_at old.jobs n ≡ Some job → ¬ (MayCommit S.number_of old.state job.work) → (given : Reply) → (new : World S.Ticket) → IsStep S.content S.number_of old (step.Commit n) given new → given ≡ reply.Refused refusal.StaleJob }
+    ensures installed { (old : World S.Ticket) → (n : ℕ) → (job : JobRecord S.Ticket) → job_at old.jobs n ≡ Some job → ¬ (MayInstall S.number_of old.state job.work) → (given : Reply) → (new : World S.Ticket) → IsStep S.content S.number_of old (step.Install n) given new → given ≡ reply.Refused refusal.StaleJob }
+    ensures merged { (old : World S.Ticket) → (n : ℕ) → (job : JobRecord S.Ticket) → job_at old.jobs n ≡ Some job → ¬ (MayMerge S.number_of old.state job.work) → ¬ (IsForgotten old.state job.work) → (given : Reply) → (new : World S.Ticket) → IsStep S.content S.number_of old (step.Merge n) given new → given ≡ reply.Refused refusal.StaleJob }
+    ensures forgotten { (old : World S.Ticket) → (n : ℕ) → (job : JobRecord S.Ticket) → job_at old.jobs n ≡ Some job → IsForgotten old.state job.work → (given : Reply) → (new : World S.Ticket) → IsStep S.content S.number_of old (step.Merge n) given new → given ≡ reply.Refused refusal.NoAggregate }
+    ensures kept { (old : World S.Ticket) → (n : ℕ) → (new : World S.Ticket) → IsStep S.content S.number_of old (step.Merge n) (reply.Refused refusal.NoAggregate) new → new ≡ old }
+    ensures again { (old : World S.Ticket) → AreNumbered old → (s : Step) → (n : ℕ) → end_of s ≡ Some n → (mid : World S.Ticket) → IsStep S.content S.number_of old s reply.Done mid → (other : Step) → job_of other ≡ Some n → (given : Reply) → (new : World S.Ticket) → IsStep S.content S.number_of mid other given new → given ≡ reply.Refused refusal.StaleJob }
 {}
 
 /// A number names one job. All jobs have different numbers in a world that `World::new` or `World::migrate` makes, and after

@@ -8,11 +8,14 @@ use far_types::{Answer, Edit, Kind, Refusal, Spec};
 /// One request to a table.
 ///
 /// ```
-/// let mut cells = Vec::new(alloc);
-/// for value in values {
-///     cells.push(cell(alloc, *value)?)?;
+/// match cell(alloc, value) {
+///     Ok(cell) => Ok(Step::Edit(Edit::Set {
+///         place,
+///         column,
+///         cell,
+///     })),
+///     Err(refusal) => Err(refusal),
 /// }
-/// Ok(Step::Edit(Edit::Insert(Row::new(cells))))
 /// ```
 #[derive(Drop, Debug)]
 pub enum Step {

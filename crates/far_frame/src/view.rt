@@ -66,7 +66,7 @@ impl<'a, S: FarTickets> View<'a, S> {
         ensures refused { refusal_in result ≡ away self.now }
         ensures here { OnOk result ((place : ℕ) → place < length self.now.table.places → first_of (absents self.now.rows (place / self.now.table.limits.group)) ≡ None) }
     {
-        // For the proof: what the rows are.
+        // For the proof: give `AreLimits`, and how few places there are.
         let rows = self.table.rows();
         let _limits = rows.limits();
         let _len = rows.len();
@@ -116,7 +116,7 @@ impl<'a, S: FarTickets> View<'a, S> {
         ensures column_index { result ≡ option_map kind_of (slice_get self.now.rows.column_indexes column) }
     {
         let rows = self.table.rows();
-        // For the proof: the kinds are those of the columns.
+        // For the proof: gives that the kinds are those of the columns.
         let _held = rows.held();
         rows.schema().get(column as usize)
     }
@@ -129,7 +129,7 @@ impl<'a, S: FarTickets> View<'a, S> {
         ensures small { result ≤ 2 ^ 16 }
     {
         let rows = self.table.rows();
-        // For the proof: the rows are cut as the limits say.
+        // For the proof: gives that a row group has as many places as the limits say.
         let _held = rows.held();
         rows.limits().group as usize
     }
@@ -170,7 +170,7 @@ impl<'a, S: FarTickets> View<'a, S> {
         ensures refused { refusal_in result ≡ texts_refusal self.now.rows column from to }
     {
         let rows = self.table.rows();
-        // For the proof: what the rows are.
+        // For the proof: gives how many places there are.
         let _len = rows.len();
         rows.held()
             .texts(column as usize, from as usize, to as usize)
@@ -189,7 +189,7 @@ impl<'a, S: FarTickets> View<'a, S> {
         ensures refused { refusal_in result ≡ text_refusal self.now.rows column place }
     {
         let rows = self.table.rows();
-        // For the proof: what the rows are.
+        // For the proof: gives how many places there are.
         let _len = rows.len();
         rows.held().text(column as usize, place as usize)
     }

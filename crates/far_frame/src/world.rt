@@ -112,7 +112,7 @@ impl<S: FarStore> World<S> {
     }
 
     /// Records that a part of a column was lent, as the step `Lend` records it. Use it after reading the part in a view of the
-    /// frame, where no value is copied. There is a reply with the part, and the world changes as by the step with this reply.
+    /// frame, which copies no value. There is a reply with the part, and the world changes as by the step with this reply.
     /// Allocates nothing.
     ///
     /// Refused with the first of these that applies:

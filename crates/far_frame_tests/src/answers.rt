@@ -3,7 +3,7 @@ use crate::call::Value;
 use far_frame::{IntPiece, Reply, TextPiece};
 use far_types::{Answer, CellRef, Key, LentRow, Name, Refusal};
 
-/// A line of an answer: its key, which is missing where there is no key column, and count and sum or least and greatest value.
+/// A line of an answer: its key, which is missing if there is no key column, and count and sum or least and greatest value.
 pub type Line = (Value, i128, i128);
 
 /// What is lent of a place: its value in a column, and whether the place is alive.
@@ -35,7 +35,7 @@ fn is_cell(cell: Option<CellRef<'_>>, due: Value) -> bool {
     }
 }
 
-// The value of a key, which is missing where there is no key column.
+// The value of a key, which is missing if there is no key column.
 fn key_cell(key: &Option<Key>) -> CellRef<'_> {
     match key {
         Some(Key::Int(number)) => CellRef::Int(*number),
@@ -125,7 +125,7 @@ fn is_piece<P: Piece>(piece: &P, due: &[Lent]) -> bool {
     same
 }
 
-// Of how many places the piece is that begins at a place, where so many are lent in all from there on.
+// Of how many places the piece is that begins at a place, if so many are lent in all from there on.
 fn piece_len(place: usize, size: usize, left: usize) -> usize {
     if size == 0 {
         return 0;

@@ -1,4 +1,5 @@
 //! Calls on a world, as data: every step of the table, and looks at what no step tells.
+use crate::opening::push;
 use far_frame::Step;
 use far_types::{Cell, Edit, Filter, Fold, Kind, Op, Refusal, Row, Spec, Test, Text};
 use std::alloc::Global;
@@ -101,8 +102,6 @@ pub enum Call {
     Merge(u64),
     Compact(Kind, u32),
     Prefetch(u32),
-    /// Takes all pins off an object, puts them on again, and tells how many there are.
-    Repin(u32, u32),
     /// Looks at the row of a place.
     Row(u32),
     /// Looks whether a place is alive: `RemovedRow` says no.
@@ -117,8 +116,6 @@ pub enum Call {
     Coldest,
     /// Computes an aggregate from scratch, by so many workers.
     Recount(u32, u32),
-    /// The same once more, after a first time on the same meter that met a fault.
-    RecountAgain(u32, u32),
     /// Looks whether so many faults were met so far: `FarFault` says no.
     Faults(u64),
 }
@@ -140,10 +137,17 @@ fn cell(alloc: Global, value: Value) -> Result<Cell, Refusal> {
 
 fn insert(alloc: Global, values: &[Value]) -> Result<Step, Refusal> {
     let mut cells = Vec::new(alloc);
+    let mut refusal = None;
     for value in values {
-        cells.push(cell(alloc, *value)?)?;
+        refusal = refusal.or(push(&mut cells, cell(alloc, *value)));
     }
-    Ok(Step::Edit(Edit::Insert(Row::new(cells))))
+    match refusal {
+        None => Ok(Step::Edit(Edit::Insert(Row::new(cells)))),
+        Some(refusal) => {
+            drop(cells);
+            Err(refusal)
+        }
+    }
 }
 
 fn insert_drawn(alloc: Global, row: DrawnRow) -> Result<Step, Refusal> {
@@ -162,22 +166,33 @@ fn set(alloc: Global, place: u32, column: u32, value: Value) -> Result<Step, Ref
     }
 }
 
+fn compare(test: Compare) -> Test {
+    Test::Int {
+        column: test.0,
+        op: test.1,
+        value: test.2,
+    }
+}
+
 /// The specification of an aggregate.
 pub fn spec(alloc: Global, watched: Watched) -> Result<Spec, Refusal> {
     let mut tests = Vec::new(alloc);
-    for (column, op, value) in watched.tests {
-        tests.push(Test::Int {
-            column: *column,
-            op: *op,
-            value: *value,
-        })?;
+    let mut refusal = None;
+    for test in watched.tests {
+        refusal = refusal.or(push(&mut tests, Ok(compare(*test))));
     }
-    Ok(Spec {
-        fold: watched.fold,
-        value: watched.value,
-        key: watched.key,
-        filter: Filter::new(tests),
-    })
+    match refusal {
+        None => Ok(Spec {
+            fold: watched.fold,
+            value: watched.value,
+            key: watched.key,
+            filter: Filter::new(tests),
+        }),
+        Some(refusal) => {
+            drop(tests);
+            Err(refusal)
+        }
+    }
 }
 
 fn watch(alloc: Global, watched: Watched) -> Result<Step, Refusal> {

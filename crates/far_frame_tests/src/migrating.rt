@@ -2,24 +2,10 @@
 use crate::answers::Due;
 use crate::call::Value::{Int, Missing, Text};
 use crate::call::{Call, EXTREMA, TOTALS_BY_TEXT};
-use crate::opening::{PAIRS, Plan, SOUND, migrate, store, world};
-use crate::script::{Calls, Wrong, answered, first_wrong};
-use far_frame::World;
-use far_store::FarStore;
+use crate::opening::{PAIRS, Plan, SOUND};
+use crate::script::{Calls, Script, Turn, answered, play_all};
 use far_types::Refusal;
-use std::alloc::Global;
-use std::sync::Wait;
 use std::test::Fail;
-use std::thread::Threads;
-
-/// A world over the store of one plan that goes on, or is refused to go on, with the store of another, and what calls answer then.
-struct Migration {
-    name: &'static str,
-    from: Plan,
-    to: Plan,
-    refused: Option<Refusal>,
-    then: Calls,
-}
 
 const AWAY: Due<'static> = Due::Refused(Refusal::Absent {
     column: 0,
@@ -145,151 +131,76 @@ const PINNED: Calls = &[
     ),
 ];
 
-static MIGRATIONS: [Migration; 5] = [
-    Migration {
+const SECOND_PUT_FAILS: Plan = Plan {
+    failing_put: 2,
+    ..SOUND
+};
+
+const FIRST_GET_FAILS: Plan = Plan {
+    failing_get: 1,
+    ..SOUND
+};
+
+/// A store that takes one content.
+const SMALL: Plan = Plan {
+    capacity: 1,
+    ..SOUND
+};
+
+static SCRIPTS: [Script; 5] = [
+    Script {
         name: "all is the same in another store",
-        from: SOUND,
-        to: SOUND,
-        refused: None,
-        then: MIGRATED,
+        opening: PAIRS,
+        plans: &[SOUND, SOUND],
+        calls: BEFORE,
+        then: &[Turn {
+            refused: None,
+            calls: MIGRATED,
+        }],
     },
-    Migration {
+    Script {
         name: "the new store fails at the second object",
-        from: SOUND,
-        to: Plan {
-            failing_put: 2,
-            ..SOUND
-        },
-        refused: Some(Refusal::FarFault),
-        then: FAULTED,
+        opening: PAIRS,
+        plans: &[SOUND, SECOND_PUT_FAILS],
+        calls: BEFORE,
+        then: &[Turn {
+            refused: Some(Refusal::FarFault),
+            calls: FAULTED,
+        }],
     },
-    Migration {
+    Script {
         name: "the old store fails",
-        from: Plan {
-            failing_get: 1,
-            ..SOUND
-        },
-        to: SOUND,
-        refused: Some(Refusal::FarFault),
-        then: FAULTED,
+        opening: PAIRS,
+        plans: &[FIRST_GET_FAILS, SOUND],
+        calls: BEFORE,
+        then: &[Turn {
+            refused: Some(Refusal::FarFault),
+            calls: FAULTED,
+        }],
     },
-    Migration {
+    Script {
         name: "the new store is full at the second object",
-        from: SOUND,
-        to: Plan {
-            capacity: 1,
-            ..SOUND
-        },
-        refused: Some(Refusal::FarFull),
-        then: FULL,
+        opening: PAIRS,
+        plans: &[SOUND, SMALL],
+        calls: BEFORE,
+        then: &[Turn {
+            refused: Some(Refusal::FarFull),
+            calls: FULL,
+        }],
     },
-    Migration {
+    Script {
         name: "an object is as pinned in another store",
-        from: SOUND,
-        to: SOUND,
-        refused: None,
-        then: PINNED,
+        opening: PAIRS,
+        plans: &[SOUND, SOUND],
+        calls: BEFORE,
+        then: &[Turn {
+            refused: None,
+            calls: PINNED,
+        }],
     },
 ];
 
-/// A world over another store, or as it was and why, the second time where the first finds no memory.
-fn migrated<S: FarStore>(
-    world: World<S>,
-    first: Result<S, Refusal>,
-    second: Result<S, Refusal>,
-) -> (World<S>, Option<Refusal>) {
-    let (world, refused) = migrate(world, first);
-    match refused {
-        Some(Refusal::NoMemory) => migrate(world, second),
-        refused => (world, refused),
-    }
-}
-
-/// What was wrong before a migration; else its outcome, if it was not due, as the first behind these calls; else what was wrong then.
-fn joined(
-    before: Result<Option<usize>, Refusal>,
-    is_due: bool,
-    then: Result<Option<usize>, Refusal>,
-) -> Result<Option<usize>, Refusal> {
-    match before {
-        Ok(None) if is_due => then,
-        Ok(None) => Ok(Some(BEFORE.len())),
-        before => before,
-    }
-}
-
-/// The index of the first call that does not answer what it should, before a world goes on with another store or then.
-fn play_on<S: FarStore, R: Threads + Sync>(
-    rt: &R,
-    alloc: Global,
-    mut world: World<S>,
-    first: Result<S, Refusal>,
-    second: Result<S, Refusal>,
-    migration: &Migration,
-) -> Result<Option<usize>, Refusal> {
-    let before = first_wrong(rt, alloc, &mut world, BEFORE);
-    let (mut world, refused) = migrated(world, first, second);
-    let then = first_wrong(rt, alloc, &mut world, migration.then);
-    drop(world);
-    joined(before, refused == migration.refused, then)
-}
-
-/// The same of a new world over a store.
-fn play_over<S: FarStore, R: Threads + Sync>(
-    rt: &R,
-    alloc: Global,
-    from: Result<S, Refusal>,
-    first: Result<S, Refusal>,
-    second: Result<S, Refusal>,
-    migration: &Migration,
-) -> Result<Option<usize>, Refusal> {
-    match world(alloc, PAIRS.kinds, PAIRS.limits, from) {
-        Ok(world) => play_on(rt, alloc, world, first, second, migration),
-        Err(refusal) => Err(refusal),
-    }
-}
-
-/// The same over new stores.
-fn play_once<R: Threads + Wait + Sync>(
-    rt: &R,
-    alloc: Global,
-    migration: &Migration,
-) -> Result<Option<usize>, Refusal> {
-    play_over(
-        rt,
-        alloc,
-        store(rt, alloc, migration.from),
-        store(rt, alloc, migration.to),
-        store(rt, alloc, migration.to),
-        migration,
-    )
-}
-
-/// The same, the second time where there was no memory for a table or its stores at the first.
-fn play<R: Threads + Wait + Sync>(
-    rt: &R,
-    alloc: Global,
-    migration: &Migration,
-) -> Result<Option<usize>, Refusal> {
-    match play_once(rt, alloc, migration) {
-        Err(Refusal::NoMemory) => play_once(rt, alloc, migration),
-        played => played,
-    }
-}
-
-/// The first that goes wrong.
-fn play_all<R: Threads + Wait + Sync>(rt: &R, alloc: Global) -> Result<Option<Wrong>, Refusal> {
-    for migration in &MIGRATIONS {
-        match play(rt, alloc, migration) {
-            Ok(None) => {}
-            Ok(Some(at)) => return Ok(Some((migration.name, at))),
-            Err(refusal) => return Err(refusal),
-        }
-    }
-    Ok(None)
-}
-
 #[test]
 fn a_world_goes_on_with_another_store_or_is_as_it_was(rt: HostRuntime) -> Result<(), Fail> {
-    answered(play_all(&rt, rt.alloc()))
+    answered(play_all(&rt, rt.alloc(), &SCRIPTS))
 }

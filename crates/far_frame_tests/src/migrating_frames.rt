@@ -4,12 +4,11 @@ ghost use Rattle.std.specs.Prelude.{ℕ, List};
 ghost use Rattle.far_rows.specs.Jobs.{AreAt};
 
 use crate::answers::Due;
-use crate::call::Call;
-use crate::call::Value::{Int, Missing};
-use crate::opening::{FOUR_SEGMENTS, Plan, SOUND, frame, store};
-use crate::script::{Calls, first_wrong};
+use crate::call::Value::Missing;
+use crate::opening::{FOUR_SEGMENTS, Plan, SOUND, frame, stores};
+use crate::script::{is_due, recounted, replied};
 use crate::two_tables::{End, Told, both, carried, insert, watch_totals};
-use far_frame::{Frame, World};
+use far_frame::Frame;
 use far_store::{FarStore, FarTickets, Meter};
 use far_types::{Kind, Refusal};
 use std::alloc::Global;
@@ -22,28 +21,8 @@ const FULL: Plan = Plan {
     ..SOUND
 };
 
-/// The first row group is away, the second is local.
-const SAME: Calls = &[
-    (Call::Ask(0), Due::Lines(&[(Missing, 3, 18)])),
-    (
-        Call::Row(0),
-        Due::Refused(Refusal::Absent {
-            column: 0,
-            group: 0,
-        }),
-    ),
-    (Call::Row(2), Due::Row(&[Int(7)])),
-    (Call::Fetch(0, 0), Due::Job(0)),
-    (Call::Carry(0), Due::Done),
-    (Call::Install(0), Due::Done),
-    (
-        Call::Lend(0, 0, 3),
-        Due::Lent(0, &[(Int(5), true), (Int(6), true), (Int(7), true)]),
-    ),
-    (Call::Set(2, 0, Int(8)), Due::Done),
-    (Call::Ask(0), Due::Lines(&[(Missing, 3, 19)])),
-    (Call::Faults(0), Due::Done),
-];
+/// What the aggregate answers, and what a recount finds, which reads the row group that is away.
+const TOTAL: Due<'static> = Due::Lines(&[(Missing, 3, 18)]);
 
 /// Sends the object of the first row group away.
 fn send_away<S: FarStore>(alloc: Global, frame: &mut Frame<S>, store: &S) -> Result<(), Refusal>
@@ -79,84 +58,84 @@ fn fill<S: FarStore>(alloc: Global, frame: &mut Frame<S>, store: &S) -> Result<(
     watched.and(inserted).and(send_away(alloc, frame, store))
 }
 
-/// The index of the first call on a table over its store that does not answer what it should.
-fn first_wrong_on<S: FarStore, R: Threads + Sync>(
+/// Whether a table over its store has its rows and answers, one row group is away, and it was refused another store for the reason that
+/// is due, if there is one.
+fn is_same<S: FarStore, R: Threads + Sync>(
     rt: &R,
-    alloc: Global,
-    frame: Frame<S>,
-    store: S,
-) -> Result<Option<usize>, Refusal>
-    requires here { AreAt S.is_of (S.store_id store) frame.rows }
-{
-    let mut world = World::new(alloc, frame, store).unwrap();
-    let wrong = first_wrong(rt, alloc, &mut world, SAME);
-    drop(world);
-    wrong
-}
-
-/// Whether nothing was wrong, and a table was refused another store for the reason that is due, if there is one.
-fn is_same(
-    wrong: Result<Option<usize>, Refusal>,
+    frame: &Frame<S>,
+    store: &S,
     refused: Option<Refusal>,
     due: Option<Refusal>,
-) -> Told {
-    match (wrong, refused) {
-        (_, Some(Refusal::NoMemory)) => Err(Refusal::NoMemory),
-        (Ok(wrong), refused) => Ok(wrong.is_none() && refused == due),
-        (Err(refusal), _) => Err(refusal),
+) -> Told
+    requires here { AreAt S.is_of (S.store_id store.now) frame.now.rows }
+{
+    let is_away = frame.may_evac(0, 0).is_err() && frame.may_evac(0, 1).is_ok();
+    let asked = is_due(replied(frame.ask(0)), TOTAL, 1);
+    let recounted = is_due(recounted(rt, frame, store, 0, 1), TOTAL, 1);
+    match refused {
+        Some(Refusal::NoMemory) => Err(Refusal::NoMemory),
+        refused => both(Ok(is_away && refused == due), both(asked, recounted)),
     }
 }
 
 /// The same of a table that goes on with another store or is refused it.
-fn is_same_then<S: FarStore, N: FarStore, R: Threads + Sync>(
+fn is_same_then<S: FarStore, R: Threads + Sync>(
     rt: &R,
-    alloc: Global,
     frame: Frame<S>,
-    from: S,
-    to: N,
+    from: &S,
+    to: &S,
     due: Option<Refusal>,
 ) -> Told
-    requires here { AreAt S.is_of (S.store_id from) frame.rows }
+    requires here { AreAt S.is_of (S.store_id from.now) frame.rows }
 {
-    match Frame::migrate(frame, &from, &to, &mut Meter::new()) {
-        Ok(frame) => is_same(first_wrong_on(rt, alloc, frame, to), None, due),
-        Err((refusal, frame)) => is_same(
-            first_wrong_on(rt, alloc, frame, from),
-            Some(refusal),
-            due,
-        ),
+    match Frame::migrate(frame, from, to, &mut Meter::new()) {
+        Ok(frame) => {
+            let told = is_same(rt, &frame, to, None, due);
+            drop(frame);
+            told
+        }
+        Err((refusal, frame)) => {
+            let told = is_same(rt, &frame, from, Some(refusal), due);
+            drop(frame);
+            told
+        }
     }
 }
 
 /// The same of a new table over a store.
-fn play_over<S: FarStore, N: FarStore, R: Threads + Sync>(
+fn play_over<S: FarStore, R: Threads + Sync>(
     rt: &R,
     alloc: Global,
-    from: S,
-    to: N,
+    from: &S,
+    to: &S,
     due: Option<Refusal>,
 ) -> Told {
     match frame(alloc, &[Kind::Int], FOUR_SEGMENTS, 0) {
         Ok(mut frame) => {
-            let filled = fill(alloc, &mut frame, &from);
-            filled.and(is_same_then(rt, alloc, frame, from, to, due))
+            let filled = fill(alloc, &mut frame, from);
+            filled.and(is_same_then(rt, frame, from, to, due))
         }
         Err(refusal) => Err(refusal),
     }
 }
 
 /// The same of stores that were made.
-fn play_between<S: FarStore, N: FarStore, R: Threads + Sync>(
+fn play_between<S: FarStore, R: Threads + Sync>(
     rt: &R,
     alloc: Global,
-    from: Result<S, Refusal>,
-    to: Result<N, Refusal>,
+    stores: Result<Vec<S>, Refusal>,
     due: Option<Refusal>,
 ) -> Told {
-    match (from, to) {
-        (Ok(from), Ok(to)) => play_over(rt, alloc, from, to, due),
-        (Err(refusal), _) => Err(refusal),
-        (_, Err(refusal)) => Err(refusal),
+    match stores {
+        Ok(stores) => {
+            let told = match stores.as_slice() {
+                [from, to] => play_over(rt, alloc, from, to, due),
+                _ => Ok(false),
+            };
+            drop(stores);
+            told
+        }
+        Err(refusal) => Err(refusal),
     }
 }
 
@@ -167,16 +146,10 @@ fn play_once<R: Threads + Wait + Sync>(
     to: Plan,
     due: Option<Refusal>,
 ) -> Told {
-    play_between(
-        rt,
-        alloc,
-        store(rt, alloc, SOUND),
-        store(rt, alloc, to),
-        due,
-    )
+    play_between(rt, alloc, stores(rt, alloc, &[SOUND, to]), due)
 }
 
-/// The same, the second time where the first finds no memory.
+/// The same, the second time if the first finds no memory.
 fn play<R: Threads + Wait + Sync>(rt: &R, alloc: Global, to: Plan, due: Option<Refusal>) -> Told {
     match play_once(rt, alloc, to, due) {
         Err(Refusal::NoMemory) => play_once(rt, alloc, to, due),

@@ -3,11 +3,10 @@
 use crate::answers::Due;
 use crate::call::Call;
 use crate::call::Value::{Int, Missing, Text};
-use crate::opening::{SMALL_GROUPS, SOUND, store, world};
-use crate::script::{Calls, first_wrong};
+use crate::opening::{Opening, SMALL_GROUPS, SOUND, with_next};
+use crate::script::{Calls, Script, Turn, play_over};
 use far_byte_log::ByteLog;
-use far_frame::World;
-use far_store::{Engine, EngineStore, Failure, FarStore};
+use far_store::{Engine, EngineStore, Failure};
 use far_types::{Kind, Refusal};
 use std::alloc::Global;
 use std::sync::Wait;
@@ -96,95 +95,49 @@ const ALL_AWAY: Calls = &[
     (Call::Commit(7), Due::Done),
 ];
 
-/// The lengths of their far forms: numbers of the first row group, and of the second, where one of two is missing; texts of the first,
+/// The lengths of their far forms: numbers of the first row group, and of the second, of which one of two is missing; texts of the first,
 /// three bytes and six, and of the second, five bytes and eight. A row group of numbers is as long as it can be.
 const IN_ORDER: u64 = 22_22_23_23_17_20_15_18;
 
-/// Moves a world to another store.
-fn moved<S: FarStore, N: FarStore>(world: World<S>, store: N) -> Result<(), Refusal> {
-    if world.faults() > 0 {
-        drop(world);
-        return Err(Refusal::FarFault);
-    }
-    match world.migrate(store) {
-        Ok(world) => {
-            drop(world);
-            Ok(())
-        }
-        Err((refusal, world)) => {
-            drop(world);
-            Err(refusal)
-        }
-    }
-}
+/// They go on with another store.
+static SCRIPT: Script = Script {
+    name: "contents go into another store in order",
+    opening: Opening {
+        kinds: &[Kind::Text, Kind::Int, Kind::Text, Kind::Int],
+        ..SMALL_GROUPS
+    },
+    plans: &[SOUND, SOUND],
+    calls: ALL_AWAY,
+    then: &[Turn {
+        refused: None,
+        calls: &[],
+    }],
+};
 
-/// Whether all objects of a world go away, as they should, and then to another store.
-fn are_moved<S: FarStore, N: FarStore, R: Threads + Sync>(
-    rt: &R,
+/// A store over a new log, which notes how long its contents are.
+fn log_store<'a, R: Wait + Sync>(
+    rt: &'a R,
     alloc: Global,
-    mut world: World<S>,
-    store: N,
-) -> Result<bool, Refusal> {
-    match first_wrong(rt, alloc, &mut world, ALL_AWAY) {
-        Ok(None) => moved(world, store).and(Ok(true)),
-        Ok(Some(_)) => {
-            drop(world);
-            Ok(false)
-        }
-        Err(refusal) => {
-            drop(world);
-            Err(refusal)
-        }
-    }
-}
-
-/// The same of a new world over one store, if both stores were made.
-fn are_moved_between<S: FarStore, N: FarStore, R: Threads + Sync>(
-    rt: &R,
-    alloc: Global,
-    from: Result<S, Refusal>,
-    to: Result<N, Refusal>,
-) -> Result<bool, Refusal> {
-    let kinds = [Kind::Text, Kind::Int, Kind::Text, Kind::Int];
-    match to {
-        Ok(to) => match world(alloc, &kinds, SMALL_GROUPS.limits, from) {
-            Ok(world) => are_moved(rt, alloc, world, to),
-            Err(refusal) => Err(refusal),
-        },
-        Err(refusal) => Err(refusal),
-    }
-}
-
-/// The same into a log.
-fn are_moved_into<R: Threads + Wait + Sync>(
-    rt: &R,
-    alloc: Global,
-    log: ByteLog,
-    lengths: &AtomicU64,
-) -> Result<bool, Refusal> {
-    let engine = Measured {
-        engine: log,
-        lengths,
-    };
-    let to = EngineStore::new(rt, alloc, engine, SOUND.capacity);
-    are_moved_between(rt, alloc, store(rt, alloc, SOUND), to)
-}
-
-/// The lengths of the contents that a world puts into a new log, in order; 0 if a call does not answer what it should.
-fn lengths_once<R: Threads + Wait + Sync>(rt: &R, alloc: Global) -> Result<u64, Refusal> {
-    let lengths = AtomicU64::new(0);
-    let moved = match ByteLog::new(alloc, 200) {
-        Ok(log) => are_moved_into(rt, alloc, log, &lengths),
+    lengths: &'a AtomicU64,
+) -> Result<EngineStore<Measured<'a, ByteLog>, &'a R>, Refusal> {
+    match ByteLog::new(alloc, 200) {
+        Ok(engine) => EngineStore::new(rt, alloc, Measured { engine, lengths }, SOUND.capacity),
         Err(_) => Err(Refusal::NoMemory),
-    };
-    match moved {
-        Ok(true) => Ok(lengths.load(Ordering::SeqCst)),
-        Ok(false) => Ok(0),
-        Err(refusal) => Err(refusal),
     }
 }
 
-/// The same, the second time where the first finds no memory.
+/// The lengths of the contents that a world puts into its second log, in order; 0 if a call does not answer what it should.
+fn lengths_once<R: Threads + Wait + Sync>(rt: &R, alloc: Global) -> Result<u64, Refusal> {
+    let (before, lengths) = (AtomicU64::new(0), AtomicU64::new(0));
+    let first = with_next(Ok(Vec::new(alloc)), log_store(rt, alloc, &before));
+    let stores = with_next(first, log_store(rt, alloc, &lengths));
+    match play_over(rt, alloc, stores, &SCRIPT) {
+        Ok(None) => Ok(lengths.load(Ordering::SeqCst)),
+        Ok(Some(_)) => Ok(0),
+        Err(refusal) => Err(refusal),
+    }
+}
+/// The same, the second time if the first finds no memory.
 fn lengths<R: Threads + Wait + Sync>(rt: &R, alloc: Global) -> Result<u64, Refusal> {
     match lengths_once(rt, alloc) {
         Err(Refusal::NoMemory) => lengths_once(rt, alloc),

@@ -125,7 +125,7 @@ const WRITTEN: Calls = &[
     (Call::MayEvac(0, 0), NO_NUMBERS),
 ];
 
-/// Each kind has one object: the other goes first where one is pinned, and none if both are.
+/// Each kind has one object: the other goes first if one is pinned, and none if both are.
 const COLDEST: Calls = &[
     (Call::Coldest, Due::Coldest(None)),
     FIRST,
@@ -205,56 +205,65 @@ static SCRIPTS: [Script; 9] = [
     Script {
         name: "a row that is away refuses edits of every column",
         opening: PAIRS,
-        plan: SOUND,
+        plans: &[SOUND],
         calls: REFUSED,
+        then: &[],
     },
     Script {
         name: "a new row group is begun while the last is away",
         opening: PAIRS,
-        plan: SOUND,
+        plans: &[SOUND],
         calls: NEXT_GROUP,
+        then: &[],
     },
     Script {
         name: "an aggregate answers while all its rows are away",
         opening: PAIRS,
-        plan: SOUND,
+        plans: &[SOUND],
         calls: ANSWERED,
+        then: &[],
     },
     Script {
         name: "a scan wants only the columns that it needs",
         opening: PAIRS,
-        plan: SOUND,
+        plans: &[SOUND],
         calls: SCANNED,
+        then: &[],
     },
     Script {
         name: "an object that came back is set again",
         opening: PAIRS,
-        plan: SOUND,
+        plans: &[SOUND],
         calls: BACK,
+        then: &[],
     },
     Script {
         name: "a pinned object does not go away",
         opening: PAIRS,
-        plan: SOUND,
+        plans: &[SOUND],
         calls: PINNED,
+        then: &[],
     },
     Script {
         name: "a job is stale once its object was written",
         opening: PAIRS,
-        plan: SOUND,
+        plans: &[SOUND],
         calls: WRITTEN,
+        then: &[],
     },
     Script {
         name: "a compaction empties a segment",
         opening: THREE_SEGMENTS,
-        plan: SOUND,
+        plans: &[SOUND],
         calls: COMPACTED,
+        then: &[],
     },
     Script {
         name: "the coldest object has no pin",
         opening: PAIRS,
-        plan: SOUND,
+        plans: &[SOUND],
         calls: COLDEST,
+        then: &[],
     },
 ];
 

@@ -122,12 +122,35 @@ pub fn stores<R: Wait + Sync + Drop + Copy>(
     }
     match refusal {
         None => Ok(stores),
-        Some(refusal) => Err(refusal),
+        Some(refusal) => {
+            drop(stores);
+            Err(refusal)
+        }
     }
 }
 
-// Appends what was made, or tells why it is not there.
-fn push<T: Drop>(items: &mut Vec<T>, made: Result<T, Refusal>) -> Option<Refusal> {
+/// Stores with one more, if all were made.
+pub fn with_next<S: Drop>(
+    stores: Result<Vec<S>, Refusal>,
+    next: Result<S, Refusal>,
+) -> Result<Vec<S>, Refusal> {
+    match stores {
+        Ok(mut stores) => match push(&mut stores, next) {
+            None => Ok(stores),
+            Some(refusal) => {
+                drop(stores);
+                Err(refusal)
+            }
+        },
+        Err(refusal) => {
+            drop(next);
+            Err(refusal)
+        }
+    }
+}
+
+/// Appends what was made, or tells why it is not there.
+pub fn push<T: Drop>(items: &mut Vec<T>, made: Result<T, Refusal>) -> Option<Refusal> {
     match made {
         Ok(item) => match items.push(item) {
             Ok(()) => None,
@@ -169,7 +192,10 @@ pub fn world<S: FarStore>(
     match store {
         Ok(store) => match frame(alloc, kinds, limits, 3) {
             Ok(frame) => Ok(World::new(alloc, frame, store).unwrap()),
-            Err(refusal) => Err(refusal),
+            Err(refusal) => {
+                drop(store);
+                Err(refusal)
+            }
         },
         Err(refusal) => Err(refusal),
     }
@@ -193,13 +219,7 @@ fn migrate_few<S: FarStore>(world: World<S>, store: S) -> Result<World<S>, (Refu
     }
 }
 
-/// A world over another store, if that was made; or as it was, and why.
-pub fn migrate<S: FarStore>(
-    world: World<S>,
-    store: Result<S, Refusal>,
-) -> (World<S>, Option<Refusal>) {
-    match store {
-        Ok(store) => split(migrate_few(world, store)),
-        Err(refusal) => (world, Some(refusal)),
-    }
+/// A world over another store; or as it was, and why.
+pub fn migrate<S: FarStore>(world: World<S>, store: S) -> (World<S>, Option<Refusal>) {
+    split(migrate_few(world, store))
 }

@@ -2,7 +2,7 @@
 use crate::answers::Due;
 use crate::call::Call;
 use crate::call::Value::{Int, Missing};
-use crate::opening::{NUMBERS, SOUND};
+use crate::opening::{NUMBERS, SOUND, with_next};
 use crate::script::{Calls, Script, play_over};
 use far_byte_log::ByteLog;
 use far_store::EngineStore;
@@ -56,32 +56,32 @@ const CAPACITY: usize = 44;
 static SCRIPT: Script = Script {
     name: "objects come and go over one log",
     opening: NUMBERS,
-    plan: SOUND,
+    plans: &[SOUND],
     calls: COME_AND_GO,
+    then: &[],
 };
 
-/// The index of the first call that does not answer what it should, over a log.
-fn first_wrong_over<R: Threads + Wait + Sync>(
-    rt: &R,
+/// The store over a log.
+fn log_store<'a, R: Wait + Sync>(
+    rt: &'a R,
     alloc: Global,
-    log: ByteLog,
-) -> Result<Option<usize>, Refusal> {
-    let store = EngineStore::new(rt, alloc, log, SCRIPT.plan.capacity);
-    play_over(rt, alloc, store, &SCRIPT)
-}
-
-/// The same over a new log.
-fn first_wrong_once<R: Threads + Wait + Sync>(
-    rt: &R,
-    alloc: Global,
-) -> Result<Option<usize>, Refusal> {
+) -> Result<EngineStore<ByteLog, &'a R>, Refusal> {
     match ByteLog::new(alloc, CAPACITY) {
-        Ok(log) => first_wrong_over(rt, alloc, log),
+        Ok(log) => EngineStore::new(rt, alloc, log, SOUND.capacity),
         Err(_) => Err(Refusal::NoMemory),
     }
 }
 
-/// The same, the second time where the first finds no memory.
+/// The index of the first call that does not answer what it should, over a new log.
+fn first_wrong_once<R: Threads + Wait + Sync>(
+    rt: &R,
+    alloc: Global,
+) -> Result<Option<usize>, Refusal> {
+    let stores = with_next(Ok(Vec::new(alloc)), log_store(rt, alloc));
+    play_over(rt, alloc, stores, &SCRIPT)
+}
+
+/// The same, the second time if the first finds no memory.
 fn first_wrong<R: Threads + Wait + Sync>(rt: &R, alloc: Global) -> Result<Option<usize>, Refusal> {
     match first_wrong_once(rt, alloc) {
         Err(Refusal::NoMemory) => first_wrong_once(rt, alloc),

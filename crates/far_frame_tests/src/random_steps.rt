@@ -1,8 +1,7 @@
 //! Random steps of every kind on a world that goes over several stores, against plain lists, reply by reply.
 //!
 //! The lists know how long each list and far form is, so where each lies, when one does not fit, and which object goes away first. How
-//! many pins an object has no call tells, so at each look all are taken off and put on again. How old a far copy of a dirty one is, none
-//! tells either.
+//! many pins an object has, later unpins and evacuations tell. How old a far copy of a dirty one is, no call tells.
 mod aggregates;
 mod drawing;
 mod edits;
@@ -41,7 +40,7 @@ struct Run {
 }
 
 impl Run {
-    /// The store of a turn. Where the table is looked at after each step none fails; the others do, and are full before the end.
+    /// The store of a turn. If the table is looked at after each step none fails; the others do, and are full before the end.
     fn plan(&self, turn: u64) -> Plan {
         let n = self.seed.wrapping_add(turn.wrapping_mul(3));
         if self.at_each_step {
@@ -107,7 +106,7 @@ fn run_with_space(seed: u64) -> Run {
 }
 
 /// What was told so far, a bit for each kind of step that was accepted and, by its number, for each refusal of one. A proposal counts
-/// where it names a row group, and the coldest object where there is one.
+/// if it names a row group, and the coldest object if there is one.
 fn with_told(told: u64, call: Call, due: Due<'_>) -> u64 {
     match due {
         Due::Refused(refusal) => told | 1u64.wrapping_shl(refusal.number()),
@@ -163,6 +162,20 @@ fn is_right<S: FarStore, R: Threads + Sync>(
     }
 }
 
+/// Whether a look answers what it should, if there is one.
+fn is_seen_right<S: FarStore, R: Threads + Sync>(
+    rt: &R,
+    alloc: Global,
+    world: &mut World<S>,
+    plain: &mut Plain,
+    seen: Option<Call>,
+) -> Result<bool, Refusal> {
+    match seen {
+        Some(call) => is_right(rt, alloc, world, plain, call, &mut 0),
+        None => Ok(true),
+    }
+}
+
 /// Whether the table is as it should be, by so many looks of each kind.
 fn agree<S: FarStore, R: Threads + Sync>(
     rt: &R,
@@ -171,12 +184,10 @@ fn agree<S: FarStore, R: Threads + Sync>(
     plain: &mut Plain,
     reach: u32,
 ) -> Result<bool, Refusal> {
-    for n in 0..reach.saturating_mul(8) {
-        if let Some(call) = look(n % 8, n / 8) {
-            match is_right(rt, alloc, world, plain, call, &mut 0) {
-                Ok(true) => {}
-                wrong => return wrong,
-            }
+    for n in 0..reach.saturating_mul(7) {
+        let right = is_seen_right(rt, alloc, world, plain, look(n % 7, n / 7));
+        if right != Ok(true) {
+            return right;
         }
     }
     Ok(true)
@@ -190,7 +201,7 @@ struct Running {
     told: u64,
 }
 
-/// Whether the next step of a run answers what it should, and the table is as it should be where it is looked at then.
+/// Whether the next step of a run answers what it should, and the table is as it should be if it is looked at then.
 fn is_next_right<S: FarStore, R: Threads + Sync>(
     rt: &R,
     alloc: Global,
@@ -261,7 +272,7 @@ fn first_wrong_of<S: FarStore, R: Threads + Sync>(
 ) -> Result<Option<u32>, Refusal> {
     let mut wrong = first_wrong(rt, alloc, &mut world, plain, running);
     for (store, turn) in others.zip(1..STORES) {
-        let (next, refused) = migrate(world, Ok(store));
+        let (next, refused) = migrate(world, store);
         world = next;
         let due = plain.migrate(running.run.plan(turn));
         wrong = match so_far(wrong, is_due(refused, due, &mut running.told)) {
@@ -322,7 +333,7 @@ fn play_once<R: Threads + Wait + Sync>(
     wrong
 }
 
-// The same, the second time where the first finds no memory.
+// The same, the second time if the first finds no memory.
 fn play<R: Threads + Wait + Sync>(
     rt: &R,
     alloc: Global,

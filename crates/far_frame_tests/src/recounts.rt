@@ -65,11 +65,13 @@ const FIRST_GET_FAILS: Plan = Plan {
 /// The count and the sum of the rows that are all away.
 const TOTAL: Due<'static> = Due::Lines(&[(Missing, 8, 36)]);
 
-const BY_ONE: Calls = &[(Call::RecountAgain(0, 1), TOTAL)];
+const FAULT: Due<'static> = Due::Refused(Refusal::FarFault);
 
-const BY_THREE: Calls = &[(Call::RecountAgain(0, 3), TOTAL)];
+const BY_ONE: Calls = &[(Call::Recount(0, 1), FAULT), (Call::Recount(0, 1), TOTAL)];
 
-const BY_64: Calls = &[(Call::RecountAgain(0, 64), TOTAL)];
+const BY_THREE: Calls = &[(Call::Recount(0, 3), FAULT), (Call::Recount(0, 3), TOTAL)];
+
+const BY_64: Calls = &[(Call::Recount(0, 64), FAULT), (Call::Recount(0, 64), TOTAL)];
 
 const WORKERS: Calls = &[
     (Call::Recount(0, 0), Due::Refused(Refusal::OutOfRange)),
@@ -97,38 +99,44 @@ static SCRIPTS: [Script; 6] = [
     Script {
         name: "a recount by one that met a fault is repeated",
         opening: ALL_AWAY,
-        plan: FIRST_GET_FAILS,
+        plans: &[FIRST_GET_FAILS],
         calls: BY_ONE,
+        then: &[],
     },
     Script {
         name: "a recount by three that met a fault is repeated",
         opening: ALL_AWAY,
-        plan: FIRST_GET_FAILS,
+        plans: &[FIRST_GET_FAILS],
         calls: BY_THREE,
+        then: &[],
     },
     Script {
         name: "a recount by 64 that met a fault is repeated",
         opening: ALL_AWAY,
-        plan: FIRST_GET_FAILS,
+        plans: &[FIRST_GET_FAILS],
         calls: BY_64,
+        then: &[],
     },
     Script {
         name: "a recount has from 1 to 64 workers",
         opening: ALL_AWAY,
-        plan: SOUND,
+        plans: &[SOUND],
         calls: WORKERS,
+        then: &[],
     },
     Script {
         name: "a recount reads rows that are local and rows that are away",
         opening: MOSTLY_AWAY,
-        plan: SOUND,
+        plans: &[SOUND],
         calls: UNEVEN,
+        then: &[],
     },
     Script {
         name: "a recount of an aggregate that is not there is refused",
         opening: ALL_AWAY,
-        plan: SOUND,
+        plans: &[SOUND],
         calls: UNKNOWN,
+        then: &[],
     },
 ];
 

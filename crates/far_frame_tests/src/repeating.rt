@@ -137,8 +137,9 @@ const EVERY_STEP: Calls = &[
 static SCRIPTS: [Script; 1] = [Script {
     name: "every step",
     opening: SMALL_GROUPS,
-    plan: SOUND,
+    plans: &[SOUND],
     calls: EVERY_STEP,
+    then: &[],
 }];
 
 #[test]

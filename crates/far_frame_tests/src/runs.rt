@@ -77,7 +77,7 @@ fn replies_once<S: FarStore>(
     }
 }
 
-/// The same, of a second run where the first is refused.
+/// The same, of a second run if the first is refused.
 fn replies<S: FarStore>(
     alloc: Global,
     world: &mut World<S>,
@@ -89,8 +89,8 @@ fn replies<S: FarStore>(
     }
 }
 
-/// The index of the first reply that is not what it should be, of row groups of this size. Nothing can be said where a step found no
-/// memory.
+/// The index of the first reply that is not what it should be, of row groups of this size. Nothing can be said if a step ran out
+/// of memory.
 fn first_wrong_in(replies: &[Reply], calls: Calls, size: u32) -> Result<Option<usize>, Refusal> {
     for (at, (_, due)) in calls.iter().enumerate() {
         match replies.get(at) {
@@ -134,7 +134,7 @@ fn play_once<R: Wait + Sync + Drop + Copy>(rt: R, alloc: Global) -> Result<Optio
     first_wrong_over(alloc, store(rt, alloc, SOUND))
 }
 
-/// The same, the second time where the first finds no memory.
+/// The same, the second time if the first finds no memory.
 fn play<R: Wait + Sync + Drop + Copy>(rt: R, alloc: Global) -> Result<Option<usize>, Refusal> {
     match play_once(rt, alloc) {
         Err(Refusal::NoMemory) => play_once(rt, alloc),

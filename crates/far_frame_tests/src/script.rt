@@ -3,7 +3,7 @@ ghost use Rattle.far_rows.specs.Jobs.{AreAt};
 
 use crate::answers::{Due, is_reply, is_row};
 use crate::call::{Call, step};
-use crate::opening::{Opening, Plan, store, world};
+use crate::opening::{Opening, Plan, migrate, stores, world};
 use far_frame::{Frame, Job, Reply, Step, World};
 use far_store::{FarStore, FarTickets, Meter};
 use far_types::{Answer, LentRow, Name, Refusal};
@@ -11,16 +11,24 @@ use std::alloc::Global;
 use std::sync::Wait;
 use std::test::Fail;
 use std::thread::Threads;
+use std::vec::IntoIter;
 
 /// Calls, each with what it answers.
 pub type Calls = &'static [(Call, Due<'static>)];
 
-/// Calls on a new table over a store of a plan.
+/// A table goes on with its next store, or why it is refused that, and what calls answer then.
+pub struct Turn {
+    pub refused: Option<Refusal>,
+    pub calls: Calls,
+}
+
+/// Calls on a new table over the first of its stores, and then on the same over each of the others.
 pub struct Script {
     pub name: &'static str,
     pub opening: Opening,
-    pub plan: Plan,
+    pub plans: &'static [Plan],
     pub calls: Calls,
+    pub then: &'static [Turn],
 }
 
 /// The script and the index of the first of its calls that did not answer what it should.
@@ -50,7 +58,7 @@ pub fn play_all<R: Threads + Wait + Sync>(
     Ok(None)
 }
 
-// Plays a script, the second time where there was no memory for its table or its store at the first.
+// Plays a script, the second time if there was no memory for its table or its store at the first.
 fn play<R: Threads + Wait + Sync>(
     rt: &R,
     alloc: Global,
@@ -67,28 +75,60 @@ fn play_once<R: Threads + Wait + Sync>(
     alloc: Global,
     script: &Script,
 ) -> Result<Option<usize>, Refusal> {
-    play_over(rt, alloc, store(rt, alloc, script.plan), script)
+    play_over(rt, alloc, stores(rt, alloc, script.plans), script)
 }
 
-/// The index of the first call of a script over this store, if that was made, that does not answer what it should.
+/// The index of the first call of a script over these stores, if they were made, that does not answer what it should.
 pub fn play_over<S: FarStore, R: Threads + Sync>(
     rt: &R,
     alloc: Global,
-    store: Result<S, Refusal>,
+    stores: Result<Vec<S>, Refusal>,
     script: &Script,
 ) -> Result<Option<usize>, Refusal> {
-    match world(alloc, script.opening.kinds, script.opening.limits, store) {
-        Ok(mut world) => {
-            let wrong = play_in(rt, alloc, &mut world, script);
-            drop(world);
-            wrong
-        }
+    match stores {
+        Ok(stores) => play_in_turn(rt, alloc, stores, script),
         Err(refusal) => Err(refusal),
     }
 }
 
-// The same in a new world.
-fn play_in<S: FarStore, R: Threads + Sync>(
+// The same over one store after the other.
+fn play_in_turn<S: FarStore, R: Threads + Sync>(
+    rt: &R,
+    alloc: Global,
+    stores: Vec<S>,
+    script: &Script,
+) -> Result<Option<usize>, Refusal> {
+    let mut others = stores.into_iter();
+    let first = others.next().ok_or(Refusal::FarFull);
+    match world(alloc, script.opening.kinds, script.opening.limits, first) {
+        Ok(world) => play_on(rt, alloc, world, others, script),
+        Err(refusal) => Err(refusal),
+    }
+}
+
+// The same in a new world, which goes on with the others.
+fn play_on<S: FarStore, R: Threads + Sync>(
+    rt: &R,
+    alloc: Global,
+    mut world: World<S>,
+    others: IntoIter<S, Global>,
+    script: &Script,
+) -> Result<Option<usize>, Refusal> {
+    let mut wrong = play_first(rt, alloc, &mut world, script);
+    for (store, turn) in others.zip(script.then) {
+        let (next, refused) = migrate(world, store);
+        world = next;
+        wrong = match so_far(wrong, refused, turn.refused, script.calls.len()) {
+            Ok(None) => first_wrong(rt, alloc, &mut world, turn.calls),
+            wrong => wrong,
+        };
+    }
+    drop(world);
+    wrong
+}
+
+// The same over the first store.
+fn play_first<S: FarStore, R: Threads + Sync>(
     rt: &R,
     alloc: Global,
     world: &mut World<S>,
@@ -96,6 +136,20 @@ fn play_in<S: FarStore, R: Threads + Sync>(
 ) -> Result<Option<usize>, Refusal> {
     match first_wrong(rt, alloc, world, script.opening.rows) {
         Ok(None) => first_wrong(rt, alloc, world, script.calls),
+        wrong => wrong,
+    }
+}
+
+// What is wrong so far: a call, or the index behind all calls if a world did not go on with another store as is due.
+fn so_far(
+    wrong: Result<Option<usize>, Refusal>,
+    refused: Option<Refusal>,
+    due: Option<Refusal>,
+    behind: usize,
+) -> Result<Option<usize>, Refusal> {
+    match wrong {
+        Ok(None) if refused == Some(Refusal::NoMemory) => Err(Refusal::NoMemory),
+        Ok(None) if refused != due => Ok(Some(behind)),
         wrong => wrong,
     }
 }
@@ -117,7 +171,7 @@ pub fn first_wrong<S: FarStore, R: Threads + Sync>(
     Ok(None)
 }
 
-/// Whether a call answers this, the second time where the first finds no memory.
+/// Whether a call answers this, the second time if the first finds no memory.
 pub fn is_answered<S: FarStore, R: Threads + Sync>(
     rt: &R,
     alloc: Global,
@@ -131,7 +185,7 @@ pub fn is_answered<S: FarStore, R: Threads + Sync>(
     }
 }
 
-// Whether a call answers this. Nothing can be said where it finds no memory.
+// Whether a call answers this. Nothing can be said if it finds no memory.
 fn is_answered_once<S: FarStore, R: Threads + Sync>(
     rt: &R,
     alloc: Global,
@@ -141,8 +195,9 @@ fn is_answered_once<S: FarStore, R: Threads + Sync>(
 ) -> Result<bool, Refusal> {
     match call {
         Call::Row(_) | Call::Coldest => is_shown(world, call, due),
-        Call::Recount(_, _) | Call::RecountAgain(_, _) => {
-            is_due(recounted(rt, world.frame(), world.store(), call), due, 1)
+        Call::Recount(a, workers) => {
+            let reply = recounted(rt, world.frame(), world.store(), a, workers);
+            is_due(reply, due, 1)
         }
         call => is_served(alloc, world, call, due),
     }
@@ -165,7 +220,6 @@ fn is_served<S: FarStore>(
 ) -> Result<bool, Refusal> {
     let size = world.frame().limits().group;
     match call {
-        Call::Repin(column, group) => is_due(repinned(world, column, group), due, size),
         Call::Faults(_)
         | Call::IsAlive(_)
         | Call::MayEvac(_, _)
@@ -175,10 +229,15 @@ fn is_served<S: FarStore>(
     }
 }
 
-fn is_due(reply: Reply, due: Due<'_>, size: u32) -> Result<bool, Refusal> {
-    match reply {
-        Reply::Refused(Refusal::NoMemory) => Err(Refusal::NoMemory),
-        reply => Ok(is_reply(&reply, due, size)),
+/// Whether a reply is the one that is due. Nothing can be said if memory ran out.
+pub fn is_due(reply: Reply, due: Due<'_>, size: u32) -> Result<bool, Refusal> {
+    let found_none = is_reply(&reply, Due::Refused(Refusal::NoMemory), size);
+    let is_right = is_reply(&reply, due, size);
+    drop(reply);
+    if found_none {
+        Err(Refusal::NoMemory)
+    } else {
+        Ok(is_right)
     }
 }
 
@@ -187,6 +246,7 @@ fn served<S: FarStore>(world: &mut World<S>, step: Step) -> Reply {
     if world.faults() < 9 {
         world.serve(step)
     } else {
+        drop(step);
         Reply::Refused(Refusal::BadSchema)
     }
 }
@@ -196,42 +256,6 @@ fn stepped<S: FarStore>(world: &mut World<S>, step: Result<Step, Refusal>) -> Re
     match step {
         Ok(step) => served(world, step),
         Err(refusal) => Reply::Refused(refusal),
-    }
-}
-
-// Whether a step is done that says no more.
-fn is_done<S: FarStore>(world: &mut World<S>, step: Step) -> bool {
-    is_reply(&served(world, step), Due::Done, 1)
-}
-
-// Takes all pins off an object, and says how many it had.
-fn unpinned<S: FarStore>(world: &mut World<S>, column: u32, group: u32) -> u32 {
-    for turn in 0..65_536 {
-        if !is_done(world, Step::Unpin { column, group }) {
-            return turn;
-        }
-    }
-    65_536
-}
-
-// Puts so many pins on an object.
-fn is_pinned<S: FarStore>(world: &mut World<S>, column: u32, group: u32, count: u32) -> bool {
-    let mut done = true;
-    for _ in 0..count {
-        done = is_done(world, Step::Pin { column, group }) && done;
-    }
-    done
-}
-
-// How many pins an object has, told as a place is; or why none is taken off. All are put on again.
-fn repinned<S: FarStore>(world: &mut World<S>, column: u32, group: u32) -> Reply {
-    let count = unpinned(world, column, group);
-    if !is_pinned(world, column, group, count) {
-        Reply::Refused(Refusal::Pinned)
-    } else if count > 0 {
-        Reply::Place(count)
-    } else {
-        served(world, Step::Unpin { column, group })
     }
 }
 
@@ -309,58 +333,8 @@ fn is_object_due(object: Result<Option<Name>, Refusal>, due: Due<'_>) -> Result<
     }
 }
 
-// What a recount answers, on a meter of few faults. It meets one fault exactly if it is refused for one.
-fn recounted_on<S: FarStore, R: Threads + Sync>(
-    rt: &R,
-    frame: &Frame<S>,
-    store: &S,
-    meter: &mut Meter,
-    a: u32,
-    workers: u32,
-) -> Reply
-    requires here { AreAt S.is_of (S.store_id store.now) frame.now.rows }
-{
-    let before = meter.faults();
-    if before >= 9 {
-        return Reply::Done;
-    }
-    let found = frame.recount(rt, store, meter, a, workers);
-    answer_or_refusal(found, meter.faults().wrapping_sub(before))
-}
-
-// An answer during which so many faults were met, or why there is none.
-fn answer_or_refusal(found: Result<Answer, Refusal>, faults: u64) -> Reply {
-    match (found, faults) {
-        (Ok(answer), 0) => Reply::Answer(answer),
-        (Err(Refusal::FarFault), 1) => Reply::Refused(Refusal::FarFault),
-        (Err(refusal), 0) if refusal != Refusal::FarFault => Reply::Refused(refusal),
-        _ => Reply::Done,
-    }
-}
-
-// The same, the second time where the first finds no memory.
-fn recounted_once_more<S: FarStore, R: Threads + Sync>(
-    rt: &R,
-    frame: &Frame<S>,
-    store: &S,
-    meter: &mut Meter,
-    a: u32,
-    workers: u32,
-) -> Reply
-    requires here { AreAt S.is_of (S.store_id store.now) frame.now.rows }
-{
-    match recounted_on(rt, frame, store, meter, a, workers) {
-        Reply::Refused(Refusal::NoMemory) => recounted_on(rt, frame, store, meter, a, workers),
-        reply => reply,
-    }
-}
-
-fn is_refused(reply: &Reply, refusal: Refusal) -> bool {
-    is_reply(reply, Due::Refused(refusal), 1)
-}
-
-// What a recount answers after one that was refused for a fault, where their meter shows that one fault both times.
-fn recounted_again<S: FarStore, R: Threads + Sync>(
+/// What a recount answers. One that is refused for a fault has met one, else it answers `Done`, which is never due.
+pub fn recounted<S: FarStore, R: Threads + Sync>(
     rt: &R,
     frame: &Frame<S>,
     store: &S,
@@ -370,37 +344,20 @@ fn recounted_again<S: FarStore, R: Threads + Sync>(
     requires here { AreAt S.is_of (S.store_id store.now) frame.now.rows }
 {
     let mut meter = Meter::new();
-    let first = recounted_on(rt, frame, store, &mut meter, a, workers);
-    if is_refused(&first, Refusal::FarFault) {
-        recounted_once_more(rt, frame, store, &mut meter, a, workers)
-    } else {
-        without_answer(&first)
-    }
-}
-
-// `Done`, which is never due, if there was memory.
-fn without_answer(reply: &Reply) -> Reply {
-    if is_refused(reply, Refusal::NoMemory) {
-        Reply::Refused(Refusal::NoMemory)
-    } else {
+    let reply = replied(frame.recount(rt, store, &mut meter, a, workers));
+    let is_fault = is_reply(&reply, Due::Refused(Refusal::FarFault), 1);
+    if is_fault && meter.faults() != 1 {
+        drop(reply);
         Reply::Done
+    } else {
+        reply
     }
 }
 
-// What a recount answers, or one after another.
-fn recounted<S: FarStore, R: Threads + Sync>(
-    rt: &R,
-    frame: &Frame<S>,
-    store: &S,
-    call: Call,
-) -> Reply
-    requires here { AreAt S.is_of (S.store_id store.now) frame.now.rows }
-{
-    match call {
-        Call::Recount(a, workers) => {
-            recounted_on(rt, frame, store, &mut Meter::new(), a, workers)
-        }
-        Call::RecountAgain(a, workers) => recounted_again(rt, frame, store, a, workers),
-        _ => Reply::Done,
+/// The reply of what an aggregate answers.
+pub fn replied(found: Result<Answer, Refusal>) -> Reply {
+    match found {
+        Ok(answer) => Reply::Answer(answer),
+        Err(refusal) => Reply::Refused(refusal),
     }
 }

@@ -114,7 +114,7 @@ fn why<J: Drop>(refused: (Refusal, J)) -> Refusal {
     refused.0
 }
 
-/// Whether the end of a job is answered so. Nothing can be said where memory is wanting.
+/// Whether the end of a job is answered so. Nothing can be said if memory ran out.
 fn ends_so<S: FarStore>(
     frame: &mut Frame<S>,
     store: &S,
@@ -309,7 +309,7 @@ fn play_once<R: Wait + Sync + Drop + Copy>(rt: R, alloc: Global) -> Told {
     are_told_if_made(alloc, store(rt, alloc, SOUND))
 }
 
-/// The same, the second time where the first finds no memory.
+/// The same, the second time if the first finds no memory.
 fn play<R: Wait + Sync + Drop + Copy>(rt: R, alloc: Global) -> Told {
     match play_once(rt, alloc) {
         Err(Refusal::NoMemory) => play_once(rt, alloc),

@@ -308,7 +308,7 @@ const OUTDATED: Calls = &[
     (Call::Ask(1), Due::Lines(&[(Missing, 4, 26)])),
 ];
 
-/// A build keeps its number while its aggregate is forgotten, and is not that of another.
+/// A build keeps its number while its aggregate is forgotten, carried or not, and is not that of another.
 const FORGOTTEN: Calls = &[
     (Call::Watch(TOTALS), Due::Aggregate(1)),
     (Call::Evac(0, 0), Due::Job(0)),
@@ -322,6 +322,14 @@ const FORGOTTEN: Calls = &[
     (Call::Merge(1), Due::Refused(Refusal::StaleJob)),
     (Call::Unwatch(1), Due::Done),
     (Call::Merge(1), Due::Refused(Refusal::StaleJob)),
+    (Call::Watch(TOTALS), Due::Aggregate(1)),
+    (Call::Offload(1, 0), Due::Job(2)),
+    (Call::Unwatch(1), Due::Done),
+    (Call::Merge(2), Due::Refused(Refusal::NoAggregate)),
+    (Call::Carry(2), Due::Done),
+    (Call::Merge(2), Due::Refused(Refusal::NoAggregate)),
+    (Call::Watch(TOTALS), Due::Aggregate(1)),
+    (Call::Merge(2), Due::Refused(Refusal::StaleJob)),
 ];
 
 /// A build that was not carried is stale at its end, and so is one at the end of another job.
@@ -380,74 +388,86 @@ static SCRIPTS: [Script; 12] = [
     Script {
         name: "all moved while the first put and the first get fail",
         opening: TWELVE,
-        plan: FIRST,
+        plans: &[FIRST],
         calls: FIRST_OF_EACH,
+        then: &[],
     },
     Script {
         name: "all moved while the second put and the second get fail",
         opening: TWELVE,
-        plan: SECOND,
+        plans: &[SECOND],
         calls: SECOND_OF_EACH,
+        then: &[],
     },
     Script {
         name: "all moved while the third put and the third get fail",
         opening: TWELVE,
-        plan: THIRD,
+        plans: &[THIRD],
         calls: THIRD_OF_EACH,
+        then: &[],
     },
     Script {
         name: "a carry that met a fault is repeated",
         opening: EIGHT,
-        plan: PUT_2,
+        plans: &[PUT_2],
         calls: SECOND_PUT,
+        then: &[],
     },
     Script {
         name: "a build that met a fault is repeated",
         opening: TWELVE,
-        plan: GET_1,
+        plans: &[GET_1],
         calls: FIRST_OFFLOAD,
+        then: &[],
     },
     Script {
         name: "a row group that is away is built in",
         opening: NUMBERS,
-        plan: SOUND,
+        plans: &[SOUND],
         calls: BUILT,
+        then: &[],
     },
     Script {
         name: "a build is stale once a row was inserted",
         opening: NUMBERS,
-        plan: SOUND,
+        plans: &[SOUND],
         calls: OUTDATED,
+        then: &[],
     },
     Script {
         name: "a build waits while its aggregate is forgotten",
         opening: NUMBERS,
-        plan: SOUND,
+        plans: &[SOUND],
         calls: FORGOTTEN,
+        then: &[],
     },
     Script {
         name: "a build that was not carried is stale",
         opening: NUMBERS,
-        plan: SOUND,
+        plans: &[SOUND],
         calls: UNCARRIED,
+        then: &[],
     },
     Script {
         name: "an object stays where the store is full",
         opening: NUMBERS,
-        plan: SMALL,
+        plans: &[SMALL],
         calls: FULL,
+        then: &[],
     },
     Script {
         name: "a text stays where the store is full",
         opening: TEXTS,
-        plan: SMALL,
+        plans: &[SMALL],
         calls: FULL_OF_TEXTS,
+        then: &[],
     },
     Script {
         name: "parts are lent in turn and the next is proposed",
         opening: NUMBERS,
-        plan: SOUND,
+        plans: &[SOUND],
         calls: STRIDE,
+        then: &[],
     },
 ];
 

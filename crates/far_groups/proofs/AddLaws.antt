@@ -26,7 +26,7 @@ tail_has P e es up h q = at_test (is_at (line_cmp q) e.0) refl (h q) where
   at_test true is own = subst (λ o. IfSome o P) (sym (ap (count_sum_at es) (same_key q e.0 is) ∙ (sorted_distinct (e ∷ es) up).0)) tt
   at_test false is own = own
 
--- what a call leaves of a value, where the walk finds this
+-- what a call leaves of a value, if the walk finds this
 abbrev pub IsAdded : ℕ × ℤ → Option (ℕ × ℤ) → ℕ × ℤ → Type 0
 IsAdded old None new = new ≡ old
 IsAdded old (Some more) new = IsAddend old → IsAddend more → new ≡ add_count_sums old more

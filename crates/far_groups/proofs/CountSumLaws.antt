@@ -80,7 +80,7 @@ AreCountSums-without m k less all there = at_key (fin.get m k) (all k) there whe
   at_key None h there = all
   at_key (Some t) h there = rest_valid_sums _ m k less t refl all h there.0 there.1
 
--- what was set last is taken out, where nothing is left of it
+-- what was set last is taken out, if nothing is left of it
 pub taken_whole : (old mid new : Entries (ℕ × ℤ)) (k : Option Key) (less t rest : ℕ × ℤ) → Some t ≡ at old k → IsSet old mid k (Some t) → IsSet mid new k None → rest ≡ (t.0 - less.0, t.1 -ℤ less.1) → LeavesCountSum less (at old k) → rest.0 ≡ 0 → totals_of new ≡ without_count_sum (totals_of old) k less
 taken_whole old mid new k less t rest found set gone is there none =
     let has = subst (LeavesCountSum less) (sym found) there in
@@ -88,7 +88,7 @@ taken_whole old mid new k less t rest found set gone is there none =
     ∙ last_goes (totals_of old) k less t rest is has.0 none
     ∙ ap (without_less (totals_of old) k less) (found ∙ sym (get_at old k))
 
--- and where something is left, that is set
+-- and if something is left, that is set
 pub taken_part : (old new : Entries (ℕ × ℤ)) (k : Option Key) (less t rest : ℕ × ℤ) → Some t ≡ at old k → IsSet old new k (Some rest) → rest ≡ (t.0 - less.0, t.1 -ℤ less.1) → (rest.0 ≡ 0 → ⊥) → totals_of new ≡ without_count_sum (totals_of old) k less
 taken_part old new k less t rest found set is some =
     set_inserts old new k rest set

@@ -20,7 +20,7 @@ use Rattle.far_groups.specs.Dense.{place_key, standing, entries_from}
 abbrev pub Places : Type 0
 Places = List (ℕ × ℤ)
 
--- the lines of the places, where the first is that of a number
+-- the lines of the places, if the first is that of a number
 abbrev pub lines_from : ℕ → Places → Entries (ℕ × ℤ)
 lines_from n ts = numbered (entries_from n ts)
 

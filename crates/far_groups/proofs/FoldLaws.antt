@@ -69,7 +69,7 @@ rest_joins m n p can q =
       | false ↦ λ h capacity. capacity
     ] refl (subst (λ o. count_in (fin.get m q) + count_in o ≤ 2 ^ 26) (fin.get-insert line_total n p.0 (added p.1 (fin.get n p.0)) q) (can q)))
 
--- pairs can be folded where their totals can be joined
+-- pairs can be folded if their totals can be joined
 pub can_fold : (m : Totals) (ps : List Pair) → PairsFit ps → CanJoin m (totals ps) → CanFoldAll m ps
 can_fold m [] fits can = tt
 can_fold m (p ∷ ps) fits can =
@@ -99,7 +99,7 @@ pairs-suc m (q ∷ ps) (suc i) p here = pairs-suc (with_pair m q) ps i p here
 pub pairs-next : (m : Totals) (ps : List Pair) (n i : ℕ) (p : Pair) → slice_get ps i ≡ Some p → n ≡ i + 1 → with_pairs m (take n ps) ≡ with_pair (with_pairs m (take i ps)) p
 pairs-next m ps n i p here next = let one : n ≡ suc i = omega (arith, next) in ap (λ k. with_pairs m (take k ps)) one ∙ pairs-suc m ps i p here
 
--- the first pairs may come where all may
+-- the first pairs may come if all may
 pub first_fold : (m : Totals) (ps : List Pair) (i : ℕ) → CanFoldAll m ps → CanFoldAll m (take i ps)
 first_fold m ps zero can = tt
 first_fold m [] (suc i) can = tt

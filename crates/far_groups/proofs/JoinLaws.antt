@@ -93,7 +93,7 @@ rest_joins m n k t none can q =
       | false ↦ λ h capacity. capacity
     ] refl (subst (λ o. count_in (fin.get m q) + count_in o ≤ 2 ^ 26) (fin.get-insert line_total n k t q) (can q)))
 
--- entries can be added one after another where all can be joined
+-- entries can be added one after another if all can be joined
 pub can_add : (m : Totals) (es : Entries (ℕ × ℤ)) → HaveDistinctKeys es → AreCountSums (totals_of es) → CanJoin m (totals_of es) → CanAddAll m es
 can_add m [] h all can = tt
 can_add m (e ∷ es) h all can =
@@ -104,7 +104,7 @@ can_add m (e ∷ es) h all can =
       can_add (with_count_sum m e.0 e.1) es h.1 (rest_count_sums (totals_of es) e.0 e.1 none all) (rest_joins m (totals_of es) e.0 e.1 none can),
     )
 
--- where nothing is left, the first entries are all
+-- if nothing is left, the first entries are all
 pub take_whole : (n : ℕ) (es : Entries (ℕ × ℤ)) → drop n es ≡ [] → take n es ≡ es
 take_whole n es none = sym (append-nil (take n es)) ∙ ap (λ rest. take n es ++ rest) (sym none) ∙ take-append-drop n es
 

@@ -22,7 +22,7 @@ use Rattle.far_groups.specs.Walks.{Lines, count_sum_at, new_lines}
 use Rattle.far_groups.proofs.WalkLaws.{Ascend, new_here, known_here}
 use Rattle.far_groups.proofs.ReserveLaws.{AreAbsent}
 
--- nothing if the key is there, or where it does not come
+-- nothing if the key is there, or if it does not come
 abbrev pub new_count_sum : Option (ℕ × ℤ) → Option (ℕ × ℤ) → Option (ℕ × ℤ)
 new_count_sum there None = None
 new_count_sum None (Some more) = Some (0, pos 0)
@@ -76,7 +76,7 @@ keys_new es (e ∷ others) = at_test (not (is_some (count_sum_at es e.0))) (keys
 pub new_ascend : (es others : Lines) → Ascend others → Ascend (new_lines es others)
 new_ascend es others up = subst (IsStrictlySortedBy line_cmp) (sym (keys_new es others)) (IsStrictlySortedBy-filter line_cmp _ (keys_of others) up)
 
--- lines whose keys ascend are told by what they have under each key
+-- lines whose keys ascend are known by what they have under each key
 same_lines : (xs ys : Lines) → Ascend xs → Ascend ys → ((q : Option Key) → count_sum_at xs q ≡ count_sum_at ys q) → xs ≡ ys
 same_lines xs ys up also h =
     sym (entries-by_key xs up) ∙ ap fin.entries (same (totals_of xs) (totals_of ys) (λ q. get_at xs q ∙ h q ∙ sym (get_at ys q))) ∙ entries-by_key ys also

@@ -1,4 +1,4 @@
--- What the conditions of a call come to where the totals are those of pairs.
+-- What the conditions of a call come to if the totals are those of pairs.
 use Rattle.std.proofs.Common.{◌≡◌, ℕ, suc, ◌+◌, ◌^◌, ◌≤◌, Bool, true, false, cond, List, [], ◌∷◌, length, sym, ap, ◌∙◌, subst, Option, None, Some, arith}
 use Rattle.std.specs.Prelude.{ℤ, IfSome, FitsSigned}
 use Rattle.std.specs.Int.{w64}

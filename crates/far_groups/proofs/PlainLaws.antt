@@ -81,7 +81,7 @@ taken_key t less (Some k) h = absurd (subst (LeavesCountSum less) (get_under_key
 pub taken_leaves : (t less : ℕ × ℤ) (q : Option Key) → LeavesCountSum less (fin.get (plain_totals t) q) → LeavesCountSum less (Some t)
 taken_leaves t less q h = subst (LeavesCountSum less) (ap (fin.get (plain_totals t)) (taken_key t less q h) ∙ get_plain t) h
 
--- where nothing is left of it, nothing is left
+-- if nothing is left of it, nothing is left
 pub plain_gone : (t less rest : ℕ × ℤ) (q : Option Key) → rest ≡ (t.0 - less.0, t.1 -ℤ less.1) → LeavesCountSum less (fin.get (plain_totals t) q) → rest.0 ≡ 0 → totals_of [] ≡ without_count_sum (plain_totals t) q less
 plain_gone t less rest q is there none =
     taken_whole (one_line t) (one_line t) [] None less t rest refl (set_plain t t) (gone_plain t) is (taken_leaves t less q there) none

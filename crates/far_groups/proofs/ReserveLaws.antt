@@ -29,7 +29,7 @@ first_absent es (x ∷ xs) ys h = (h.0, first_absent es xs ys h.1)
 abbrev pub is_used : ℕ × ℤ → Bool
 is_used count_sum = not (count_sum.0 == 0)
 
--- where those of count 0 are left out, what is found is what was there
+-- if those of count 0 are left out, what is found is what was there
 abbrev pub Keeps : Lines → (Option Key → Option (ℕ × ℤ)) → Type 0
 Keeps es found = (q : Option Key) → option_filter is_used (found q) ≡ count_sum_at es q
 
@@ -52,6 +52,6 @@ pub keeps_reserved : (es : Lines) (found : Option Key → Option (ℕ × ℤ)) (
 keeps_reserved es found [] h keeps = keeps
 keeps_reserved es found (x ∷ xs) h keeps = keeps_reserved es (update (eq_by_cmp line_cmp) found x.0 (Some x.1)) xs h.1 (keeps_more es found x h.0.0 h.0.1 keeps)
 
--- what is kept of lines whose keys ascend, where those of count 0 are left out
+-- what is kept of lines whose keys ascend, if those of count 0 are left out
 pub used_kept : (es kept : Lines) → Ascend es → kept ≡ filter (λ (e : Option Key × (ℕ × ℤ)). is_used e.1) es → (q : Option Key) → count_sum_at kept q ≡ option_filter is_used (count_sum_at es q)
 used_kept es kept up is q = ap (λ ls. count_sum_at ls q) is ∙ lookup-filter-values (eq_by_cmp_equiv line_total) is_used q es (IsDistinct-from_sorted line_cmp (keys_of es) up)

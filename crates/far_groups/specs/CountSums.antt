@@ -18,6 +18,7 @@ IsSumOf count sum = (neg_ℤ (pos (count * 2 ^ 63)) ≤ℤ sum) × (sum ≤ℤ p
 abbrev pub IsCountSum : ℕ × ℤ → Type 0
 IsCountSum count_sum = (1 ≤ count_sum.0) × (count_sum.0 ≤ 2 ^ 26) × IsSumOf count_sum.0 count_sum.1
 
+-- each key has such a count and sum
 abbrev pub AreCountSums : Totals → Type 0
 AreCountSums totals = (key : Option Key) → IfSome (fin.get totals key) IsCountSum
 
@@ -35,6 +36,7 @@ abbrev pub without_less : Totals → Option Key → ℕ × ℤ → Option (ℕ �
 without_less totals key less None = totals
 without_less totals key less (Some count_sum) = cond (count_sum.0 == less.0) (fin.remove totals key) (fin.insert totals key (count_sum.0 - less.0, count_sum.1 -ℤ less.1))
 
+-- totals with a count and a sum subtracted from those of a key
 abbrev pub without_count_sum : Totals → Option Key → ℕ × ℤ → Totals
 without_count_sum totals key less = without_less totals key less (fin.get totals key)
 

@@ -8,10 +8,12 @@ use Rattle.far_types.specs.Answers.{Totals}
 use Rattle.far_types.specs.Effects.{count_in}
 use Rattle.far_groups.specs.CountSums.{IsSumOf}
 
+-- how many row groups are pending, and the totals of the pairs that are in
 pub record Live : Type 0 where
   pub left : ℕ
   pub totals : Totals
 
+-- the code of live totals, which tells one value from another
 abbrev pub coded_live : Coded Live
 coded_live = code_by (ℕ × Totals) (coded× coded_ℕ coded_totals) (λ live. (live.left, live.totals)) (λ p. record { left = p.0; totals = p.1 }) (λ _. refl)
 

@@ -18,7 +18,7 @@ pub type CountSum = (u64, i128);
 /// Counts and sums by key. No key has a count of 0.
 pub type CountSums = BTreeMap<Option<Key>, CountSum>;
 
-/// The count and the sum of one value.
+/// Returns the count and the sum of one value.
 #[inline(always)]
 pub fn count_sum_of(value: i64) -> CountSum
     ensures value { result ≡ (1, value) }

@@ -42,7 +42,7 @@ fn number_at(place: usize) -> i64
     place as i64
 }
 
-/// Whether a list has a place, or may get it.
+/// Returns whether a list has a place, or may get it.
 pub fn may_place(dense: &Dense, place: usize) -> bool
     ensures { result ≡ false → length dense.now.items ≤ place }
 {

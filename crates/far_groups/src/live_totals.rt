@@ -63,7 +63,7 @@ impl LiveTotals {
         }
     }
 
-    /// How many row groups are still pending.
+    /// Returns how many row groups are still pending.
     pub fn left(&self) -> u32
         ensures { result ≡ self.now.left }
     {

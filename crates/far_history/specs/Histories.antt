@@ -32,6 +32,7 @@ abbrev pub IsLegalOn : Table → List Entry → Type 0
 IsLegalOn table [] = Unit {0}
 IsLegalOn table (entry ∷ log) = (edit_refusal table entry.edit ≡ None) × IsLegalOn (edited entry.edit table) log
 
+-- the empty table of a plan accepts each edit of the history, one after the other
 abbrev pub IsLegal : Planned → List Entry → Type 0
 IsLegal p log = IsLegalOn (empty_table p.schema p.limits) log
 

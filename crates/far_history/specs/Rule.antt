@@ -9,6 +9,7 @@ use Rattle.far_history.specs.Readings.{reading_in}
 use Rattle.far_history.specs.declared.view.Entry.{Entry}
 use Rattle.far_history.specs.declared.view.View.{View}
 
+-- an edit with its session's number
 abbrev pub entry : ℕ → Edit → Entry
 entry by edit = record { by = by; edit = edit }
 

@@ -11,6 +11,7 @@ pub record SessionState : Type 0 where
   pub seen : List Entry
   pub mine : List Entry
 
+-- the session's state in a view
 abbrev pub session_state : View → SessionState
 session_state v = record { by = v.by; seen = v.seen; mine = v.mine }
 

@@ -19,15 +19,18 @@ no_part = record { keeps = false; all = []; given = 0; has_session = false; by =
 abbrev pub joined : View → View → View
 joined v w = record { keeps = v.keeps; all = v.all; given = v.given; has_session = w.has_session; by = w.by; seen = w.seen; mine = w.mine }
 
+-- the history's part of a view, which its keeper has
 abbrev pub keeper_part : View → View
 keeper_part v = joined v no_part
 
+-- the session's part of a view
 abbrev pub session_part : View → View
 session_part v = joined no_part v
 
--- the keeper once it has given out one more session, and that session
+-- the keeper once it has given out one more session
 abbrev pub one_given : View → View
 one_given v = record { keeps = v.keeps; all = v.all; given = v.given + 1; has_session = false; by = 0; seen = []; mine = [] }
 
+-- the session that a keeper gives out next
 abbrev pub new_session : View → View
 new_session v = session v.given v.all []

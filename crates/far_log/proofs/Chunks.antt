@@ -33,7 +33,7 @@ size-is level (suc number) =
     let more : suc level + number ≡ level + suc number = omega arith in
     ap (λ size. capacity_at size number) twice ∙ size-is (suc level) number ∙ ap (λ n. 2 ^ n) more
 
--- the space of a chunk, where the first takes 64
+-- the space of a chunk, if the first takes 64
 pub size-64 : (number : ℕ) → capacity_at 64 number ≡ 2 ^ (6 + number)
 size-64 number = size-is 6 number
 

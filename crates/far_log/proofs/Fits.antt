@@ -52,7 +52,7 @@ filled-first f fs (n ∷ ns) =
     later f fs n ns None h = refl
     later f fs n ns (Some i) h = h i
 
--- where no segment is left, nothing may wait
+-- if no segment is left, nothing may wait
 pub none-left : (ws : List ℕ) → waiting_fit [] ws ≡ list_all (λ len. eqb len 0) ws
 none-left [] = refl
 none-left (n ∷ ns) = elim (cases_eq n 0) [
@@ -60,7 +60,7 @@ none-left (n ∷ ns) = elim (cases_eq n 0) [
   | inr some ↦ rw (ne_eqb n 0 some) refl
 ]
 
--- where nothing waits, all is placed
+-- if nothing waits, all is placed
 pub none-waiting : (spaces ws : List ℕ) → list_all (λ len. eqb len 0) ws ≡ true → waiting_fit spaces ws ≡ true
 none-waiting spaces [] h = refl
 none-waiting spaces (n ∷ ns) h = elim (cases_eq n 0) [

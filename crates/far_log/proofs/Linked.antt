@@ -215,7 +215,7 @@ before-le i b n (suc k) (t ∷ ss) (m ∷ ls) s l h le here live there =
     at-most true = omega arith
     at-most false = omega arith
 
--- where no extent in front is live, none names another
+-- if no extent in front is live, none names another
 named-by-none : (i n m : ℕ) (ss : List Extent) (ls : List Link) → AreLinked i 0 n ss ls → AreLinked i 0 m ss ls
 named-by-none i n m [] [] h = tt
 named-by-none i n m [] (l ∷ ls) h = absurd h

@@ -39,7 +39,7 @@ module _ {X : Type 0} (state : RegionState X) where
   pub same_length-sizes : (k : ℕ) → IsRegion state → k < length state → (segment_of state k).size ≡ (segment_of state 0).size
   same_length-sizes k h lt = All-get_or (λ s. s.size ≡ (segment_of state 0).size) state k _ lt h.same_length
 
-  -- the first segment's size stays where a segment is exchanged for one of the same size
+  -- the first segment's size stays if a segment is exchanged for one of the same size
   first-size : (number : ℕ) (s : SegmentState X) → number < length state → s.size ≡ (segment_of state number).size → (segment_of (with_segment state number s) 0).size ≡ (segment_of state 0).size
   first-size number s lt same = elim (cases_eq 0 number) [
     | inl first ↦ ap (λ k. (segment_of (with_segment state number s) k).size) first ∙ ap (λ t. t.size) (get_or-set_same state number s _ lt) ∙ same ∙ ap (λ k. (segment_of state k).size) (sym first)

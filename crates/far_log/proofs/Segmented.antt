@@ -120,7 +120,7 @@ module _ {X : Type 0} (size : ℕ) where
       let there : number < length ts = omega (arith, lt, ap length e, count-states xss ts h) in
       segment-from state number (get_or xss number []) (get_or ts number default_value) (kept-at xss ts number h there) (ap (λ r. segment_of r number) (sym e) ∙ state-at xss ts number h there)
 
-  -- the same, where the table was read
+  -- the same, if the table was read
   pub segment-with : (xss : List (List X)) (ts : List Table) (state : RegionState X) (number : ℕ) (t : Table) → AreKept size xss ts → segment_states size xss ts ≡ state → number < length state → t ≡ get_or ts number t → IsSegment state number (get_or xss number []) t
   segment-with xss ts state number t h e lt read =
       let there : number < length ts = omega (arith, lt, ap length e, count-states xss ts h) in

@@ -64,7 +64,7 @@ module _ {X : Type 0} where
       lowest-later (space_in s) (map space_in state) len (lt-leb len (space_in s) first)
       ∙ ap (λ o. option_map_or (λ i. Some (suc i)) o None) (lowest-is state n len (λ k less. none (suc k) (omega (arith, less))) (omega (arith, lt)) takes)
 
-  -- where nothing is found there is none
+  -- if nothing is found there is none
   pub none-takes : (state : RegionState X) (n len : ℕ) → HasNoSpace state n len → length state ≤ n → target_of state len ≡ None
   none-takes [] n len none le = refl
   none-takes (s ∷ state) zero len none le = absurd (omega (arith, le))
@@ -89,7 +89,7 @@ module _ {X : Type 0} where
   pub no-space-longer : (state : RegionState X) (below len more : ℕ) → HasNoSpace state below len → len ≤ more → HasNoSpace state below more
   no-space-longer state below len more none le = λ k lt. let less = none k lt in omega (arith, less, le)
 
-  -- where nothing is skipped
+  -- if nothing is skipped
   pub skip-nothing : (state : RegionState X) → IsSkip state record { first = 0; next = 0; len = 0 }
   skip-nothing state = record { ordered = omega arith; full = λ k lt ne. absurd (omega (arith, lt)) }
 

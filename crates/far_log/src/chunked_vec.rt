@@ -18,7 +18,7 @@ struct Place {
     at: usize,
 }
 
-// The capacity of a chunk.
+// Returns the capacity of a chunk.
 fn chunk_capacity(chunk: usize) -> usize
     requires { chunk ≤ 26 }
     ensures size { result ≡ capacity_at 64 chunk }
@@ -43,7 +43,7 @@ fn place_of(index: usize) -> Place
     }
 }
 
-/// The number of the chunk in which the element with an index lies.
+/// Returns the number of the chunk in which the element with an index lies.
 pub fn chunk_of(index: usize) -> usize
     requires { index ≤ 2 ^ 32 }
     ensures from { start_at 64 result ≤ index }
@@ -58,7 +58,7 @@ pub fn chunk_of(index: usize) -> usize
     }
 }
 
-/// The index of the first element of a chunk.
+/// Returns the index of the first element of a chunk.
 pub fn start_of(chunk: usize) -> usize
     requires { chunk ≤ 26 }
     ensures start { result ≡ start_at 64 chunk }
@@ -119,7 +119,7 @@ impl<T: Copy + Drop> ChunkedVec<T> {
         }
     }
 
-    /// How many values it has.
+    /// Returns how many values the vector has.
     pub fn len(&self) -> usize
         ensures len { result ≡ length self.now }
         ensures few { result ≤ 2 ^ 32 }
@@ -127,7 +127,7 @@ impl<T: Copy + Drop> ChunkedVec<T> {
         self.len
     }
 
-    /// The value with an index.
+    /// Returns the value with an index.
     pub fn get(&self, index: usize) -> T
         requires { index < length self.now }
         ensures { slice_get self.now index ≡ Some result }

@@ -17,7 +17,7 @@ pub struct Extent {
     pub live: bool,
 }
 
-// The index of the extent that begins at an offset; some index if none does.
+// Returns the index of the extent that begins at an offset; some index if none does.
 fn extent_among(entries: &[PartEntry], offset: u32) -> usize
     requires some { 0 < length entries.now }
     requires sorted { IsSorted (extents_of entries.now) }
@@ -40,7 +40,7 @@ fn extent_among(entries: &[PartEntry], offset: u32) -> usize
     low
 }
 
-// The number of the chunk with the extent that begins at an offset; the number of some chunk if none does.
+// Returns the number of the chunk with the extent that begins at an offset; the number of some chunk if none does.
 fn chunk_at(table: &ChunkedVec<PartEntry>, offset: u32) -> usize
     requires some { 0 < length table.now }
     requires adjacent { AreAdjacent 0 (extents_of table.now) }
@@ -69,7 +69,7 @@ fn number_among(table: &ChunkedVec<PartEntry>, offset: u32) -> usize
     start_of(chunk) + extent_among(table.chunk(chunk), offset)
 }
 
-/// The number of the extent that begins at an offset; some number if none does.
+/// Returns the number of the extent that begins at an offset; some number if none does.
 pub fn number_at(table: &ChunkedVec<PartEntry>, offset: u32) -> usize
     requires some { 0 < length table.now }
     requires adjacent { AreAdjacent 0 (extents_of table.now) }
@@ -101,7 +101,7 @@ pub fn extent_at(table: &ChunkedVec<PartEntry>, offset: u32) -> Option<Extent>
     Some(entries[extent_among(entries, offset)].extent)
 }
 
-/// Where the last of the extents ends.
+/// Returns where the last of the extents ends.
 pub fn end_of(table: &ChunkedVec<PartEntry>) -> usize
     requires adjacent { AreAdjacent 0 (extents_of table.now) }
     requires fits { extents_end 0 (extents_of table.now) < 2 ^ 32 }

@@ -16,7 +16,7 @@ pub fn fill(space: usize, waiting: &mut [usize])
     }
 }
 
-/// Whether no length waits.
+/// Returns whether no length is left to be placed.
 pub fn none_waits(waiting: &[usize]) -> bool
     ensures { result ≡ list_all (λ len. len == 0) waiting.now }
 {

@@ -89,7 +89,7 @@ impl<T: Copy + Drop> Region<T> {
         None
     }
 
-    /// Whether some segment has the space for a list of `len` elements behind its fill. Allocates nothing.
+    /// Returns whether some segment has the space for a list of `len` elements behind its fill. Allocates nothing.
     pub fn fits(&self, len: usize) -> bool
         ensures fits { result ≡ fits_in self.now len }
         ensures sound { IsRegion self.now }
@@ -97,8 +97,8 @@ impl<T: Copy + Drop> Region<T> {
         self.search(len).is_some()
     }
 
-    /// Whether at most 16 lists of these lengths, none of them empty, can be placed one after the other. Allocates nothing and places
-    /// nothing.
+    /// Returns whether at most 16 lists of these lengths, none of them empty, can be placed one after the other. Allocates nothing and
+    /// places nothing.
     ///
     /// Each list goes to the lowest segment that has the space. So a segment alone decides which lists go to it. One pass over the segments
     /// is enough, without those that a search for each list would skip.
@@ -122,14 +122,14 @@ impl<T: Copy + Drop> Region<T> {
         none_waits(waiting)
     }
 
-    /// The lengths of all parts together, in elements. Allocates nothing.
+    /// Returns the lengths of all parts together, in elements. Allocates nothing.
     pub fn used(&self) -> u64
         ensures { result ≡ used_of self.now }
     {
         self.segments.used()
     }
 
-    /// How many elements the segments have space for behind their fills, all together. Allocates nothing.
+    /// Returns how many elements the segments have space for behind their fills, all together. Allocates nothing.
     ///
     /// A list needs its space in one segment. So a list that is no longer than this may still not fit.
     pub fn space(&self) -> usize
@@ -138,14 +138,14 @@ impl<T: Copy + Drop> Region<T> {
         self.capacity() - self.segments.filled()
     }
 
-    /// The capacity of all segments together, in elements. Allocates nothing.
+    /// Returns the capacity of all segments together, in elements. Allocates nothing.
     pub fn capacity(&self) -> usize
         ensures { result ≡ capacity_of self.now }
     {
         self.segments.len() * self.size() as usize
     }
 
-    /// The capacity of each segment, in elements; 0 if there is no segment. Allocates nothing.
+    /// Returns the capacity of each segment, in elements; 0 if there is no segment. Allocates nothing.
     pub fn size(&self) -> u32
         ensures size { result ≡ (segment_of self.now 0).size }
         ensures sound { IsRegion self.now }
@@ -156,7 +156,7 @@ impl<T: Copy + Drop> Region<T> {
         self.segments.size()
     }
 
-    /// Whether a part begins at a location. Allocates nothing.
+    /// Returns whether a part begins at a location. Allocates nothing.
     pub fn holds(&self, at: At) -> bool
         ensures { IsTrue result ↔ IsSome (part_of self.now at) }
     {
@@ -222,7 +222,7 @@ impl<T: Copy + Drop> Region<T> {
         })
     }
 
-    // The lowest segment without parts, other than `from`.
+    // Returns the lowest segment without parts, other than `from`.
     fn empty_other(&self, from: usize) -> Option<usize>
         ensures found { IfSome result (λ to. IsEmptyOther self.now from to) }
         ensures none { IfNone result (HasNoEmptyOther self.now from) }
@@ -235,7 +235,7 @@ impl<T: Copy + Drop> Region<T> {
         None
     }
 
-    /// Whether segment `from` may be compacted. Allocates nothing.
+    /// Returns whether segment `from` may be compacted. Allocates nothing.
     ///
     /// Refused with:
     /// - `OutOfRange` (14) exactly if there is no segment `from`;

@@ -48,21 +48,21 @@ impl<T: Copy + Drop> Segments<T> {
         Ok(Segments { stacks, tables })
     }
 
-    /// How many segments there are.
+    /// Returns how many segments there are.
     pub fn len(&self) -> usize
         ensures { result ≡ length self.now }
     {
         self.tables.len()
     }
 
-    /// The capacity of each segment, in elements.
+    /// Returns the capacity of each segment, in elements.
     pub fn size(&self) -> u32
         ensures { (number : ℕ) → number < length self.now → (segment_of self.now number).size ≡ result }
     {
         self.stacks.size()
     }
 
-    /// How many elements a segment has space for behind its last part.
+    /// Returns how many elements a segment has space for behind its last part.
     pub fn space(&self, number: usize) -> usize
         requires { number < length self.now }
         ensures space { result ≡ space_in (segment_of self.now number) }
@@ -71,7 +71,7 @@ impl<T: Copy + Drop> Segments<T> {
         self.stacks.size() as usize - self.stacks.len(number)
     }
 
-    /// Whether a segment has no part.
+    /// Returns whether a segment has no part.
     pub fn is_empty(&self, number: usize) -> bool
         requires { number < length self.now }
         ensures { IsTrue result ↔ ((segment_of self.now number).parts ≡ []) }
@@ -79,14 +79,14 @@ impl<T: Copy + Drop> Segments<T> {
         self.stacks.len(number) == 0
     }
 
-    /// The fills of all segments together.
+    /// Returns the fills of all segments together.
     pub fn filled(&self) -> usize
         ensures { result ≡ sum_by fill_of self.now }
     {
         self.stacks.filled()
     }
 
-    /// The lengths of all parts together.
+    /// Returns the lengths of all parts together.
     pub fn used(&self) -> u64
         requires { length self.now ≤ 65536 }
         ensures { result ≡ used_of self.now }
@@ -94,7 +94,7 @@ impl<T: Copy + Drop> Segments<T> {
         used_by(&self.tables)
     }
 
-    /// Whether a part begins at a location.
+    /// Returns whether a part begins at a location.
     pub fn holds(&self, at: At) -> bool
         requires { at.segment < length self.now }
         ensures { IsTrue result ↔ IsSome (part_of self.now at) }

@@ -24,7 +24,7 @@ pub struct Skip {
 }
 
 impl Skip {
-    /// Nothing is skipped.
+    /// Returns a skip that skips nothing.
     pub fn none() -> Skip
         ensures { result ≡ record { first = 0; next = 0; len = 0 } }
     {
@@ -97,7 +97,7 @@ impl Skip {
     }
 }
 
-// Whether no length is below this one.
+// Returns whether no length is below this one.
 fn none_shorter(lens: &[usize], len: usize) -> bool
     ensures { result ≡ list_all (λ n. nat_le len n) lens.now }
 {

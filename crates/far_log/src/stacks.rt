@@ -29,7 +29,7 @@ impl<T> Model for Stacks<T> {
     ghost invariant = { λ s. IsStacked (length s.block.items.items) (vec_capacity s.block.items) s.size s.lens.items };
 }
 
-// Where a stack begins in the block.
+// Returns where a stack begins in the block.
 fn begin_of(number: usize, size: u32) -> usize
     requires { number ≤ 65536 }
     ensures begin { result ≡ number * size }
@@ -54,14 +54,14 @@ impl<T: Copy + Drop> Stacks<T> {
         })
     }
 
-    /// How many elements each stack may have.
+    /// Returns how many elements each stack may have.
     pub fn size(&self) -> u32
         ensures { result ≡ self.now.size }
     {
         self.size
     }
 
-    /// How many elements a stack has.
+    /// Returns how many elements a stack has.
     pub fn len(&self, number: usize) -> usize
         requires { number < length self.now.stacks }
         ensures len { result ≡ length (stack_of self.now number) }
@@ -70,7 +70,7 @@ impl<T: Copy + Drop> Stacks<T> {
         self.lens[number] as usize
     }
 
-    /// How many elements all stacks have together.
+    /// Returns how many elements all stacks have together.
     pub fn filled(&self) -> usize
         ensures { result ≡ sum_by (λ xs. length xs) self.now.stacks }
     {

@@ -9,7 +9,7 @@ use super::part_entry::PartEntry;
 use far_types::Refusal;
 use std::alloc::Global;
 
-/// The lengths of all parts in some tables together.
+/// Returns the lengths of all parts in some tables together.
 pub fn used_by(tables: &[Table]) -> u64
     requires { length tables.now ≤ 65536 }
     ensures { result ≡ sum_by (λ t. t.used) tables.now }

@@ -92,7 +92,7 @@ values-within spec columns flags i flag observed within is before = elim (value_
   | Some value ↦ λ e h. ap min_max_in (values-with spec columns flags i flag value within is e) ∙ min_max-more (values_over spec columns (take i flags)) value ∙ within-kept value observed (min_max_in (values_over spec columns (take i flags))) before h
 ] refl
 
--- a place with a value gives a pair where it has a key
+-- a place with a value gives a pair if it has a key
 paired-is : (under : Option (Option Key)) (number : Option ℤ) → paired under number ≡ option_and_then (λ value. option_map (λ key. (key, value)) under) number
 paired-is None None = refl
 paired-is None (Some value) = refl
@@ -196,6 +196,6 @@ pub no-extrema : (values : List ℤ) → None ≡ min_max_in values → extrema 
 no-extrema [] h = refl
 no-extrema (value ∷ values) h = absurd cc
 
--- what `add_rows` makes of them, where nothing is in yet
+-- what `add_rows` makes of them, if nothing is in yet
 pub added-totals : (values : List ℤ) → (length values ≡ 0 → ⊥) → joined_totals fin.empty (fin.insert fin.empty None (count_sum values)) ≡ totals (map (λ value. (None, value)) values)
 added-totals values some = ap (joined_totals fin.empty) (sym (plain-totals values some)) ∙ sym (totals-append [] (map (λ value. (None, value)) values))

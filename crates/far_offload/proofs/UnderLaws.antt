@@ -79,7 +79,7 @@ under_column : (key : Option ℕ) (columns : Columns) (place : ℕ) (column : �
 under_column None columns place column h = cc
 under_column (Some k) columns place column h = ap (λ (o : Option (ℕ × List Cell)). option_map Some (key_in (option_map (cell_of place) o))) h
 
--- a place stands under a number where the key column has it there
+-- a place stands under a number if the key column has it there
 pub number_under : (spec : Spec) (columns : Columns) (numbers : List (Option ℤ)) (place : ℕ) (n : ℤ) → AreKeys columns spec.key numbers → (get_or (map int_cell numbers) place Missing ≡ cell.Int n → key_under spec.key (cells_at columns place) ≡ Some (Some (keys.Int n))) × (key_under spec.key (cells_at columns place) ≡ Some (Some (keys.Int n)) → get_or (map int_cell numbers) place Missing ≡ cell.Int n)
 number_under spec columns numbers place n are =
     let column = are.0 in

@@ -38,8 +38,8 @@ min_max_in (value ∷ values) = Some (min_max (value ∷ values))
 abbrev pub MinMaxFits : Option (ℤ × ℤ) → Type 0
 MinMaxFits min_max = IfSome min_max (λ s. FitsSigned w64 s.0 × FitsSigned w64 s.1)
 
--- a value is within the least and the greatest, so that they stay the same; a missing value is within, and if there is no
--- least, no other is
+-- a value is within the least and the greatest, so that they stay the same. A missing value is within. If there is no least, no other
+-- is
 abbrev pub IsWithin : Option (ℤ × ℤ) → Option ℤ → Type 0
 IsWithin min_max None = Unit {0}
 IsWithin None (Some value) = ⊥

@@ -10,7 +10,7 @@ use far_groups::Pair;
 use far_types::{Refusal, Spec};
 use std::alloc::Global;
 
-/// The pairs that the live places give, in their order.
+/// Returns the pairs that the live places give, in their order.
 pub(crate) fn keyed_pairs(
     alloc: Global,
     spec: &Spec,

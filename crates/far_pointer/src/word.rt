@@ -141,14 +141,14 @@ impl Word {
         }
     }
 
-    /// Whether the object is local and was changed since its far copy was written.
+    /// Returns whether the object is local and was changed since its far copy was written.
     pub fn dirty(&self) -> bool
         ensures { result ≡ is_dirty self.now }
     {
         is_set(self.bits, DIRTY)
     }
 
-    /// Whether the object is local and was used since its hot bit was last cleared.
+    /// Returns whether the object is local and was used since its hot bit was last cleared.
     pub fn hot(&self) -> bool
         ensures { result ≡ is_hot self.now }
     {
@@ -197,7 +197,7 @@ impl Word {
     }
 }
 
-// The bits of a local word.
+// Returns the bits of a local word.
 fn local_bits(at: At, dirty: bool, hot: bool, far: bool) -> u64
     ensures { result ≡ bits_of (Pointer.Local at dirty hot far) }
 {
@@ -209,7 +209,7 @@ fn local_bits(at: At, dirty: bool, hot: bool, far: bool) -> u64
         + u64::from(at.offset)
 }
 
-// Whether a bit is set.
+// Returns whether a bit is set.
 fn is_set(bits: u64, bit: u32) -> bool
     requires { bit < 64 }
     ensures { result ≡ (bit_at bits bit == 1) }

@@ -64,7 +64,7 @@ impl History {
         }
     }
 
-    // The last four groups, if at least four were accessed.
+    // Returns the last four groups, if at least four were accessed.
     fn last_four(&self) -> Option<[u32; 4]>
         ensures fewer { IfNone result (length self.now < 4) }
         ensures four { IfSome result (λ last. (4 ≤ length self.now) × (keep_last 4 self.now ≡ last)) }
@@ -78,21 +78,21 @@ impl History {
     }
 }
 
-// How far it is from one group to another.
+// Returns how far it is from one group to another.
 fn difference(from: u32, to: u32) -> i64
     ensures { result ≡ difference from to }
 {
     i64::from(to) - i64::from(from)
 }
 
-// Whether three differences are one stride: they are equal, and not 0.
+// Returns whether three differences are one stride: they are equal, and not 0.
 fn is_stride(first: i64, second: i64, third: i64) -> bool
     ensures { result ≡ is_stride first second third }
 {
     first == second && second == third && third != 0
 }
 
-// Those of the next two groups of the stride that exist: each is as far from the one before as `last` is from `before`.
+// Returns those of the next two groups of the stride that exist: each is as far from the one before as `last` is from `before`.
 #[tactic(auto, using(crate::proofs::LastFour::two_options))]
 fn next_two(alloc: Global, groups: u32, before: u32, last: u32) -> Result<Vec<u32>, Refusal>
     ensures found { IfOk result (λ found. found.items ≡ next_two groups before last) }

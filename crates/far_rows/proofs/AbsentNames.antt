@@ -1,4 +1,4 @@
--- An object that is away is told by its column and its row group.
+-- An object that is away is named by its column and its row group.
 use Rattle.std.proofs.Common.{◌≡◌, ℕ, zero, suc, ◌+◌, Bool, true, false, List, [], ◌∷◌, map, Option, None, Some, refl, sym, ap, ◌∙◌, arith}
 use Rattle.std.specs.Prelude.{ℤ, All, cond, option_map, slice_get}
 use Rattle.std.specs.Option.{option_map_or, option_and_then}
@@ -26,7 +26,7 @@ told-by (Some e) name is = ap (λ (n : Name). refusal.Absent n.column n.group) (
 told : {X K : Type 0} (m : Movement X K) (o : ℕ) (name : Name) → slice_get (names_of m) o ≡ Some name → (absent m o).1 ≡ refusal.Absent name.column name.group
 told m o name is = told-by (record_of m o) name (sym (slice_get-map (λ e. e.name) m.records o) ∙ is)
 
--- the object of a row group is away, where there is one: the refusal names its column and the row group
+-- the object of a row group is away, if there is one: the refusal names its column and the row group
 told-of : {X K : Type 0} (m : Movement X K) (column g : ℕ) (objects : List ℕ) → AreNamed (names_of m) column objects → (o : Option ℕ) → slice_get objects g ≡ o
     → (option_map_or (absent m) o (false, refusal.StaleJob)).0 ≡ true → (option_map_or (absent m) o (false, refusal.StaleJob)).1 ≡ refusal.Absent column g
 told-of m column g objects named None at away = absurd cc
@@ -71,7 +71,7 @@ module _ {K : Type 0} (content : K → List ℕ) (r : Rows K) (are : AreRows con
       let rest = first-named column_indexes (n + 1) (λ k t at away. named (suc k) t at away ∙ ap (λ j. refusal.Absent j g) (omega arith)) in
       one-more (told_at r g s) (refusal.Absent n g) (first_of (map (told_at r g) column_indexes)) (first_of (absents_from r g (n + 1) column_indexes)) (λ away. named 0 s refl away ∙ ap (λ j. refusal.Absent j g) (omega arith)) rest
 
-  -- the first column whose object of a row group is away is told by its number and that of the row group
+  -- the first column whose object of a row group is away is named by its number and that of the row group
   pub absents-named : first_of (map (told_at r g) r.column_indexes) ≡ first_of (absents r g)
   absents-named = first-named r.column_indexes 0 (λ k s at away. away-named k s at away ∙ ap (λ j. refusal.Absent j g) (omega arith))
 

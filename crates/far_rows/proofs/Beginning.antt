@@ -80,7 +80,7 @@ text-begun size len some not_divides c is =
       | inr begun ↦ begun
     ]
 
--- of columns of one table all begin a row group where the next place is the first of one
+-- of columns of one table all begin a row group if the next place is the first of one
 pub numbers-begin : (size len : ℕ) (columns : NumberColumns) → 0 < size → len % size ≡ 0 → All (IsNumbers size len) columns → all_begin columns ≡ true
 numbers-begin size len columns some divides are =
     list_all-from_AllPass is_full columns (All-weaker (IsNumbers size len) (λ c. is_full c ≡ true) (number-begins size len some divides) columns are)

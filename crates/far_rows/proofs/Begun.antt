@@ -1,4 +1,4 @@
--- Why no job begins on an object that is found, told by its column and its row group.
+-- Why no job begins on an object that is found, with the object named by its column and its row group.
 use Rattle.std.proofs.Common.{◌≡◌, inl, inr, ℕ, Bool, true, false, List, [], ◌∷◌, None, Some, refl, sym, ap, ◌∙◌}
 use Rattle.std.specs.Prelude.{not, is_none, option_map, slice_get}
 use Rattle.std.specs.Option.{option_and_then, option_map_or, option_or}
@@ -25,7 +25,7 @@ not-not true = refl
 not-not false = refl
 
 module _ {K : Type 0} (content : K → List ℕ) (r : Rows K) (are : AreRows content r) (column group o : ℕ) where
-  -- the column has an index where the object is found
+  -- the column has an index if the object is found
   pub lies : (found : Object) → object_at r column group ≡ Some found → (s : ColumnIndex) × (slice_get r.column_indexes column ≡ Some s)
   lies found at = elim (cases_option (slice_get r.column_indexes column)) [
     | inl none ↦ absurd (none-some found (sym (ap (option_and_then (λ (t : ColumnIndex). option_map (object_in t) (object_of r t group))) none) ∙ at))

@@ -23,7 +23,7 @@ pub if-found : {A K : Type 0} (f : A → K) (found : Option A) (is : Option K) (
 if-found f None is P same holds = tt
 if-found f (Some a) is P same holds = holds (f a) (sym same)
 
--- likewise where something is known of what is found
+-- likewise if something is known of what is found
 pub both-found : {A K : Type 0} (f : A → K) (found : Option A) (is : Option K) (Q P : K → Type 0) → option_map f found ≡ is → IfSome found (λ a. Q (f a)) → ((x : K) → is ≡ Some x → Q x → P x) → IfSome found (λ a. P (f a))
 both-found f None is Q P same known holds = tt
 both-found f (Some a) is Q P same known holds = holds (f a) (sym same) known

@@ -41,7 +41,7 @@ overlapped-by : {X K : Type 0} (m : Movement X K) (os : List ℕ) (some : Bool) 
 overlapped-by m os true first end = absent-range m os first (end - first)
 overlapped-by m os false first end = refl
 
--- parts of two lists are as long as each other where the lists are
+-- parts of two lists are as long as each other if the lists are
 range-length : {X Y : Type 0} (xs : List X) (ys : List Y) (from to : ℕ) → length xs ≡ length ys → length (slice_range ys from to) ≡ length (slice_range xs from to)
 range-length xs ys from to same =
     length-take (to - from) (drop from ys)

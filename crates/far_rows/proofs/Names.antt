@@ -31,11 +31,11 @@ names-with {K} records o change keeps = elim (cases_option (slice_get records o)
 pub as-many : {X K L : Type 0} (old : Movement X K) (new : Movement X L) → names_of new ≡ names_of old → length new.records ≡ length old.records
 as-many old new same = sym (length-map new.records (λ e. e.name)) ∙ ap length same ∙ length-map old.records (λ e. e.name)
 
--- the names stay, where a call that keeps them is done or refused
+-- the names stay, if a call that keeps them is done or refused
 pub still-named : {X K A : Type 0} (old new done : Movement X K) (result : Result A Refusal) → OnOk result (new ≡ done) → OnErr result (new ≡ old) → names_of done ≡ names_of old → names_of new ≡ names_of old
 still-named old new done result ok err same = by-outcome result ok err (λ e. ap names_of e ∙ same) (ap names_of)
 
--- so do they where an object comes back
+-- so do they if an object comes back
 came : {X K : Type 0} (old new : Movement X K) (o : ℕ) (list : Option (List X)) → IsSomeAnd list (λ xs. new ≡ after_arrive old o xs) → names_of new ≡ names_of old
 came old new o (Some xs) is = ap names_of is
 came old new o None is = absurd is

@@ -57,7 +57,7 @@ module _ {K : Type 0} where
   numbers-extend m (c ∷ columns) [] o name at = at
   numbers-extend m (c ∷ columns) (x ∷ numbers) o name at = numbers-extend (pushed_in m c x) columns numbers o name (number-extends m c x o name at)
 
-  -- where all begin row groups, each new object bears the name of its column's
+  -- if all begin row groups, each new object bears the name of its column's
   named-begun : (m : Movement (Option ℤ) K) (columns : NumberColumns) (numbers : Numbers) (n : ℕ) → n ≡ length (names_of m) → length numbers ≡ length columns → All (λ c. is_full c ≡ true) columns → All (IsNamed (names_of m)) columns → All (IsNamed (names_of (all_pushed_in m columns numbers))) (all_pushed n columns)
   named-begun m [] numbers n count same_length full named = All-nil (IsNamed (names_of (all_pushed_in m [] numbers)))
   named-begun m (c ∷ columns) [] n count same_length full named = absurd (omega (arith, same_length))
@@ -75,7 +75,7 @@ module _ {K : Type 0} where
       (named-more (names_of next) last (after_push c n).column (after_push c n).objects (numbers-extend next columns numbers) own)
       (named-begun next columns numbers (n + 1) more (omega (arith, same_length)) (All-tail (λ d. is_full d ≡ true) c columns full) others)
 
-  -- where none begins one, all names stay
+  -- if none begins one, all names stay
   pub names-written-in : (m : Movement (Option ℤ) K) (columns : NumberColumns) (numbers : Numbers) → All (λ c. is_full c ≡ false) columns → names_of (all_pushed_in m columns numbers) ≡ names_of m
   names-written-in m [] numbers not = refl
   names-written-in m (c ∷ columns) [] not = refl

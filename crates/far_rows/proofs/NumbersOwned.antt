@@ -56,7 +56,7 @@ module _ (n : ℕ) (columns : NumberColumns) where
       (after_push c (n + i), pushed-at n columns i c at, ap column_of is, λ g o there. ap (λ (d : Vector (Option ℤ)). slice_get d.objects g) is ∙ there)
 
 module _ {K : Type 0} where
-  -- where all begin row groups, the new names are theirs, in order
+  -- if all begin row groups, the new names are theirs, in order
   all-made : (m : Movement (Option ℤ) K) (columns : NumberColumns) (numbers : Numbers) → length numbers ≡ length columns → All (λ c. is_full c ≡ true) columns → names_of (all_pushed_in m columns numbers) ≡ names_of m ++ map next_name columns
   all-made m [] numbers same_length full = sym (append-nil (names_of m))
   all-made m (c ∷ columns) [] same_length full = absurd (omega (arith, same_length))

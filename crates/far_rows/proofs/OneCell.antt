@@ -66,7 +66,7 @@ module _ (old new : Lists) (columns : List Texts) (are : AreColumns old columns)
       (λ d. ap (texts_in new) (get_or_from_slice_get columns k c d at))
       (λ j d ne below. ap (λ cs. texts_in new (get_or cs j d)) (sym (set-same columns k c at)) ∙ texts-after old new columns are.all_disjoint k c c at text-change j d ne below)
 
--- where no other refusal is due, lack of memory is all there is
+-- if no other refusal is due, lack of memory is all there is
 pub only-memory : {A : Type 0} (r : Result A Refusal) (due : Option Refusal) → due ≡ None → IfErr r (λ e. (due ≡ Some e) ⊎ ((due ≡ None) × (e ≡ NoMemory))) → IfErr r (λ e. e ≡ NoMemory)
 only-memory (Ok x) due free refused = tt
 only-memory (Err e) due free (inl is) = absurd (none-some e (sym free ∙ is))

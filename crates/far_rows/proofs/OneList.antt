@@ -1,4 +1,4 @@
--- Why a row may not be appended, as one list in the order of the refusals, and as each kind of columns tells it.
+-- Why a row may not be appended, as one list in the order of the refusals, and as each kind of columns has it.
 use Rattle.std.proofs.Common.{◌≡◌, ◌≢◌, ℕ, zero, suc, ◌/◌, ◌%◌, Bool, true, false, not, if◌then◌else◌, List, [], ◌∷◌, ◌++◌, map, length, replicate, ℤ, Option, None, Some, refl, sym, ap, subst, ◌∙◌, arith}
 use Rattle.std.specs.Prelude.{◌&&◌, ◌||◌, All, cond, slice_get}
 use Rattle.std.specs.List.{list_any}
@@ -31,7 +31,7 @@ use Rattle.far_rows.proofs.TextsNamed.{true-not}
 use Rattle.far_rows.proofs.Versions.{last-there}
 use Rattle.far_rows.proofs.WrittenOut.{none-any, any-same, no-text, no-number, text_written, number_written, by-kinds, forms-written}
 
--- 17 of numbers stands before 24 of texts: where one is due the other is not
+-- 17 of numbers stands before 24 of texts: if one is due the other is not
 in-order : (full texts numbers text number : Bool) (x y z : Refusal) → (text ≡ true → numbers ≡ false)
     → option_or (cond full (Some x) (cond texts (Some y) (cond text (Some z) None))) (cond numbers (Some y) (cond number (Some z) None)) ≡ cond full (Some x) (cond texts (Some y) (cond numbers (Some y) (cond (text || number) (Some z) None)))
 in-order true texts numbers text number x y z disjoint = refl
@@ -68,7 +68,7 @@ module _ {K : Type 0} (content : K → List ℕ) (r : Rows K) (are : AreRows con
       let same_length = subst (λ (d : Vector (Option ℤ)). (d.size ≡ r.size) × (d.len ≡ length r.alive)) same (are.same_length_numbers i c within) in
       record { shaped = subst IsShaped same (are.shaped i c within); size = same_length.0; len = same_length.1 }
 
-  -- where all columns of texts begin a row group, it has no object yet
+  -- if all columns of texts begin a row group, it has no object yet
   texts-none : all_begin r.texts ≡ true → list_any (text_written r g) r.texts ≡ false
   texts-none is = none-any (text_written r g) r.texts (λ i c at. each i c at) where
     each : (i : ℕ) (c : Texts) → slice_get r.texts i ≡ Some c → text_written r g c ≡ false
@@ -176,7 +176,7 @@ module _ {K : Type 0} (content : K → List ℕ) (r : Rows K) (are : AreRows con
         ∙ (λ k. last (sym is k) (sym none k))
     by false is = inside is (all_numbers_begin r.numbers) refl ∙ (λ k. last (sym is k) (list_any (number_written r g) r.numbers))
 
-  -- where a row group begins, no object of it was written yet
+  -- if a row group begins, no object of it was written yet
   disjoint : list_any (text_written r g) r.texts ≡ true → (no_space_for_numbers r).0 ≡ false
   disjoint written = by (begins r) refl where
     by : (b : Bool) → begins r ≡ b → (no_space_for_numbers r).0 ≡ false

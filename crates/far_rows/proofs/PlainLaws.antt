@@ -1,4 +1,4 @@
--- Why a row may not be appended, told by the places.
+-- Why a row may not be appended, seen from the places.
 use Rattle.std.proofs.Common.{◌≡◌, ◌≢◌, ℕ, zero, suc, ◌+◌, ◌-◌, ◌*◌, ◌/◌, ◌%◌, Bool, true, false, not, List, [], ◌∷◌, ◌++◌, length, get_or, ℤ, Option, None, Some, refl, sym, ap, subst, ◌∙◌, arith}
 use Rattle.std.specs.Prelude.{All, cond, option_map, slice_get}
 use Rattle.std.specs.Option.{option_and_then, option_map_or}
@@ -62,7 +62,7 @@ last-group c has not = by (length c.objects) refl where
       ap (slice_get c.objects) at ∙ slice_get-get_or c.objects (length c.objects - 1) 0 (omega (arith, is))
 
 module _ {K : Type 0} (content : K → List ℕ) (r : Rows K) (are : AreRows content r) where
-  -- where not all begin a row group, none does
+  -- if not all begin a row group, none does
   pub all-not : all_begin r.texts ≡ false → All (λ c. begins_group c ≡ false) r.texts
   all-not is =
       let len = length r.alive in
@@ -70,7 +70,7 @@ module _ {K : Type 0} (content : K → List ℕ) (r : Rows K) (are : AreRows con
       let disjoint : len % r.size ≢ 0 = λ divides. true-not (sym (texts-begin r.size len r.texts are.some divides cs) ∙ is) in
       λ k d below. text-begun r.size len are.some disjoint (get_or r.texts k d) (cs k d below)
 
-  -- where no object of the row group of the next place is away, no last object of a column of texts is
+  -- if no object of the row group of the next place is away, no last object of a column of texts is
   pub texts-here : first_of (absents r (length r.alive / r.size)) ≡ None → All (λ c. begins_group c ≡ false) r.texts → All (λ (case : Bool × Refusal). case.0 ≡ false) (texts_absent r.text_objects r.texts)
   texts-here free not = from r.texts (λ i c at. here i c at) where
     here : (i : ℕ) (c : Texts) → slice_get r.texts i ≡ Some c → (absent r.text_objects (last_object c)).0 ≡ false
@@ -115,6 +115,6 @@ module _ {K : Type 0} (content : K → List ℕ) (r : Rows K) (are : AreRows con
     from [] each = All-nil (λ (case : Bool × Refusal). case.0 ≡ false)
     from (c ∷ columns) each = All-cons (λ (case : Bool × Refusal). case.0 ≡ false) (absent r.number_objects (object_at c c.len)) (numbers_absent r.number_objects columns) (each 0 c refl) (from columns (λ i d at. each (suc i) d at))
 
-  -- 11 and 17 of an insert are told by the places
+  -- 11 and 17 of an insert are seen from the places
   pub push-plain : (limits : Limits) → AreOf limits r → (values : Values) → length values.texts ≡ length r.texts → push_refusal content r values ≡ insert_refusal content limits r values
   push-plain limits of values same_length = λ k. first_of (append_tests r (insert-full content r are limits of values same_length k) (insert-parts content r are limits of values same_length (length r.text_objects.records) k))

@@ -1,4 +1,4 @@
--- Why a cell may not be set, told by the places.
+-- Why a cell may not be set, seen from the places.
 use Rattle.std.proofs.Common.{◌≡◌, ℕ, ◌/◌, ◌<◌, Bool, false, not, List, [], ◌∷◌, length, Option, None, Some, refl, sym, ap, subst, ◌∙◌, arith}
 use Rattle.std.specs.Prelude.{ℤ, ◌&&◌, All, cond, option_map, slice_get}
 use Rattle.std.specs.Option.{option_and_then, option_map_or, option_or}

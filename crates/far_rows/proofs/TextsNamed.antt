@@ -54,7 +54,7 @@ module _ {K : Type 0} (lists : Lists) where
   texts-extend m n (c ∷ columns) [] o name at = at
   texts-extend m n (c ∷ columns) (text ∷ texts) o name at = texts-extend (one m c text) (n + 1) columns texts o name (text-extends m c text o name at)
 
-  -- where all begin row groups, each new object bears the name of its column's
+  -- if all begin row groups, each new object bears the name of its column's
   named-begun : (m : Movement ℕ K) (columns : List Texts) (texts : List (Option (List ℕ))) (n : ℕ) → n ≡ length (names_of m) → length texts ≡ length columns → All (λ c. begins_group c ≡ true) columns → All (IsNamed (names_of m)) columns → All (IsNamed (names_of (made m n columns texts))) (all_pushed n columns)
   named-begun m [] texts n count same_length begin named = All-nil (IsNamed (names_of m))
   named-begun m (c ∷ columns) [] n count same_length begin named = absurd (omega (arith, same_length))

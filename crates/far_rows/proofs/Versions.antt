@@ -1,4 +1,4 @@
--- Each object is written at most once where a row is appended or a cell is set.
+-- Each object is written at most once if a row is appended or a cell is set.
 use Rattle.std.proofs.Common.{◌≡◌, ◌≢◌, inl, inr, ℕ, zero, suc, ◌+◌, ◌-◌, ◌*◌, ◌/◌, ◌<◌, ◌≤◌, ◌%◌, true, false, List, [], ◌∷◌, ◌++◌, map, length, get_or, Option, None, Some, refl, sym, ap, subst, ◌∙◌, arith}
 use Rattle.std.specs.Prelude.{ℤ, All, AllPairs, slice_get, slice_set}
 use Rattle.std.specs.Option.{option_map_or}

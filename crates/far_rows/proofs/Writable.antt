@@ -1,4 +1,4 @@
--- Why a number may not be set, where its row group is known.
+-- Why a number may not be set, if its row group is known.
 use Rattle.std.proofs.Common.{◌≡◌, ℕ, ℤ, ◌*◌, ◌/◌, ◌<◌, nat_lt, Bool, true, false, cond, List, [], ◌∷◌, length, get_or, Option, None, Some, refl, sym, ap, subst, ◌∙◌, arith}
 use Rattle.std.specs.Prelude.{not, slice_get}
 use Rattle.std.specs.Option.{option_and_then}
@@ -39,7 +39,7 @@ cond-free : {A : Type 0} (b : Bool) (x : A) (rest : Option A) → cond b (Some x
 cond-free true x rest is = cc
 cond-free false x rest is = refl
 
--- where a number may be set there is its place, and the row group of the place in its column is that in the table
+-- if a number may be set there is its place, and the row group of the place in its column is that in the table
 module _ {K : Type 0} (content : K → List ℕ) (r : Rows K) (are : AreRows content r) (i place : ℕ) (v : Vector (Option ℤ)) (column : slice_get r.numbers i ≡ Some v) where
   also-same_length : (v.size ≡ r.size) × (v.len ≡ length r.alive)
   also-same_length = subst (λ (d : Vector (Option ℤ)). (d.size ≡ r.size) × (d.len ≡ length r.alive)) (get_or_from_slice_get r.numbers i v v column) (are.same_length_numbers i v (slice_get_within r.numbers i v column))

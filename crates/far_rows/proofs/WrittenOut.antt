@@ -40,7 +40,7 @@ module _ {A : Type 0} where
   any-same f g [] each = refl
   any-same f g (x ∷ xs) each = let here = each 0 x refl in let rest = any-same f g xs (λ i y at. each (suc i) y at) in λ k. here k || rest k
 
--- where all places of its objects are used, a column has none for the next place
+-- if all places of its objects are used, a column has none for the next place
 pub no-text : (c : Texts) → HasGroups c → begins_group c ≡ true → slice_get c.objects (c.len / c.size) ≡ None
 no-text c has begins =
     let e = eqb-true c.len (length c.objects * c.size) begins in

@@ -10,8 +10,8 @@ use Rattle.far_rows.specs.ColumnIndexes.{Values}
 use Rattle.far_rows.specs.Rows.{Rows}
 use Rattle.far_rows.specs.Refusing.{absents}
 
--- the object of some column in the row group of the next place is away; otherwise as the columns of texts are refused, and then
--- as those of numbers
+-- why a row is not appended, by kind: the object of some column in the row group of the next place is away. Else the columns of texts
+-- refuse it, and then those of numbers
 abbrev pub kinds_refusal : {K : Type 0} → (K → List ℕ) → Rows K → Values → Option Refusal
 kinds_refusal content r values =
     option_or (first_of (absents r (length r.alive / r.size))) (option_or (push_texts_refusal content r.text_objects r.texts values.texts) (push_numbers_refusal r.number_objects r.numbers))

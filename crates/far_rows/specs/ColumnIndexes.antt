@@ -14,6 +14,7 @@ column_indexes_from numbers texts [] = []
 column_indexes_from numbers texts (kind.Int ∷ kinds) = column_index.Number numbers ∷ column_indexes_from (numbers + 1) texts kinds
 column_indexes_from numbers texts (kind.Text ∷ kinds) = column_index.Text texts ∷ column_indexes_from numbers (texts + 1) kinds
 
+-- the kind of an index's column
 abbrev pub kind_of : ColumnIndex → Kind
 kind_of (column_index.Number i) = kind.Int
 kind_of (column_index.Text i) = kind.Text

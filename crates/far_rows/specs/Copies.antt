@@ -20,7 +20,7 @@ module _ {K : Type 0} where
   copy_in r (object.Number o) = clean_ticket r.number_objects o
   copy_in r (object.Text o) = clean_ticket r.text_objects o
 
-  -- the ticket under which the far store has a row group of a column as it is now: none if its object is dirty, or there is none
+  -- the ticket of the far copy of a row group of a column as it is now: none if its object is dirty, or there is none
   abbrev pub copy_of : Rows K → ℕ → ℕ → Option K
   copy_of r column group = option_and_then (copy_in r) (object_at r column group)
 

@@ -68,8 +68,10 @@ module _ {K : Type 0} where
     abbrev pub object_refusal : Option Refusal
     object_refusal = first_of (no_column r column ∷ (is_none (object_at r column group), refusal.OutOfRange) ∷ [])
 
+    -- why the object of a row group of a column is not pinned (`pin`)
     abbrev pub pin_refusal : Option Refusal
     pin_refusal = option_or object_refusal (first_of (absent_in r column group ∷ option_map_or (pins_used r) (object_at r column group) (false, refusal.StaleJob) ∷ []))
 
+    -- why the object of a row group of a column is not unpinned (`unpin`)
     abbrev pub unpin_refusal : Option Refusal
     unpin_refusal = option_or object_refusal (option_and_then (unpin_refusal_of r) (object_at r column group))

@@ -41,8 +41,8 @@ module _ {K : Type 0} (content : K → List ℕ) (limits : Limits) (r : Rows K) 
   writes_used (object.Number o) = written_out r.number_objects o
   writes_used (object.Text o) = written_out r.text_objects o
 
-  -- why a value may not be put in a column of a place: an object of its row group is away; a text object would be too long;
-  -- it does not fit; the column's object was written too often
+  -- why a value may not be put in a column of a place. An object of its row group is away. A text object would be too long. It does not
+  -- fit. The column's object was written too often
   abbrev pub cell_set_refusal : ℕ → ℕ → NewCell → Option Refusal
   cell_set_refusal column place value =
       let e : Edit = edit.Set place column (cell_of value)

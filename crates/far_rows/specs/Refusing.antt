@@ -61,9 +61,11 @@ module _ {K : Type 0} (r : Rows K) where
     abbrev pub absent_in : ℕ → Bool × Refusal
     absent_in g = option_map_or (absent_at column g) (slice_get r.column_indexes column) (false, refusal.StaleJob)
 
+  -- why a cell is not read (`cell`)
   abbrev pub cell_refusal : ℕ → ℕ → Option Refusal
   cell_refusal column place = first_of (no_column column ∷ no_row place ∷ absent_in column (place / r.size) ∷ [])
 
+  -- why a text is not read (`text`)
   abbrev pub text_refusal : ℕ → ℕ → Option Refusal
   text_refusal column place = first_of (no_column column ∷ of_numbers column ∷ no_row place ∷ absent_in column (place / r.size) ∷ [])
 
@@ -96,8 +98,8 @@ module _ {K : Type 0} (r : Rows K) where
   abbrev pub some_written_out : ℕ → Bool × Refusal
   some_written_out g = (list_any (is_written_out g) r.column_indexes, refusal.EditsUsedUp)
 
-  -- the tests of an appended row: an object of its row group is away; a text object would be too long; the text objects that
-  -- it writes, which have these lengths, do not fit; or its objects of numbers; an object was written too often
+  -- the tests of an appended row. An object of its row group is away. A text object would be too long. The text objects that it writes,
+  -- which have these lengths, do not fit, or its objects of numbers do not. An object was written too often
   abbrev pub append_tests : Bool → List ℕ → List (Bool × Refusal)
   append_tests too_long lengths =
       let g : ℕ = length r.alive / r.size

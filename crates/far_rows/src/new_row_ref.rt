@@ -13,7 +13,7 @@ use std::marker::Model;
 /// ```
 /// let pending = self
 ///     .aggregates
-///     .apply_deltas(self.alloc, &self.rows.new_row_ref(), group, place)?;
+///     .apply_deltas(self.alloc, &self.rows.new_row_ref(), size, place)?;
 /// ```
 #[derive(Drop)]
 pub struct NewRowRef<'a> {

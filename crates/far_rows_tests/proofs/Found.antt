@@ -1,7 +1,7 @@
 -- Objects that are found by a column and a row group.
 use Rattle.std.proofs.Common.{◌≡◌, ℕ, ℤ, ◌+◌, ◌*◌, ◌<◌, ◌≤◌, List, [], ◌∷◌, length, Option, None, Some, Ok, Err, refl, sym, ap, subst, ◌∙◌, arith}
-use Rattle.std.specs.Prelude.{◌==◌, Result, IfOk, IsOk, is_none, is_ok, option_map, slice_get}
-use Rattle.std.specs.Option.{option_and_then, option_or}
+use Rattle.std.specs.Prelude.{Result, IfOk, IsOk, is_none, is_ok, option_map, slice_get}
+use Rattle.std.specs.Option.{option_and_then}
 use Rattle.std.proofs.lemmas.Nat.{div_below, div-mul-add}
 use Rattle.std.proofs.lemmas.Option.{none-some, same_Some, slice_get-map, get_or_from_slice_get}
 use Rattle.far_types.specs.declared.cell.Kind.TheVariants as kind
@@ -12,12 +12,11 @@ use Rattle.far_types.specs.FirstOf.{first_of}
 use Rattle.far_scopes.specs.Refusing.{refusal_in}
 use Rattle.far_vector.specs.Vector.{Vector, IsShaped}
 use Rattle.far_texts.specs.Texts.{Texts, HasGroups}
-use Rattle.far_rows.specs.Coldest.{pins_at}
 use Rattle.far_rows.specs.declared.object.Object.{Object}
 use Rattle.far_rows.specs.declared.object.Object.TheVariants as object
 use Rattle.far_rows.specs.declared.column_index.ColumnIndex.{ColumnIndex}
 use Rattle.far_rows.specs.declared.column_index.ColumnIndex.TheVariants as column_index
-use Rattle.far_rows.specs.Moving.{object_at, object_in, object_refusal, unpin_refusal, unpin_refusal_of}
+use Rattle.far_rows.specs.Moving.{object_at, object_in, object_refusal}
 use Rattle.far_rows.specs.Naming.{names_of}
 use Rattle.far_rows.specs.Rows.{Rows, AreRows, object_of}
 use Rattle.far_rows.specs.ColumnIndexes.{IsWithin, kind_of}
@@ -33,30 +32,6 @@ module _ {K : Type 0} (r : Rows K) (column group : ℕ) (due : Object) (at : obj
   pub answered : (result : Result Object Refusal) → IfOk result (λ found. object_at r column group ≡ Some found) → refusal_in result ≡ object_refusal r column group → result ≡ Ok due
   answered (Ok found) told refused = ap Ok (same_Some found due (sym told ∙ at))
   answered (Err e) told refused = absurd (none-some e (sym (refused ∙ free (slice_get r.column_indexes column) at)))
-
-  without : (some : Object) → pins_at r some ≡ 0 → unpin_refusal_of r some ≡ Some refusal.NotPinned
-  without (object.Number o) none = ap (λ n. first_of ((n == 0, refusal.NotPinned) ∷ [])) none
-  without (object.Text o) none = ap (λ n. first_of ((n == 0, refusal.NotPinned) ∷ [])) none
-
-  not-pinned : pins_at r due ≡ 0 → unpin_refusal r column group ≡ Some refusal.NotPinned
-  not-pinned none =
-      ap (λ (first : Option Refusal). option_or first (option_and_then (unpin_refusal_of r) (object_at r column group))) (free (slice_get r.column_indexes column) at)
-      ∙ ap (option_and_then (unpin_refusal_of r)) at
-      ∙ without due none
-
-  no-pin-goes : {A : Type 0} (result : Result A Refusal) → pins_at r due ≡ 0 → refusal_in result ≡ unpin_refusal r column group → result ≡ Err refusal.NotPinned
-  no-pin-goes (Ok done) none refused = absurd (none-some refusal.NotPinned (refused ∙ not-pinned none))
-  no-pin-goes (Err e) none refused = ap Err (same_Some e refusal.NotPinned (refused ∙ not-pinned none))
-
-found-with : {A : Type 0} (f : A → ℕ) (found : Option A) (n : ℕ) → option_map f found ≡ Some n → (x : A) × (found ≡ Some x) × (f x ≡ n)
-found-with f None n is = absurd (none-some n is)
-found-with f (Some x) n is = (x, refl, same_Some (f x) n is)
-
--- no pin is taken off an object that has none
-pub none-unpinned : {K A : Type 0} (r : Rows K) (column group : ℕ) (result : Result A Refusal) → option_map (pins_at r) (object_at r column group) ≡ Some 0 → refusal_in result ≡ unpin_refusal r column group → result ≡ Err refusal.NotPinned
-none-unpinned r column group result none refused =
-    let found = found-with (pins_at r) (object_at r column group) 0 none in
-    no-pin-goes r column group found.0 found.1 result found.2 refused
 
 -- an object is there for a row group that has a place
 there : (g size objects len alive : ℕ) → 0 < size → g * size < alive → len ≡ alive → len ≤ objects * size → g < objects

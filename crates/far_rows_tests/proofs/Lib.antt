@@ -1,5 +1,2 @@
-mod Walking
-mod Sized
-mod Layouts
 mod Told
 mod Found

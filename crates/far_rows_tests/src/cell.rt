@@ -4,30 +4,14 @@ ghost use Rattle.std.specs.Prelude.{◌≡◌, ⊤};
 use far_types::{Refusal, Text};
 use std::alloc::{AllocError, Global};
 
-/// The letters of a text. They are named, since what knows columns by their answers alone is handed no reference, and since a
-/// proof of a test goes through each letter of its data.
+/// The letters of a text. They are named, since the proof of a test goes through each letter of its data.
 pub enum Word {
     Empty,
     A,
-    B,
-    C,
-    D,
-    X,
-    Acute,
-    Blue,
-    Drei,
-    Fig,
-    Four,
-    Green,
     One,
-    Pear,
-    Plum,
-    Quince,
-    Red,
     Three,
     Two,
     Uno,
-    Zwei,
 }
 
 impl Word {
@@ -35,25 +19,10 @@ impl Word {
         match self {
             Word::Empty => "",
             Word::A => "a",
-            Word::B => "b",
-            Word::C => "c",
-            Word::D => "d",
-            Word::X => "x",
-            Word::Acute => "é",
-            Word::Blue => "blue",
-            Word::Drei => "drei",
-            Word::Fig => "fig",
-            Word::Four => "four",
-            Word::Green => "green",
             Word::One => "one",
-            Word::Pear => "pear",
-            Word::Plum => "plum",
-            Word::Quince => "quince",
-            Word::Red => "red",
             Word::Three => "three",
             Word::Two => "two",
             Word::Uno => "uno",
-            Word::Zwei => "zwei",
         }
     }
 }
@@ -65,7 +34,7 @@ pub enum Cell {
     Text(Word, usize),
 }
 
-// A derived `clone` goes through the variants, and its proof with it; so here and in `script`.
+// A derived `clone` goes through the variants, and its proof with it.
 impl Clone for Word {
     ghost is_clone = { λ x y. y ≡ x };
 

@@ -1,10 +1,15 @@
-// What no clause of far_columns says: that calls are served, and that worked examples come out as they should.
-mod cases;
-mod coming_back;
+// What no clause of far_columns and far_texts says: that calls succeed while memory is left. What is pushed and set reads back, in row
+// groups of two places.
 mod flags;
-mod lending;
-mod moving;
 mod numbers;
-mod playing;
-mod script;
 mod texts;
+
+use far_scopes::ObjectLimits;
+
+/// Space for four objects, each of which may be written five times.
+const LIMITS: ObjectLimits = ObjectLimits {
+    segments: 4,
+    size: 64,
+    max_writes: 5,
+    leavings: 1,
+};

@@ -1,15 +1,7 @@
-// What no clause of far_rows says: that calls are served, and that worked examples come out as they should.
-mod asking;
-mod coldest;
-mod copying;
-mod filling;
+// What no clause of far_rows says: that calls succeed while memory is left. What is pushed and set reads back while objects go away and
+// come back, and once the table is in another store.
+mod cases;
 mod fixture;
-mod grouping;
 mod look;
-mod moving;
-mod opening;
-mod pushing;
-mod renewing;
 mod script;
-mod setting;
 mod telling;

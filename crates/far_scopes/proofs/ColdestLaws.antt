@@ -20,7 +20,7 @@ use Rattle.far_scopes.proofs.Found.{has-reverse, found-is, found-none}
 use Rattle.far_scopes.proofs.CoolLaws.{all-hot}
 
 module _ {X K : Type 0} (m : Movement X K) where
-  -- what is found in the part of the order that is left, where this object is the first without pins in the part that was
+  -- what is found in the part of the order that is left, if this object is the first without pins in the part that was
   -- looked at, and none there is cold
   abbrev pub coldest_in : Option ℕ → List ℕ → Option ℕ
   coldest_in found order = option_or (find (is_cold m) (reverse order)) (option_or found (find (is_unpinned m) (reverse order)))
@@ -76,7 +76,7 @@ module _ {X K : Type 0} (m : Movement X K) where
     not-hot true false both is = cc
     not-hot false b both is = cc
 
-    -- where each local object is hot it is the last of all without pins
+    -- if each local object is hot it is the last of all without pins
     pub coldest-hot : cool_in m.memory.words ≡ 0 → coldest m ≡ find (is_unpinned m) (reverse m.order)
     coldest-hot none = elim (cases_option (find (is_cold m) (reverse m.order))) [
       | inl nothing ↦ rw nothing refl

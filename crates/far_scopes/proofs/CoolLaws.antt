@@ -94,7 +94,7 @@ hot-here (Local at dirty true far) none local = refl
 hot-here (Local at dirty false far) none local = absurd (omega arith)
 hot-here Remote none local = cc
 
--- where none is counted each local object is hot
+-- if none is counted each local object is hot
 pub all-hot : (words : List Pointer) (o : ℕ) → cool_in words ≡ 0 → is_some (place_of words o) ≡ true → option_map_or is_hot (slice_get words o) false ≡ true
 all-hot words o none local = elim (cases_option (slice_get words o)) [
   | inl past ↦ absurd (let never : false ≡ true = sym (ap (λ w. is_some (option_and_then at_of w)) past) ∙ local in cc)

@@ -29,7 +29,7 @@ module _ (test : ℕ → Bool) where
     | inr fails ↦ (let rest = found-is order o (sym (rw fails refl) ∙ is) in (rest.0, rw rest.1 (or_comm (nat_eq o p) true)))
   ]
 
-  -- where nothing is found, nothing that is there passes
+  -- if nothing is found, nothing that is there passes
   pub found-none : (order : List ℕ) → find test order ≡ None → (o : ℕ) → has order o ≡ true → test o ≡ false
   found-none [] none o there = cc
   found-none (p ∷ order) none o there = elim (cases_Bool (test p)) [

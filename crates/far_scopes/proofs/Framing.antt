@@ -41,7 +41,7 @@ module _ {X K : Type 0} where
     pub here-kept : (old new : Movement X K) (o : ℕ) → ChangesObject old new o → ticket_of new o ≡ ticket_of old o → AreHere is_of id old → AreHere is_of id new
     here-kept old new o others same here = here-one old new o others here (rw same (here o))
 
--- a record that is changed keeps its ticket where the change does
+-- a record that is changed keeps its ticket if the change does
 pub ticket-with : {K : Type 0} (records : List (ObjectRecord K)) (o : ℕ) (change : ObjectRecord K → ObjectRecord K) → ((e : ObjectRecord K) → (change e).ticket ≡ e.ticket) → option_and_then (λ (e : ObjectRecord K). e.ticket) (slice_get (with_record records o change) o) ≡ option_and_then (λ (e : ObjectRecord K). e.ticket) (slice_get records o)
 ticket-with {K = K} records o change same = elim (cases_option (slice_get records o)) [
   | inl none ↦ rw none (ap (option_and_then (λ (e : ObjectRecord K). e.ticket)) none)

@@ -144,7 +144,7 @@ module _ {X : Type 0} where
 
     -- what is known of the objects of the segment
     module _ (own : OwnPlaces (place_of words) (part_of state)) where
-      -- an object is hot where its word says so
+      -- an object is hot if its word says so
       hot-is : (o : ℕ) (word : Pointer) (at : At) → slice_get words o ≡ Some word → at_of word ≡ Some at → hot_at words at ≡ is_hot word
       hot-is o word at there is = true-or-not (is_hot word) (hot_at words at ≡ is_hot word)
           (λ hot. list_any_at (λ w. begins_at at w && is_hot w) words o word (slice_get_within words o word there) (rw (get_or_from_slice_get words o word word there, begins-there at word is) hot) ∙ sym hot)

@@ -88,7 +88,7 @@ module _ {X : Type 0} (words : List Pointer) (state state' : RegionState X) (m :
     pub list-replaced : ChangesList (list_in record { words = words; state = state }) (list_in record { words = slice_set words o word; state = state' }) o (Some list)
     list-replaced = lists-moved (place_of words) (place_of (slice_set words o word)) (part_of state) (part_of state') m.own o (place-set_other words o word) at to list was (place-set_same words o word within ∙ is) free here dropped.here parts
 
--- the same, where a word changes and neither goes nor comes
+-- the same, if a word changes and neither goes nor comes
 module _ {X : Type 0} (words : List Pointer) (state : RegionState X) (m : IsMemory words state) (o : ℕ) (old word : Pointer) (was : slice_get words o ≡ Some old) (same : at_of word ≡ at_of old) where
   places-marked : (p : ℕ) → place_of (slice_set words o word) p ≡ place_of words p
   places-marked p = elim (cases_eq p o) [

@@ -8,7 +8,7 @@ pub by-outcome : {A P Q R : Type 0} (r : Result A Refusal) → OnOk r P → OnEr
 by-outcome (Ok x) p q ok err = ok p
 by-outcome (Err e) p q ok err = err q
 
--- what follows where there was no refusal
+-- what follows if there was no refusal
 pub on-ok : {A P R : Type 0} (r : Result A Refusal) → OnOk r P → (P → R) → OnOk r R
 on-ok (Ok x) p ok = ok p
 on-ok (Err e) p ok = tt

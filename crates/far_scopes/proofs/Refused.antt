@@ -1,4 +1,4 @@
--- What is known where a call is not refused.
+-- What is known if a call is not refused.
 use Rattle.std.proofs.Common.{◌≡◌, ℕ, ◌<◌, Bool, true, false, [], ◌∷◌, nat_lt, None, refl}
 use Rattle.std.specs.Prelude.{not}
 use Rattle.std.proofs.lemmas.Bool.{ltb-true}

@@ -1,4 +1,4 @@
--- Several objects that get other lists together: what is known where that is refused, and where it is not.
+-- Several objects that get other lists together: what is known if that is refused, and if it is not.
 use Rattle.std.proofs.Common.{◌≡◌, ℕ, Ok, Err, Bool, true, false, inl, inr, List, [], ◌∷◌, map, Option, Some, None, IsSome, refl, sym, subst, ◌∙◌}
 use Rattle.std.specs.Prelude.{Result, IfErr, IsErrAnd, slice_index_or, All}
 use Rattle.std.specs.Option.{option_or, option_map_or}
@@ -18,7 +18,7 @@ use Rattle.far_scopes.specs.Replacing.{no_space_for_all}
 use Rattle.far_scopes.proofs.WordPlaces.{some-true}
 use Rattle.far_scopes.proofs.Listed.{first-local}
 
--- none passes where not any does
+-- none passes if not any does
 pub none-listed : {A : Type 0} (p : A → Bool) (xs : List A) → list_any p xs ≡ false → All (λ x. p x ≡ false) xs
 none-listed p xs none k d lt = elim (cases_Bool (p (slice_index_or xs k d))) [
   | inl passes ↦ absurd (let never = sym (list_any_at p xs k d lt passes) ∙ none in cc)
@@ -26,7 +26,7 @@ none-listed p xs none k d lt = elim (cases_Bool (p (slice_index_or xs k d))) [
 ]
 
 module _ {X K : Type 0} (m : Movement X K) where
-  -- the listed objects are local where none of them is refused as absent
+  -- the listed objects are local if none of them is refused as absent
   pub all-local : (rs : List (Replacement X)) → first_absent m (map (λ r. r.object) rs) ≡ None → All (λ r. is_local m r.object ≡ true) rs
   all-local [] free = All-nil (λ (s : Replacement X). is_local m s.object ≡ true)
   all-local (r ∷ rs) free =
@@ -41,7 +41,7 @@ pub err-handed : {A : Type 0} (r : Result A Refusal) (given : Refusal) (P : Refu
 err-handed (Ok x) given P known h = absurd h
 err-handed (Err e) given P known h = subst P (sym h) known
 
--- the refusals in their order: those of space and of writes come where all listed objects are local
+-- the refusals in their order: those of space and of writes come if all listed objects are local
 pub refusal-is : {X K : Type 0} (m : Movement X K) (lists : List (Replacement X)) (checked : Option Refusal) → first_absent m (map (λ r. r.object) lists) ≡ None → checked ≡ first_of (any_written_out m lists ∷ [])
     → replace_all_refusal m lists ≡ option_or (first_of (no_space_for_all m.memory.state lists ∷ [])) checked
 refusal-is m lists checked here is = rw (here, is) (two-first (no_space_for_all m.memory.state lists) (any_written_out m lists))

@@ -22,7 +22,7 @@ module _ {K L : Type 0} where
   abbrev pub records-renewed : List (ObjectRecord K) → List (Option L) → List (ObjectRecord L)
   records-renewed records tickets = map (λ (e : ObjectRecord K × Option L). renewed_record e.0 e.1) (zip records tickets)
 
-  -- where one of two lists of one length is spent, no record is left
+  -- if one of two lists of one length is spent, no record is left
   pub none-left : (records : List (ObjectRecord K)) (tickets : List (Option L)) → length records ≡ length tickets → (length records ≡ 0) ⊎ (length tickets ≡ 0) → records-renewed records tickets ≡ []
   none-left [] tickets same_length spent = refl
   none-left (e ∷ records) [] same_length spent = refl

@@ -39,7 +39,7 @@ module _ {X K : Type 0} (meaning : List ℕ → List X) (content : K → List �
     ]
 
     module _ (spelled : List X → List ℕ → Type 0) (tracked : AreTracked meaning content spelled old) where
-      -- what holds of each object, where it holds of the one that changes
+      -- what holds of each object, if it holds of the one that changes
       pub each-one : new.max_writes ≡ old.max_writes → new.leavings ≡ old.leavings
           → ((word : Pointer) (object_record : ObjectRecord K) → word_of new o ≡ Some word → record_of new o ≡ Some object_record → IsTracked meaning content spelled new.max_writes new.leavings word (list_in new.memory o) object_record)
           → (p : ℕ) (word : Pointer) (object_record : ObjectRecord K) → word_of new p ≡ Some word → record_of new p ≡ Some object_record → IsTracked meaning content spelled new.max_writes new.leavings word (list_in new.memory p) object_record

@@ -60,7 +60,7 @@ module _ {X : Type 0} where
       let word : Pointer = Local (spot memory.state (length list)) true true false in
       rw (take-last (memory.words ++ word ∷ []) memory.words word refl, last-of (memory.words ++ word ∷ []) memory.words word refl, place-push_last memory.words word, state-back memory.state list region) refl
 
--- all objects, where it is so of the local memory
+-- all objects, if it is so of the local memory
 pub uncreated-created : {X K : Type 0} (m : Movement X K) (name : Name) (list : List X) → removed (added m.memory list) ≡ m.memory → after_uncreate (after_create m name list) ≡ m
 uncreated-created {K = K} m name list back =
     let object_record = new_record {K = K} name (length list) in

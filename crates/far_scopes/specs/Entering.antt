@@ -18,10 +18,11 @@ module _ {X K : Type 0} where
   pins_overflow m [] = None
   pins_overflow m (o ∷ objects) = if pins_of m o == 65535 then Some refusal.EditsUsedUp else pins_overflow (after_pin m o) objects
 
+  -- why a scope of these objects is not entered (`enter`)
   abbrev pub enter_refusal : Movement X K → List ℕ → Option Refusal
   enter_refusal m objects = option_or (first_absent m objects) (pins_overflow m objects)
 
-  -- the objects once a scope's pins are taken back, one for each listing if the object has one; and how many pins that were
+  -- the objects once a scope's pins are removed, one for each listing if the object has one; and how many pins that were
   abbrev pub after_close : Movement X K → List ℕ → Movement X K × ℕ
   after_close m [] = (m, 0)
   after_close m (o ∷ objects) =

@@ -6,6 +6,7 @@ use Rattle.far_pointer.specs.declared.pointer.Pointer.{Pointer}
 use Rattle.far_pointer.specs.declared.pointer.Pointer.TheVariants.{Local, Remote}
 use Rattle.far_log.specs.RegionState.{RegionState, part_of, IsRegion}
 
+-- the pointer words of objects, and the region with the lists of the local ones
 pub record Memory (X : Type 0) : Type 0 where
   pub words : List Pointer
   pub state : RegionState X

@@ -9,8 +9,8 @@ use Rattle.far_scopes.specs.declared.object_record.ObjectRecord.{ObjectRecord}
 use Rattle.far_scopes.specs.Recency.{has, Once}
 use Rattle.far_scopes.specs.Memory.{Memory, place_of, list_in}
 
--- objects of lists over X, with far copies under tickets of type K: the frame's number, how often each object may be written, and how often
--- it may go away. Then come the local memory, the record of each object, and the local ones in the order of use, the last used first
+-- objects of lists over X, with far copies under tickets of type K. They have the frame's number, and how often each object may be written
+-- and may go away. Then come the local memory, the record of each object, and the local ones in the order of use, the last used first
 pub record Movement (X K : Type 0) : Type 0 where
   pub number : ℕ
   pub max_writes : ℕ
@@ -30,12 +30,15 @@ has_copy (Local at dirty hot far) = far
 has_copy Remote = true
 
 module _ {X K : Type 0} where
+  -- the pointer word of an object, if there is one
   abbrev pub word_of : Movement X K → ℕ → Option Pointer
   word_of m o = slice_get m.memory.words o
 
+  -- the record of an object, if there is one
   abbrev pub record_of : Movement X K → ℕ → Option (ObjectRecord K)
   record_of m o = slice_get m.records o
 
+  -- whether an object is local
   abbrev pub is_local : Movement X K → ℕ → Bool
   is_local m o = is_some (place_of m.memory.words o)
 
@@ -43,18 +46,23 @@ module _ {X K : Type 0} where
   abbrev pub dirty : Movement X K → ℕ → Bool
   dirty m o = option_map_or is_dirty (word_of m o) false
 
+  -- whether an object is local and hot
   abbrev pub hot : Movement X K → ℕ → Bool
   hot m o = option_map_or is_hot (word_of m o) false
 
+  -- how often an object was written
   abbrev pub version_of : Movement X K → ℕ → ℕ
   version_of m o = option_map_or (λ e. e.version) (record_of m o) 0
 
+  -- how often an object went away
   abbrev pub leavings_of : Movement X K → ℕ → ℕ
   leavings_of m o = option_map_or (λ e. e.leavings) (record_of m o) 0
 
+  -- how many pins an object has
   abbrev pub pins_of : Movement X K → ℕ → ℕ
   pins_of m o = option_map_or (λ e. e.pins) (record_of m o) 0
 
+  -- the ticket of the newest far copy of an object, if it has one
   abbrev pub ticket_of : Movement X K → ℕ → Option K
   ticket_of m o = option_and_then (λ e. e.ticket) (record_of m o)
 

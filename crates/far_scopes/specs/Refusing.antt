@@ -29,15 +29,19 @@ module _ {X K : Type 0} (m : Movement X K) (o : ℕ) where
   abbrev pub pinned_out : Bool × Refusal
   pinned_out = (pins_of m o == 65535, refusal.EditsUsedUp)
 
+  -- why an object's list is not lent (`lend`)
   abbrev pub lend_refusal : Option Refusal
   lend_refusal = first_of (absent ∷ [])
 
+  -- why an object's list is not written (`may_write`)
   abbrev pub write_refusal : Option Refusal
   write_refusal = first_of (absent ∷ written_out ∷ [])
 
+  -- why an object is not pinned (`pin`)
   abbrev pub pin_refusal : Option Refusal
   pin_refusal = first_of (absent ∷ pinned_out ∷ [])
 
+  -- why an object is not unpinned (`unpin`)
   abbrev pub unpin_refusal : Option Refusal
   unpin_refusal = first_of ((pins_of m o == 0, refusal.NotPinned) ∷ [])
 
@@ -45,6 +49,7 @@ module _ {X K : Type 0} (m : Movement X K) (o : ℕ) where
   abbrev pub no_space : ℕ → Bool × Refusal
   no_space n = (not (fits_in m.memory.state n), refusal.RegionFull)
 
+  -- why an object does not get another list, of n elements (`replace`)
   abbrev pub replace_refusal : ℕ → Option Refusal
   replace_refusal n = first_of (absent ∷ no_space n ∷ written_out ∷ [])
 
@@ -58,6 +63,7 @@ module _ {X K : Type 0} where
   abbrev pub any_written_out : Movement X K → List (Replacement X) → Bool × Refusal
   any_written_out m lists = (list_any (λ r. (written_out m r.object).0) lists, refusal.EditsUsedUp)
 
+  -- why several objects do not get other lists (`replace_all`)
   abbrev pub replace_all_refusal : Movement X K → List (Replacement X) → Option Refusal
   replace_all_refusal m lists =
       option_or (first_absent m (map (λ r. r.object) lists)) (first_of (no_space_for_all m.memory.state lists ∷ any_written_out m lists ∷ []))

@@ -56,7 +56,7 @@ impl<T: Elem> LocalMemory<T> {
         })
     }
 
-    /// The pointer word of an object.
+    /// Returns the pointer word of an object.
     pub fn word(&self, o: usize) -> Word
         requires { o < length self.now.words }
         ensures word { slice_get self.now.words o ≡ Some result }
@@ -75,7 +75,7 @@ impl<T: Elem> LocalMemory<T> {
         let _region = &self.region;
     }
 
-    /// How many objects are local and not hot.
+    /// Returns how many objects are local and not hot.
     pub fn cool(&self) -> usize
         ensures { result ≡ cool_in self.now.words }
     {
@@ -169,28 +169,28 @@ impl<T: Elem> LocalMemory<T> {
         Ok(())
     }
 
-    /// Whether a list of `len` elements can be placed.
+    /// Returns whether a list of `len` elements can be placed.
     pub fn fits(&self, len: usize) -> bool
         ensures { result ≡ fits_in self.now.state len }
     {
         self.region.fits(len)
     }
 
-    /// The space of all segments together, in elements.
+    /// Returns the space of all segments together, in elements.
     pub fn space(&self) -> usize
         ensures { result ≡ space_of self.now.state }
     {
         self.region.space()
     }
 
-    /// The capacity of all segments together, in elements.
+    /// Returns the capacity of all segments together, in elements.
     pub fn capacity(&self) -> usize
         ensures { result ≡ capacity_of self.now.state }
     {
         self.region.capacity()
     }
 
-    /// Whether lists of these lengths can be placed one after the other.
+    /// Returns whether lists of these lengths can be placed one after the other.
     pub fn fits_in_order(&self, lens: &[usize]) -> bool
         requires few { length lens.now ≤ 16 }
         requires some { All (λ len. 0 < len) lens.now }
@@ -225,7 +225,7 @@ impl<T: Elem> LocalMemory<T> {
     }
 }
 
-// The location that the word of a local object has.
+// Returns the location that the word of a local object has.
 fn at_of(word: Word) -> At
     requires { IsSome (word_at word) }
     ensures { word_at word ≡ Some result }
@@ -236,7 +236,7 @@ fn at_of(word: Word) -> At
     at
 }
 
-// Whether the word of an object says that it is dirty and hot, as it is if it is written again and again.
+// Returns whether the word of an object says that it is dirty and hot, as it is if it is written again and again.
 fn is_marked(word: Word) -> bool
     ensures { IsTrue result → with_hot (with_dirty word) true ≡ word }
 {
@@ -245,7 +245,7 @@ fn is_marked(word: Word) -> bool
     dirty && hot
 }
 
-// 1 for the word of a local object that is not hot, else 0.
+// Returns 1 for the word of a local object that is not hot, else 0.
 fn cool_of(word: Word) -> usize
     ensures { result ≡ cool_of word }
 {
@@ -255,7 +255,7 @@ fn cool_of(word: Word) -> usize
     }
 }
 
-// The word of a local object that is hot: dirty and without a far copy, or clean and with one.
+// Returns the word of a local object that is hot: dirty and without a far copy, or clean and with one.
 fn local_word(at: At, dirty: bool) -> Word
     ensures { result ≡ Pointer.Local at dirty true (not dirty) }
 {

@@ -84,7 +84,7 @@ impl<T: Elem, S: FarTickets> Objects<T, S> {
         })
     }
 
-    /// The number that was given to `new`. Allocates nothing.
+    /// Returns the number that was given to `new`. Allocates nothing.
     ///
     /// For the proof: gives what holds of all objects (`tracked`). Also gives that each local object has a part of the region of its own,
     /// and that there is no other part (`own`).
@@ -97,7 +97,7 @@ impl<T: Elem, S: FarTickets> Objects<T, S> {
         self.number
     }
 
-    /// The pointer word of an object. Allocates nothing.
+    /// Returns the pointer word of an object. Allocates nothing.
     pub fn word(&self, o: u32) -> Word
         requires { o < length self.now.records }
         ensures word { word_of self.now o ≡ Some result }
@@ -106,7 +106,7 @@ impl<T: Elem, S: FarTickets> Objects<T, S> {
         self.memory.word(o as usize)
     }
 
-    /// How often an object was written. Allocates nothing.
+    /// Returns how often an object was written. Allocates nothing.
     pub fn version(&self, o: u32) -> u64
         requires { o < length self.now.records }
         ensures { result ≡ version_of self.now o }
@@ -114,7 +114,7 @@ impl<T: Elem, S: FarTickets> Objects<T, S> {
         self.records[o as usize].version
     }
 
-    /// How often an object went away. Allocates nothing.
+    /// Returns how often an object went away. Allocates nothing.
     pub fn leavings(&self, o: u32) -> u64
         requires { o < length self.now.records }
         ensures { result ≡ leavings_of self.now o }
@@ -122,7 +122,7 @@ impl<T: Elem, S: FarTickets> Objects<T, S> {
         self.records[o as usize].leavings
     }
 
-    /// How many pins an object has. Allocates nothing.
+    /// Returns how many pins an object has. Allocates nothing.
     pub fn pins(&self, o: u32) -> u32
         requires { o < length self.now.records }
         ensures { result ≡ pins_of self.now o }
@@ -130,7 +130,7 @@ impl<T: Elem, S: FarTickets> Objects<T, S> {
         u32::from(self.records[o as usize].pins)
     }
 
-    /// The ticket of an object's newest far copy, if there is one. Allocates nothing.
+    /// Returns the ticket of an object's newest far copy, if there is one. Allocates nothing.
     pub fn ticket(&self, o: u32) -> Option<&S::Ticket>
         requires { o < length self.now.records }
         ensures ticket { option_map (λ ticket. ticket.now) result ≡ ticket_of self.now o }

@@ -36,7 +36,7 @@ impl Recency {
         })
     }
 
-    /// How many objects are in the order. Allocates nothing.
+    /// Returns how many objects are in the order. Allocates nothing.
     pub fn len(&self) -> usize
         ensures { result ≡ length self.now }
     {
@@ -50,6 +50,7 @@ impl Recency {
         ensures memory { IfErr result (λ e. e ≡ Refusal.NoMemory) }
         ensures err { OnErr result (self.new ≡ self.old) }
     {
+        // For the proof: gives that the cache is valid, and has fewer than 2^63 objects.
         let _len = self.cache.len();
         self.cache.put(o, ())?;
         Ok(())
@@ -71,7 +72,7 @@ impl Recency {
         }
     }
 
-    // Whether an object was used last. Then another use leaves the order as it is. Most objects that are used again were used last.
+    // Returns whether an object was used last. Then another use leaves the order as it is. Most objects that are used again were used last.
     fn is_first(&self, o: u32) -> bool
         ensures { IsTrue result → used self.now o ≡ self.now }
     {
@@ -81,7 +82,7 @@ impl Recency {
         }
     }
 
-    /// The objects, the last used first. Allocates nothing.
+    /// Returns the objects, the last used first. Allocates nothing.
     pub fn iter(&self) -> Iter<'_, u32, ()>
         ensures { keys_of result ≡ self.now }
     {

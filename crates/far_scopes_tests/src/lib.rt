@@ -8,3 +8,5 @@ mod evacuator;
 mod scopes;
 #[cfg(test)]
 mod vector;
+#[cfg(test)]
+mod writing;

@@ -16,7 +16,7 @@ part-long row part start low wide is =
     let width : start + 20 - start ≡ 20 = omega arith in
     ap (λ (t : List ℕ). length t) (is ∙ ap (λ (n : ℕ). take n (drop start row)) width) ∙ length-take-le 20 (drop start row) (let left = length-drop start row in omega (arith, left, low, wide))
 
--- and where as many bytes go as stand before the digits, the digits stay
+-- and if as many bytes go as stand before the digits, the digits stay
 pub digits-stay : (page digits zeros row part mid : List ℕ) (start len : ℕ) → start + length digits ≡ 20 → drop start row ≡ digits ++ zeros → length row ≡ 40 → part ≡ slice_range row start (start + 20) → mid ≡ page ++ part → len ≡ length mid
     → take (len - start) mid ≡ page ++ digits
 digits-stay page digits zeros row part mid start len count from wide is grown counted =

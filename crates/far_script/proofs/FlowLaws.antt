@@ -1,5 +1,5 @@
 -- What is read and printed, one part after another.
-use Rattle.std.proofs.Common.{◌≡◌, ◌+◌, ◌-◌, ◌≤◌, ◌<◌, ℕ, suc, Bool, true, false, List, [], ◌∷◌, ◌++◌, length, take, drop, slice_index, slice_range, Option, append_assoc, append-nil, length-append, take-append-drop, ◌∙◌, refl, sym, ap, subst, arith}
+use Rattle.std.proofs.Common.{◌≡◌, ◌+◌, ◌-◌, ◌≤◌, ◌<◌, ℕ, zero, suc, ◌⊎◌, inl, inr, Bool, true, false, List, [], ◌∷◌, ◌++◌, length, take, drop, slice_index, slice_range, Option, append_assoc, append-nil, length-append, take-append-drop, ◌∙◌, refl, sym, ap, subst, arith}
 use Rattle.std.proofs.Math.Seq.{take-add, drop-cons}
 use Rattle.std.proofs.lemmas.List.{take_rest, length-take, length-take-le, take-take}
 use Rattle.std.proofs.lemmas.List.Folds.{drop_split}
@@ -23,6 +23,12 @@ pub within-rest : (bytes : List ℕ) (n m : ℕ) → n ≤ length bytes → m �
 within-rest bytes n m low h =
     let rest : m ≤ length (drop n bytes) = subst (λ (t : List ℕ). m ≤ length t) (take_rest bytes n) h in
     omega (arith, rest, dropped bytes n low)
+
+-- each turn took a byte so far, or writers may fail
+pub took-more : (may_fail : Type 0) (turn taken count : ℕ) → (count ≡ 0 → ⊥) → may_fail ⊎ (turn ≤ taken) → may_fail ⊎ (turn + 1 ≤ taken + count)
+took-more may_fail turn taken count some (inl h) = inl h
+took-more may_fail turn taken zero some (inr low) = absurd (some refl)
+took-more may_fail turn taken (suc n) some (inr low) = inr (omega (arith, low))
 
 pub prints-none : (u : Option (List ℕ)) (held : List ℕ) → Prints u held [] u held
 prints-none u held = ([], Appends-nil u, append-nil held)
@@ -175,7 +181,7 @@ pub front-within : (start plain all : ℕ) → start + plain ≤ all → start �
 front-within start plain all h = omega (arith, h)
 
 module _ {R : Type 0} (read : Ghosts R) where
-  -- nothing is read where nothing comes any more
+  -- nothing is read if nothing comes any more
   pub spent-nothing : (old new : Input R read) (bytes : List ℕ) → IsSpent read old → Reads read old bytes new → bytes ≡ []
   spent-nothing old new bytes spent p =
       no-first bytes (unread read new) (sym p.taken ∙ ap (λ (t : List ℕ). unread read old ++ t) (p.none spent.1) ∙ append-nil (unread read old) ∙ spent.0)

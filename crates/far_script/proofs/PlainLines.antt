@@ -26,7 +26,7 @@ line-more c cs other = rw other (ap (λ (n : ℕ). take n (c ∷ cs)) (one-place
 behind-more : (c : ℕ) (cs : List ℕ) → (c == 10) ≡ false → lines_behind (c ∷ cs) ≡ lines_behind cs
 behind-more c cs other = rw other (ap (λ (n : ℕ). drop n (c ∷ cs)) (place-behind (position_or_len is_line_feed cs)))
 
--- what is read behind the fields so far and the field at hand, where the rest of the line has these parts
+-- what is read behind the fields so far and the field at hand, if the rest of the line has these parts
 abbrev line-read : List (List ℕ) → List ℕ → List (List ℕ) → List ℕ → Option Read
 line-read fields field parts rest = Some (fields ++ behind field parts, st.StartRecord, rest)
 
@@ -84,7 +84,7 @@ reads-line fields field (c ∷ cs) e = elim (cases_Bool (c == 10)) [
       ]
 ]
 
--- a record is the first line, where that is not empty
+-- a record is the first line, if that is not empty
 pub line-record : (c : ℕ) (cs : List ℕ) → list_any is_break (c ∷ cs) ≡ false → (c == 10) ≡ false
     → next_record default_config st.StartRecord [] [] (c ∷ cs) ≡ Some (slice_split is_comma (line_of (c ∷ cs)), st.StartRecord, lines_behind (c ∷ cs))
 line-record c cs e other =

@@ -58,7 +58,7 @@ pub ends-field : (fields : List (List ℕ)) (field : List ℕ) (c : ℕ) (cs : L
 unfolding next_record
 ends-field fields field c cs comma = rw comma refl
 
--- what is read behind the fields so far and the field at hand, where the rest has these parts
+-- what is read behind the fields so far and the field at hand, if the rest has these parts
 abbrev read-behind : List (List ℕ) → List ℕ → List (List ℕ) → Option Read
 read-behind fields field parts = Some (fields ++ behind field parts, st.StartRecord, [])
 
@@ -73,7 +73,7 @@ split-comma c cs comma = rw comma refl
 pub split-other : (c : ℕ) (cs : List ℕ) → (c == 44) ≡ false → slice_split is_comma (c ∷ cs) ≡ onto_first c (slice_split is_comma cs)
 split-other c cs other = rw other refl
 
--- at the start of a field, where the text goes on
+-- at the start of a field, if the text goes on
 starts : (fields : List (List ℕ)) (c : ℕ) (cs : List ℕ) → is_mark c ≡ false
     → next_record default_config st.StartField fields [] (c ∷ cs) ≡ next_record default_config st.InField fields [] (c ∷ cs)
 starts fields c cs plain = let n = no-mark c plain in start-same fields [] c cs n.0

@@ -16,7 +16,7 @@ pub handed-on : {T : Type 0} (r : Result T ShellFault) (why : ShellFault) (Q : S
 handed-on (Ok x) why Q h q = tt
 handed-on (Err given) why Q h q = subst Q (sym h) q
 
--- what a call tells that came to its end
+-- what is known of a call that came to its end
 pub on-printed : {T E : Type 0} (r : Result T E) (P : Type 0) → IsOk r → OnOk r P → P
 on-printed (Ok x) P is h = h
 on-printed (Err e) P is h = cc is
@@ -25,7 +25,7 @@ pub each-fault : {T : Type 0} (r : Result T ShellFault) (P Q : ShellFault → Ty
 each-fault (Ok x) P Q f h = tt
 each-fault (Err why) P Q f h = f why h
 
--- what is said where there is none
+-- what is said if there is none
 pub none-of : (o : Option ℕ) (P : Type 0) → ((x : ℕ) → o ≡ Some x → ⊥) → IfNone o P → P
 none-of None P not h = h
 none-of (Some x) P not h = absurd (not x refl)

@@ -2,7 +2,7 @@
 use Rattle.std.proofs.Common.{◌≡◌, List, [], ◌∷◌, ◌++◌, Option, Some, None, option_map, append_assoc, ◌∙◌, sym, ap}
 use Rattle.far_types.specs.declared.filter.Test.{Test}
 
--- one test more, where those to come are known
+-- one test more, if those to come are known
 one-more : (before : List Test) (test : Test) (more whole : Option (List Test))
     → option_map (λ rest. before ++ rest) (option_map (λ rest. test ∷ rest) more) ≡ whole
     → option_map (λ rest. (before ++ test ∷ []) ++ rest) more ≡ whole

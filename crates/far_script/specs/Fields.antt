@@ -12,6 +12,7 @@ use Rattle.far_script.specs.OneRecord.{one_record}
 abbrev pub missing_mark : List ℕ
 missing_mark = codes "\\N"
 
+-- whether a field is the two bytes that stand for no value
 abbrev pub is_missing_mark : List ℕ → Bool
 is_missing_mark field = pointwise ◌==◌ field missing_mark
 

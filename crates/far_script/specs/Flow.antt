@@ -4,6 +4,8 @@ use Rattle.std.specs.List.{list_any}
 use Rattle.std.specs.Io.BufRead.{strip_last}
 use Rattle.std.specs.Io.KnownBytes.{Appends, Consumes}
 use Rattle.std.specs.declared.io.traits.Read.{Ghosts}
+use Rattle.std.specs.declared.io.traits.Write.{Ghosts as Writes}
+use Rattle.far_script.specs.declared.sink.Sink.{Ghosts as Sinks}
 use Rattle.far_script.specs.declared.fault.ShellFault.{ShellFault}
 use Rattle.far_script.specs.declared.input.Input.{Input}
 use Rattle.far_script.specs.declared.input.ByteRange.{ByteRange}
@@ -17,7 +19,7 @@ abbrev pub Prints : Option (List ℕ) → List ℕ → List ℕ → Option (List
 Prints old held text new left = (sent : List ℕ) × Appends old new sent × (held ++ text ≡ sent ++ left)
 
 -- whether a write failed
-abbrev pub has_failed : Output → Bool
+abbrev pub has_failed : {W : Type 0} {sink : Sinks W} {write : Writes W} → Output W sink write → Bool
 has_failed output = output.failed
 
 -- the bytes of a script, if they are known, are these and the rest behind them; and these are within the bound
@@ -59,6 +61,7 @@ module _ {R : Type 0} (read : Ghosts R) where
   TakesLine old (line.Last byte_range) new =
       (list_any (λ c. c == 10) (bytes_in new byte_range) ≡ false) × (unread new ≡ []) × (new.source.ended ≡ true) × Reads old (bytes_in new byte_range) new
 
+  -- the range of bytes that a line was taken from
   abbrev pub byte_range_of : Line → ByteRange
   byte_range_of (line.Whole byte_range) = byte_range
   byte_range_of (line.Last byte_range) = byte_range
@@ -67,7 +70,7 @@ module _ {R : Type 0} (read : Ghosts R) where
   abbrev pub IsSpent : Input R read → Type 0
   IsSpent input = (unread input ≡ []) × (input.source.ended ≡ true)
 
-  -- the end of a script was not seen, before and now, though the reader was asked, or may not be asked any more; and why no more came
+  -- the end of a script was not seen, before and now. The reader was asked, or may not be asked any more. And why no more came
   abbrev pub IsUnseen : Type 0 → Input R read → Input R read → Type 0
   IsUnseen may_fail old new = (old.source.ended ≡ false) × (new.source.ended ≡ false) × (0 < new.source.reads → new.source.reads < old.source.reads)
       × IsCut may_fail old.source.reads old.source.bytes new.source.reads new.source.bytes (read.remaining old.source.reader)
@@ -76,7 +79,7 @@ module _ {R : Type 0} (read : Ghosts R) where
   abbrev pub IsOver : Input R read → List ℕ → Type 0
   IsOver new rest = (new.source.ended ≡ true) × (rest ≡ [])
 
-  -- why a load lacks bytes, with the rest of the script, which did not come: the end was seen, and there is no rest; or it was not seen
+  -- why a load lacks bytes, with the rest of the script, which did not come. The end was seen, and there is no rest. Or it was not seen
   abbrev pub IsShort : Type 0 → Input R read → Input R read → List ℕ → Type 0
   IsShort may_fail old new rest = IsOver new rest ⊎ IsUnseen may_fail old new
 

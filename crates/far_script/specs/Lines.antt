@@ -3,6 +3,7 @@ use Rattle.std.specs.Prelude.{◌≡◌, ℕ, Bool, false, ◌==◌, List, [], �
 use Rattle.std.specs.List.{list_any}
 use Rattle.std.specs.Io.BufRead.{strip_last}
 
+-- whether a byte is a line feed
 abbrev pub is_line_feed : ℕ → Bool
 is_line_feed c = c == 10
 

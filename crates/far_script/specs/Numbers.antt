@@ -17,10 +17,11 @@ abbrev pub below : ℕ → Option ℕ → Option ℕ
 below limit None = None
 below limit (Some n) = if nat_lt n limit then Some n else None
 
--- a number of a script: digits without a sign, of 32 bits, or of 64 bits
+-- a number of 32 bits: digits without a sign
 abbrev pub number_of : List ℕ → Option ℕ
 number_of word = below (2 ^ 32) (digits_of word)
 
+-- a number of 64 bits: digits without a sign
 abbrev pub long_number_of : List ℕ → Option ℕ
 long_number_of word = below (2 ^ 64) (digits_of word)
 

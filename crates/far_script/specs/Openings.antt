@@ -10,6 +10,7 @@ use Rattle.far_script.specs.declared.opening.FirstLine.TheVariants as line
 use Rattle.far_script.specs.OneRecord.{is_comma}
 use Rattle.far_script.specs.Words.{word_of, rest_of, word_in, after, number_in, long_number_in, last_number_in, reads}
 
+-- the kind that a word names
 abbrev pub kind_named : List ℕ → Option Kind
 kind_named word =
     if reads word (codes "int") then Some kind.Int
@@ -21,6 +22,7 @@ abbrev pub kinds_named : List (List ℕ) → Option (List Kind)
 kinds_named [] = Some []
 kinds_named (name ∷ names) = option_and_then (λ kind. option_map (λ kinds. kind ∷ kinds) (kinds_named names)) (kind_named name)
 
+-- the kinds that a word names, between commas
 abbrev pub kinds_of : List ℕ → Option (List Kind)
 kinds_of word = kinds_named (slice_split is_comma word)
 
@@ -36,6 +38,7 @@ given_limits g left =
     (long_number_in (after left)))
     (number_in left)
 
+-- the limits of a row group's size and of what is left of the line: the usual ones if nothing is left
 abbrev pub limits_of : ℕ → Option (List ℕ) → Option Limits
 limits_of g left = if is_none left then Some (usual_limits g) else given_limits g left
 

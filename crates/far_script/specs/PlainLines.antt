@@ -16,5 +16,6 @@ are_plain_lines text = not (begins_as_order_mark text) && not (list_any is_break
 abbrev pub line_of : List ℕ → List ℕ
 line_of text = before_first is_line_feed text
 
+-- what stands behind the first line of a text
 abbrev pub lines_behind : List ℕ → List ℕ
 lines_behind text = after_first is_line_feed text

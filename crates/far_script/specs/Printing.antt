@@ -10,6 +10,7 @@ use Rattle.far_types.specs.declared.refusal.Refusal.{Refusal}
 use Rattle.far_types.specs.declared.refusal.Refusal.TheVariants as refusal
 use Rattle.far_types.specs.Refusals.{number_of, name_of}
 
+-- a space
 abbrev pub space : List ℕ
 space = codes " "
 
@@ -61,6 +62,7 @@ key_text None = []
 key_text (Some (key.Int n)) = record_text (signed_decimal n ∷ []) ++ space
 key_text (Some (key.Text text)) = record_text (text ∷ []) ++ space
 
+-- a line of totals
 abbrev pub total_text : Option Key × ℕ × ℤ → List ℕ
 total_text line = key_text line.0 ++ codes "count " ++ decimal line.1 ++ codes " sum " ++ signed_decimal line.2 ++ line_end
 
@@ -72,9 +74,11 @@ reading_text edits count sum = decimal edits ++ space ++ decimal count ++ space 
 abbrev pub gauge_text : ℕ → ℕ → ℕ → ℤ → List ℕ
 gauge_text session edits count sum = codes "session " ++ decimal session ++ codes " gauge " ++ reading_text edits count sum
 
+-- a line of extrema
 abbrev pub extrema_text : Option Key × ℤ × ℤ → List ℕ
 extrema_text line = key_text line.0 ++ codes "min " ++ signed_decimal line.1 ++ codes " max " ++ signed_decimal line.2 ++ line_end
 
+-- the texts of all items, joined
 abbrev pub texts_of : {A : Type 0} → (A → List ℕ) → List A → List ℕ
 texts_of text [] = []
 texts_of text (line ∷ lines) = text line ++ texts_of text lines
@@ -84,6 +88,7 @@ abbrev pub or_none : {A : Type 0} → (A → List ℕ) → List A → List ℕ
 or_none text [] = codes "none\n"
 or_none text (line ∷ lines) = texts_of text (line ∷ lines)
 
+-- the text of an answer
 abbrev pub answer_text : Answer → List ℕ
 answer_text (answer.Totals lines) = or_none total_text lines
 answer_text (answer.Extrema lines) = or_none extrema_text lines

@@ -61,6 +61,7 @@ compared (Some kind.Text) column op constant = or_else (text_test column op cons
 compared None column op constant =
     or_else (number_test column op (signed_number_of constant)) (or_else (text_test column op constant) (Some (test.Int column op (pos 0))))
 
+-- a test of a column by an operator and a constant
 abbrev pub test_by : Option Kind → ℕ → Operator → List ℕ → Option Test
 test_by column_kind column (operator.Compares op) constant = compared column_kind column op constant
 test_by column_kind column operator.Begins constant = Some (test.TextBegins column constant)

@@ -5,6 +5,7 @@ use Rattle.std.specs.Cmp.Lexicographic.{pointwise}
 use Rattle.std.specs.List.{position_or_len, before_first, after_first, slice_split}
 use Rattle.far_script.specs.Numbers.{number_of, long_number_of}
 
+-- whether a byte is a space
 abbrev pub is_space : ℕ → Bool
 is_space c = c == 32
 
@@ -28,6 +29,7 @@ after left = option_and_then rest_of left
 abbrev pub number_in : Option (List ℕ) → Option ℕ
 number_in left = option_and_then number_of (word_in left)
 
+-- the next word as a number of 64 bits
 abbrev pub long_number_in : Option (List ℕ) → Option ℕ
 long_number_in left = option_and_then long_number_of (word_in left)
 
@@ -35,6 +37,7 @@ long_number_in left = option_and_then long_number_of (word_in left)
 abbrev pub last_number_in : Option (List ℕ) → Option ℕ
 last_number_in left = if is_none (after left) then number_in left else None
 
+-- the last word as a number of 64 bits
 abbrev pub last_long_number_in : Option (List ℕ) → Option ℕ
 last_long_number_in left = if is_none (after left) then long_number_in left else None
 

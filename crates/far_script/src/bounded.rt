@@ -11,15 +11,13 @@ pub const MAX_BYTES: u32 = 16_777_216;
 /// The most reads that are made for a script. The one that finds its end counts.
 pub const MAX_READS: u32 = 1_048_576;
 
-/// A reader with the reads and the bytes that are left for it.
+/// A reader with the reads and the bytes that are left for it. `Input` returns how many are left:
 ///
 /// ```
-/// let count = self.source.read(self.chunk.as_mut_slice())?;
-/// self.is_ascii = stay_ascii(self.is_ascii, &self.held, &self.chunk[..count]);
-/// match self.held.bytes(&self.chunk[..count]) {
-///     Ok(()) => Ok(count > 0),
-///     Err(refusal) => Err(ShellFault::of_memory(refusal)),
+/// for _ in 0..3 {
+///     input.line(output, replies)?;
 /// }
+/// Ok((input.reads_left(), input.bytes_left()))
 /// ```
 #[derive(Drop)]
 pub struct Bounded<R: Read + Drop> {

@@ -10,15 +10,11 @@ use super::bounded::Bounded;
 use super::page::Page;
 use std::io::Read;
 
-/// Where a line or a load stands in what was read.
+/// The range of a line or a load in what was read. The rows of a load are read as text:
 ///
 /// ```
-/// let line = self.take(end, end + 1);
-/// let whole = line_len(&self.held.as_slice()[line.from..line.to]);
-/// Ok(Line::Whole(ByteRange {
-///     from: line.from,
-///     to: line.from + whole,
-/// }))
+/// let rows = input.bytes(output, writer, count as usize)?;
+/// let printed = load(alloc, world, input.text(rows)?, &mut output.reply);
 /// ```
 #[derive(Clone, Copy, Debug, Drop)]
 pub struct ByteRange {

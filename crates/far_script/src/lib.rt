@@ -4,6 +4,7 @@
 
 pub mod bounded;
 pub mod cut;
+mod fallible;
 mod fault;
 pub mod field;
 mod input;
@@ -14,15 +15,18 @@ mod output;
 mod page;
 pub mod print;
 mod record;
+mod sink;
 mod source;
 pub mod verb;
 pub mod watch;
 mod words;
 
+pub use fallible::Fallible;
 pub use fault::ShellFault;
 pub use input::{ByteRange, Input, Line};
 pub use opening::{FirstLine, Opening};
 pub use output::Output;
 pub use page::Page;
-pub use source::{Fallible, Source};
+pub use sink::Sink;
+pub use source::Source;
 pub use words::Words;

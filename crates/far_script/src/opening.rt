@@ -70,7 +70,7 @@ pub fn read_kind(word: &str) -> Option<Kind>
     }
 }
 
-/// `int` and `text`, joined by commas.
+/// Reads `int` and `text`, joined by commas.
 fn read_kinds(alloc: Global, word: &str) -> Result<Option<Vec<Kind>>, Refusal>
     ensures kinds { IfOk result (λ found. option_map (λ kinds. kinds.items) found ≡ kinds_of word.now) }
     ensures memory { IfErr result (λ e. e ≡ Refusal.NoMemory) }
@@ -123,7 +123,7 @@ fn read_limits(group: u32, words: Words) -> Option<Limits>
     }
 }
 
-/// `GROUP KINDS`, and the limits or nothing.
+/// Reads `GROUP KINDS`, and the limits or nothing.
 fn read_opening(alloc: Global, mut words: Words) -> Result<Option<Opening>, Refusal>
     ensures opening { IfOk result (λ found. option_map (λ o. (o.kinds.items, o.limits)) found ≡ opening_in words.entry) }
     ensures memory { IfErr result (λ e. e ≡ Refusal.NoMemory) }
@@ -156,7 +156,7 @@ fn between(least: u32, most: u32, number: Option<u32>) -> Option<u32>
     }
 }
 
-/// `SESSIONS EDITS`
+/// Reads `SESSIONS EDITS`.
 fn read_threads(mut words: Words) -> Option<FirstLine>
     ensures threads { option_map start_of result ≡ threads_in words.entry }
     ensures within { IfSome result (λ first. IsWithin (start_of first)) }

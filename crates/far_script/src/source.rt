@@ -1,5 +1,5 @@
 // Readers, and when a read of them may fail.
-ghost use Rattle.std.specs.Prelude.{⊤, OnErr};
+ghost use Rattle.std.specs.Prelude.{OnErr};
 ghost use Rattle.std.specs.Io.{ReadsAtMost};
 ghost use Rattle.std.specs.Io.KnownBytes.{ReadConsumes};
 
@@ -17,7 +17,7 @@ use std::io::Read;
 /// }
 /// ```
 ///
-/// Bytes at hand never fail. Any other reader goes into [`Fallible`].
+/// Bytes at hand never fail. Any other reader goes into [`Fallible`](crate::Fallible).
 pub trait Source: Read {
     /// Whether reads of readers of this type may fail.
     ghost may_fail: { Type 0 };
@@ -31,33 +31,6 @@ pub trait Source: Read {
 
 impl Source for &[u8] {
     ghost may_fail = { ⊥ };
-
-    fn read_some(&mut self, buffer: &mut [u8]) -> io::Result<usize> {
-        self.read(buffer)
-    }
-}
-
-/// A reader each read of which may fail.
-///
-/// ```
-/// match run_script(&rt, Fallible(rt.reader()), &mut writer) {
-///     Ok(()) => ExitCode::SUCCESS,
-///     Err(fault) => ExitCode::from(fault.status()),
-/// }
-/// ```
-#[derive(Drop)]
-pub struct Fallible<R: Read + Drop>(pub R);
-
-impl<R: Read + Drop> Read for Fallible<R> {
-    ghost remaining = { λ reader. R.remaining reader.0 };
-
-    fn read(&mut self, buffer: &mut [u8]) -> io::Result<usize> {
-        self.0.read(buffer)
-    }
-}
-
-impl<R: Read + Drop> Source for Fallible<R> {
-    ghost may_fail = { ⊤ };
 
     fn read_some(&mut self, buffer: &mut [u8]) -> io::Result<usize> {
         self.read(buffer)

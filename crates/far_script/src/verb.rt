@@ -55,32 +55,20 @@ pub enum Verb {
 fn read_movement(word: &str) -> Option<Movement>
     ensures { result ≡ movement_named word.now }
 {
-    if word == "lend" {
-        Some(Movement::Lend)
-    } else if word == "pin" {
-        Some(Movement::Pin)
-    } else if word == "unpin" {
-        Some(Movement::Unpin)
-    } else if word == "evac" {
-        Some(Movement::Evac)
-    } else if word == "fetch" {
-        Some(Movement::Fetch)
-    } else if word == "carry" {
-        Some(Movement::Carry)
-    } else if word == "commit" {
-        Some(Movement::Commit)
-    } else if word == "install" {
-        Some(Movement::Install)
-    } else if word == "compact" {
-        Some(Movement::Compact)
-    } else if word == "prefetch" {
-        Some(Movement::Prefetch)
-    } else if word == "offload" {
-        Some(Movement::Offload)
-    } else if word == "merge" {
-        Some(Movement::Merge)
-    } else {
-        None
+    match word {
+        "lend" => Some(Movement::Lend),
+        "pin" => Some(Movement::Pin),
+        "unpin" => Some(Movement::Unpin),
+        "evac" => Some(Movement::Evac),
+        "fetch" => Some(Movement::Fetch),
+        "carry" => Some(Movement::Carry),
+        "commit" => Some(Movement::Commit),
+        "install" => Some(Movement::Install),
+        "compact" => Some(Movement::Compact),
+        "prefetch" => Some(Movement::Prefetch),
+        "offload" => Some(Movement::Offload),
+        "merge" => Some(Movement::Merge),
+        _ => None,
     }
 }
 
@@ -88,29 +76,18 @@ fn read_movement(word: &str) -> Option<Movement>
 pub fn read_verb(word: &str) -> Option<Verb>
     ensures { result ≡ verb_of word.now }
 {
-    if word == "insert" {
-        Some(Verb::Insert)
-    } else if word == "set" {
-        Some(Verb::Set)
-    } else if word == "remove" {
-        Some(Verb::Remove)
-    } else if word == "watch" {
-        Some(Verb::Watch)
-    } else if word == "unwatch" {
-        Some(Verb::Unwatch)
-    } else if word == "scan" {
-        Some(Verb::Scan)
-    } else if word == "ask" {
-        Some(Verb::Ask)
-    } else if word == "load" {
-        Some(Verb::Load)
-    } else if word == "dump" {
-        Some(Verb::Dump)
-    } else if word == "renew" {
-        Some(Verb::Renew)
-    } else if word == "recount" {
-        Some(Verb::Recount)
-    } else {
-        Some(Verb::Move(read_movement(word)?))
+    match word {
+        "insert" => Some(Verb::Insert),
+        "set" => Some(Verb::Set),
+        "remove" => Some(Verb::Remove),
+        "watch" => Some(Verb::Watch),
+        "unwatch" => Some(Verb::Unwatch),
+        "scan" => Some(Verb::Scan),
+        "ask" => Some(Verb::Ask),
+        "load" => Some(Verb::Load),
+        "dump" => Some(Verb::Dump),
+        "renew" => Some(Verb::Renew),
+        "recount" => Some(Verb::Recount),
+        _ => Some(Verb::Move(read_movement(word)?)),
     }
 }

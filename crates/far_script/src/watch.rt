@@ -124,7 +124,7 @@ fn test(
     }
 }
 
-/// `COLUMN OPERATOR CONSTANT`
+/// Reads `COLUMN OPERATOR CONSTANT`.
 fn read_test(
     alloc: Global,
     kinds: &[Kind],
@@ -150,7 +150,7 @@ fn read_test(
     )
 }
 
-/// `if COLUMN OPERATOR CONSTANT`, taken off the words.
+/// Takes `if COLUMN OPERATOR CONSTANT` off the words.
 fn take_test(alloc: Global, kinds: &[Kind], words: &mut Words) -> Result<Option<Test>, Refusal>
     requires { is_none words.old ≡ false }
     ensures test { IfOk result (λ found. IfSome found (λ test.
@@ -177,7 +177,7 @@ fn take_test(alloc: Global, kinds: &[Kind], words: &mut Words) -> Result<Option<
     read_test(alloc, kinds, column, operator, constant)
 }
 
-/// `[if COLUMN OPERATOR CONSTANT]..`
+/// Reads `[if COLUMN OPERATOR CONSTANT]..`.
 fn read_tests(alloc: Global, kinds: &[Kind], mut words: Words) -> Result<Option<Vec<Test>>, Refusal>
     ensures tests { IfOk result (λ found. option_map (λ tests. tests.items) found ≡ tests_of kinds.now (words_in words.entry)) }
     ensures memory { IfErr result (λ e. e ≡ Refusal.NoMemory) }

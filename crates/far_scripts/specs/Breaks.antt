@@ -12,8 +12,8 @@ use Rattle.far_commands.specs.Progress.{At}
 use Rattle.far_script.specs.Lines.{Blank, IsOneLine, without_return}
 use Rattle.far_scripts.specs.Scripts.{Answers, Begins, IsNew, Opens}
 
--- bytes that begin with no line that can be answered. Either none has its end, and why no more came is the first argument. Or they are the
--- last line, and at fault; that nothing comes behind it is the second argument. Or the first line is at fault
+-- bytes that begin with no line that can be answered. Either no line has its end: `unseen` is why no more came. Or they are the last line,
+-- and it is at fault: `spent` is that nothing comes behind it. Or the first line is at fault
 abbrev pub HasNoTurn : Type 0 → Type 0 → (List ℕ → List ℕ → Type 0) → List ℕ → Type 0
 HasNoTurn unseen spent fails bytes = (IsOneLine bytes × (unseen ⊎ (spent × fails bytes [])))
     ⊎ ((line : List ℕ) × (behind : List ℕ) × IsOneLine line × (bytes ≡ line ++ 10 ∷ behind) × fails (without_return line) behind)
@@ -30,7 +30,7 @@ IsRefused opened text = ¬ (IsSchema opened.0 × AreLimits opened.1) × (text �
 abbrev pub IsRejected : List ℕ → List ℕ → Type 0
 IsRejected line text = IsUnknown line text ⊎ ((opened : Opened) × (start_in line ≡ Some (Schema opened)) × IsRefused opened text)
 
--- what a fault has printed for a first line: why, where the line is at fault
+-- what a fault has printed for a first line: `why` says it, if the line is at fault
 abbrev pub Rejection : ShellFault → (List ℕ → Type 0) → List ℕ → Type 0
 Rejection fault.BadStart why text = why text
 Rejection fault.Input why text = ⊥
@@ -69,9 +69,9 @@ module _ {K : Type 0} where
   abbrev pub ListsNext : At K → List ℕ → List ℕ → List ℕ → Type 0
   ListsNext at line rest text = ((behind : List ℕ) × (rest ≡ 10 ∷ behind) × Lists at (without_return line) text) ⊎ ((rest ≡ []) × Lists at line text)
 
-  -- what follows the lines that were answered, and what is printed for it. Of an input at fault it is all that came: no whole
-  -- turn. Else it is a line, and where it asks for a dump, a front of it may be printed. The first two arguments say why no more came
-  -- though the end was not seen, and that nothing comes behind. A load lacks bytes by either
+  -- what follows the lines that were answered, and what is printed for it. Of an input at fault it is all that came: no whole turn. Else
+  -- it is a line, and if it asks for a dump, a front of that may be printed. `unseen` is why no more came though the end was not seen, and
+  -- `spent` that nothing comes behind. A load lacks bytes by either
   abbrev pub BreaksIn : Type 0 → Type 0 → ShellFault → At K → List ℕ → List ℕ → List ℕ → Type 0
   BreaksIn unseen spent fault.BadStart at next rest front = ⊥
   BreaksIn unseen spent fault.Input at next rest front = (front ≡ []) × HasNoTurn unseen spent (Fails (spent ⊎ unseen) at.world.state.table.schema) next
@@ -79,7 +79,7 @@ module _ {K : Type 0} where
   BreaksIn unseen spent fault.Memory at next rest front = IsOneLine next × IsFront (ListsNext at next rest) front
   BreaksIn unseen spent fault.Turns at next rest front = ⊥
 
--- the second and the third argument say why no more came
+-- `unseen` and `spent` say why no more came
 module _ {S K : Type 0} (tickets : Tickets S K) (unseen spent : Type 0) where
   -- behind the first command a script breaks off: whole lines are answered, and then no more
   pub record BreaksOff (old : At K) (why : ShellFault) (bytes rest text : List ℕ) : Type 0 where
@@ -93,8 +93,8 @@ module _ {S K : Type 0} (tickets : Tickets S K) (unseen spent : Type 0) where
     pub whole : bytes ≡ before ++ next
     pub said : text ≡ printed ++ front
 
-  -- behind a first command that asks for a table of these columns and limits a script breaks off: the table is not opened, and nothing
-  -- behind the command is read, or the table is opened, and its lines break off
+  -- a script breaks off behind a first command that asks for a table of these columns and limits. Either the table is not opened, and
+  -- nothing behind the command is read. Or the table is opened, and its lines break off
   abbrev pub BreaksServing : Opened → ShellFault → List ℕ → List ℕ → List ℕ → Type 0
   BreaksServing opened why bytes rest text = ((bytes ≡ []) × Rejection why (IsRefused opened) text) ⊎ ((at : At K) × (tail : List ℕ) × IsNew tickets opened at × BreaksOff at why bytes rest tail × (text ≡ codes "ok\n" ++ tail))
 

@@ -19,6 +19,7 @@ pub record Turn : Type 0 where
 abbrev pub bytes_of : Turn → List ℕ
 bytes_of turn = turn.line ++ 10 ∷ turn.rows
 
+-- the text that a turn prints
 abbrev pub text_of : Turn → List ℕ
 text_of turn = turn.text
 
@@ -78,7 +79,7 @@ module _ {S K : Type 0} (tickets : Tickets S K) where
     pub whole : script ≡ bytes ++ last
     pub said : text ≡ printed ++ tail
 
-  -- what a script has behind a first command that asks for a table of these columns and limits is answered: the table is opened, and then
+  -- what a script has behind its first command is answered. That one asks for a table of these columns and limits: it is opened, and then
   -- the lines are answered
   abbrev pub IsServed : Opened → List ℕ → List ℕ → Type 0
   IsServed opened bytes text = (at : At K) × (tail : List ℕ) × IsNew opened at × Ends at bytes tail × (text ≡ codes "ok\n" ++ tail)

@@ -7,12 +7,15 @@ ghost use Rattle.far_scripts.specs.Scripts.{Begins};
 
 use super::lines::MAX_LINES;
 use far_script::opening::first_line;
-use far_script::{FirstLine, Input, Line, Output, ShellFault, Source};
+use far_script::{FirstLine, Input, Line, Output, ShellFault, Sink, Source};
 use std::alloc::Global;
-use std::io::Write;
 
 /// Returns what a first line says. If the line is none, that is printed, and the fault is `BadStart`.
-fn read_first(alloc: Global, line: &str, output: &mut Output) -> Result<FirstLine, ShellFault>
+fn read_first<W: Sink>(
+    alloc: Global,
+    line: &str,
+    output: &mut Output<W>,
+) -> Result<FirstLine, ShellFault>
     ensures first { IfOk result (λ first. start_in line.now ≡ Some (start_of first)) }
     ensures within { IfOk result (λ first. IsWithin (start_of first)) }
     ensures quiet { OnOk result (output.new.page ≡ output.old.page) }
@@ -29,11 +32,11 @@ fn read_first(alloc: Global, line: &str, output: &mut Output) -> Result<FirstLin
     }
 }
 
-/// The first command of a script. Where there is none, or it is no first line, the fault is `BadStart`.
-pub fn first_command<R: Source + Drop, W: Write>(
+/// Returns the first command of a script. If there is none, or it is no first line, the fault is `BadStart`.
+pub fn first_command<R: Source + Drop, W: Sink>(
     alloc: Global,
     input: &mut Input<R>,
-    output: &mut Output,
+    output: &mut Output<W>,
     writer: &mut W,
 ) -> Result<FirstLine, ShellFault>
     ensures ok { IfOk result (λ first. (bytes : List ℕ) × (line : List ℕ) × Reads R.Read input.old bytes input.new × Begins bytes (IsSpent R.Read input.new) line × (start_in line ≡ Some (start_of first))) }

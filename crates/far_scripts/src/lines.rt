@@ -6,19 +6,18 @@ ghost use Rattle.far_scripts.specs.Scripts.{Ends};
 
 use far_commands::{Progress, Resources, answer_line};
 use far_script::bounded::MAX_BYTES;
-use far_script::{Input, Line, Output, ShellFault, Source};
+use far_script::{Input, Line, Output, ShellFault, Sink, Source};
 use far_store::FarStore;
-use std::io::Write;
 
 /// More lines than a script can have: each takes a byte.
 pub const MAX_LINES: u32 = MAX_BYTES + 1;
 
 /// Answers the lines that follow the first command, up to the end of the script.
-pub fn serve_lines<S: FarStore, A: Resources<S>, R: Source + Drop, W: Write>(
+pub fn serve_lines<S: FarStore, A: Resources<S>, R: Source + Drop, W: Sink>(
     resources: &A,
     progress: &mut Progress<S>,
     input: &mut Input<R>,
-    output: &mut Output,
+    output: &mut Output<W>,
     writer: &mut W,
 ) -> Result<(), ShellFault>
     requires first { progress.old.number ≡ 1 }

@@ -1,22 +1,36 @@
 // The table that a first line asks for, as it is opened.
-ghost use Rattle.std.specs.Prelude.{◌≡◌, ◌≢◌, ℕ, List, ◌++◌, codes, IfOk, IfErr, OnOk};
+ghost use Rattle.std.specs.Prelude.{◌≡◌, ◌≢◌, ℕ, List, ◌++◌, codes, IfOk, IfErr, IsErrOf, IsOk, OnOk};
 ghost use Rattle.far_scripts.specs.Breaks.{IsRefused, Rejection};
 ghost use Rattle.far_scripts.specs.Scripts.{IsNew};
 
 use far_commands::{Progress, Resources, open_table};
-use far_script::{Opening, Output, ShellFault};
+use far_script::{Opening, Output, ShellFault, Sink};
 use far_store::FarStore;
 use far_types::Refusal;
 
 /// How many contents the first store of a script takes.
 const STORE_CAPACITY: u64 = 1_048_576;
 
-/// The table that a first line asks for, over a new store. Where the store is refused memory, the fault is `Memory`. Where the table is
+/// Returns the value if its reply was added. If memory ran out instead, the fault is that of the reply, and the value is dropped.
+///
+/// It takes a value of any type. For the proof: a way out that drops a table costs the proof of a function much, and here it costs
+/// none.
+fn once_said<T: Drop>(value: T, said: Result<(), ShellFault>) -> Result<T, ShellFault>
+    ensures ok { IfOk result (λ kept. (kept ≡ value) × IsOk said) }
+    ensures err { IfErr result (IsErrOf said) }
+{
+    match said {
+        Ok(()) => Ok(value),
+        Err(fault) => Err(fault),
+    }
+}
+
+/// Opens the table that a first line asks for, over a new store. If the store cannot be allocated, the fault is `Memory`. If the table is
 /// refused with `BadSchema` (2), that is printed, and the fault is `BadStart`.
-pub fn open<S: FarStore, A: Resources<S>>(
+pub fn open<S: FarStore, A: Resources<S>, W: Sink>(
     resources: &A,
     opening: Opening,
-    output: &mut Output,
+    output: &mut Output<W>,
 ) -> Result<Progress<S>, ShellFault>
     ensures ok { IfOk result (IsNew S.FarTickets (opening.kinds.items, opening.limits)) }
     ensures said { OnOk result (output.new.page ≡ output.old.page ++ codes "ok\n") }
@@ -29,8 +43,8 @@ pub fn open<S: FarStore, A: Resources<S>>(
     };
     match open_table(resources.alloc(), store, opening) {
         Ok(world) => {
-            output.add_text("ok\n")?;
-            Ok(Progress::new(world))
+            let said = output.add_text("ok\n");
+            once_said(Progress::new(world), said)
         }
         Err(Refusal::NoMemory) => Err(ShellFault::Memory),
         Err(refusal) => {

@@ -7,18 +7,17 @@ ghost use Rattle.far_scripts.specs.Scripts.{IsServed};
 use super::lines::serve_lines;
 use super::opening::open;
 use far_commands::Resources;
-use far_script::{Input, Opening, Output, ShellFault, Source};
+use far_script::{Input, Opening, Output, ShellFault, Sink, Source};
 use far_store::FarStore;
-use std::io::Write;
 
-/// Answers a script behind a first command that asks for a table: opens the table over a new store, and answers its lines up to the end
+/// Answers a script behind a first command that asks for a table. Opens the table over a new store, and answers its lines up to the end
 /// of the script. If the store cannot be allocated, the fault is `Memory`. If the table is refused, the refusal is printed, and the fault
 /// is `BadStart`.
-pub fn serve_table<S: FarStore, A: Resources<S>, R: Source + Drop, W: Write>(
+pub fn serve_table<S: FarStore, A: Resources<S>, R: Source + Drop, W: Sink>(
     resources: &A,
     opening: Opening,
     input: &mut Input<R>,
-    output: &mut Output,
+    output: &mut Output<W>,
     writer: &mut W,
 ) -> Result<(), ShellFault>
     ensures ok { OnOk result ((bytes : List ℕ) × (text : List ℕ) × Reads R.Read input.old bytes input.new × Prints (W.contents writer.old) output.old.page text (W.contents writer.new) output.new.page × IsServed S.FarTickets (opening.kinds.items, opening.limits) bytes text × IsSpent R.Read input.new) }
@@ -26,7 +25,13 @@ pub fn serve_table<S: FarStore, A: Resources<S>, R: Source + Drop, W: Write>(
     ensures failed { IfErr result (λ fault. fault ≡ ShellFault.Output → has_failed output.new ≡ true) }
     ensures asked { input.new.source.reads ≤ input.old.source.reads }
 {
-    let mut progress = open(resources, opening, output)?;
-    serve_lines(resources, &mut progress, input, output, writer)?;
-    Ok(())
+    match open(resources, opening, output) {
+        Ok(mut progress) => {
+            let served = serve_lines(resources, &mut progress, input, output, writer);
+            // For the proof: a call drops the table, since a function that drops it itself is long to prove.
+            drop(progress);
+            served
+        }
+        Err(fault) => Err(fault),
+    }
 }

@@ -5,13 +5,14 @@ use Rattle.far_history.specs.Histories.{Planned, IsLegal, by_session}
 use Rattle.far_history.specs.Sessions.{SessionState, newcomer}
 use Rattle.far_sessions.specs.Cells.{four}
 
--- what it knows of each history
+-- what a session knows of each history
 pub record Known : Type 0 where
   pub zeroth : SessionState
   pub first : SessionState
   pub second : SessionState
   pub third : SessionState
 
+-- what a session knows of history s
 abbrev pub at : Known → ℕ → SessionState
 at s = four s.zeroth s.first s.second s.third
 

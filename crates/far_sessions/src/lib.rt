@@ -1,6 +1,6 @@
 #![tactic(auto)]
-//! Sessions of four histories that threads share: what each session knows of each history, what keeps a history beside its
-//! table, and the gauges that are read without a stripe's lock.
+//! Sessions of four histories that threads share: what each session knows of each history, and what keeps a history beside its
+//! table. Also the gauges that are read without a stripe's lock.
 //!
 //! The crate knows no table. Whoever has a table under a lock puts the [`Keeper`] of its history beside it.
 

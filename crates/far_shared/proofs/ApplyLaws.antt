@@ -1,4 +1,4 @@
--- What a session is told of an edit, from what the stripe says of it.
+-- What is known of an edit of a session, from what the stripe says of it.
 use Rattle.std.proofs.Common.{◌≡◌, List, [], ◌∷◌, ◌++◌, length, sym, ap, subst, ◌∙◌, Result, IfOk, IfErr, OnOk, OnErr}
 use Rattle.std.specs.declared.result.Result.TheVariants.{Ok, Err}
 use mathlib.Core.List.{IsPrefix}

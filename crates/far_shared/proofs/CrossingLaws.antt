@@ -1,4 +1,5 @@
--- Tables may go from thread to thread, and threads may share four of them, where the store's tickets may. The row groups of a key lie in a tree, and rattle shows neither of a type that has a tree in it.
+-- Tables may go from thread to thread, and threads may share four of them, if the store's tickets may. The row groups of a key lie in a
+-- tree, and rattle shows neither of a type that has a tree in it.
 use denote.RattleType.{RattleType}
 use denote.Struct.Struct.{Struct}
 use denote.Struct.Declared as declared

@@ -18,8 +18,9 @@ use Rattle.far_frame.specs.State.{State as Whole, live}
 use Rattle.far_frame.specs.declared.step.Reply.{Reply}
 use Rattle.far_frame.specs.declared.step.Reply.TheVariants as reply
 use Rattle.far_frame.specs.declared.step.Step.TheVariants as step
+use Rattle.far_frame.proofs.FirstLaws.{AllTell, found-plain}
+use Rattle.far_frame.proofs.PlainLaws.{plain-accepts}
 use Rattle.far_shared.specs.Applying.{IsOfObjects, WhyNot, place_of, places_cells}
-use Rattle.far_shared.proofs.FirstLaws.{AllTell, free-plain, found-plain}
 
 first-holds : (a b : Bool) → (a && b) ≡ true → a ≡ true
 first-holds true b both = refl
@@ -41,15 +42,11 @@ module _ {K : Type 0} (s : State K) (column_indexes : length s.rows.column_index
   same-group (edit.Set p c cell) = refl
   same-group (edit.Remove p) = refl
 
-  -- what a table over objects accepts, the plain table accepts
-  pub plain-accepts : (e : Edit) → edit_due s e ≡ None → edit_refusal s.table e ≡ None
-  plain-accepts e free = free-plain (edit_faults s.table.schema s.table.limits s.table.places e) (absents s.rows (group_of s e)) (no_space s e) _ _ free
-
   pub plain-refuses : (e : Edit) (given : Refusal) → MayRefuse (edit_due s e) true given → WhyNot s.table e given
   plain-refuses e given may = by (edit_due s e) refl may
     where
       by : (due : Option Refusal) → edit_due s e ≡ due → MayRefuse due true given → WhyNot s.table e given
-      by None is may = inr (inr (plain-accepts e is, may.0))
+      by None is may = inr (inr (plain-accepts s e is, may.0))
       by (Some due) is may =
           let found : edit_due s e ≡ Some given = rw may is in
           let some : Bool = places_cells s.table.schema e in
@@ -65,7 +62,7 @@ module _ {K : Type 0} (s : State K) (column_indexes : length s.rows.column_index
 
 module _ {K : Type 0} (content : K → List ℕ) (old new : Whole K) (column_indexes : length old.rows.column_indexes ≡ length old.table.schema) where
   pub made-free : (e : Edit) (given : Reply) → Accepts content old (step.Edit e) given new → edit_refusal old.table e ≡ None
-  made-free e given h = plain-accepts (live old) column_indexes e h.1.changed.due
+  made-free e given h = plain-accepts (live old) e h.1.changed.due
 
   -- the reply to an edit that is made is the plain table's
   pub made-accepted : (e : Edit) (given : Reply) → Accepts content old (step.Edit e) given new → Accepts content old (step.Edit e) (edit_reply old.table e) new

@@ -52,7 +52,7 @@ left-registered spec table some =
 abbrev no_aggregate : Option Registered
 no_aggregate = None
 
--- where nothing is registered, nothing is left
+-- if nothing is registered, nothing is left
 pub empty-few : (n a : ℕ) → pending_in (joined (slice_get (replicate n no_aggregate) a)) ≤ 2 ^ 24
 empty-few zero a = zero-least (2 ^ 24)
 empty-few (suc n) zero = zero-least (2 ^ 24)

@@ -3,7 +3,6 @@ mod AskLaws
 mod ColumnLaws
 pub mod CrossingLaws
 mod EditLaws
-mod FirstLaws
 mod LeftLaws
 mod MergeLaws
 mod NumberLaws

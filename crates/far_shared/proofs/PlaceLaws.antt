@@ -17,7 +17,7 @@ use Rattle.far_aggregates.proofs.GroupLaws.{length-changed}
 use Rattle.far_history.specs.Histories.{replay_on, IsLegalOn}
 use Rattle.far_history.specs.declared.view.Entry.{Entry}
 
--- the fourth of some tests refuses nothing, where none does
+-- the fourth of some tests refuses nothing, if none does
 fourth-free : (a b c d : Bool) (q r s t : Refusal) (rest : List (Bool × Refusal)) → first_of ((a, q) ∷ (b, r) ∷ (c, s) ∷ (d, t) ∷ rest) ≡ None → d ≡ false
 fourth-free true b c d q r s t rest free = absurd (let some : Some q ≡ None = free in cc)
 fourth-free false true c d q r s t rest free = absurd (let some : Some r ≡ None = free in cc)

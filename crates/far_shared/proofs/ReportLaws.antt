@@ -14,7 +14,7 @@ sum-mapped : {X : Type 0} (f : X → ℕ) (xs : List X) → sum (map f xs) ≡ s
 sum-mapped f [] = refl
 sum-mapped f (x ∷ xs) = (let e = sum_by-cons f x xs in let d = sum_by-cons (λ (n : ℕ). n) (f x) (map f xs) in let h = sum-mapped f xs in omega arith)
 
--- where each result counts its chunk, all count the whole
+-- if each result counts its chunk, all count the whole
 pub counts-all : {X R : Type 0} (f : R → ℕ) (size : ℕ) (xs : List X) (rs : List R) (d : R) → 0 < size → length rs ≡ length xs / size + min 1 (length xs % size) → ((n : ℕ) → n < length rs → f (get_or rs n d) ≡ length (slice_chunk xs size n)) → sum_by f rs ≡ length xs
 counts-all f size xs rs d some len each =
     sym (sum-mapped f rs)

@@ -29,7 +29,7 @@ none-found (Some x) None f h b some same = absurd cc
 none-found (Some x) (Some y) f h true some same = absurd cc
 none-found (Some x) (Some y) f h false some same = refl
 
--- what holds anyway holds where a call is refused
+-- what holds anyway holds if a call is refused
 pub at-err : {A E P : Type 0} (r : Result A E) → P → OnErr r P
 at-err (Ok x) p = tt
 at-err (Err e) p = p
@@ -46,15 +46,15 @@ module _ (xs : List (Option Registered)) (a : ℕ) (within : a < length xs) wher
   column_index : joined (slice_get xs a) ≡ get_or xs a None
   column_index = ap joined (slice_get-get_or xs a None within)
 
-  -- the lowest free number from one on, where it is free
+  -- the lowest free number from one on, if it is free
   pub free-here : is_none (joined (slice_get xs a)) ≡ true → free_from a (drop a xs) ≡ Some a
   free-here free = ap (free_from a) (drop_more xs a None within) ∙ free-head a (get_or xs a None) (drop (a + 1) xs) (ap is_none (sym column_index) ∙ free)
 
-  -- where it is taken, it is the lowest from the next one on
+  -- if it is taken, it is the lowest from the next one on
   pub free-past : is_none (joined (slice_get xs a)) ≡ false → free_from a (drop a xs) ≡ free_from (a + 1) (drop (a + 1) xs)
   free-past taken = ap (free_from a) (drop_more xs a None within) ∙ taken-head a (get_or xs a None) (drop (a + 1) xs) (ap is_none (sym column_index) ∙ taken)
 
--- where all are taken, none is free
+-- if all are taken, none is free
 pub free-end : (xs : List (Option Registered)) (a : ℕ) → length xs ≤ a → free_from a (drop a xs) ≡ None
 free-end xs a past = ap (free_from a) (drop_all a xs past)
 
@@ -71,7 +71,7 @@ set-back n m (None ∷ xs) (suc a) x free at = absurd (let same : n ≡ m = cc i
 set-back n m (Some r ∷ xs) zero x free at = absurd (let past = free-within (n + 1) xs m free in omega (arith, past.0, at))
 set-back n m (Some r ∷ xs) (suc a) x free at = ap (λ (rest : List (Option Registered)). Some r ∷ rest) (set-back (n + 1) m xs a x free (omega (arith, at)))
 
--- nothing is taken out where nothing is
+-- nothing is taken out if nothing is there
 set-nothing : (xs : List (Option Registered)) (a : ℕ) → joined (slice_get xs a) ≡ None → slice_set xs a None ≡ xs
 set-nothing [] a none = refl
 set-nothing (x ∷ xs) zero none = ap (λ (y : Option Registered). y ∷ xs) (sym none)
@@ -113,7 +113,7 @@ module _ {K : Type 0} (content : K → List ℕ) (old new : State K) where
       λ i. record { table = (h.2.changed.state i).table; rows = (h.2.changed.state i).rows; accesses = h.2.accesses i } in
       (subst (λ (n : ℕ). lowest_free old.table ≡ Some n) same h.2.changed.number, ap (held log) moved ∙ ap (λ (n : ℕ). registered n spec (held log old)) same)
 
-  -- what is left where an aggregate was to be forgotten, whether there was one or none
+  -- what is left if an aggregate was to be forgotten, whether there was one or none
   pub forgotten : (a : ℕ) (r : Result Unit Refusal) → OnOk r (Accepts content old (step.Unwatch a) reply.Done new) → IfErr r (λ e. Refuses old (step.Unwatch a) e new) → new ≡ record old { table = with_aggregate a None old.table }
   forgotten a (Ok x) done refused = λ i. record { table = (done.1.changed.state i).table; rows = (done.1.changed.state i).rows; accesses = done.1.accesses i }
   forgotten a (Err e) done refused =

@@ -44,7 +44,7 @@ same-keeps old new e = record {
   fewer = λ a. no-more _ _ (ap (λ (t : Table). pending_in (aggregate_at t a)) e);
 }
 
--- what a call says where it is done holds of its result
+-- what a call says if it is done holds of its result
 pub either-carried : {A : Type 0} (r : Result A Refusal) (P Q : Type 0) → (P → Q) → OnOk r P → OnOk r Q
 either-carried (Ok x) P Q f is = f is
 either-carried (Err e) P Q f is = tt
@@ -107,7 +107,7 @@ module _ {K : Type 0} where
   installs-keeps number_of content old (work_of.Offload build) new h = absurd h
   installs-keeps number_of content old (work_of.Offloaded build) new h = absurd h
 
-  -- a call that keeps the rows where it is done, and changes nothing if it is refused
+  -- a call that keeps the rows if it is done, and changes nothing if it is refused
   pub either-keeps : {A : Type 0} (r : Result A Refusal) (old new : State K) (P : A → Type 0) (Q : Refusal → Type 0) → ((x : A) → P x → KeepsRows old.table new.table) → ((e : Refusal) → Q e → new ≡ old) → IfOk r P → IfErr r Q → KeepsRows old.table new.table
   either-keeps (Ok x) old new P Q f g done refused = f x done
   either-keeps (Err e) old new P Q f g done refused = same-keeps old.table new.table (ap (λ (s : State K). s.table) (g e refused))

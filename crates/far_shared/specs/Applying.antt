@@ -34,15 +34,15 @@ places_cells schema (edit.Set p c cell) = is_text (slice_get schema c)
 places_cells schema (edit.Remove p) = false
 
 -- a refusal that the plain table does not know, since none of its objects is ever away and it has space for all. An object of a
--- column of the schema is away, in the row group that the edit writes; or there is no space for what the edit places, although
+-- column of the schema is away, in the row group that the edit writes. Or there is no space for what the edit places, although
 -- no text object would be too long
 abbrev pub IsOfObjects : (columns group : ℕ) (places_some is_too_long : Bool) → Refusal → Type 0
 IsOfObjects columns group places_some is_too_long (refusal.Absent c g) = (c < columns) × (g ≡ group)
 IsOfObjects columns group places_some is_too_long refusal.RegionFull = (places_some ≡ true) × (is_too_long ≡ false)
 IsOfObjects columns group places_some is_too_long _ = ⊥
 
--- why an edit of a table over objects is refused: the plain table refuses it for that reason; or it has no fault of its own,
--- and its objects prevent it; or the plain table accepts it, and memory ran out
+-- why an edit of a table over objects is refused. The plain table refuses it for that reason. Or it has no fault of its own, and its
+-- objects prevent it. Or the plain table accepts it, and memory ran out
 abbrev pub WhyNot : Table → Edit → Refusal → Type 0
 WhyNot table e given = (edit_refusal table e ≡ Some given)
     ⊎ (((first_of (edit_faults table.schema table.limits table.places e) ≡ None) × IsOfObjects (length table.schema) (place_of table e / table.limits.group) (places_cells table.schema e) (overfills table.schema table.limits e table.places) given)

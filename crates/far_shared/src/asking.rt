@@ -16,7 +16,11 @@ use std::sync::{RwLock, RwLockReadGuard, Wait};
 ///
 /// ```
 /// match shared.scope(rt, stripe) {
-///     Ok(scope) => first_number(&scope.view()),
+///     Ok(scope) => {
+///         let seen = first_row(&scope.view(), signals, times);
+///         drop(scope);
+///         seen
+///     }
 ///     Err(refusal) => Err(refusal),
 /// }
 /// ```
@@ -84,7 +88,7 @@ fn read_under<'a, N: PlanTag, B: TableTag, S: FarTickets, const I: usize, R: Wai
 ) -> RwLockReadGuard<'a, Stripe<N, B, S, I>>
     requires own { stripe ≡ I }
 {
-    // For the proof: which stripe the lock is of.
+    // For the proof: gives which stripe the lock is of.
     let _own = stripe;
     lock.read(rt)
 }

@@ -19,8 +19,8 @@ impl<N: PlanTag, B: TableTag, S: FarTickets, const I: usize> Stripe<N, B, S, I> 
     /// Begins a work; `None` if there is nothing to do. Changes nothing.
     ///
     /// - An evacuation is refused with `NoMemory` (1) alone.
-    /// - A fetch is refused with the first of these that applies: `NoColumn` (4), `OutOfRange` (14) if no place of the row
-    ///   group is used, `StaleJob` (20) if the object is local.
+    /// - A fetch is refused with `NoColumn` (4). Else with `OutOfRange` (14) if no place of the row group is used, and with `StaleJob`
+    ///   (20) if the object is local.
     /// - A build is refused with `StaleJob` (20) if an object that its aggregate needs is dirty, and with `NoMemory` (1).
     pub fn begin(&self, store: &S, work: &Work) -> Result<Option<Job<S>>, Refusal>
         requires store { S.store_id store.now ≡ B.store }

@@ -65,7 +65,7 @@ impl<N: PlanTag, B: TableTag, S: FarTickets, const I: usize> Stripe<N, B, S, I> 
         ensures err { OnErr result (self.new ≡ self.old) }
         ensures refused { IfErr result (WatchRefusal N.plan.schema spec) }
     {
-        // For the proof: a legal history leaves few places, so few row groups are pending.
+        // For the proof: gives that a legal history leaves few places, so few row groups are pending.
         self.keeper.known();
         self.frame.watch(spec)
     }

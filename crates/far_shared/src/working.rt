@@ -54,8 +54,8 @@ fn fetch_on<S: FarTickets>(frame: &Frame<S>, store: &S, name: Name) -> Result<Jo
 /// Begins a work; `None` if there is nothing to do. Changes nothing.
 ///
 /// - An evacuation is refused with `NoMemory` (1) alone.
-/// - A fetch is refused with the first of these that applies: `NoColumn` (4), `OutOfRange` (14) if no place of the row group is
-///   used, `StaleJob` (20) if the object is local.
+/// - A fetch is refused with `NoColumn` (4). Else with `OutOfRange` (14) if no place of the row group is used, and with `StaleJob` (20) if
+///   the object is local.
 /// - A build is refused as `build_on` says.
 pub(crate) fn begin_on<S: FarTickets>(
     frame: &Frame<S>,

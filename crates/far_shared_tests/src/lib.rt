@@ -1,6 +1,7 @@
 #![tactic(auto)]
 //! Tests of `far_shared`: what no clause says, that is, that calls are served, what threads see of one another, and that worked
 //! examples come out as they should. A test names a scene: a table, a store and what each session does, as data.
+//! A job, a lock and a store are dropped by a call of `drop`: the proof of a function that drops one itself is long.
 
 #[cfg(test)]
 mod concurrent;

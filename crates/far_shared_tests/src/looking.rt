@@ -8,26 +8,21 @@ use far_shared::{Shared, TableTag};
 use far_store::FarTickets;
 use std::sync::Wait;
 
-// The number that is lent of a first place.
-fn first_number<S: FarTickets>(view: &View<'_, S>) -> Replied {
-    let mut lents = view.ints(0, 0, 1)?;
-    let Some(lent) = lents.next() else {
-        return Ok(Reply::Nothing);
-    };
-    match lent.values {
+// The one number of a part.
+fn number_in(values: &[Option<i64>]) -> Replied {
+    match values {
         [Some(number)] => Ok(Reply::Lent(*number)),
         _ => Ok(Reply::Nothing),
     }
 }
 
-// The number that is lent of a stripe's first place.
-pub fn lend<N: PlanTag, B: TableTag, S: FarTickets, R: Wait>(
-    rt: &R,
-    shared: &Shared<N, B, S>,
-    stripe: u32,
-) -> Replied {
-    match shared.scope(rt, stripe) {
-        Ok(scope) => first_number(&scope.view()),
+// The number that is lent of a first place.
+fn first_number<S: FarTickets>(view: &View<'_, S>) -> Replied {
+    match view.ints(0, 0, 1) {
+        Ok(mut lents) => match lents.next() {
+            Some(lent) => number_in(lent.values),
+            None => Ok(Reply::Nothing),
+        },
         Err(refusal) => Err(refusal),
     }
 }
@@ -39,16 +34,28 @@ fn look_later<S: FarTickets>(view: &View<'_, S>, signals: &Signals, times: u64) 
     waited(is_told && view.is_alive(0).is_some())
 }
 
-// Locks a stripe for reading, sends a signal, and unlocks the stripe when so many signals were sent.
-pub fn hold<N: PlanTag, B: TableTag, S: FarTickets, R: Wait>(
+// Looks at the first row: at once, or when so many signals were sent.
+fn first_row<S: FarTickets>(view: &View<'_, S>, signals: &Signals, times: Option<u64>) -> Replied {
+    match times {
+        Some(times) => look_later(view, signals, times),
+        None => first_number(view),
+    }
+}
+
+// Locks a stripe for reading, looks at its first row, at once or when so many signals were sent, and unlocks the stripe.
+pub fn look<N: PlanTag, B: TableTag, S: FarTickets, R: Wait>(
     rt: &R,
     shared: &Shared<N, B, S>,
     signals: &Signals,
     stripe: u32,
-    times: u64,
+    times: Option<u64>,
 ) -> Replied {
     match shared.scope(rt, stripe) {
-        Ok(scope) => look_later(&scope.view(), signals, times),
+        Ok(scope) => {
+            let seen = first_row(&scope.view(), signals, times);
+            drop(scope);
+            seen
+        }
         Err(refusal) => Err(refusal),
     }
 }

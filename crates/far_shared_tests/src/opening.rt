@@ -82,10 +82,15 @@ fn on_agent<R: Threads + Wait + Sync>(
     alloc: Global,
     scene: &Scene,
 ) -> Result<bool, Refusal> {
-    let made = AgentStore::new(rt, alloc, CAPACITY);
-    made.and_then(|store: AgentStore<&R>| -> Result<bool, Refusal> {
-        staged(rt, alloc, &gate_of(store, scene.gate), scene)
-    })
+    match AgentStore::new(rt, alloc, CAPACITY) {
+        Ok(store) => {
+            let gated = gate_of(store, scene.gate);
+            let answer = staged(rt, alloc, &gated, scene);
+            drop(gated);
+            answer
+        }
+        Err(refusal) => Err(refusal),
+    }
 }
 
 // Returns whether a scene comes out. If the first run of it was out of memory, it is played a second time.

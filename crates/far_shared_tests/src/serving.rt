@@ -2,7 +2,7 @@
 ghost use Rattle.std.specs.Prelude.{◌≡◌};
 
 use crate::gates::{Gated, awaits_put};
-use crate::looking::{hold, lend};
+use crate::looking::look;
 use crate::phases::complete_work;
 use crate::plans::{all_numbers, keyed_row, row_of};
 use crate::replies::{applied, built, done, moved, numbered, read, told, told_by_key, waited};
@@ -72,8 +72,8 @@ fn serve_here<N: PlanTag, B: TableTag, S: FarTickets, R: Wait>(
 ) -> Replied {
     match step {
         Step::Gauge(stripe) => read(shared.cells().gauge(rt, me, stripe)),
-        Step::Lend(stripe) => lend(rt, shared, stripe),
-        Step::Hold(stripe, times) => hold(rt, shared, signals, stripe, times),
+        Step::Lend(stripe) => look(rt, shared, signals, stripe, None),
+        Step::Hold(stripe, times) => look(rt, shared, signals, stripe, Some(times)),
         Step::Ask(a) => told(shared.ask_all(rt, a)),
         Step::AskByKey(a) => told_by_key(shared.ask_all(rt, a)),
         Step::Watch | Step::WatchTotals | Step::WatchByKey => numbered(shared.watch_all(

@@ -1,5 +1,5 @@
 -- What was printed of a script up to a fault.
-use Rattle.std.proofs.Common.{◌≡◌, ◌+◌, ◌≤◌, ◌<◌, ℕ, ◌⊎◌, inl, inr, List, [], ◌++◌, length, length-append, append-nil, Option, Some, None, ◌∙◌, refl, ap, subst, arith}
+use Rattle.std.proofs.Common.{◌≡◌, ◌≢◌, ◌+◌, ◌≤◌, ◌<◌, ℕ, ◌⊎◌, inl, inr, Bool, false, IsTrue, List, [], ◌++◌, length, length-append, append-nil, Option, Some, None, ◌∙◌, refl, ap, subst, arith}
 use Rattle.std.specs.Prelude.{IfSome, unwrap_or}
 use Rattle.std.proofs.KnownBytes.{Appends-nil}
 use Rattle.std.specs.declared.io.traits.Read.{Ghosts}
@@ -38,13 +38,13 @@ broken-later tickets unseen spent fault.Output bytes rest text h = inr h
 broken-later tickets unseen spent fault.Memory bytes rest text h = inr h
 broken-later tickets unseen spent fault.Turns bytes rest text h = absurd h.breaks.cut
 
-ends-by : {S K : Type 0} (tickets : Tickets S K) (unseen spent : List ℕ → Type 0) (splits : ShellFault → List ℕ → List ℕ → Type 0) (why : ShellFault) (bytes rest text lost : List ℕ) → splits why bytes rest → IsBroken tickets unseen spent why bytes rest text → lost ≡ []
-    → EndsBy tickets unseen spent splits why bytes rest text lost
-ends-by tickets unseen spent splits fault.BadStart bytes rest text lost begins h none = (h, none)
-ends-by tickets unseen spent splits fault.Input bytes rest text lost begins h none = (h, none)
-ends-by tickets unseen spent splits fault.Output bytes rest text lost begins h none = inr (fault.Output, begins, h)
-ends-by tickets unseen spent splits fault.Memory bytes rest text lost begins h none = (h, none)
-ends-by tickets unseen spent splits fault.Turns bytes rest text lost begins h none = (h, none)
+ends-by : {S K : Type 0} (tickets : Tickets S K) (unseen spent : List ℕ → Type 0) (splits : ShellFault → List ℕ → List ℕ → Type 0) (may_fail : Bool) (why : ShellFault) (bytes rest text lost : List ℕ) → (why ≡ fault.Output → IsTrue may_fail) → splits why bytes rest → IsBroken tickets unseen spent why bytes rest text → lost ≡ []
+    → EndsBy tickets unseen spent splits may_fail why bytes rest text lost
+ends-by tickets unseen spent splits may_fail fault.BadStart bytes rest text lost cause begins h none = (h, none)
+ends-by tickets unseen spent splits may_fail fault.Input bytes rest text lost cause begins h none = (h, none)
+ends-by tickets unseen spent splits may_fail fault.Output bytes rest text lost cause begins h none = (cause refl, inr (fault.Output, begins, h))
+ends-by tickets unseen spent splits may_fail fault.Memory bytes rest text lost cause begins h none = (h, none)
+ends-by tickets unseen spent splits may_fail fault.Turns bytes rest text lost cause begins h none = (h, none)
 
 module _ {R : Type 0} (read : Ghosts R) {S K : Type 0} (tickets : Tickets S K) (unseen : Type 0) where
   -- how a script breaks off
@@ -89,25 +89,25 @@ module _ {R : Type 0} (read : Ghosts R) {S K : Type 0} (tickets : Tickets S K) (
   )
 
 -- a script is broken off, and what was printed is written
-pub breaks-written : {S K : Type 0} (tickets : Tickets S K) (unseen spent : List ℕ → Type 0) (splits : ShellFault → List ℕ → List ℕ → Type 0) (u v w : Option (List ℕ)) (why : ShellFault) (bytes rest text left : List ℕ) → splits why bytes rest → Prints u [] text v left → IsBroken tickets unseen spent why bytes rest text
-    → Prints v left [] w [] → Breaks tickets unseen spent splits u w why
-breaks-written tickets unseen spent splits u v w why bytes rest text left begins p b q =
+pub breaks-written : {S K : Type 0} (tickets : Tickets S K) (unseen spent : List ℕ → Type 0) (splits : ShellFault → List ℕ → List ℕ → Type 0) (may_fail : Bool) (u v w : Option (List ℕ)) (why : ShellFault) (bytes rest text left : List ℕ) → (why ≡ fault.Output → IsTrue may_fail) → splits why bytes rest → Prints u [] text v left → IsBroken tickets unseen spent why bytes rest text
+    → Prints v left [] w [] → Breaks tickets unseen spent splits may_fail u w why
+breaks-written tickets unseen spent splits may_fail u v w why bytes rest text left cause begins p b q =
     let all = prints-then-nothing u v w [] text left [] p q in
-    record { bytes = bytes; rest = rest; begins = begins; text = text; sent = all.0; lost = []; written = all.1; said = all.2; ends = ends-by tickets unseen spent splits why bytes rest text [] begins b refl }
+    record { bytes = bytes; rest = rest; begins = begins; text = text; sent = all.0; lost = []; written = all.1; said = all.2; ends = ends-by tickets unseen spent splits may_fail why bytes rest text [] cause begins b refl }
 
 -- a script is broken off, and then a write fails
-pub breaks-unwritten : {S K : Type 0} (tickets : Tickets S K) (unseen spent : List ℕ → Type 0) (splits : ShellFault → List ℕ → List ℕ → Type 0) (u v w : Option (List ℕ)) (why : ShellFault) (bytes rest text left lost : List ℕ) → splits fault.Output bytes rest → splits why bytes rest → Prints u [] text v left → IsBroken tickets unseen spent why bytes rest text
-    → Prints v left [] w lost → Breaks tickets unseen spent splits u w fault.Output
-breaks-unwritten tickets unseen spent splits u v w why bytes rest text left lost begins split p b q =
+pub breaks-unwritten : {S K : Type 0} (tickets : Tickets S K) (unseen spent : List ℕ → Type 0) (splits : ShellFault → List ℕ → List ℕ → Type 0) (may_fail : Bool) (u v w : Option (List ℕ)) (why : ShellFault) (bytes rest text left lost : List ℕ) → IsTrue may_fail → splits fault.Output bytes rest → splits why bytes rest → Prints u [] text v left → IsBroken tickets unseen spent why bytes rest text
+    → Prints v left [] w lost → Breaks tickets unseen spent splits may_fail u w fault.Output
+breaks-unwritten tickets unseen spent splits may_fail u v w why bytes rest text left lost cause begins split p b q =
     let all = prints-then-nothing u v w [] text left lost p q in
-    record { bytes = bytes; rest = rest; begins = begins; text = text; sent = all.0; lost = lost; written = all.1; said = all.2; ends = inr (why, split, b) }
+    record { bytes = bytes; rest = rest; begins = begins; text = text; sent = all.0; lost = lost; written = all.1; said = all.2; ends = (cause, inr (why, split, b)) }
 
 -- a script is answered, and then a write fails
-pub whole-unwritten : {S K : Type 0} (tickets : Tickets S K) (unseen spent : List ℕ → Type 0) (splits : ShellFault → List ℕ → List ℕ → Type 0) (u v w : Option (List ℕ)) (script rest text left lost : List ℕ) → splits fault.Output script rest → Prints u [] text v left → IsAnswered tickets script (rest ≡ []) text → Prints v left [] w lost
-    → Breaks tickets unseen spent splits u w fault.Output
-whole-unwritten tickets unseen spent splits u v w script rest text left lost begins p s q =
+pub whole-unwritten : {S K : Type 0} (tickets : Tickets S K) (unseen spent : List ℕ → Type 0) (splits : ShellFault → List ℕ → List ℕ → Type 0) (may_fail : Bool) (u v w : Option (List ℕ)) (script rest text left lost : List ℕ) → IsTrue may_fail → splits fault.Output script rest → Prints u [] text v left → IsAnswered tickets script (rest ≡ []) text → Prints v left [] w lost
+    → Breaks tickets unseen spent splits may_fail u w fault.Output
+whole-unwritten tickets unseen spent splits may_fail u v w script rest text left lost cause begins p s q =
     let all = prints-then-nothing u v w [] text left lost p q in
-    record { bytes = script; rest = rest; begins = begins; text = text; sent = all.0; lost = lost; written = all.1; said = all.2; ends = inl s }
+    record { bytes = script; rest = rest; begins = begins; text = text; sent = all.0; lost = lost; written = all.1; said = all.2; ends = (cause, inl s) }
 
 -- what holds at each fault
 pub always : (why : ShellFault) (P : Type 0) → P → IfInput why P
@@ -132,16 +132,16 @@ module _ {S K : Type 0} (tickets : Tickets S K) (P Q A B : List ℕ → Type 0) 
   unwritten-as bytes rest text (inl h) = inl h
   unwritten-as bytes rest text (inr h) = inr (h.0, g h.0 bytes rest h.1, broken-as tickets P Q A B h.0 bytes rest text (f h.0 bytes rest h.1) (s rest) h.2)
 
-  ends-as : (why : ShellFault) (bytes rest text lost : List ℕ) → splits why bytes rest → EndsBy tickets P A splits why bytes rest text lost → EndsBy tickets Q B others why bytes rest text lost
-  ends-as fault.BadStart bytes rest text lost begins h = h
-  ends-as fault.Input bytes rest text lost begins h = (broken-as tickets P Q A B fault.Input bytes rest text (f fault.Input bytes rest begins) (s rest) h.0, h.1)
-  ends-as fault.Output bytes rest text lost begins h = unwritten-as bytes rest text h
-  ends-as fault.Memory bytes rest text lost begins h = (broken-as tickets P Q A B fault.Memory bytes rest text tt (s rest) h.0, h.1)
-  ends-as fault.Turns bytes rest text lost begins h = h
+  ends-as : (may_fail : Bool) (why : ShellFault) (bytes rest text lost : List ℕ) → splits why bytes rest → EndsBy tickets P A splits may_fail why bytes rest text lost → EndsBy tickets Q B others may_fail why bytes rest text lost
+  ends-as may_fail fault.BadStart bytes rest text lost begins h = h
+  ends-as may_fail fault.Input bytes rest text lost begins h = (broken-as tickets P Q A B fault.Input bytes rest text (f fault.Input bytes rest begins) (s rest) h.0, h.1)
+  ends-as may_fail fault.Output bytes rest text lost begins h = (h.0, unwritten-as bytes rest text h.1)
+  ends-as may_fail fault.Memory bytes rest text lost begins h = (broken-as tickets P Q A B fault.Memory bytes rest text tt (s rest) h.0, h.1)
+  ends-as may_fail fault.Turns bytes rest text lost begins h = h
 
   -- the same in other words, and of another split
-  pub breaks-as : (u v : Option (List ℕ)) (why : ShellFault) → Breaks tickets P A splits u v why → Breaks tickets Q B others u v why
-  breaks-as u v why b = record {
+  pub breaks-as : (may_fail : Bool) (u v : Option (List ℕ)) (why : ShellFault) → Breaks tickets P A splits may_fail u v why → Breaks tickets Q B others may_fail u v why
+  breaks-as may_fail u v why b = record {
     bytes = b.bytes;
     rest = b.rest;
     begins = g why b.bytes b.rest b.begins;
@@ -150,7 +150,7 @@ module _ {S K : Type 0} (tickets : Tickets S K) (P Q A B : List ℕ → Type 0) 
     lost = b.lost;
     written = b.written;
     said = b.said;
-    ends = ends-as why b.bytes b.rest b.text b.lost b.begins b.ends;
+    ends = ends-as may_fail why b.bytes b.rest b.text b.lost b.begins b.ends;
   }
 
 -- as many bytes came as reads are made
@@ -179,13 +179,17 @@ short-unfinished script bytes rest low split (inl h) = h
 short-unfinished script bytes rest low split (inr many) = omega (arith, low, many, ap (λ (t : List ℕ). length t) split, length-append bytes rest)
 
 -- all bytes of a short script come
-pub short-whole : {S K : Type 0} (tickets : Tickets S K) (script : List ℕ) (u v : Option (List ℕ)) (why : ShellFault) → length script < 1048576 → Breaks tickets (IsUnfinished ⊥) (λ rest. rest ≡ []) (λ _ bytes rest. script ≡ bytes ++ rest) u v why
-    → Breaks tickets (λ _. ⊥) (λ rest. rest ≡ []) (λ _ bytes rest. script ≡ bytes ++ rest) u v why
-short-whole tickets script u v why low b =
+pub short-whole : {S K : Type 0} (tickets : Tickets S K) (may_fail : Bool) (script : List ℕ) (u v : Option (List ℕ)) (why : ShellFault) → length script < 1048576 → Breaks tickets (IsUnfinished ⊥) (λ rest. rest ≡ []) (λ _ bytes rest. script ≡ bytes ++ rest) may_fail u v why
+    → Breaks tickets (λ _. ⊥) (λ rest. rest ≡ []) (λ _ bytes rest. script ≡ bytes ++ rest) may_fail u v why
+short-whole tickets may_fail script u v why low b =
     breaks-as tickets (IsUnfinished ⊥) (λ _. ⊥) (λ rest. rest ≡ []) (λ rest. rest ≡ []) (λ _ bytes rest. script ≡ bytes ++ rest) (λ _ bytes rest. script ≡ bytes ++ rest)
-    (λ at bytes rest split. always at (IsUnfinished ⊥ bytes → ⊥) (λ unfinished. short-unfinished script bytes rest low split unfinished)) (λ rest none. none) (λ at bytes rest split. split) u v why b
+    (λ at bytes rest split. always at (IsUnfinished ⊥ bytes → ⊥) (λ unfinished. short-unfinished script bytes rest low split unfinished)) (λ rest none. none) (λ at bytes rest split. split) may_fail u v why b
 
 -- nothing was read
-pub breaks-none : {S K : Type 0} (tickets : Tickets S K) (unseen spent : List ℕ → Type 0) (known u : Option (List ℕ)) → Breaks tickets unseen spent (λ why bytes rest. IfSome known (λ script. script ≡ bytes ++ rest)) u u fault.Memory
-breaks-none tickets unseen spent known u =
+pub breaks-none : {S K : Type 0} (tickets : Tickets S K) (unseen spent : List ℕ → Type 0) (may_fail : Bool) (known u : Option (List ℕ)) → Breaks tickets unseen spent (λ why bytes rest. IfSome known (λ script. script ≡ bytes ++ rest)) may_fail u u fault.Memory
+breaks-none tickets unseen spent may_fail known u =
     record { bytes = []; rest = unwrap_or known []; begins = starts-none known; text = []; sent = []; lost = []; written = Appends-nil u; said = refl; ends = (inl refl, refl) }
+
+-- a writer that never fails is not at fault
+pub sure-writer : {S K : Type 0} (tickets : Tickets S K) (unseen spent : List ℕ → Type 0) (splits : ShellFault → List ℕ → List ℕ → Type 0) (u v : Option (List ℕ)) (why : ShellFault) → Breaks tickets unseen spent splits false u v why → why ≢ fault.Output
+sure-writer tickets unseen spent splits u v why b is = cc ((subst (λ (z : ShellFault). EndsBy tickets unseen spent splits false z b.bytes b.rest b.text b.lost) is b.ends).0)

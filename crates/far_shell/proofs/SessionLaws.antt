@@ -1,5 +1,5 @@
 -- Scripts of sessions on threads.
-use Rattle.std.proofs.Common.{◌≡◌, ◌+◌, ◌<◌, ◌≤◌, ℕ, ◌⊎◌, inl, inr, List, [], ◌++◌, length, drop, get_or, Option, Some, append_assoc, append-nil, ◌∙◌, refl, sym, ap, subst}
+use Rattle.std.proofs.Common.{◌≡◌, ◌+◌, ◌<◌, ◌≤◌, ℕ, ◌⊎◌, inl, inr, Bool, IsTrue, List, [], ◌++◌, length, drop, get_or, Option, Some, append_assoc, append-nil, ◌∙◌, refl, sym, ap, subst}
 use Rattle.std.specs.Io.KnownBytes.{Appends}
 use Rattle.std.proofs.lemmas.List.{drop_more}
 use Rattle.std.specs.declared.io.traits.Read.{Ghosts}
@@ -37,9 +37,9 @@ pub told-of : (sessions edits : ℕ) (o : Outcome) (page : List ℕ) → IsOutco
 told-of sessions edits o page is said = said ∙ (λ i. gauges_text 0 (is.gauges i) ++ answer_text (is.total i))
 
 -- sessions that were stopped, and nothing is written
-pub cut-stopped : (why : ShellFault) (sessions edits : ℕ) → (why ≡ fault.Memory) ⊎ (why ≡ fault.Turns) → CutOutcome why sessions edits []
-cut-stopped why sessions edits (inl memory) = rw memory refl
-cut-stopped why sessions edits (inr turns) = rw turns refl
+pub cut-stopped : (may_fail : Bool) (why : ShellFault) (sessions edits : ℕ) → (why ≡ fault.Memory) ⊎ (why ≡ fault.Turns) → CutOutcome may_fail why sessions edits []
+cut-stopped may_fail why sessions edits (inl memory) = rw memory refl
+cut-stopped may_fail why sessions edits (inr turns) = rw turns refl
 
 -- it is no failed write
 pub stopped-unwritten : (why : ShellFault) (P : Type 0) → (why ≡ fault.Memory) ⊎ (why ≡ fault.Turns) → why ≡ fault.Output → P
@@ -47,10 +47,10 @@ stopped-unwritten why P (inl memory) = rw memory (λ e. absurd (cc e))
 stopped-unwritten why P (inr turns) = rw turns (λ e. absurd (cc e))
 
 -- a write failed
-pub cut-unwritten : (old new : Option (List ℕ)) (sessions edits : ℕ) (text page left : List ℕ) → TellsOutcome sessions edits text → page ≡ text → Prints old page [] new left
-    → (sent : List ℕ) × CutOutcome fault.Output sessions edits sent × Appends old new sent
-cut-unwritten old new sessions edits text page left told is p =
-    (p.0, (left, subst (λ (z : List ℕ). TellsOutcome sessions edits z) (sym is ∙ sym (append-nil page) ∙ p.2) told), p.1)
+pub cut-unwritten : (may_fail : Bool) (old new : Option (List ℕ)) (sessions edits : ℕ) (text page left : List ℕ) → IsTrue may_fail → TellsOutcome sessions edits text → page ≡ text → Prints old page [] new left
+    → (sent : List ℕ) × CutOutcome may_fail fault.Output sessions edits sent × Appends old new sent
+cut-unwritten may_fail old new sessions edits text page left cause told is p =
+    (p.0, (cause, left, subst (λ (z : List ℕ). TellsOutcome sessions edits z) (sym is ∙ sym (append-nil page) ∙ p.2) told), p.1)
 
 -- nothing comes behind, in other words
 pub answered-then : {S K : Type 0} (tickets : Tickets S K) (bytes text : List ℕ) (P Q : Type 0) → (P → Q) → IsAnswered tickets bytes P text → IsAnswered tickets bytes Q text

@@ -1,5 +1,5 @@
 -- What was printed of a script that a fault ends early.
-use Rattle.std.specs.Prelude.{◌≡◌, ◌⊎◌, ◌≤◌, ℕ, List, [], ◌++◌, length, Option}
+use Rattle.std.specs.Prelude.{◌≡◌, ◌⊎◌, ◌≤◌, ℕ, Bool, IsTrue, List, [], ◌++◌, length, Option}
 use Rattle.std.specs.Io.KnownBytes.{Appends}
 use Rattle.far_store.specs.declared.store.FarTickets.{Ghosts as Tickets}
 use Rattle.far_script.specs.declared.fault.ShellFault.{ShellFault}
@@ -17,17 +17,18 @@ module _ {S K : Type 0} (tickets : Tickets S K) (unseen spent : List ℕ → Typ
   IsBroken fault.Memory bytes rest text = HasNotBegun (unseen bytes) (spent rest) fault.Memory bytes rest text ⊎ BreaksLater tickets (unseen bytes) (spent rest) fault.Memory bytes rest text
   IsBroken fault.Turns bytes rest text = (text ≡ []) × ((sessions : ℕ) × (edits : ℕ) × AsksSessions bytes (rest ≡ []) sessions edits)
 
-  -- the same, with what the writer did not take: all was written, unless the fault is the writer's. How a script is split at a fault is told
-  -- by the first argument
-  abbrev pub EndsBy : (ShellFault → List ℕ → List ℕ → Type 0) → ShellFault → List ℕ → List ℕ → List ℕ → List ℕ → Type 0
-  EndsBy splits fault.BadStart bytes rest text lost = IsBroken fault.BadStart bytes rest text × (lost ≡ [])
-  EndsBy splits fault.Input bytes rest text lost = IsBroken fault.Input bytes rest text × (lost ≡ [])
-  EndsBy splits fault.Memory bytes rest text lost = IsBroken fault.Memory bytes rest text × (lost ≡ [])
-  EndsBy splits fault.Turns bytes rest text lost = IsBroken fault.Turns bytes rest text × (lost ≡ [])
-  EndsBy splits fault.Output bytes rest text lost = IsAnswered tickets bytes (rest ≡ []) text ⊎ ((why : ShellFault) × splits why bytes rest × IsBroken why bytes rest text)
+  -- the same, with what the writer did not take: all was written, unless the fault is the writer's. Then writers of its type may fail. How a
+  -- script is split at a fault is told by the first argument, and whether writers may fail by the second
+  abbrev pub EndsBy : (ShellFault → List ℕ → List ℕ → Type 0) → Bool → ShellFault → List ℕ → List ℕ → List ℕ → List ℕ → Type 0
+  EndsBy splits may_fail fault.BadStart bytes rest text lost = IsBroken fault.BadStart bytes rest text × (lost ≡ [])
+  EndsBy splits may_fail fault.Input bytes rest text lost = IsBroken fault.Input bytes rest text × (lost ≡ [])
+  EndsBy splits may_fail fault.Memory bytes rest text lost = IsBroken fault.Memory bytes rest text × (lost ≡ [])
+  EndsBy splits may_fail fault.Turns bytes rest text lost = IsBroken fault.Turns bytes rest text × (lost ≡ [])
+  EndsBy splits may_fail fault.Output bytes rest text lost =
+      IsTrue may_fail × (IsAnswered tickets bytes (rest ≡ []) text ⊎ ((why : ShellFault) × splits why bytes rest × IsBroken why bytes rest text))
 
   -- a script ends early: of what its first bytes are answered a front was written
-  pub record Breaks (splits : ShellFault → List ℕ → List ℕ → Type 0) (old new : Option (List ℕ)) (why : ShellFault) : Type 0 where
+  pub record Breaks (splits : ShellFault → List ℕ → List ℕ → Type 0) (may_fail : Bool) (old new : Option (List ℕ)) (why : ShellFault) : Type 0 where
     pub bytes : List ℕ
     pub rest : List ℕ
     pub begins : splits why bytes rest
@@ -36,7 +37,7 @@ module _ {S K : Type 0} (tickets : Tickets S K) (unseen spent : List ℕ → Typ
     pub lost : List ℕ
     pub written : Appends old new sent
     pub said : text ≡ sent ++ lost
-    pub ends : EndsBy splits why bytes rest text lost
+    pub ends : EndsBy splits may_fail why bytes rest text lost
 
 -- why no more came of a script behind these bytes: readers of this type may fail, or the bytes are at least as many as reads are made
 abbrev pub IsUnfinished : Type 0 → List ℕ → Type 0

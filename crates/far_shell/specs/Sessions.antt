@@ -1,5 +1,5 @@
 -- What a script of sessions on threads is answered.
-use Rattle.std.specs.Prelude.{◌≡◌, ◌⊎◌, ℕ, ◌+◌, ◌*◌, List, [], ◌∷◌, ◌++◌, Some, replicate}
+use Rattle.std.specs.Prelude.{◌≡◌, ◌⊎◌, ℕ, ◌+◌, ◌*◌, Bool, IsTrue, List, [], ◌∷◌, ◌++◌, Some, replicate}
 use Rattle.far_history.specs.declared.reading.Reading.{Reading}
 use Rattle.far_store.specs.declared.store.FarTickets.{Ghosts as Tickets}
 use Rattle.far_threads.specs.declared.outcome.Outcome.{Outcome}
@@ -39,13 +39,14 @@ abbrev pub fault_of : Stop → ShellFault
 fault_of stop.Memory = fault.Memory
 fault_of stop.Turns = fault.Turns
 
--- what was written of how sessions ended where a fault comes: a front where the writer is at fault, and else nothing
-abbrev pub CutOutcome : ShellFault → ℕ → ℕ → List ℕ → Type 0
-CutOutcome fault.BadStart sessions edits sent = ⊥
-CutOutcome fault.Input sessions edits sent = ⊥
-CutOutcome fault.Output sessions edits sent = (lost : List ℕ) × TellsOutcome sessions edits (sent ++ lost)
-CutOutcome fault.Memory sessions edits sent = sent ≡ []
-CutOutcome fault.Turns sessions edits sent = sent ≡ []
+-- what was written of how sessions ended if a fault comes: a front if the writer is at fault, and else nothing. The writer is at fault only
+-- if writers of its type may fail, which the first argument tells
+abbrev pub CutOutcome : Bool → ShellFault → ℕ → ℕ → List ℕ → Type 0
+CutOutcome may_fail fault.BadStart sessions edits sent = ⊥
+CutOutcome may_fail fault.Input sessions edits sent = ⊥
+CutOutcome may_fail fault.Output sessions edits sent = IsTrue may_fail × ((lost : List ℕ) × TellsOutcome sessions edits (sent ++ lost))
+CutOutcome may_fail fault.Memory sessions edits sent = sent ≡ []
+CutOutcome may_fail fault.Turns sessions edits sent = sent ≡ []
 
 -- the first command of a script asks for so many sessions, each with so many edits
 abbrev pub AsksSessions : List ℕ → Type 0 → ℕ → ℕ → Type 0

@@ -1,5 +1,5 @@
 // Scripts, read as they are answered.
-ghost use Rattle.std.specs.Prelude.{◌≡◌, ℕ, List, [], ◌++◌, ◌≤◌, true, IfErr, IfSome, OnOk};
+ghost use Rattle.std.specs.Prelude.{◌≡◌, ℕ, List, [], ◌++◌, ◌≤◌, true, IfErr, IfSome, OnErr, OnOk};
 ghost use Rattle.std.specs.Io.KnownBytes.{Appends, Keeps};
 ghost use Rattle.far_script.specs.Flow.{Gives, IsFrontOf, IsOver, IsSpent, IsUnseen, Prints, Reads, has_failed};
 ghost use Rattle.far_shell.specs.Breaks.{Breaks, IsBroken, IsUnfinished};
@@ -7,10 +7,9 @@ ghost use Rattle.far_shell.specs.Sessions.{IsAnswered};
 
 use super::threads::print_sessions;
 use far_commands::{Agents, Resources};
-use far_script::{FirstLine, Input, Output, ShellFault, Source};
+use far_script::{FirstLine, Input, Output, ShellFault, Sink, Source};
 use far_scripts::{first_command, serve_table};
 use far_store::{AgentStore, FarStore, FarTickets};
-use std::io::Write;
 use std::sync::Wait;
 use std::thread::Threads;
 
@@ -21,12 +20,12 @@ fn serve<
     A: Resources<S>,
     T: AllocGlobal + Sync + Threads + Wait,
     R: Source + Drop,
-    W: Write,
+    W: Sink,
 >(
     rt: &T,
     resources: &A,
     input: &mut Input<R>,
-    output: &mut Output,
+    output: &mut Output<W>,
     writer: &mut W,
 ) -> Result<(), ShellFault>
     requires { output.old.page ≡ [] }
@@ -51,15 +50,16 @@ fn serve<
 /// Writes the replies that are left when a fault ends a script. If the fault is a failed write, nothing is written.
 ///
 /// For the proof: `fault` is an argument for the contract alone. The body goes by the mark that a failed write leaves in the output.
-fn flush_at<W: Write>(
+fn flush_at<W: Sink>(
     fault: ShellFault,
-    output: &mut Output,
+    output: &mut Output<W>,
     writer: &mut W,
 ) -> Result<(), ShellFault>
     requires failed { fault ≡ ShellFault.Output → has_failed output.old ≡ true }
     ensures printed { Prints (W.contents writer.old) output.old.page [] (W.contents writer.new) output.new.page }
     ensures ok { OnOk result (output.new.page ≡ []) }
     ensures stopped { fault ≡ ShellFault.Output → Keeps (W.contents writer.old) (W.contents writer.new) }
+    ensures failed { OnErr result (has_failed output.new ≡ true) }
     ensures fault { IfErr result (λ why. why ≡ ShellFault.Output) }
 {
     output.flush(writer)
@@ -81,13 +81,13 @@ fn flush_at<W: Write>(
 /// - readers of its type may fail;
 /// - no reads are left, and at least as many bytes came as there were reads;
 /// - no bytes are left, and the bytes of the reader, if they are known, are more than were left.
-pub fn run_input<T: AllocGlobal + Sync + Threads + Wait, R: Source + Drop, W: Write>(
+pub fn run_input<T: AllocGlobal + Sync + Threads + Wait, R: Source + Drop, W: Sink>(
     rt: &T,
     input: &mut Input<R>,
     writer: &mut W,
 ) -> Result<(), ShellFault>
     ensures ok { OnOk result ((bytes : List ℕ) × (text : List ℕ) × Reads R.Read input.old bytes input.new × Appends (W.contents writer.old) (W.contents writer.new) text × IsAnswered ⟦<AgentStore<&'static T> as FarTickets>⟧ bytes (IsSpent R.Read input.new) text) }
-    ensures err { IfErr result (λ fault. Breaks ⟦<AgentStore<&'static T> as FarTickets>⟧ (λ _. IsUnseen R.Read R.may_fail input.old input.new) (IsOver R.Read input.new) (λ why. Gives R.Read why input.old input.new) (W.contents writer.old) (W.contents writer.new) fault) }
+    ensures err { IfErr result (λ fault. Breaks ⟦<AgentStore<&'static T> as FarTickets>⟧ (λ _. IsUnseen R.Read R.may_fail input.old input.new) (IsOver R.Read input.new) (λ why. Gives R.Read why input.old input.new) W.may_fail (W.contents writer.old) (W.contents writer.new) fault) }
     ensures asked { input.new.source.reads ≤ input.old.source.reads }
 {
     let agents = Agents::new(rt, rt.alloc());
@@ -122,22 +122,25 @@ pub fn run_input<T: AllocGlobal + Sync + Threads + Wait, R: Source + Drop, W: Wr
 /// `Input` only if a line or the bytes of a load are no UTF-8, or it ends inside a load
 /// ([`a_short_script_at_hand_comes_whole`](crate::laws::a_short_script_at_hand_comes_whole)).
 ///
+/// It ends with `Output` only if writers of the type of its writer may fail
+/// ([`a_sure_writer_is_never_at_fault`](crate::laws::a_sure_writer_is_never_at_fault)).
+///
 /// The program does this:
 ///
 /// ```
-/// let mut writer = io::writer(&rt);
+/// let mut writer = Fallible(io::writer(&rt));
 /// match run_script(&rt, Fallible(rt.reader()), &mut writer) {
 ///     Ok(()) => ExitCode::SUCCESS,
 ///     Err(fault) => ExitCode::from(fault.status()),
 /// }
 /// ```
-pub fn run_script<T: AllocGlobal + Sync + Threads + Wait, R: Source + Drop, W: Write>(
+pub fn run_script<T: AllocGlobal + Sync + Threads + Wait, R: Source + Drop, W: Sink>(
     rt: &T,
     reader: R,
     writer: &mut W,
 ) -> Result<(), ShellFault>
     ensures ok { OnOk result ((bytes : List ℕ) × (rest : List ℕ) × (text : List ℕ) × IsFrontOf (R.remaining reader) bytes rest × Appends (W.contents writer.old) (W.contents writer.new) text × IsAnswered ⟦<AgentStore<&'static T> as FarTickets>⟧ bytes (rest ≡ []) text) }
-    ensures err { IfErr result (λ fault. Breaks ⟦<AgentStore<&'static T> as FarTickets>⟧ (IsUnfinished R.may_fail) (λ rest. rest ≡ []) (λ _ bytes rest. IfSome (R.remaining reader) (λ script. script ≡ bytes ++ rest)) (W.contents writer.old) (W.contents writer.new) fault) }
+    ensures err { IfErr result (λ fault. Breaks ⟦<AgentStore<&'static T> as FarTickets>⟧ (IsUnfinished R.may_fail) (λ rest. rest ≡ []) (λ _ bytes rest. IfSome (R.remaining reader) (λ script. script ≡ bytes ++ rest)) W.may_fail (W.contents writer.old) (W.contents writer.new) fault) }
 {
     let mut input = Input::new(rt.alloc(), reader)?;
     run_input(rt, &mut input, writer)?;

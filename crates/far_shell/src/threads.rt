@@ -5,10 +5,9 @@ ghost use Rattle.far_shell.specs.Sessions.{CutOutcome, TellsOutcome, fault_of, g
 
 use far_history::Reading;
 use far_script::print::{answer, gauge};
-use far_script::{Output, Page, ShellFault};
+use far_script::{Output, Page, ShellFault, Sink};
 use far_threads::{Outcome, Stop, run_sessions};
 use far_types::Refusal;
-use std::io::Write;
 use std::sync::Wait;
 use std::thread::Threads;
 
@@ -52,11 +51,11 @@ fn outcome(page: &mut Page, outcome: &Outcome) -> Result<(), Refusal>
 }
 
 /// Lets sessions share a table, and prints how they ended, whole or not at all.
-pub fn print_sessions<T: AllocGlobal + Sync + Threads + Wait>(
+pub fn print_sessions<T: AllocGlobal + Sync + Threads + Wait, W: Sink>(
     rt: &T,
     sessions: u32,
     edits: u32,
-    output: &mut Output,
+    output: &mut Output<W>,
 ) -> Result<(), ShellFault>
     requires sessions { (1 ≤ sessions) × (sessions ≤ 4) }
     requires edits { (1 ≤ edits) × (edits ≤ 1000) }
@@ -83,8 +82,8 @@ pub fn print_sessions<T: AllocGlobal + Sync + Threads + Wait>(
 ///
 /// - `Memory`, if a call runs out of memory; nothing is written then;
 /// - `Turns`, if an edit was tried 10,000 times, or is refused for a reason that no other try mends; nothing is written then;
-/// - `Output`, if a write fails.
-pub fn run_threads<T: AllocGlobal + Sync + Threads + Wait, W: Write>(
+/// - `Output`, if a write fails; then writers of the type may fail.
+pub fn run_threads<T: AllocGlobal + Sync + Threads + Wait, W: Sink>(
     rt: &T,
     sessions: u32,
     edits: u32,
@@ -93,7 +92,7 @@ pub fn run_threads<T: AllocGlobal + Sync + Threads + Wait, W: Write>(
     requires sessions { (1 ≤ sessions) × (sessions ≤ 4) }
     requires edits { (1 ≤ edits) × (edits ≤ 1000) }
     ensures ok { OnOk result ((text : List ℕ) × TellsOutcome sessions edits text × Appends (W.contents writer.old) (W.contents writer.new) text) }
-    ensures err { IfErr result (λ fault. (sent : List ℕ) × CutOutcome fault sessions edits sent × Appends (W.contents writer.old) (W.contents writer.new) sent) }
+    ensures err { IfErr result (λ fault. (sent : List ℕ) × CutOutcome W.may_fail fault sessions edits sent × Appends (W.contents writer.old) (W.contents writer.new) sent) }
 {
     let mut output = Output::new(rt.alloc());
     print_sessions(rt, sessions, edits, &mut output)?;

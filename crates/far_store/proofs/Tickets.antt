@@ -8,7 +8,7 @@ use Rattle.far_store.specs.StoreState.{IsOf, bucket_ids}
 pub is-of : {T : Type 0} (shelves : Shelves) (place : Where T) → Shows shelves place → IsOf place (bucket_ids shelves)
 is-of shelves place shows = shows ∙ sym (get_or-map (λ bucket. bucket.id) shelves.buckets place.bucket record { id = 0; tag = [] })
 
--- where a call hands a value on as it was, the answer has what the value had
+-- if a call hands a value on as it was, the answer has what the value had
 pub if-kept : {A E : Type 0} (P : A → Type 0) (result : Result A E) (x : A) → IfOk result (λ kept. kept ≡ x) → P x → IfOk result P
 if-kept P (Ok kept) x same p = subst P (sym same) p
 if-kept P (Err e) x same p = tt

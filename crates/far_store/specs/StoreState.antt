@@ -8,6 +8,7 @@ pub record StoreState : Type 0 where
   pub id : List ℕ
   pub capacity : ℕ
 
+-- the code of a store's state, which tells one value from another
 abbrev pub store_coded : Coded StoreState
 store_coded = coded_via (coded× (coded_list coded_ℕ) coded_ℕ) (λ (s : StoreState). (s.id, s.capacity)) (λ x y e i. record { id = (e i).0; capacity = (e i).1 })
 

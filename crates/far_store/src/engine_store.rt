@@ -163,7 +163,7 @@ impl<E: Engine, R: Sync + Drop + Wait> FarStore for EngineStore<E, R> {
     }
 }
 
-// The refusal for a failure of the engine. Each failure but a failed local allocation is a fault, and is counted.
+// Returns the refusal for a failure of the engine. Each failure but a failed local allocation is a fault, and is counted.
 fn counted<F: Drop>(meter: &mut Meter, failure: Failure<F>) -> Refusal
     requires { meter.old < 2 ^ 63 }
     ensures faults { meter.new ≡ meter.old + faults_of result }

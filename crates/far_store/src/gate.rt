@@ -85,7 +85,7 @@ impl<S> GateStore<S> {
         self.open.store(true, Ordering::SeqCst);
     }
 
-    /// Whether a put has come to the gate, now or earlier. Allocates nothing.
+    /// Returns whether a put has come to the gate, now or earlier. Allocates nothing.
     pub fn held(&self) -> bool {
         self.begun.load(Ordering::SeqCst) > 0
     }

@@ -36,7 +36,7 @@ impl Meter {
         Meter { faults: 0 }
     }
 
-    /// How many faults were met. Allocates nothing.
+    /// Returns how many faults were met. Allocates nothing.
     pub fn faults(&self) -> u64
         ensures { result ≡ self.now }
     {

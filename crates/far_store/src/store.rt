@@ -46,12 +46,12 @@ pub trait FarTickets: Sync + Drop {
         requires { is_of ticket.now (store_id self.now) }
         ensures { result ≡ ticket.now };
 
-    /// The ticket's number. Allocates nothing.
+    /// Returns the ticket's number. Allocates nothing.
     fn number(&self, ticket: &Self::Ticket) -> u64
         requires { is_of ticket.now (store_id self.now) }
         ensures { result ≡ number_of ticket.now };
 
-    /// Whether two tickets have the same number. Then they have the same content too. Allocates nothing.
+    /// Returns whether two tickets have the same number. Then they have the same content too. Allocates nothing.
     fn same(&self, a: &Self::Ticket, b: &Self::Ticket) -> bool
         requires a_here { is_of a.now (store_id self.now) }
         requires b_here { is_of b.now (store_id self.now) }

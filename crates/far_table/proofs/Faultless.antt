@@ -55,7 +55,7 @@ is-false : (b : Bool) → not b ≡ true → b ≡ false
 is-false true is = absurd cc
 is-false false is = refl
 
--- where each cell may stand in its column, all are of their kinds and none is too long
+-- if each cell may stand in its column, all are of their kinds and none is too long
 each-stands : (schema : List Kind) (row : List Cell) → length row ≡ length schema → list_all (λ (at : Kind × Cell). is_of_kind at.0 at.1 && not (is_too_long at.1)) (zip schema row) ≡ true
     → (kinds_fit schema row ≡ true) × (list_any is_too_long row ≡ false)
 each-stands [] [] width each = (refl, refl)

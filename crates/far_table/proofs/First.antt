@@ -18,7 +18,7 @@ first-behind (case ∷ cases) more = ap (cond case.0 (Some case.1)) (first-behin
 pub refused-first : (cases more : List (Bool × Refusal)) (e : Refusal) → first_of cases ≡ Some e → first_of (cases ++ more) ≡ Some e
 refused-first cases more e is = first-behind cases more ∙ ap (λ o. option_or o (first_of more)) is
 
--- where nothing is refused first, the rest decides
+-- if nothing is refused first, the rest decides
 pub passed : (cases more : List (Bool × Refusal)) → first_of cases ≡ None → first_of (cases ++ more) ≡ first_of more
 passed cases more free = first-behind cases more ∙ ap (λ o. option_or o (first_of more)) free
 

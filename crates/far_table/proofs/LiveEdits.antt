@@ -64,7 +64,7 @@ module _ {K : Type 0} where
   pub refuses-due : (shown seen after : State K) (e : Edit) (r : Refusal) → shown ≡ seen → after ≡ shown → Some r ≡ edit_due shown e → Refuses (edit_due seen e) true seen r after
   refuses-due shown seen after e r same stays is = (stays ∙ same, subst (λ (s : State K). MayRefuse (edit_due s e) true r) same (subst (λ (o : Option Refusal). MayRefuse o true r) is refl))
 
-  -- likewise where nothing is due, for lack of memory
+  -- likewise if nothing is due, for lack of memory
   pub refuses-memory : (shown seen after : State K) (e : Edit) (r : Refusal) → shown ≡ seen → after ≡ shown → None ≡ edit_due shown e → r ≡ refusal.NoMemory → Refuses (edit_due seen e) true seen r after
   refuses-memory shown seen after e r same stays free is = (stays ∙ same, subst (λ (s : State K). MayRefuse (edit_due s e) true r) same (subst (λ (o : Option Refusal). MayRefuse o true r) free (is, refl)))
 

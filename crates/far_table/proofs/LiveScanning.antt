@@ -53,7 +53,7 @@ module _ {K : Type 0} (r : Rows K) (spec : Spec) (g : ℕ) where
       none-needed (n + 1) column_indexes head.1 k s at (ap (needs spec) next ∙ wanted)
 
 module _ {K : Type 0} (content : K → List ℕ) (held : Rows K) (are : AreRows content held) (g : ℕ) (inside : g * held.size < length held.alive) where
-  -- the columns that an aggregate needs are at hand where none of them is away
+  -- the columns that an aggregate needs are at hand if none of them is away
   pub scan-served : ((schema : List Kind) (spec : Spec) (some : ℕ → Bool) → spec_refusal schema spec ≡ None → ((c : ℕ) → c < length schema → some c ≡ true) → IsServed some spec)
       → (schema : List Kind) → map kind_of held.column_indexes ≡ schema → (spec : Spec) → spec_refusal schema spec ≡ None → None ≡ first_of (needed_from held spec g 0 held.column_indexes) → IsServed (has_column record { rows = held; group = g }) spec
   scan-served law schema kinds spec right free = record {

@@ -29,7 +29,7 @@ found-read P n (read ∷ reads) all form is = by (read.0 == n) refl (found-read 
       subst (λ (k : ℕ). P (k, form)) number (subst (λ (bytes : List ℕ). P (read.0, bytes)) (sym same) (all 0 read (omega arith)))
   by false test others = others (is ∙ ap (λ (b : Bool). option_map (λ (r : Read). r.1) (cond b (Some read) (find (λ r. r.0 == n) reads))) test)
 
--- nothing is found where nothing is read of what is found
+-- nothing is found if nothing is read of what is found
 pub none-read : {A : Type 0} (found : Option Read) → None ≡ option_map (λ (read : Read). read.1) found → IsSome found → A
 none-read None is there = absurd (let clash : false ≡ true = there in cc)
 none-read (Some read) is there = absurd (none-some read.1 is)

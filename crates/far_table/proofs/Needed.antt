@@ -20,7 +20,7 @@ use Rattle.far_table.specs.Watching.{needed_from}
 use Rattle.far_table.proofs.DueSet.{found-at, object-there}
 
 module _ {K : Type 0} (content : K → List ℕ) (held : Rows K) (are : AreRows content held) (p : ℕ) (inside : p < length held.alive) where
-  -- a column of a row group that has a place is not at hand where its object is away
+  -- a column of a row group that has a place is not at hand if its object is away
   pub lend-due : (c : ℕ) (s : ColumnIndex) → slice_get held.column_indexes c ≡ Some s → evac_refusal held c (p / held.size) ≡ first_of (((told_at held (p / held.size) s).0, refusal.Absent c (p / held.size)) ∷ [])
   lend-due c s lies =
       let g = p / held.size in

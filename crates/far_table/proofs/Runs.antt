@@ -202,7 +202,7 @@ narrow len size count long small few is short =
       | inr some ↦ let up : long * size ≤ count * size = mul-le-mul_right size (omega (arith, some, short)) in omega (arith, up, most, few, small)
     ]
 
--- ---- pieces that are told by their numbers
+-- ---- pieces that are known by their numbers
 
 module _ (spec : Spec) (wide : ℕ) (places : List Place) (number : ℕ) (pieces : List Piece) (many : length pieces ≡ number)
     (each : (i : ℕ) (d : Piece) → i < number → IsPiece spec wide places i (slice_index_or pieces i d)) where

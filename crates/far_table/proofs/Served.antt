@@ -1,4 +1,4 @@
--- The columns that an aggregate needs are at hand where the objects of the row group are local.
+-- The columns that an aggregate needs are at hand if the objects of the row group are local.
 use Rattle.std.proofs.Common.{◌≡◌, ℕ, zero, suc, ◌+◌, ◌/◌, ◌<◌, Bool, true, false, List, [], ◌∷◌, map, length, Option, None, Some, sym, ap, subst, ◌∙◌}
 use Rattle.std.specs.Prelude.{cond, is_none, slice_get}
 use Rattle.std.proofs.lemmas.List.{length-map}

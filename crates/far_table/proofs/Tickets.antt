@@ -63,7 +63,7 @@ found-among P test (x ∷ xs) all = by (test x) (found-among P test xs (λ k d w
   by true others = all 0 x (omega arith)
   by false others = others
 
--- there is no object where the look-up is refused
+-- there is no object if the look-up is refused
 pub none-refused : {K : Type 0} (r : Rows K) (column group : ℕ) (e : Refusal) → Some e ≡ object_refusal r column group → object_at r column group ≡ None
 none-refused r column group e due = by (object_at r column group) refl where
   by : (found : Option Object) → object_at r column group ≡ found → object_at r column group ≡ None
@@ -167,7 +167,7 @@ module _ {K : Type 0} where
   pub no-needed : (r : Rows K) (spec : Spec) (group column : ℕ) → length r.column_indexes ≤ column → cond (needs spec column) (copy_of r column group) None ≡ None
   no-needed r spec group column past = ap (λ (copy : Option K). cond (needs spec column) copy None) (no-copy r column group past) ∙ elim (needs spec column) as (λ b. ◌≡◌ {A = Option K} (cond b None None) None) [ true ↦ refl | false ↦ refl ]
 
-  -- a content is found where its ticket is
+  -- a content is found if its ticket is
   pub content-for : (content : K → List ℕ) (tickets : List (ℕ × K)) (column : ℕ) → option_map (λ (x : ℕ × List ℕ). x.1) (find (λ x. x.0 == column) (contents_under content tickets)) ≡ option_map content (ticket_for tickets column)
   content-for content [] column = refl
   content-for content (ticket ∷ tickets) column =

@@ -1,4 +1,4 @@
--- What is known where a call is accepted.
+-- What is known if a call is accepted.
 use Rattle.std.proofs.Common.{◌≡◌, Result, Ok, Err, Option, None}
 use Rattle.std.specs.Prelude.{OnOk}
 use Rattle.far_types.specs.declared.refusal.Refusal.{Refusal}

@@ -14,11 +14,11 @@ use Rattle.far_types.specs.Table.{Table, Registered, is_pending}
 use Rattle.far_table.specs.State.{State, IsChecked, AreChecked}
 use Rattle.far_table.specs.Watching.{lowest_free, group_count, needed_from, watch_refusal, scan_refusal}
 
--- what is due is told
+-- what is due is returned
 pub due : (o : Option Refusal) (grows : Bool) (e : Refusal) → o ≡ Some e → MayRefuse o grows e
 due o grows e is = subst (λ due. MayRefuse due grows e) (sym is) refl
 
--- where nothing is due, memory may be wanted
+-- if nothing is due, memory may have run out
 pub for-memory : (o : Option Refusal) (e : Refusal) → o ≡ None → e ≡ refusal.NoMemory → MayRefuse o true e
 for-memory o e free is = subst (λ due. MayRefuse due true e) (sym free) (is, refl)
 

@@ -14,8 +14,8 @@ use Rattle.far_rows.specs.Copies.{copy_of}
 use Rattle.far_table.specs.State.{State}
 use Rattle.far_table.specs.Watching.{aggregate_at, group_count, scanned_at}
 
--- a build as it was begun: the number of the table, the aggregate, how many registrations were made before its own, the row group,
--- and what is to be folded: the specification, a ticket for each column that it needs, and the flags of the row group's places
+-- a build as it was begun: the number of the table, the aggregate, how many registrations were made before its own, and the row group.
+-- The job is what is to be folded: the specification, a ticket for each column that it needs, and the flags of the row group's places
 pub record Build (K : Type 0) : Type 0 where
   pub number : ℕ
   pub aggregate : ℕ
@@ -38,8 +38,8 @@ module _ {K : Type 0} where
   HaveOneNumber number_of (Some own) None = ⊥
   HaveOneNumber number_of None ticket = ⊥
 
-  -- the columns that an aggregate needs, among those of these indexes, of which the first is the n-th of the table: the far store
-  -- does not have the row group as it is now
+  -- a test for each column of these indexes, of which the first is the n-th of the table. The aggregate needs the column, and the far
+  -- store does not have the row group as it is now
   abbrev pub dirty_from : Rows K → Spec → ℕ → ℕ → List ColumnIndex → List (Bool × Refusal)
   dirty_from r spec g n [] = []
   dirty_from r spec g n (s ∷ column_indexes) = (needs spec n && is_none (copy_of r n g), refusal.StaleJob) ∷ dirty_from r spec g (n + 1) column_indexes

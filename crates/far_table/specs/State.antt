@@ -22,5 +22,6 @@ abbrev pub IsChecked : List Kind → Option Registered → Type 0
 IsChecked schema None = Unit {0}
 IsChecked schema (Some aggregate) = spec_refusal schema aggregate.spec ≡ None
 
+-- each registered aggregate may be had over the schema
 abbrev pub AreChecked : List Kind → List (Option Registered) → Type 0
 AreChecked schema aggregates = AllByRecursion (IsChecked schema) aggregates

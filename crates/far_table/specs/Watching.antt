@@ -26,18 +26,20 @@ lowest_free table = free_from 0 table.aggregates
 abbrev pub group_count : Table → ℕ
 group_count table = groups table.limits.group (length table.places)
 
+-- why an aggregate is not registered (`watch`)
 abbrev pub watch_refusal : Table → Spec → Option Refusal
 watch_refusal table spec = option_or (spec_refusal table.schema spec) (first_of (
     (is_none (lowest_free table), refusal.TooManyAggregates)
     ∷ (table.registrations == 2 ^ 32, refusal.TooManyAggregates)
     ∷ []))
 
+-- why an aggregate is not forgotten (`unwatch`)
 abbrev pub unwatch_refusal : Option Registered → Option Refusal
 unwatch_refusal None = Some refusal.NoAggregate
 unwatch_refusal (Some aggregate) = None
 
 module _ {K : Type 0} where
-  -- the columns that an aggregate needs, among those of these indexes, of which the first is the n-th of the table: the object of
+  -- a test for each column of these indexes, of which the first is the n-th of the table. The aggregate needs the column, and its object of
   -- the row group is away
   abbrev pub needed_from : Rows K → Spec → ℕ → ℕ → List ColumnIndex → List (Bool × Refusal)
   needed_from r spec g n [] = []
@@ -59,6 +61,7 @@ with_aggregate a aggregate table = record table { aggregates = slice_set table.a
 abbrev pub registered_now : Spec → Table → Registered
 registered_now spec table = record { spec = spec; registration = table.registrations; pending = all_pending table.limits.group table.places }
 
+-- the table once an aggregate is registered under this number
 abbrev pub registered_at : ℕ → Spec → Table → Table
 registered_at a spec table = record (with_aggregate a (Some (registered_now spec table)) table) { registrations = table.registrations + 1 }
 

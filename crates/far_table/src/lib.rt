@@ -1,6 +1,6 @@
 #![tactic(auto)]
-//! The rows of a table as the plain table has them, over objects that may be away: which edits they take, why one is refused,
-//! and what an edit changes.
+//! The rows of a table as the plain table has them, over objects that may be away. The crate says which edits they take, why one is
+//! refused, and what an edit changes.
 
 mod contents;
 mod copies;

@@ -112,7 +112,7 @@ impl<S: FarTickets> LiveTable<S> {
     {
         self.rows.may_insert(row)?;
         let place = self.rows.len();
-        let group = self.rows.limits().group;
+        let size = self.rows.limits().group;
         // Without aggregates nothing is kept of the rows.
         if self.aggregates.is_empty() {
             self.rows.push(self.alloc)?;
@@ -120,7 +120,7 @@ impl<S: FarTickets> LiveTable<S> {
         }
         let pending = self
             .aggregates
-            .apply_deltas(self.alloc, &self.rows.new_row_ref(), group, place)?;
+            .apply_deltas(self.alloc, &self.rows.new_row_ref(), size, place)?;
         if let Err(refusal) = self.rows.push(self.alloc) {
             // The rows are as before, and now the aggregates are too.
             self.aggregates.undo(pending);
@@ -139,7 +139,7 @@ impl<S: FarTickets> LiveTable<S> {
     {
         let value = self.rows.may_set(column, place, cell)?;
         let size = self.rows.limits().group;
-        // For the proof: how many places there are, and that their rows have all columns.
+        // For the proof: give how many places there are, and that their rows have all columns.
         let _before = self.rows.len();
         let _held = self.rows.held();
         let Ok(row) = self.rows.row(place as usize) else {
@@ -158,7 +158,7 @@ impl<S: FarTickets> LiveTable<S> {
             self.aggregates.undo(pending);
             return Err(refusal);
         }
-        // For the proof: that the numbers of the places are those of 64 bits.
+        // For the proof: gives that the numbers of the places are those of 64 bits.
         let _after = self.rows.len();
         retract_row(&self.rows, &mut self.aggregates, place, pending);
         Ok(())
@@ -173,7 +173,7 @@ impl<S: FarTickets> LiveTable<S> {
     {
         let row = self.rows.may_remove(place)?;
         let size = self.rows.limits().group;
-        // For the proof: how many places there are, and that their numbers are those of 64 bits.
+        // For the proof: gives how many places there are, and that their numbers are those of 64 bits.
         let _len = self.rows.len();
         let pending = self
             .aggregates
@@ -203,7 +203,7 @@ fn retract_row<S: FarTickets>(
         aggregates.retract_totals(pending);
         return;
     }
-    // For the proof: what the rows are.
+    // For the proof: gives `AreRows`.
     let _held = rows.held();
     an_aggregate_is_served_by_the_columns_of_its_schema();
     aggregates.retract(&rows.group(pending.row_group()), pending);

@@ -17,7 +17,7 @@ use far_types::{Answer, Refusal, Spec};
 use std::alloc::{AllocError, Global};
 use std::thread::{self, Threads};
 
-/// How many row groups a piece has, if there are no more pieces than workers.
+/// Returns how many row groups a piece has, if there are no more pieces than workers.
 fn long_for(count: u32, workers: u32) -> u32
     requires some { 0 < workers }
     ensures all { count ≤ workers * result }

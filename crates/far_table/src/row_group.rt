@@ -72,7 +72,7 @@ fn columns_of<'a, S: FarTickets>(rows: &'a Rows<S>, group: u32) -> [Option<LentC
     ensures count { length result ≡ 16 }
     ensures lent { (column : ℕ) → IsLentOf S.content record { rows = rows.now; group = group } column (slice_index_or result column None) }
 {
-    // For the proof: that there are at most 16 columns.
+    // For the proof: gives that there are at most 16 columns.
     let _len = rows.len();
     let mut columns = [None; 16];
     for column in 0..rows.column_indexes().len() {

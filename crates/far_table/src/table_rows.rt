@@ -169,7 +169,7 @@ impl<S: FarTickets> TableRows<S> {
         ensures places { self.now.places ≡ places_in S.content self.now.held }
         ensures size { self.now.held.size ≡ self.now.limits.group }
     {
-        // For the proof: what the rows are.
+        // For the proof: gives `AreRows`.
         let _len = self.rows.len();
         &self.rows
     }
@@ -179,7 +179,7 @@ impl<S: FarTickets> TableRows<S> {
     pub(crate) fn new_row_ref(&self) -> NewRowRef<'_>
         ensures { result ≡ row_of self.now.held.column_indexes self.now.new_row }
     {
-        // For the proof: each index is that of a column.
+        // For the proof: gives that each index is that of a column.
         let _len = self.rows.len();
         self.new_row.row_ref(self.rows.column_indexes())
     }

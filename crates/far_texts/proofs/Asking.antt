@@ -65,7 +65,7 @@ module _ (lists : Lists) where
         ∙ was
 
 module _ {K : Type 0} (m : Movement ℕ K) where
-  -- where row groups are begun, the objects that get another form are the last ones
+  -- if row groups are begun, the objects that get another form are the last ones
   pub any-out : (lists : Lists) (n : ℕ) (columns : List Texts) (texts : List (Option (List ℕ))) → length texts ≡ length columns → All (λ (c : Texts). begins_group c ≡ false) columns
       → list_any (λ (c : Texts). (written_out m (last_object c)).0) columns ≡ (some_written_out m (next_forms lists n columns texts)).0
   any-out lists n [] texts same_length begun = refl
@@ -76,11 +76,11 @@ module _ {K : Type 0} (m : Movement ℕ K) where
       ap (λ (b : Bool). (written_out m (last_object c)).0 || b) rest
       ∙ ap (λ o. (written_out m o).0 || (some_written_out m (next_forms lists (n + 1) columns texts)).0) (sym first)
 
-  -- a column's last object is local where its next form can be made
+  -- a column's last object is local if its next form can be made
   pub last-here : (content : K → List ℕ) (c : Texts) → begins_group c ≡ false → next_length_refusal content m c ≡ None → None ≡ first_of (absent m (last_object c) ∷ [])
   last-here content c begun free = sym (sym (ap (λ (b : Bool). first_of (cond b [] (absent m (last_object c) ∷ []))) begun) ∙ free)
 
--- where the forms fit and row groups are begun, it is left whether the objects may be written
+-- if the forms fit and row groups are begun, it is left whether the objects may be written
 pub space-longer : (used : Bool × Refusal) (fits begins : Bool) → fits ≡ true → begins ≡ false → first_of (used ∷ []) ≡ first_of ((not fits, RegionFull) ∷ cond begins [] (used ∷ []))
 space-longer used false begins space begun = absurd cc
 space-longer used true true space begun = absurd cc
@@ -109,14 +109,14 @@ second-asked all first second is free = sym (is ∙ ap (λ r. option_or r second
 pub first-asked : (all first second : Option Refusal) (e : Refusal) → all ≡ option_or first second → Some e ≡ first → Some e ≡ all
 first-asked all first second e is due = sym (is ∙ ap (λ r. option_or r second) (sym due))
 
--- where no text is too long, what is left is whether an object is away
+-- if no text is too long, what is left is whether an object is away
 pub away-asked : (short : Bool × Refusal) (away : List (Bool × Refusal)) (begins : Bool) → None ≡ first_of (short ∷ []) → begins ≡ false → first_of away ≡ first_of (short ∷ cond begins [] away)
 away-asked short away begins fits begun = sym (first-none short (cond begins [] away) fits ∙ ap (λ (b : Bool). first_of (cond b [] away)) begun)
 
 pub begun-asked : (short : Bool × Refusal) (away : List (Bool × Refusal)) (begins : Bool) → None ≡ first_of (short ∷ []) → begins ≡ true → None ≡ first_of (short ∷ cond begins [] away)
 begun-asked short away begins fits begin = sym (first-none short (cond begins [] away) fits ∙ ap (λ (b : Bool). first_of (cond b [] away)) begin)
 
--- what follows where nothing was refused
+-- what follows if nothing was refused
 pub ok-follows : {A : Type 0} (r : Result A Refusal) (due : Option Refusal) (P : Type 0) → refusal_in r ≡ due → (None ≡ due → P) → OnOk r P
 ok-follows (Ok x) due P is then = then is
 ok-follows (Err e) due P is then = tt

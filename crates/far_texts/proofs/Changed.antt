@@ -34,14 +34,14 @@ module _ (old new : Lists) where
     others-kept : (d : Texts) → ((k : ℕ) → slice_get d.objects k ≢ Some o) → (k : ℕ) → k < length d.objects → new (get_or d.objects k 0) ≡ old (get_or d.objects k 0)
     others-kept d disjoint k below = changes.others (get_or d.objects k 0) (λ e. disjoint k (slice_get-get_or d.objects k 0 below ∙ ap Some e))
 
-    -- where the object is one of the column's
+    -- if the object is one of the column's
     pub keeps-others : (c : Texts) (g : ℕ) → slice_get c.objects g ≡ Some o → KeepsOthers old new c
     keeps-others c g here = record {
       columns = λ d is disjoint. column-kept d (others-kept d (λ k. disjoint g k o here)) is;
       texts = λ d is disjoint. texts-in-kept d (others-kept d (λ k. disjoint g k o here));
     }
 
-    -- where it is a new one
+    -- if it is a new one
     pub keeps-others-new : (c : Texts) → old o ≡ None → KeepsOthers old new c
     keeps-others-new c none =
         let disjoint : (d : Texts) → IsTextColumn old d → (k : ℕ) → slice_get d.objects k ≢ Some o = λ d is k here. subst (λ list. IsSomeAnd list (IsGroupForm d k)) none (is.each k o here) in

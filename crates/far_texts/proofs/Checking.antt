@@ -36,7 +36,7 @@ module _ (lists : Lists) (columns : List Texts) (are : AreColumns lists columns)
   alike : (c d : Texts) → HasGroups c → HasGroups d → (c.size ≡ d.size) × (c.len ≡ d.len) → begins_group c ≡ true → begins_group d ≡ true
   alike c d has other same_length = both-begin c d has other same_length.0 same_length.1
 
-  -- where one begins a row group all do
+  -- if one begins a row group all do
   pub all-begin : (k : ℕ) (d : Texts) → k < length columns → begins_group (get_or columns k d) ≡ true → All (λ (c : Texts). begins_group c ≡ true) columns
   all-begin = all-with begins_group HasGroups (λ c d. (c.size ≡ d.size) × (c.len ≡ d.len)) (λ c d same_length. (sym same_length.0, sym same_length.1)) alike columns groups are.same_length
 
@@ -58,14 +58,14 @@ module _ (short full : Bool × Refusal) (away : List (Bool × Refusal)) (fits : 
       ∙ first-append (cond begins [] away) (full ∷ [])
       ∙ ap (λ r. option_or r (first_of (full ∷ []))) (sym free))
 
--- the objects of the last row groups are asked for where they are begun
+-- the objects of the last row groups are asked for if they are begun
 pub away-begun : (begins : Bool) (away : List (Bool × Refusal)) → true ≡ begins → None ≡ first_of (cond begins [] away)
 away-begun begins away is = ap (λ (b : Bool). first_of (cond b [] away)) is
 
 pub away-longer : (begins : Bool) (away : List (Bool × Refusal)) → false ≡ begins → None ≡ first_of away → None ≡ first_of (cond begins [] away)
 away-longer begins away is free = free ∙ ap (λ (b : Bool). first_of (cond b [] away)) is
 
--- what is known where nothing is refused
+-- what is known if nothing is refused
 pub where-ok : {A : Type 0} (r : Result A Refusal) (P : Type 0) → P → OnOk r P
 where-ok (Ok x) P p = p
 where-ok (Err e) P p = tt

@@ -51,7 +51,7 @@ module _ {K : Type 0} (content : K → List ℕ) (m : Movement ℕ K) (columns :
           λ k d below. here-longer m content (slice_index_or columns k d) (none-begin (lists_of content m) columns are groups begun k d below) (none-due (λ (c : Texts). absent m (last_object c)) columns free k d below)
     ]
 
--- a refusal where none is due is for lack of memory
+-- a refusal if none is due is for lack of memory
 pub only-memory : {A : Type 0} (r : Result A Refusal) (due first : Option Refusal) → due ≡ None → IfErr r (λ e. (due ≡ Some e) ⊎ ((first ≡ None) × (e ≡ NoMemory))) → IfErr r (λ e. e ≡ NoMemory)
 only-memory (Ok x) due first free given = tt
 only-memory (Err e) due first free (inl is) = absurd (let never = sym free ∙ is in cc)

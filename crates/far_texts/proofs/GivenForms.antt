@@ -59,7 +59,7 @@ module _ (lists : Lists) (n : ℕ) (columns : List Texts) (texts : List (Option 
       let at = given-at k d below in
       subst (λ l. 0 < length l) (sym at.list) (valid k at.c at.text at.here at.there).some
 
-  -- where row groups begin, the objects are the next that are made
+  -- if row groups begin, the objects are the next that are made
   pub given-numbered : ((k : ℕ) (c : Texts) → slice_get columns k ≡ Some c → begins_group c ≡ true) → AreNumbered n forms
   given-numbered begin k d below =
       let at = given-at k d below in
@@ -90,7 +90,7 @@ module _ (lists : Lists) (n : ℕ) (columns : List Texts) (texts : List (Option 
           | inr past ↦ absurd (none-some _ (sym (fresh (last_object c) past) ∙ list))
         ])
 
-    -- none of them is away where each column's next form can be made
+    -- none of them is away if each column's next form can be made
     pub given-here : {K : Type 0} (content : K → List ℕ) (m : Movement ℕ K) → All (λ (c : Texts). next_length_refusal content m c ≡ None) columns → All (λ (r : Replacement ℕ). None ≡ lend_refusal m r.object) forms
     given-here content m here k d below =
         let at = given-at k d below in

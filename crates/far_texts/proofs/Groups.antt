@@ -14,7 +14,7 @@ use Rattle.far_codec.specs.TextForm.{texts_meaning}
 use Rattle.far_texts.specs.Texts.{Texts, Lists, HasGroups, IsTextColumn, IsGroupForm, texts_at, texts_in}
 use Rattle.far_texts.proofs.Joined.{length-before, joined-at}
 
--- what holds of the list of an object holds of the list that it has, where it has one
+-- what holds of the list of an object holds of the list that it has, if it has one
 pub of-list : (list : Option (List ℕ)) (P : List ℕ → Type 0) → IsSomeAnd list P → P (unwrap_or list [])
 of-list None P here = absurd here
 of-list (Some bytes) P here = here

@@ -71,7 +71,7 @@ module _ {K : Type 0} (m : Movement ℕ K) where
   pub here-first : (o : ℕ) (os : List ℕ) → None ≡ lend_refusal m o → first_absent m (o ∷ os) ≡ first_absent m os
   here-first o os due = here-by (is_local m o) (absent m o).1 (first_absent m os) due
 
-  -- where none is away, each is local
+  -- if none is away, each is local
   pub each-local : (os : List ℕ) → None ≡ first_absent m os → (k : ℕ) → k < length os → is_local m (get_or os k 0) ≡ true
   each-local [] none k within = absurd (omega arith)
   each-local (o ∷ os) none zero within = (local-by (is_local m o) (absent m o).1 (first_absent m os) none).0

@@ -22,7 +22,7 @@ or-false : (b : Bool) → (b || false) ≡ b
 or-false true = refl
 or-false false = refl
 
--- one list is placed where it fits
+-- one list is placed if it fits
 one-fits : (spaces : List ℕ) (n : ℕ) → fit_in_order spaces (n ∷ []) ≡ is_some (lowest_for spaces n)
 one-fits spaces n = each (lowest_for spaces n)
   where
@@ -55,7 +55,7 @@ module _ {K : Type 0} (content : K → List ℕ) (m : Movement ℕ K) where
       one-due (begins_group c) (text_too_long text).0 (absent m o).0 (chunk_full c texts).0 _ _ (written_out m (object_for c n)).0 (written_out m o).0
       refusal.TextTooLong (absent m o).1 refusal.ChunkFull refusal.RegionFull refusal.EditsUsedUp fits (λ begun. ap (λ p. (written_out m p).0) (object-longer c n begun))
 
-  -- where there is one column, it is asked alone
+  -- if there is one column, it is asked alone
   pub one-asked : (columns : List Texts) (texts : List (Option (List ℕ))) (c : Texts) (text : Option (List ℕ)) → length columns ≡ 1 → length texts ≡ length columns → c ≡ get_or columns 0 c → text ≡ get_or texts 0 text
       → push_refusal content m c text ≡ push_texts_refusal content m columns texts
   one-asked [] texts c text one same_length first given = absurd (omega arith)

@@ -30,7 +30,7 @@ module _ (old new : Lists) (o : ℕ) (bytes : List ℕ) (here : new o ≡ Some b
   mid-changes : ChangesList old mid o (Some bytes)
   mid-changes = record { here = mid-here o refl; others = mid-other }
 
-  -- a column's lists are the same as then, where all but o kept theirs
+  -- a column's lists are the same as then, if all but o kept theirs
   mid-same : (d : Texts) → ((k : ℕ) → k < length d.objects → get_or d.objects k 0 ≢ o → new (get_or d.objects k 0) ≡ old (get_or d.objects k 0)) → (k : ℕ) → k < length d.objects → new (get_or d.objects k 0) ≡ mid (get_or d.objects k 0)
   mid-same d kept k below = elim (cases_eq (get_or d.objects k 0) o) [
     | inl same ↦ ap new same ∙ here ∙ sym (mid-here (get_or d.objects k 0) same)

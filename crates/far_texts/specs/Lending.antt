@@ -13,6 +13,7 @@ use Rattle.far_texts.specs.Refusing.{text_refusal}
 abbrev pub overlapped_objects : Texts → ℕ → ℕ → List ℕ
 overlapped_objects c from to = if nat_lt from to then slice_range c.objects (from / c.size) ((to - 1) / c.size + 1) else []
 
+-- why the texts of a part are not lent (`texts`)
 abbrev pub texts_refusal : {K : Type 0} → Movement ℕ K → Texts → ℕ → ℕ → Option Refusal
 texts_refusal m c from to =
     option_or (first_of ((nat_lt c.len to || nat_lt to from, refusal.OutOfRange) ∷ [])) (first_absent m (overlapped_objects c from to))

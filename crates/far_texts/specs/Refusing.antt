@@ -23,21 +23,26 @@ abbrev pub past_end : Texts → ℕ → Refusal → Bool × Refusal
 past_end c place e = (not (nat_lt place c.len), e)
 
 module _ {K : Type 0} (content : K → List ℕ) (m : Movement ℕ K) (c : Texts) where
+  -- why the text of a place is not read (`text`)
   abbrev pub text_refusal : ℕ → Option Refusal
   text_refusal place = first_of (past_end c place refusal.NoRow ∷ absent m (object_at c place) ∷ [])
 
+  -- why the length of a form with another text is not computed (`form_length_with`)
   abbrev pub length_refusal : ℕ → Option Refusal
   length_refusal place = first_of (past_end c place refusal.OutOfRange ∷ absent m (object_at c place) ∷ [])
 
+  -- why the length of a form with the next text is not computed (`form_length_with_next`)
   abbrev pub next_length_refusal : Option Refusal
   next_length_refusal = first_of (if begins_group c then [] else absent m (last_object c) ∷ [])
 
+  -- why the text of a place is not set (`set`)
   abbrev pub set_refusal : ℕ → Option (List ℕ) → Option Refusal
   set_refusal place text =
       let o : ℕ = object_at c place in
       let texts : List (Option (List ℕ)) = group_with (lists_of content m) c place text
       in first_of (text_too_long text ∷ past_end c place refusal.OutOfRange ∷ absent m o ∷ chunk_full c texts ∷ no_space m o (texts_length texts) ∷ written_out m o ∷ [])
 
+  -- why a text is not pushed (`push`)
   abbrev pub push_refusal : Option (List ℕ) → Option Refusal
   push_refusal text =
       let o : ℕ = last_object c in

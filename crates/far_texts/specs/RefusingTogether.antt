@@ -44,5 +44,6 @@ module _ {K : Type 0} (content : K → List ℕ) (m : Movement ℕ K) (columns :
       let forms : List (ℕ × List ℕ) = next_forms (lists_of content m) (length m.records) columns texts
       in no_space_for m forms ∷ (if all_begin columns then [] else some_written_out m forms ∷ [])
 
+  -- why texts are not pushed together (`push_texts`)
   abbrev pub push_texts_refusal : Option Refusal
   push_texts_refusal = first_of (first_tests ++ last_tests)

@@ -4,7 +4,7 @@ use Rattle.std.specs.List.{flat_map}
 use Rattle.far_codec.specs.TextForm.{texts_meaning, IsTextsForm}
 use Rattle.far_scopes.specs.Movement.{Movement, list_of}
 
--- a column: its number, how many places a row group has, how many bytes the form of one may have, the object of each row
+-- a column: its number, how many places a row group has, and how many bytes the form of one may have. Then come the object of each row
 -- group, and how many texts there are
 pub record Texts : Type 0 where
   pub column : ℕ

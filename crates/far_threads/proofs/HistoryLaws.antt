@@ -39,7 +39,7 @@ none-behind t e log none = go (nat_eq e.by t) none
     go true is = absurd (some-none e (by_session t log) is)
     go false is = is
 
--- where the other sessions have no entry, each is of session s
+-- if the other sessions have no entry, each is of session s
 pub by-others : (n s : ℕ) (log : List Entry) → AllBelow n log → ((t : ℕ) → t < n → t ≢ s → by_session t log ≡ []) → AreBy s log
 by-others n s [] below none = tt
 by-others n s (e ∷ log) below none =
@@ -48,7 +48,7 @@ by-others n s (e ∷ log) below none =
       by-others n s log below.1 (λ t low other. none-behind t e log (none t low other)),
     )
 
--- where no session has an entry, there is none
+-- if no session has an entry, there is none
 pub by-none : (n : ℕ) (log : List Entry) → AllBelow n log → ((t : ℕ) → t < n → by_session t log ≡ []) → log ≡ []
 by-none n [] below none = refl
 by-none n (e ∷ log) below none =

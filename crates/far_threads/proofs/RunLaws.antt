@@ -89,7 +89,7 @@ module _ (p : Planned) (n : ℕ) (sessions : List Known) (t0 t1 t2 t3 : Table) (
       over
       ∙ ap (answer_over p.gauge) (λ i. rows_of (c0.stripe.places i) ++ (rows_of (c1.stripe.places i) ++ (rows_of (c2.stripe.places i) ++ rows_of (c3.stripe.places i))))
 
-  -- what sessions leave, where the closed tables answer so too
+  -- what sessions leave, if the closed tables answer so too
   pub run-of : (o : Outcome) → HasHomes p → AreLeft p n sessions o → IfSome (spec_at t0 0) (λ (spec : Spec). o.answer ≡ answer_over spec (all_rows t0 t1 t2 t3)) → IsRun p n o
   run-of o homes left told =
       let gauged : AreGauged p n sessions o.gauges.items = left.gauged in

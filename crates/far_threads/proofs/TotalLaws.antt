@@ -21,7 +21,7 @@ use Rattle.far_threads.proofs.GaugeLaws.{insert-places, one_place, count_sum-of-
 use Rattle.far_threads.proofs.HistoryLaws.{AreBy, by-none, by-one, by-others}
 
 -- ---- the rows of a stripe
--- how many rows of n for each session are at home on stripe k, where each session has a stripe of its own
+-- how many rows of n for each session are at home on stripe k, if each session has a stripe of its own
 abbrev share : ℕ → ℕ → ℕ → ℕ
 share zero k n = 0
 share (suc m) zero n = n

@@ -36,7 +36,7 @@ pub record AreWorked (n : ℕ) (sessions : List Known) (worked : List Ended) : T
   pub count : length worked ≡ length sessions
   pub each : (i : ℕ) (me : Known) (ended : Ended) → slice_get sessions i ≡ Some me → slice_get worked i ≡ Some ended → IsWorked n me ended
 
--- a session that had ended well looked at stripe k: the reading is of all that it has seen there, and at the others it is as it was
+-- a session that had ended well looked at stripe k. The reading is of all that it has seen there. At the others it is as it was
 pub record Looked (p : Planned) (k : ℕ) (ended : Ended) (me : Known) (reading : Reading) : Type 0 where
   pub done : IsOk ended.outcome
   pub sees : SeesMore p (at ended.session k) (at me k)

@@ -16,7 +16,7 @@ use std::sync::Wait;
 /// How often one edit is tried.
 const MOST_TRIES: u32 = 10_000;
 
-/// The row that is inserted: the number 1.
+/// Returns the row that is inserted: the number 1.
 fn row_of_one(alloc: Global) -> Result<Row, Stop>
     ensures { IfOk result (λ row. row ≡ row_of_one) }
 {

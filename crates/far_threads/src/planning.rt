@@ -7,7 +7,7 @@ use far_shared::Plan;
 use far_types::{Kind, Limits, Refusal, Schema, Spec};
 use std::alloc::Global;
 
-/// The plan of a table of one column of numbers, with row groups of 4 places and the totals of the column as its gauge. Ends with
+/// Returns the plan of a table of one column of numbers, with row groups of 4 places and the totals of the column as its gauge. Ends with
 /// `Memory` alone.
 pub(crate) fn plan_for(alloc: Global, sessions: u32) -> Result<Plan, Stop>
     requires some { 1 ≤ sessions }

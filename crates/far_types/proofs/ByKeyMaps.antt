@@ -116,7 +116,7 @@ insert_back m k x none = same _ _ (λ q.
       | false ↦ λ h. refl
     ] refl)
 
--- or, where there was something else, that put back
+-- or, if there was something else, that put back
 pub insert_again : {V : Type 0} (m : ByKey V) (k : Option Key) (x y : V) → fin.get m k ≡ Some y → fin.insert (fin.insert m k x) k y ≡ m
 insert_again m k x y some = same _ _ (λ q.
     fin.get-insert line_total (fin.insert m k x) k y q
@@ -126,7 +126,7 @@ insert_again m k x y some = same _ _ (λ q.
       | false ↦ λ h. refl
     ] refl)
 
--- both together, where there was something, and else what comes
+-- both together, if there was something, and else what comes
 abbrev pub with_more : {V : Type 0} → (V → V → V) → V → Option V → V
 with_more join more o = option_map_or (λ x. join x more) o more
 
@@ -208,7 +208,7 @@ pub joined-one : {V : Type 0} (join : V → V → V) (m : ByKey V) (k : Option K
 joined-one join m k x =
     ap (λ n. with_value join n k x) (sym (joined-empty join m)) ∙ sym (moved_out join m fin.empty k x (fin.get-empty line_cmp k))
 
--- where some pairs stand under one key alone, that key has what their values come to
+-- if some pairs stand under one key alone, that key has what their values come to
 pub grouped-one : {V : Type 0} (fold : List ℤ → V) (k : Option Key) (v : ℤ) (vs : List ℤ) → grouped fold (map (λ (value : ℤ). (k, value)) (v ∷ vs)) ≡ fin.insert fin.empty k (fold (v ∷ vs))
 grouped-one fold k v vs = same _ _ (λ q.
     get-grouped fold (map (λ (value : ℤ). (k, value)) (v ∷ vs)) q

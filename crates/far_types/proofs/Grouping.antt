@@ -61,11 +61,11 @@ find_keyed f (p ∷ ps) q =
     ] refl
     ∙ ap (λ vs. if_any vs (f q)) (sym (values_of-cons q p ps))
 
--- a key is there where a pair has it, with what its values come to
+-- a key is there if a pair has it, with what its values come to
 pub get-grouped : {V : Type 0} (fold : List ℤ → V) (ps : List Pair) (q : Option Key) → fin.get (grouped fold ps) q ≡ if_any (values_of q ps) (fold (values_of q ps))
 get-grouped fold ps q = fin.get-from_entries line_total _ q ∙ find_keyed (λ k. fold (values_of k ps)) ps q
 
--- one pair more, where the fold of one value more follows from the fold before
+-- one pair more, if the fold of one value more follows from the fold before
 pub grouped-cons : {V : Type 0} (fold : List ℤ → V) (more : ℤ → Option V → V) → ((v : ℤ) (vs : List ℤ) → fold (v ∷ vs) ≡ more v (if_any vs (fold vs))) → (p : Pair) (ps : List Pair) → grouped fold (p ∷ ps) ≡ fin.insert (grouped fold ps) p.0 (more p.1 (fin.get (grouped fold ps) p.0))
 grouped-cons fold more step p ps = same _ _ (λ q.
     get-grouped fold (p ∷ ps) q
@@ -76,7 +76,7 @@ grouped-cons fold more step p ps = same _ _ (λ q.
     ] refl
     ∙ sym (fin.get-insert line_total (grouped fold ps) p.0 _ q))
 
--- where the fold does not mind the order, a pair may stand anywhere
+-- if the fold does not mind the order, a pair may stand anywhere
 pub grouped-among : {V : Type 0} (fold : List ℤ → V) → ((vs : List ℤ) (v : ℤ) (ws : List ℤ) → fold (vs ++ v ∷ ws) ≡ fold (v ∷ (vs ++ ws))) → (ps : List Pair) (p : Pair) (qs : List Pair) → grouped fold (ps ++ p ∷ qs) ≡ grouped fold (p ∷ (ps ++ qs))
 grouped-among fold anywhere ps p qs = same _ _ (λ q.
     get-grouped fold (ps ++ p ∷ qs) q

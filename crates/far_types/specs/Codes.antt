@@ -7,11 +7,12 @@ use Rattle.far_types.specs.declared.key.Key.{Key}
 use Rattle.far_types.specs.declared.key.Key.TheVariants as key
 use Rattle.far_types.specs.Answers.{Totals, Extrema}
 
--- a key as a number or a text, and back
+-- a key as a number or a text
 abbrev pub of_key : Key → ℤ ⊎ List ℕ
 of_key (key.Int number) = inl number
 of_key (key.Text text) = inr text
 
+-- the key of a number or a text
 abbrev pub to_key : ℤ ⊎ List ℕ → Key
 to_key (inl number) = key.Int number
 to_key (inr text) = key.Text text
@@ -20,12 +21,14 @@ pub back_to_key : (k : Key) → to_key (of_key k) ≡ k
 back_to_key (key.Int number) = refl
 back_to_key (key.Text text) = refl
 
--- so keys have codes, and so have totals and extrema
+-- the code of keys
 abbrev pub coded_key : Coded Key
 coded_key = code_by (ℤ ⊎ List ℕ) (coded⊎ coded_ℤ (coded_list coded_ℕ)) of_key to_key back_to_key
 
+-- the code of totals
 abbrev pub coded_totals : Coded Totals
 coded_totals = fin.code (coded_option coded_key) (coded× coded_ℕ coded_ℤ)
 
+-- the code of extrema
 abbrev pub coded_extrema : Coded Extrema
 coded_extrema = fin.code (coded_option coded_key) (coded× coded_ℤ coded_ℤ)

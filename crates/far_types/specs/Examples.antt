@@ -20,9 +20,11 @@ of_column f k tests = record { fold = f; value = 0; key = k; filter = tests }
 abbrev pub row : ℤ → List ℕ → List Cell
 row number text = cell.Int number ∷ cell.Text text ∷ []
 
+-- the text `a`
 abbrev pub a : List ℕ
 a = codes "a"
 
+-- the text `b`
 abbrev pub b : List ℕ
 b = codes "b"
 
@@ -65,6 +67,7 @@ Filtered =
 abbrev pub some_missing : List (List Cell)
 some_missing = row (pos 5) a ∷ (cell.Missing ∷ cell.Text a ∷ []) ∷ (cell.Int (pos 7) ∷ cell.Missing ∷ []) ∷ []
 
+-- what totals of these rows are
 abbrev pub WithMissing : Type 0
 WithMissing =
     (answer_over (of_column fold.Totals (Some 1) []) some_missing ≡ answer.Totals ((Some (key.Text a), 1, pos 5) ∷ []))

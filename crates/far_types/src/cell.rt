@@ -7,13 +7,11 @@ use std::alloc::Global;
 
 /// The kind of a column: what its cells hold, if they have a value.
 ///
-/// Columns of numbers lie in other segments than columns of texts:
+/// A schema has a column of texts and one of numbers:
 ///
 /// ```
-/// match kind {
-///     Kind::Int => self.rows.compact_numbers(alloc, segment),
-///     Kind::Text => self.rows.compact_texts(alloc, segment),
-/// }
+/// let kinds = Vec::from_array(alloc, [Kind::Text, Kind::Int])?;
+/// Schema::new(kinds)
 /// ```
 #[derive(Clone, Copy, Debug, PartialEq, Eq)]
 pub enum Kind {
@@ -47,7 +45,7 @@ impl Cell {
         Ok(Cell::Text(Text::from_str(alloc, text)?))
     }
 
-    /// An equal cell. Refused with `NoMemory` (1) alone.
+    /// Returns an equal cell. Refused with `NoMemory` (1) alone.
     pub fn clone(&self) -> Result<Cell, Refusal>
         ensures equal { IfOk result (λ cell. cell ≡ self.now) }
         ensures memory { IfErr result (λ e. e ≡ Refusal.NoMemory) }

@@ -70,7 +70,7 @@ impl<'a> CellRef<'a> {
         }
     }
 
-    /// The cell's number, or `None` if it has none. Allocates nothing.
+    /// Returns the cell's number, or `None` if it has none. Allocates nothing.
     #[inline(always)]
     pub fn number(self) -> Option<i64>
         ensures number { result ≡ number_in (Some (lent_cell self.entry)) }
@@ -82,7 +82,7 @@ impl<'a> CellRef<'a> {
         }
     }
 
-    /// Whether the cell, as a key, is this one. Allocates nothing.
+    /// Returns whether the cell, as a key, is this one. Allocates nothing.
     #[inline(always)]
     pub fn is_key(self, key: &Key) -> bool
         ensures { IsTrue result ↔ (key_in (Some (lent_cell self.entry)) ≡ Some key.now) }

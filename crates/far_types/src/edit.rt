@@ -7,17 +7,11 @@ use super::row::Row;
 
 /// A change of the table's rows.
 ///
-/// Sets a number, in a table that threads share:
+/// Inserts the cells of a line of a load:
 ///
 /// ```
-/// let edit = Edit::Set {
-///     place: k % PLACES,
-///     column: 0,
-///     cell: Cell::Int(i64::from(k)),
-/// };
-/// let Ok(_) = shared.apply(rt, me, stripe, edit) else {
-///     return false;
-/// };
+/// let cells = cells_in(alloc, spare, world.frame().schema().as_slice(), line)?;
+/// Ok(world.edit(Edit::Insert(Row::new(cells))))
 /// ```
 #[derive(Drop, Debug)]
 pub enum Edit {
@@ -30,7 +24,7 @@ pub enum Edit {
 }
 
 impl Edit {
-    /// An equal edit. Refused with `NoMemory` (1) alone.
+    /// Returns an equal edit. Refused with `NoMemory` (1) alone.
     pub fn clone(&self) -> Result<Edit, Refusal>
         ensures equal { IfOk result (λ edit. edit ≡ self.now) }
         ensures memory { IfErr result (λ e. e ≡ Refusal.NoMemory) }

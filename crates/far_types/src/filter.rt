@@ -35,7 +35,7 @@ pub enum Op {
 impl Op {
     ghost use Rattle.far_types.specs.Filters.{compares};
 
-    /// Whether the comparison holds of a number and the constant.
+    /// Returns whether the comparison holds of a number and the constant.
     pub fn holds(self, number: i64, constant: i64) -> bool
         ensures { result ≡ compares self number constant }
     {
@@ -95,7 +95,7 @@ impl Test {
         Ok(Test::TextBegins { column, text })
     }
 
-    /// The column that the test reads.
+    /// Returns the column that the test reads.
     pub fn column(&self) -> u32
         ensures { result ≡ column_of self.now }
     {
@@ -106,7 +106,7 @@ impl Test {
         }
     }
 
-    /// Whether the test's constant is a text of more than 4,096 bytes.
+    /// Returns whether the test's constant is a text of more than 4,096 bytes.
     pub fn is_too_long(&self) -> bool
         ensures { result ≡ has_long_constant self.now }
     {
@@ -117,7 +117,7 @@ impl Test {
         }
     }
 
-    /// Whether a row passes the test. Compares texts in place. Allocates nothing.
+    /// Returns whether a row passes the test. Compares texts in place. Allocates nothing.
     #[inline(always)]
     pub fn holds<R: LendCells>(&self, row: &R) -> bool
         ensures { result ≡ passes self.now (R.cells row.now) }
@@ -138,7 +138,7 @@ impl Test {
         }
     }
 
-    /// Whether it is the same test. Allocates nothing.
+    /// Returns whether it is the same test. Allocates nothing.
     pub fn is_same(&self, other: &Test) -> bool
         ensures { IsTrue result ↔ (self.now ≡ other.now) }
     {
@@ -169,7 +169,7 @@ impl Test {
         }
     }
 
-    /// An equal test. Refused with `NoMemory` (1) alone.
+    /// Returns an equal test. Refused with `NoMemory` (1) alone.
     pub fn clone(&self) -> Result<Test, Refusal>
         ensures equal { IfOk result (λ test. test ≡ self.now) }
         ensures memory { IfErr result (λ e. e ≡ Refusal.NoMemory) }
@@ -251,14 +251,14 @@ impl Filter {
         self.tests.iter()
     }
 
-    /// Whether the row passes every test. Allocates nothing.
+    /// Returns whether the row passes every test. Allocates nothing.
     pub fn keeps(&self, row: &Row) -> bool
         ensures { result ≡ keeps self.now (cells_of row.now) }
     {
         self.keeps_cells(row)
     }
 
-    /// Whether a row whose cells are lent by column passes every test. Allocates nothing.
+    /// Returns whether a row whose cells are lent by column passes every test. Allocates nothing.
     #[inline(always)]
     pub fn keeps_cells<R: LendCells>(&self, row: &R) -> bool
         ensures { result ≡ keeps self.now (R.cells row.now) }
@@ -270,7 +270,7 @@ impl Filter {
         self.tests.iter().all(|test| test.holds(row))
     }
 
-    /// Whether it has the same tests in the same order. Allocates nothing.
+    /// Returns whether it has the same tests in the same order. Allocates nothing.
     pub fn is_same(&self, other: &Filter) -> bool
         ensures { IsTrue result ↔ (self.now ≡ other.now) }
     {
@@ -285,7 +285,7 @@ impl Filter {
         true
     }
 
-    /// An equal filter. Refused with `NoMemory` (1) alone.
+    /// Returns an equal filter. Refused with `NoMemory` (1) alone.
     pub fn clone(&self) -> Result<Filter, Refusal>
         ensures equal { IfOk result (λ filter. filter ≡ self.now) }
         ensures memory { IfErr result (λ e. e ≡ Refusal.NoMemory) }

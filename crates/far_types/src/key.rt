@@ -30,7 +30,7 @@ impl Key {
         Ok(Key::Text(Text::from_str(alloc, text)?))
     }
 
-    /// An equal key. Refused with `NoMemory` (1) alone.
+    /// Returns an equal key. Refused with `NoMemory` (1) alone.
     pub fn clone(&self) -> Result<Key, Refusal>
         ensures equal { IfOk result (λ key. key ≡ self.now) }
         ensures memory { IfErr result (λ e. e ≡ Refusal.NoMemory) }

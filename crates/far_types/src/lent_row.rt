@@ -38,7 +38,7 @@ impl<'a> Model for LentRow<'a> {
 }
 
 impl<'a> LentRow<'a> {
-    /// A row without a cell.
+    /// Returns a row without a cell.
     #[inline(always)]
     pub fn new() -> LentRow<'a>
         ensures { result ≡ [] }
@@ -61,7 +61,7 @@ impl<'a> LentRow<'a> {
         lent
     }
 
-    /// How many cells the row has: at most 16.
+    /// Returns how many cells the row has: at most 16.
     #[inline(always)]
     pub fn len(&self) -> usize
         ensures len { result ≡ length self.now }
@@ -70,7 +70,7 @@ impl<'a> LentRow<'a> {
         self.width
     }
 
-    /// The cell of a column, or `None` if the row has no such column.
+    /// Returns the cell of a column, or `None` if the row has no such column.
     #[inline(always)]
     pub fn get(&self, column: usize) -> Option<CellRef<'a>>
         ensures { option_map lent_cell result ≡ slice_get self.now column }

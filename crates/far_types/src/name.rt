@@ -1,14 +1,13 @@
 // The names of objects.
 /// The name of an object: one column of one row group.
 ///
-/// An object of the column's next row group is made under its name:
+/// An evacuation of the coldest object is begun by its name:
 ///
 /// ```
-/// let name = Name {
-///     column: self.column,
-///     group: self.objects.len() as u32,
+/// let Some(name) = self.table.coldest() else {
+///     return Ok(None);
 /// };
-/// let o = objects.create(name, &self.next)?;
+/// let evac = self.table.begin_evac(store, name.column, name.group)?;
 /// ```
 #[derive(Clone, Copy, Debug, PartialEq, Eq)]
 pub struct Name {

@@ -14,7 +14,7 @@ use super::spec::Spec;
 use std::alloc::Global;
 
 impl Spec {
-    /// The number of a row in the column of the values, or `None` if there is none. Allocates nothing.
+    /// Returns the number of a row in the column of the values, or `None` if there is none. Allocates nothing.
     #[inline(always)]
     fn value_in<R: LendCells>(&self, row: &R) -> Option<i64>
         ensures number { result ≡ number_in (R.cells row.now self.now.value) }

@@ -10,7 +10,7 @@ use thiserror::Error;
 ///
 /// If several refusals apply, a call returns the first in this order: 2 to 10, 12 to 15, 20, 16, 11, 17 to 19, 21, 22, 24, 1. There is
 /// no number 23. Two kinds of calls may return another:
-/// - An edit, and a call under it that places several text objects, may return 1 before it checks for 17 or 24.
+/// - A call of the layers below that places several text objects (`push_texts`, `replace_all`) may return 1 before it checks for 17 or 24.
 /// - An edit of a stripe returns 14 for the stripe before it checks the edit.
 ///
 /// It prints a sentence. Here that is `2: a table may not have this schema or these limits`:
@@ -72,7 +72,7 @@ pub enum Refusal {
 }
 
 impl Refusal {
-    /// The number by which a script and its documentation name the refusal. Allocates nothing.
+    /// Returns the number by which a script and its documentation name the refusal. Allocates nothing.
     pub fn number(&self) -> u32
         ensures { result ≡ number_of self.now }
     {
@@ -103,7 +103,7 @@ impl Refusal {
         }
     }
 
-    /// The refusal's name, without what it carries. Allocates nothing.
+    /// Returns the refusal's name, without what it carries. Allocates nothing.
     pub fn name(&self) -> &'static str
         ensures { result.now ≡ name_of self.now }
     {

@@ -77,21 +77,21 @@ impl Row {
         self.cells
     }
 
-    /// How many cells the row has.
+    /// Returns how many cells the row has.
     pub fn len(&self) -> usize
         ensures { result ≡ length self.now }
     {
         self.cells.len()
     }
 
-    /// Whether the row has no cell.
+    /// Returns whether the row has no cell.
     pub fn is_empty(&self) -> bool
         ensures { IsTrue result ↔ (self.now ≡ []) }
     {
         self.cells.is_empty()
     }
 
-    /// The cell of a column, or `None` if the row has no such column.
+    /// Returns the cell of a column, or `None` if the row has no such column.
     pub fn get(&self, column: usize) -> Option<&Cell>
         ensures { option_copied result ≡ slice_get self.now column }
     {
@@ -113,7 +113,7 @@ impl Row {
         self.cells.iter()
     }
 
-    /// An equal row. Refused with `NoMemory` (1) alone.
+    /// Returns an equal row. Refused with `NoMemory` (1) alone.
     pub fn clone(&self) -> Result<Row, Refusal>
         ensures equal { IfOk result (λ row. row ≡ self.now) }
         ensures memory { IfErr result (λ e. e ≡ Refusal.NoMemory) }

@@ -43,7 +43,7 @@ impl Schema {
         Ok(Schema { kinds })
     }
 
-    /// How many columns there are.
+    /// Returns how many columns there are.
     pub fn len(&self) -> usize
         ensures len { result ≡ length self.now }
         ensures within { IsSchema self.now }
@@ -51,7 +51,7 @@ impl Schema {
         self.kinds.len()
     }
 
-    /// The kind of a column, or `None` if there is no such column.
+    /// Returns the kind of a column, or `None` if there is no such column.
     pub fn get(&self, column: usize) -> Option<Kind>
         ensures { result ≡ slice_get self.now column }
     {
@@ -72,7 +72,7 @@ impl Schema {
         self.kinds.iter()
     }
 
-    /// An equal schema. Refused with `NoMemory` (1) alone.
+    /// Returns an equal schema. Refused with `NoMemory` (1) alone.
     pub fn clone(&self) -> Result<Schema, Refusal>
         ensures equal { IfOk result (λ schema. schema ≡ self.now) }
         ensures memory { IfErr result (λ e. e ≡ Refusal.NoMemory) }

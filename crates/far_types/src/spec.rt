@@ -46,7 +46,7 @@ pub struct Spec {
     pub filter: Filter,
 }
 
-/// Whether a test is of its column's kind.
+/// Returns whether a test is of its column's kind.
 fn has_its_kind(schema: &Schema, test: &Test) -> bool
     ensures { result ≡ has_its_kind schema.now test.now }
 {
@@ -57,35 +57,35 @@ fn has_its_kind(schema: &Schema, test: &Test) -> bool
     }
 }
 
-/// Whether each test is of its column's kind.
+/// Returns whether each test is of its column's kind.
 fn have_their_kinds(schema: &Schema, tests: &[Test]) -> bool
     ensures { result ≡ list_all (has_its_kind schema.now) tests.now }
 {
     tests.iter().all(|test| has_its_kind(schema, test))
 }
 
-/// Whether there are more than 4 tests.
+/// Returns whether there are more than 4 tests.
 fn are_too_many(tests: &[Test]) -> bool
     ensures { result ≡ nat_lt 4 (length tests.now) }
 {
     tests.len() > 4
 }
 
-/// Whether the constant of some test is too long.
+/// Returns whether the constant of some test is too long.
 fn is_one_too_long(tests: &[Test]) -> bool
     ensures { result ≡ list_any has_long_constant tests.now }
 {
     tests.iter().any(|test| test.is_too_long())
 }
 
-/// Whether some test reads a column.
+/// Returns whether some test reads a column.
 fn one_looks_at(tests: &[Test], column: u32) -> bool
     ensures { result ≡ list_any (λ test. column_of test == column) tests.now }
 {
     tests.iter().any(|test| test.column() == column)
 }
 
-/// Whether all tests read the first `columns` columns alone.
+/// Returns whether all tests read the first `columns` columns alone.
 fn are_within(tests: &[Test], columns: usize) -> bool
     ensures { result ≡ list_all (λ test. nat_lt (column_of test) columns) tests.now }
 {
@@ -122,7 +122,7 @@ impl Spec {
         }
     }
 
-    /// The same under each key of a column. Allocates nothing.
+    /// Returns the same aggregate under each key of a column. Allocates nothing.
     pub fn by(self, key: u32) -> Spec
         ensures { result ≡ record self { key = Some key } }
     {
@@ -140,7 +140,7 @@ impl Spec {
         }
     }
 
-    /// The same over only those rows that also pass this test. Refused with `NoMemory` (1) alone.
+    /// Returns the same aggregate over only those rows that also pass this test. Refused with `NoMemory` (1) alone.
     pub fn only(self, test: Test) -> Result<Spec, Refusal>
         ensures test { IfOk result (λ spec. spec ≡ record self { filter = self.filter ++ test ∷ [] }) }
         ensures memory { IfErr result (λ e. e ≡ Refusal.NoMemory) }
@@ -161,7 +161,7 @@ impl Spec {
         })
     }
 
-    /// Whether the aggregate needs a column: that of a test, of its key or of its value. Allocates nothing.
+    /// Returns whether the aggregate needs a column: that of a test, of its key or of its value. Allocates nothing.
     pub fn needs(&self, column: u32) -> bool
         ensures { result ≡ needs self.now column }
     {
@@ -174,7 +174,7 @@ impl Spec {
         }
     }
 
-    /// Whether all columns that the aggregate needs are among the first `columns`.
+    /// Returns whether all columns that the aggregate needs are among the first `columns`.
     fn is_within(&self, columns: usize) -> bool
         ensures { result ≡ is_within columns self.now }
     {
@@ -208,7 +208,8 @@ impl Spec {
         Ok(())
     }
 
-    /// Whether it is the same aggregate: the same fold of the same columns over the same tests in the same order. Allocates nothing.
+    /// Returns whether it is the same aggregate: the same fold of the same columns over the same tests in the same order. Allocates
+    /// nothing.
     pub fn is_same(&self, other: &Spec) -> bool
         ensures { IsTrue result ↔ (self.now ≡ other.now) }
     {
@@ -218,7 +219,7 @@ impl Spec {
             && self.filter.is_same(&other.filter)
     }
 
-    /// An equal aggregate. Refused with `NoMemory` (1) alone.
+    /// Returns an equal aggregate. Refused with `NoMemory` (1) alone.
     pub fn clone(&self) -> Result<Spec, Refusal>
         ensures equal { IfOk result (λ spec. spec ≡ self.now) }
         ensures memory { IfErr result (λ e. e ≡ Refusal.NoMemory) }

@@ -75,21 +75,21 @@ impl Text {
         self.string
     }
 
-    /// How many bytes the text has.
+    /// Returns how many bytes the text has.
     pub fn len(&self) -> usize
         ensures { result ≡ length self.now }
     {
         self.string.len()
     }
 
-    /// Whether the text has no byte.
+    /// Returns whether the text has no byte.
     pub fn is_empty(&self) -> bool
         ensures { IsTrue result ↔ (self.now ≡ []) }
     {
         self.string.is_empty()
     }
 
-    /// An equal text. Refused with `NoMemory` (1) alone.
+    /// Returns an equal text. Refused with `NoMemory` (1) alone.
     pub fn clone(&self) -> Result<Text, Refusal>
         ensures equal { IfOk result (λ text. text ≡ self.now) }
         ensures memory { IfErr result (λ e. e ≡ Refusal.NoMemory) }

@@ -1,4 +1,4 @@
--- What is known where a part, or an element that is set, is not refused.
+-- What is known if a part, or an element that is set, is not refused.
 use Rattle.std.proofs.Common.{◌≡◌, ℕ, ◌-◌, ◌/◌, ◌<◌, ◌≤◌, Bool, true, false, [], ◌∷◌, nat_lt, None, refl}
 use Rattle.std.specs.Prelude.{◌==◌, ◌&&◌, not}
 use Rattle.std.proofs.lemmas.Bool.{ltb-true, ltb-false, or_parts, lt-ltb, eqb-true, not-false}

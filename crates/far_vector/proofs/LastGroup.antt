@@ -11,7 +11,7 @@ last-group (suc m) size i there from =
     let is : i ≡ m * size + (i - m * size) = omega (arith, begin) in
     ap (λ k. k / size) is ∙ div-mul-add m size (i - m * size) (omega (arith, there, begin)) ∙ sym e
 
--- so is that of the place behind the last element, where it is begun
+-- so is that of the place behind the last element, if it is begun
 pub next-group : (n size len : ℕ) → len < n * size → n * size < len + size → len / size ≡ n - 1
 next-group zero size len there needed = absurd (omega (arith, there))
 next-group (suc m) size len there needed =

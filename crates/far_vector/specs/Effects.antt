@@ -10,10 +10,11 @@ module _ {X : Type 0} where
   abbrev pub is_full : Vector X → Bool
   is_full v = v.len == length v.objects * v.size
 
-  -- the name of the next row group's object, and its list
+  -- the name of the next row group's object
   abbrev pub next_name : Vector X → Name
   next_name v = record { column = v.column; group = length v.objects }
 
+  -- the list of a new row group that begins with x
   abbrev pub next_group : Vector X → X → List X
   next_group v x = x ∷ replicate (v.size - 1) v.default_value
 

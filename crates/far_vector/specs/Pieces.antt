@@ -2,13 +2,15 @@
 use Rattle.std.specs.Prelude.{ℕ, ◌+◌, ◌-◌, ◌*◌, ◌/◌, if◌then◌else◌, nat_lt, min, max, List, map, slice_range}
 use Rattle.std.specs.List.{range_with_len}
 
--- the row groups of one size that hold places `from` up to `to`: the first, and how many there are
+-- the first row group of one size that holds places `from` up to `to`
 abbrev pub first_overlapped : ℕ → ℕ → ℕ
 first_overlapped size from = from / size
 
+-- how many row groups of one size hold places `from` up to `to`
 abbrev pub overlapped_count : ℕ → ℕ → ℕ → ℕ
 overlapped_count size from to = if nat_lt from to then (to - 1) / size + 1 - from / size else 0
 
+-- the numbers of the row groups of one size that hold places `from` up to `to`
 abbrev pub overlapped_groups : ℕ → ℕ → ℕ → List ℕ
 overlapped_groups size from to = range_with_len (first_overlapped size from) (overlapped_count size from to)
 

@@ -32,15 +32,19 @@ module _ {X : Type 0} (v : Vector X) where
   crosses from to = unless_empty from to (not (from / v.size == (to - 1) / v.size), refusal.OutOfRange)
 
 module _ {X K : Type 0} (m : Movement X K) (v : Vector X) where
+  -- why an element is not read (`get`)
   abbrev pub get_refusal : ℕ → Option Refusal
   get_refusal i = first_of (past_end v i ∷ absent m (object_at v i) ∷ [])
 
+  -- why an element is not set (`set`)
   abbrev pub set_refusal : ℕ → Option Refusal
   set_refusal i = first_of (past_end v i ∷ absent m (object_at v i) ∷ written_out m (object_at v i) ∷ [])
 
+  -- why a part is not lent (`part`)
   abbrev pub part_refusal : ℕ → ℕ → Option Refusal
   part_refusal from to = first_of (no_range v from to ∷ crosses v from to ∷ unless_empty from to (absent m (object_at v from)) ∷ [])
 
+  -- why a part is not written (`part_mut`)
   abbrev pub write_part_refusal : ℕ → ℕ → Option Refusal
   write_part_refusal from to =
       first_of (no_range v from to ∷ crosses v from to ∷ unless_empty from to (absent m (object_at v from)) ∷ unless_empty from to (written_out m (object_at v from)) ∷ [])

@@ -3,8 +3,8 @@ use Rattle.std.specs.Prelude.{◌≡◌, ◌≢◌, ℕ, ◌+◌, ◌-◌, ◌*�
 use Rattle.std.specs.List.{flat_map}
 use Rattle.far_types.specs.Table.{in_group}
 
--- the column that names the objects, how many elements a row group has, the objects of row groups 0, 1, 2 and so on, how many
--- elements there are, and the default value of a place that is not yet used
+-- a vector: the column that names the objects, how many elements a row group has, and the objects of row groups 0, 1, 2 and so on. Then
+-- come how many elements there are, and the default value of a place that is not yet used
 pub record Vector (X : Type 0) : Type 0 where
   pub column : ℕ
   pub size : ℕ

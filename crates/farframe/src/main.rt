@@ -10,7 +10,7 @@ use std::io;
 use std::process::ExitCode;
 
 fn main(rt: HostRuntime) -> ExitCode {
-    let mut writer = io::writer(&rt);
+    let mut writer = Fallible(io::writer(&rt));
     match run_script(&rt, Fallible(rt.reader()), &mut writer) {
         Ok(()) => ExitCode::SUCCESS,
         Err(fault) => ExitCode::from(fault.status()),

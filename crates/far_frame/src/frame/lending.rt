@@ -65,7 +65,7 @@ impl<S: FarTickets> Frame<S> {
         ensures refused { refusal_in result ≡ lend_refusal self.now.rows column from to }
     {
         let view = self.scope();
-        // For the proof: a row group has a place.
+        // For the proof: gives that a row group has a place.
         let _size = view.size();
         match view.kind(column) {
             Some(Kind::Int) => {
@@ -81,7 +81,7 @@ impl<S: FarTickets> Frame<S> {
     }
 
     /// Records that a part of a column was lent, as the step `Lend` records it. Each row group that has some of it is accessed,
-    /// in order, and its object marked as recently used. Use it after reading the part in a view, where no value is copied.
+    /// in order, and its object marked as recently used. Use it after reading the part in a view, which copies no value.
     /// Allocates nothing.
     ///
     /// Refused with the first of these that applies:
@@ -118,7 +118,7 @@ impl<S: FarTickets> Frame<S> {
         if column as usize >= rows.schema().len() {
             return Err(Refusal::NoColumn);
         }
-        // For the proof: a table has at most 16,777,216 places.
+        // For the proof: give that a table has at most 16,777,216 places.
         let _limits = rows.limits();
         let _len = rows.len();
         self.prefetcher

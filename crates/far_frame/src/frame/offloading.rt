@@ -56,10 +56,10 @@ impl<S: FarTickets> Frame<S> {
     ///
     /// Refused with the first of these that applies:
     ///
-    /// - `StaleJob` (20): it is any other job.
+    /// - `StaleJob` (20): it is no offloaded build.
     /// - `NoAggregate` (12): its aggregate is not registered.
-    /// - `StaleJob` (20): what the job rests on holds no more. That is the registration, the objects of the columns that it
-    ///   needs, the flags, and that the row group is still pending.
+    /// - `StaleJob` (20): it was not carried, or what it rests on holds no more. That is the registration, the objects of the
+    ///   columns that it needs, the flags, and that the row group is still pending.
     /// - `NoMemory` (1): an allocation fails.
     ///
     /// A refused call changes nothing.
@@ -71,6 +71,11 @@ impl<S: FarTickets> Frame<S> {
         ensures err { OnErr result (self.new ≡ self.old) }
         ensures here { AreAt S.is_of (S.store_id store.now) self.new.rows }
     {
+        if let Work::Offload(build) = &job.work {
+            if self.table.spec(build.aggregate()).is_none() {
+                return Err(Refusal::NoAggregate);
+            }
+        }
         match &job.work {
             Work::Offloaded(carried) => self.table.merge(store, carried),
             Work::Offload(_) => Err(Refusal::StaleJob),

@@ -14,7 +14,7 @@ pub const NUMBERS: usize = 64;
 /// The columns of texts, a bit for each.
 const TEXTS: u32 = 0b1010;
 
-/// The key of each row, where there is no key column.
+/// The key of each row, if there is no key column.
 static NO_KEY: [Value; 1] = [Value::Missing];
 
 /// The aggregates that are drawn. The last four cannot be had.

@@ -47,7 +47,7 @@ pub fn keys_of(kind: Kind) -> &'static [Value] {
     }
 }
 
-/// The kind of a column; of numbers where there is none.
+/// The kind of a column; of numbers if there is none.
 pub fn kind_of(column: u32) -> Kind {
     KINDS[column as usize % 4]
 }
@@ -166,7 +166,6 @@ pub fn drawn_call(draws: &mut Draws, plain: &Plain) -> Call {
 
 /// Of each kind of look, that of a number, if there is one. Together they show all of a table that calls tell.
 pub fn look(kind: u32, n: u32) -> Option<Call> {
-    let (column, group) = (n % COLUMNS, n / COLUMNS);
     match kind {
         0 if n <= PLACES => Some(Call::Row(n)),
         1 if n <= PLACES => Some(Call::IsAlive(n)),
@@ -176,7 +175,6 @@ pub fn look(kind: u32, n: u32) -> Option<Call> {
         5 if n <= 32 => Some(Call::Ask(n)),
         6 if n < COLUMNS => Some(Call::Prefetch(n)),
         6 if n == COLUMNS => Some(Call::Coldest),
-        7 if group < PLACES / SIZE => Some(Call::Repin(column, group)),
         _ => None,
     }
 }

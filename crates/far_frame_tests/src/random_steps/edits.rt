@@ -64,7 +64,7 @@ impl Plain {
     }
 
     // How long the far form of a row group's texts is, once a place of it has this value: a head, what each value has, and a byte with a
-    // bit for each where some are missing.
+    // bit for each if some are missing.
     fn form_len(&self, column: u32, group: u32, place: u32, value: Value) -> u32 {
         let first = group.saturating_mul(SIZE);
         let (mut len, mut mask) = (6u32, 0u32);
@@ -77,7 +77,7 @@ impl Plain {
         len.saturating_add(mask)
     }
 
-    /// How long the object of a row group of a column is, once a place of it has this value; as it is, where the place is another's.
+    /// How long the object of a row group of a column is, once a place of it has this value; as it is, if the place is another's.
     pub fn list_len(&self, column: u32, group: u32, place: u32, value: Value) -> u32 {
         match kind_of(column) {
             Kind::Int => SIZE,
@@ -104,7 +104,7 @@ impl Plain {
             .or(is_last.then_some(Refusal::EditsUsedUp))
     }
 
-    // Whether the list that an object gets, once a place has this value, fits beside all that is there. Numbers get one only where
+    // Whether the list that an object gets, once a place has this value, fits beside all that is there. Numbers get one only if
     // their row group begins.
     fn reserve_one(&mut self, place: u32, column: u32, value: Value, begins: bool) -> bool {
         let (kind, group) = (kind_of(column), place / SIZE);
@@ -157,7 +157,7 @@ impl Plain {
             .or(self.long_refusal(self.len, values))
     }
 
-    /// A row more. It fits, where it begins a row group for objects that have no list yet, and is appended.
+    /// A row more. It fits, if it begins a row group for objects that have no list yet, and is appended.
     pub fn insert(&mut self, values: &Values, width: u32) -> Due<'static> {
         let place = self.len;
         let refusal = self.insert_refusal(values, width);

@@ -120,7 +120,7 @@ impl Plain {
         if object.dirty { None } else { object.ticket }
     }
 
-    // A build of a row group into an aggregate. It cannot be begun where the store has not all of what it needs.
+    // A build of a row group into an aggregate. It cannot be begun if the store has not all of what it needs.
     fn offload_job(&self, a: u32, group: u32) -> Job {
         let aggregate = self.aggregate(a);
         let first = group.saturating_mul(SIZE);
@@ -198,7 +198,11 @@ impl Plain {
     /// The job of a number ends as one of this kind. It is spent once it was accepted or stale.
     pub fn end(&mut self, n: u64, kind: JobKind) -> Option<Refusal> {
         let job = self.job(n);
-        let refusal = if job.spent || !job.carried || job.kind != kind {
+        let refusal = if job.spent || job.kind != kind {
+            Some(Refusal::StaleJob)
+        } else if self.is_forgotten(&job) {
+            Some(Refusal::NoAggregate)
+        } else if !job.carried {
             Some(Refusal::StaleJob)
         } else {
             self.ended(&job)
@@ -208,6 +212,11 @@ impl Plain {
             _ => {}
         }
         refusal
+    }
+
+    // Whether a job is a build into an aggregate that is not registered.
+    fn is_forgotten(&self, job: &Job) -> bool {
+        job.kind == JobKind::Offload && !self.aggregate(job.aggregate).registered
     }
 
     // A job that was carried ends, or why it does not.
@@ -272,15 +281,13 @@ impl Plain {
             && self.offload_refusal(job.aggregate, job.group).is_none()
     }
 
-    // The row group of a build is scanned.
+    // The row group of a build into a registered aggregate is scanned.
     fn merge(&mut self, job: &Job) -> Option<Refusal> {
-        if !self.aggregate(job.aggregate).registered {
-            Some(Refusal::NoAggregate)
-        } else if !self.holds(job) {
-            Some(Refusal::StaleJob)
-        } else {
+        if self.holds(job) {
             self.build(job.aggregate, job.group);
             None
+        } else {
+            Some(Refusal::StaleJob)
         }
     }
 }

@@ -1,7 +1,6 @@
 //! Objects of a plain table: where each lies, and what is known of it.
 use super::drawing::{COLUMNS, kind_of};
 use super::plain::Plain;
-use crate::answers::Due;
 use far_types::{Kind, Limits, Name, Refusal};
 
 /// How many objects there are at most. An index is taken modulo this, which leaves each index of an object as it is: so no look-up can
@@ -123,7 +122,7 @@ impl Plain {
         }
     }
 
-    /// The object of a row group of a column; where there is none, any.
+    /// The object of a row group of a column; if there is none, any.
     pub fn object(&self, column: u32, group: u32) -> Object {
         self.objects[index(column, group) % OBJECTS]
     }
@@ -220,14 +219,6 @@ impl Plain {
         let is_free = self.object(column, group).pins == 0;
         self.missing(column, group)
             .or(is_free.then_some(Refusal::NotPinned))
-    }
-
-    /// How many pins an object has, told as a place is; or why none is taken off.
-    pub fn pins(&self, column: u32, group: u32) -> Due<'static> {
-        match self.unpin_refusal(column, group) {
-            None => Due::Place(self.object(column, group).pins),
-            Some(refusal) => Due::Refused(refusal),
-        }
     }
 
     // The object of a kind that goes away first: the one that was used longest ago, of those that are not hot if there is one.

@@ -191,7 +191,6 @@ impl Plain {
             Call::Evac(column, group) => self.evac(column, group),
             Call::Fetch(column, group) => self.fetch(column, group),
             Call::Offload(a, group) => self.offload(a, group),
-            Call::Repin(column, group) => self.pins(column, group),
             Call::Coldest => Due::Coldest(self.coldest()),
             call => done(self.change(call)),
         }

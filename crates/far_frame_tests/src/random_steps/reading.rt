@@ -25,7 +25,7 @@ impl Plain {
         self.answer_or(refusal, a)
     }
 
-    // Some columns are read where they are away, one row group after the other.
+    // Some columns are read while they are away, one row group after the other.
     fn read_away(&mut self, columns: u32) -> Option<Refusal> {
         let mut refusal = None;
         for n in 0..self.groups().saturating_mul(COLUMNS) {

@@ -52,7 +52,7 @@ impl<S: FarTickets> Rows<S> {
         ensures refused { refusal_in result ≡ push_refusal S.content self.now row.now }
         ensures plain { (limits : Limits) → AreOf limits self.now → refusal_in result ≡ insert_refusal S.content limits self.now row.now }
     {
-        // For the proof: what rows are, and that no text is too long.
+        // For the proof: give `AreRows`, and that no text is too long.
         let _len = self.len();
         let _texts = row.texts();
         self.may_push_values(row)
@@ -64,7 +64,7 @@ impl<S: FarTickets> Rows<S> {
         requires texts { length row.now.texts ≡ length self.now.texts }
         ensures { refusal_in result ≡ kinds_refusal S.content self.now row.now }
     {
-        // For the proof: a table has at most 16 columns.
+        // For the proof: gives that a table has at most 16 columns.
         let len = self.len();
         let group = self.reciprocal.quotient(len, self.size as usize);
         self.here(group as u32)?;

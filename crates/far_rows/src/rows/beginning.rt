@@ -39,7 +39,7 @@ impl<S: FarTickets> Rows<S> {
         ensures free { OnOk result (evac_refusal self.now column group ≡ None) }
         ensures refused { IfErr result (MayRefuse (evac_refusal self.now column group) true) }
     {
-        // For the proof: what the rows are, so that the refusal names an object that is away by its own name.
+        // For the proof: gives `AreRows`. So the refusal names an object that is away by its own name.
         let _len = self.len();
         let job = match self.object(column, group)? {
             Object::Number(o) => ByKind::Numbers(self.begin_numbers(alloc, store, o)?),

@@ -24,7 +24,7 @@ impl<S: FarTickets> Rows<S> {
         ensures unpinned { IfSome result (λ name. option_map (pins_at self.now) (object_at self.now name.column name.group) ≡ Some 0) }
         ensures none { (result ≡ None) ↔ ((coldest_in self.now.number_objects ≡ None) × (coldest_in self.now.text_objects ≡ None)) }
     {
-        // For the proof: what the rows are, and that the objects in the orders of use are the local ones.
+        // For the proof: give `AreRows`, and that the objects in the orders of use are the local ones.
         let _len = self.len();
         let _number = self.number_objects.number();
         let _text = self.text_objects.number();
@@ -72,7 +72,7 @@ fn coldest_name<T: Elem, S: FarTickets>(objects: &Objects<T, S>) -> Option<Name>
     ensures name { result ≡ coldest_name objects.now }
     ensures none { (result ≡ None) ↔ (coldest_in objects.now ≡ None) }
 {
-    // For the proof: that a local object is in use.
+    // For the proof: gives that a local object is in use.
     let _number = objects.number();
     Some(objects.name(objects.coldest()?))
 }

@@ -30,7 +30,7 @@ impl<S: FarTickets> Rows<S> {
         ensures here { (id : List ℕ) → AreAt S.is_of id self.now → IfSome result (λ ticket. S.is_of ticket.now id) }
         ensures away { (absent_in self.now column group).0 ≡ true → IsSome result }
     {
-        // For the proof: what the rows are.
+        // For the proof: gives `AreRows`.
         let _len = self.len();
         match self.object(column, group) {
             Ok(Object::Number(o)) => clean_ticket(self.number_objects(), o),
@@ -47,7 +47,7 @@ fn clean_ticket<T: Elem, S: FarTickets>(objects: &Objects<T, S>, o: u32) -> Opti
     ensures form { IfSome result (λ ticket. IsSpelled T.in_range T.has_spelling T.spelling (T.meaning (S.content ticket.now)) (S.content ticket.now)) }
     ensures away { is_local objects.now o ≡ false → IsSome result }
 {
-    // For the proof: a clean object has a far copy.
+    // For the proof: gives that a clean object has a far copy.
     let _number = objects.number();
     if objects.word(o).dirty() {
         return None;

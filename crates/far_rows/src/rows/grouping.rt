@@ -41,7 +41,7 @@ impl<S: FarTickets> Rows<S> {
         ensures form { IfOk result IsLent }
         ensures refused { refusal_in result ≡ evac_refusal self.now column group }
     {
-        // For the proof: what rows are.
+        // For the proof: gives `AreRows`.
         let _len = self.len();
         match self.object(column, group)? {
             Object::Number(o) => {

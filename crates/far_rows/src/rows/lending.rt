@@ -53,7 +53,7 @@ impl<S: FarTickets> Rows<S> {
         ensures refused { refusal_in result ≡ first_of (no_range self.now from to ∷ map (λ g. told_at self.now g (ColumnIndex.Number number)) (overlapped_groups self.now.size from to)) }
     {
         let column = &self.numbers[number];
-        // For the proof: how many numbers there are.
+        // For the proof: gives how many numbers there are.
         let _len = column.len();
         column.lent(&self.number_objects, &self.alive, from, to)
     }
@@ -91,7 +91,7 @@ impl<S: FarTickets> Rows<S> {
         ensures refused { refusal_in result ≡ first_of (no_range self.now from to ∷ map (λ g. told_at self.now g (ColumnIndex.Text text)) (overlapped_groups self.now.size from to)) }
     {
         let column = &self.texts[text];
-        // For the proof: that a row group is begun for each place.
+        // For the proof: gives that a row group is begun for each place.
         let _len = column.len();
         column.texts(&self.text_objects, self.alive.all(), from, to)
     }

@@ -26,7 +26,7 @@ impl<S: FarTickets> Rows<S> {
         ensures spelled { (o : ℕ) → IfSome (list_in result.now.memory o) FitsCount }
         ensures owned { (o : ℕ) (name : Name) → slice_get (names_of result.now) o ≡ Some name → object_at self.now name.column name.group ≡ Some (object.Number o) }
     {
-        // For the proof: an object with a list is in use.
+        // For the proof: gives that an object with a list is in use.
         let _number = self.number_objects.number();
         &self.number_objects
     }

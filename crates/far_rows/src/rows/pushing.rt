@@ -147,7 +147,7 @@ impl<S: FarTickets> Rows<S> {
         ensures memory { IfErr result (λ e. e ≡ Refusal.NoMemory) }
         ensures err { OnErr result (self.new ≡ self.old) }
     {
-        // For the proof: what rows are, and that no text is too long.
+        // For the proof: give `AreRows`, and that no text is too long.
         let _len = self.len();
         let _texts = row.texts();
         self.push_row(alloc, row)?;
@@ -175,6 +175,7 @@ impl<S: FarTickets> Rows<S> {
         ensures memory { IfErr result (λ e. e ≡ Refusal.NoMemory) }
         ensures err { OnErr result (self.new ≡ self.old) }
     {
+        // For the proof: give what holds of all objects (`AreTracked`).
         let _number = self.number_objects.number();
         let _number = self.text_objects.number();
         let index = self

@@ -31,7 +31,7 @@ impl<S: FarTickets> Rows<S> {
     pub fn here(&self, group: u32) -> Result<(), Refusal>
         ensures { refusal_in result ≡ first_of (absents self.now group) }
     {
-        // For the proof: each index is that of a column.
+        // For the proof: gives that each index is that of a column.
         let _len = self.len();
         if self.are_all_local() {
             return Ok(());
@@ -47,7 +47,7 @@ impl<S: FarTickets> Rows<S> {
     fn are_all_local(&self) -> bool
         ensures { IsTrue result → (g : ℕ) → first_of (absents self.now g) ≡ None }
     {
-        // For the proof: what rows are, and that an object with a list is in use.
+        // For the proof: give `AreRows`, and that an object with a list is in use.
         let _len = self.len();
         let _numbers = self.number_objects.number();
         let _texts = self.text_objects.number();
@@ -102,7 +102,7 @@ impl<S: FarTickets> Rows<S> {
         ensures cell { IfOk result (λ cell. slice_index_or (column_in (all_numbers S.content self.now) (all_texts S.content self.now) column_index) place Missing ≡ lent_cell cell) }
         ensures refused { refusal_in result ≡ first_of (absent_at self.now column (place / self.now.size) column_index ∷ []) }
     {
-        // For the proof: each index is that of a column.
+        // For the proof: gives that each index is that of a column.
         let _len = self.len();
         match column_index {
             ColumnIndex::Number(number) => Ok(CellRef::of_int(self.number_at(
@@ -121,7 +121,7 @@ impl<S: FarTickets> Rows<S> {
         ensures row { IfOk result (λ row. row ≡ row_at (cells_of S.content self.now) place) }
         ensures refused { refusal_in result ≡ first_of (absents self.now (place / self.now.size)) }
     {
-        // For the proof: that a table has at most 16 columns.
+        // For the proof: gives that a table has at most 16 columns.
         let _len = self.len();
         let mut row = LentRow::new();
         for (column, column_index) in self.column_indexes.iter().enumerate() {
@@ -138,7 +138,7 @@ impl<S: FarTickets> Rows<S> {
         ensures row { IfOk result (λ row. row ≡ row_at (cells_of S.content self.now) place) }
         ensures refused { refusal_in result ≡ first_of (absents self.now (place / self.now.size)) }
     {
-        // For the proof: there are fewer places than numbers of 32 bits.
+        // For the proof: gives that there are fewer places than numbers of 32 bits.
         let _len = self.len();
         self.here(self.group_of(place))?;
         Ok(RowRef::new(self, place))
@@ -177,7 +177,7 @@ impl<S: FarTickets> Rows<S> {
         ensures refused { refusal_in result ≡ first_of (absent_at self.now at (place / self.now.size) (column_index.Number number) ∷ []) }
     {
         let column = &self.numbers[number];
-        // For the proof: a row group is begun for each place.
+        // For the proof: gives that a row group is begun for each place.
         let _len = column.len();
         column.get(&self.number_objects, place)
     }
@@ -205,7 +205,7 @@ fn numbers_are_here<S: FarTickets>(
     requires { IsVector (number_lists S.content objects.now) column.now }
     ensures { refusal_in result ≡ first_of (option_map_or (absent objects.now) (slice_get column.now.objects group) (false, Refusal.StaleJob) ∷ []) }
 {
-    // For the proof: an object with a list is in use.
+    // For the proof: gives that an object with a list is in use.
     let _number = objects.number();
     if let Some(o) = column.object(group) {
         objects.here(o)?;

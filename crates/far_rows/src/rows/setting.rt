@@ -41,7 +41,7 @@ impl<S: FarTickets> Rows<S> {
         ensures refused { refusal_in result ≡ set_refusal S.content self.now column place value.now }
         ensures plain { (limits : Limits) → AreOf limits self.now → refusal_in result ≡ cell_set_refusal S.content limits self.now column place value.now }
     {
-        // For the proof: what rows are.
+        // For the proof: gives `AreRows`.
         let _len = self.len();
         self.may_set_value(column, place, value)
     }
@@ -53,7 +53,7 @@ impl<S: FarTickets> Rows<S> {
         requires of_kind { option_map kind_of (slice_get self.now.column_indexes column) ≡ Some (kind_in value.now) }
         ensures { refusal_in result ≡ set_refusal S.content self.now column place value.now }
     {
-        // For the proof: each index is that of a column.
+        // For the proof: gives that each index is that of a column.
         let _len = self.len();
         let group = self.group_of(place);
         self.here(group)?;
@@ -73,7 +73,7 @@ impl<S: FarTickets> Rows<S> {
         requires { place < length self.now.alive }
         ensures { result ≡ place / self.now.size }
     {
-        // For the proof: there are fewer places than numbers of 32 bits.
+        // For the proof: gives that there are fewer places than numbers of 32 bits.
         let _len = self.len();
         self.reciprocal.quotient(place, self.size as usize) as u32
     }
@@ -86,7 +86,7 @@ impl<S: FarTickets> Rows<S> {
         requires group { group ≡ place / self.now.size }
         ensures { refusal_in result ≡ option_and_then (λ v. number_set_refusal self.now.number_objects v place) (slice_get self.now.numbers i) }
     {
-        // For the proof: what rows are, and that an object with a list is in use.
+        // For the proof: give `AreRows`, and that an object with a list is in use.
         let _len = self.len();
         let _number = self.number_objects.number();
         let Some(o) = self.numbers[i].object(group) else {
@@ -104,7 +104,7 @@ impl<S: FarTickets> Rows<S> {
         ensures store { (id : List ℕ) → AreHere S.is_of id self.old.number_objects → AreHere S.is_of id self.new.number_objects }
         ensures versions { (o : ℕ) → version_of self.new.number_objects o ≤ version_of self.old.number_objects o + 1 }
     {
-        // For the proof: what rows are.
+        // For the proof: gives `AreRows`.
         let _len = self.len();
         let group = self.group_of(place);
         self.numbers[i].set_in_group(&mut self.number_objects, group, place, number);
@@ -152,7 +152,7 @@ impl<S: FarTickets> Rows<S> {
         ensures memory { IfErr result (λ e. e ≡ Refusal.NoMemory) }
         ensures err { OnErr result (self.new ≡ self.old) }
     {
-        // For the proof: what rows are.
+        // For the proof: gives `AreRows`.
         let _len = self.len();
         self.set_value(alloc, column, place, value)?;
         Ok(())
@@ -178,7 +178,7 @@ impl<S: FarTickets> Rows<S> {
         ensures memory { IfErr result (λ e. e ≡ Refusal.NoMemory) }
         ensures err { OnErr result (self.new ≡ self.old) }
     {
-        // For the proof: each index is that of a column.
+        // For the proof: gives that each index is that of a column.
         let _len = self.len();
         match (self.column_indexes[column], value) {
             (ColumnIndex::Number(i), NewCell::Number(number)) => {

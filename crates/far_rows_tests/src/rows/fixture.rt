@@ -13,17 +13,16 @@ use far_store::{FarStore, Meter};
 use far_types::{Kind, Limits, Refusal, Schema};
 use std::alloc::Global;
 use std::marker::Model;
-pub use writing::row;
 
 /// The values of a row, in the order of the columns.
 pub type Values = (Cell, Cell, Cell, Cell);
 
-/// Row groups of two places, and space for the objects of two of them.
+/// Row groups of two places, and space for the objects of two of them and one more of numbers.
 pub const LIMITS: Limits = Limits {
     group: 2,
     places: 100,
     edits: 9,
-    int_segments: 4,
+    int_segments: 5,
     int_size: 2,
     text_segments: 8,
     text_size: 64,
@@ -84,20 +83,6 @@ impl<'a, S: FarStore> Fixture<'a, S> {
         }
     }
 
-    // Puts what is away into the other store, and leaves the table where it is.
-    fn put_again(&self, alloc: Global) -> Result<(), Refusal> {
-        match self
-            .rows
-            .renewal(alloc, self.store, self.other, &mut Meter::new())
-        {
-            Err(refusal) => Err(refusal),
-            Ok(renewal) => {
-                drop(renewal);
-                Ok(())
-            }
-        }
-    }
-
     /// What a call answers. One that is refused for lack of memory is made once more.
     pub fn answer(&mut self, alloc: Global, call: &Call) -> Result<(), Refusal> {
         match self.reply(alloc, call) {
@@ -108,19 +93,12 @@ impl<'a, S: FarStore> Fixture<'a, S> {
 
     fn reply(&mut self, alloc: Global, call: &Call) -> Result<(), Refusal> {
         match call {
-            Call::MayPush(values) => self.may_push(alloc, values),
             Call::Push(values) => self.push(alloc, values),
-            Call::MaySet(column, place, value) => self.may_set(alloc, *column, *place, *value),
             Call::Set(column, place, value) => self.set(alloc, *column, *place, *value),
-            Call::Clear(place) => self.clear(*place),
-            Call::Pin(column, group) => self.rows.pin(*column, *group),
-            Call::Unpin(column, group) => self.rows.unpin(*column, *group),
-            Call::Touch(column, group) => self.rows.touch(*column, *group),
             Call::Evacuate(column, group) => self.evacuate(alloc, *column, *group),
             Call::FetchBack(column, group) => self.fetch_back(alloc, *column, *group),
             Call::CompactNumbers(segment) => self.rows.compact_numbers(alloc, *segment),
             Call::CompactTexts(segment) => self.rows.compact_texts(alloc, *segment),
-            Call::PutAgain => self.put_again(alloc),
         }
     }
 }

@@ -1,16 +1,12 @@
 // Callers that know something of the objects of rows by what a call of theirs tells, and by nothing else.
-ghost use Rattle.std.specs.Prelude.{◌≡◌, ◌*◌, ◌<◌, [], ◌∷◌, Err, IfOk, IsOk, Some, length, option_map};
-ghost use Rattle.far_types.specs.declared.cell.Kind.TheVariants.{Int, Text};
+ghost use Rattle.std.specs.Prelude.{◌≡◌, ◌*◌, ◌<◌, IfOk, IsOk, Some, length, option_map};
 ghost use Rattle.far_scopes.specs.Memory.{list_in};
-ghost use Rattle.far_rows.specs.Opening.{empty_rows};
 
-use crate::rows::asking::{may_put, no_row, push_one};
 use crate::rows::fixture::LIMITS;
 use far_codec::kind_of;
-use far_rows::{NewCell, Object, Rows};
-use far_store::{AgentStore, FarTickets};
-use far_types::{Kind, Limits, Refusal};
-use std::alloc::Global;
+use far_rows::{Object, Rows};
+use far_store::FarTickets;
+use far_types::{Kind, Refusal};
 
 // The kind of the column that an object of numbers is named by.
 fn number_owner<S: FarTickets>(rows: &Rows<S>, o: u32) -> Option<Kind>
@@ -63,78 +59,15 @@ fn text_kind<S: FarTickets>(rows: &Rows<S>, o: u32) -> Result<Option<Kind>, Refu
     Ok(kind_of(form))
 }
 
-// Takes a pin off the object that goes away first, which has none.
-fn unpin_coldest<S: FarTickets>(rows: &mut Rows<S>) -> Result<(), Refusal>
-    ensures { result ≡ Err Refusal.NotPinned }
-{
-    match rows.coldest() {
-        Some(name) => rows.unpin(name.column as usize, name.group),
-        None => Err(Refusal::NotPinned),
-    }
-}
-
-// Whether the first two columns of a table, one of texts and one of numbers, have their first objects, each of them local.
-fn are_told<S: FarTickets>(rows: &Rows<S>) -> bool {
+/// Whether the first two columns of a table, one of texts and one of numbers, have their first objects, each of them local.
+pub fn tell_their_objects<S: FarTickets>(rows: &Rows<S>) -> bool {
     rows.len() > 0
         && rows.column_indexes().len() >= 2
         && rows.number_objects().count() > 0
         && rows.text_objects().count() > 0
-        && object_begun(rows, 0, 0).is_ok()
         && object_begun(rows, 1, 0).is_ok()
         && number_owner(rows, 0) == Some(Kind::Int)
         && number_len(rows, 0) == Ok(LIMITS.group)
         && text_owner(rows, 0) == Some(Kind::Text)
         && text_kind(rows, 0) == Ok(Some(Kind::Text))
-}
-
-/// What a table with one row tells.
-pub enum Told {
-    /// A text may be put in its first column.
-    Put,
-    /// Its objects are known, and the coldest has no pin.
-    Objects,
-}
-
-// Whether a table tells so, once it has a row.
-fn tells_with_one<S: FarTickets>(
-    alloc: Global,
-    rows: &mut Rows<S>,
-    limits: &Limits,
-    told: &Told,
-) -> Result<bool, Refusal>
-    requires { rows.old ≡ empty_rows (Text ∷ Int ∷ []) limits.now 7 }
-{
-    push_one(alloc, rows, limits)?;
-    match told {
-        Told::Put => Ok(may_put(rows, limits, 0, 0, &NewCell::Text(None)) == Ok(())),
-        Told::Objects => Ok(are_told(rows) && unpin_coldest(rows) == Err(Refusal::NotPinned)),
-    }
-}
-
-fn tells<S: FarTickets>(alloc: Global, told: &Told) -> Result<bool, Refusal> {
-    LIMITS.check()?;
-    match no_row::<S>(alloc, &LIMITS) {
-        Ok(mut rows) => {
-            let told = tells_with_one(alloc, &mut rows, &LIMITS, told);
-            drop(rows);
-            told
-        }
-        Err(refusal) => Err(refusal),
-    }
-}
-
-/// Whether a table with one row tells so. It is made again where it finds no memory.
-pub fn tells_at_last<S: FarTickets>(alloc: Global, told: &Told) -> Result<bool, Refusal> {
-    match tells::<S>(alloc, told) {
-        Err(Refusal::NoMemory) => tells::<S>(alloc, told),
-        reply => reply,
-    }
-}
-
-/// The store of the table is not made, since an object that is here asks it for nothing.
-#[test]
-fn rows_tell_what_their_objects_are(rt: HostRuntime) {
-    assert!(rt;
-        tells_at_last::<AgentStore<&'_ HostRuntime>>(rt.alloc(), &Told::Objects) == Ok(true)
-    );
 }

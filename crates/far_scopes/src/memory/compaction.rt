@@ -43,7 +43,7 @@ impl<T: Elem> LocalMemory<T> {
     }
 }
 
-// The objects whose parts lie in a segment: the hot ones, then the others, each by ascending offset.
+// Returns the objects whose parts lie in a segment: the hot ones, then the others, each by ascending offset.
 fn hot_first(alloc: Global, words: &[Word], segment: u32) -> Result<Vec<SegmentObject>, Refusal>
     ensures found { IfOk result (λ found. AreHotFirst words.now segment found.items) }
     ensures memory { IfErr result (λ e. e ≡ Refusal.NoMemory) }
@@ -53,7 +53,7 @@ fn hot_first(alloc: Global, words: &[Word], segment: u32) -> Result<Vec<SegmentO
     Ok(found)
 }
 
-// The objects whose parts lie in a segment and whose hot bit is `hot`, by ascending offset.
+// Returns the objects whose parts lie in a segment and whose hot bit is `hot`, by ascending offset.
 fn sorted(
     alloc: Global,
     words: &[Word],
@@ -68,7 +68,7 @@ fn sorted(
     Ok(found)
 }
 
-// The same objects by number.
+// Returns the objects whose parts lie in a segment and whose hot bit is `hot`, by ascending number.
 fn objects_in(
     alloc: Global,
     words: &[Word],
@@ -87,7 +87,7 @@ fn objects_in(
     Ok(found)
 }
 
-// Where in a segment the part of an object begins, if it lies there and the object's hot bit is `hot`.
+// Returns where in a segment the part of an object begins, if it lies there and the object's hot bit is `hot`.
 fn offset_if(word: Word, segment: u32, hot: bool) -> Option<u32>
     ensures { result ≡ offset_if segment hot word }
 {
@@ -101,7 +101,7 @@ fn offset_if(word: Word, segment: u32, hot: bool) -> Option<u32>
     }
 }
 
-// Where the parts of objects begin.
+// Returns where the parts of objects begin.
 fn offsets_of(alloc: Global, objects: &[SegmentObject]) -> Result<Vec<u32>, Refusal>
     ensures offsets { IfOk result (λ offsets. offsets.items ≡ map (λ found. found.offset) objects.now) }
     ensures memory { IfErr result (λ e. e ≡ Refusal.NoMemory) }
@@ -132,7 +132,7 @@ fn settle(words: &mut [Word], objects: &[SegmentObject], moved: &Moved) -> usize
     cooled
 }
 
-// 1 for the word of an object that is hot, else 0.
+// Returns 1 for the word of an object that is hot, else 0.
 fn hot_of(word: Word) -> usize
     ensures { result ≡ (if is_hot word then 1 else 0) }
 {

@@ -20,7 +20,7 @@ impl<T: Elem> LocalMemory<T> {
     }
 }
 
-// The word of the same object, without a far copy if it is local.
+// Returns the word of the same object, without a far copy if it is local.
 fn without_copy(word: Word) -> Word
     ensures { result ≡ renewed_word word }
 {

@@ -26,7 +26,7 @@ impl<T: Elem, S: FarTickets> Objects<T, S> {
         self.first_cold()
     }
 
-    // The least recently used object without pins.
+    // Returns the least recently used object without pins.
     fn last_unpinned(&self) -> Option<u32>
         ensures { result ≡ find (is_unpinned self.now) (reverse self.now.order) }
     {
@@ -39,7 +39,7 @@ impl<T: Elem, S: FarTickets> Objects<T, S> {
         None
     }
 
-    // The least recently used object that is neither pinned nor hot. If there is none, the least recently used of all without pins.
+    // Returns the least recently used object that is neither pinned nor hot. If there is none, the least recently used of all without pins.
     fn first_cold(&self) -> Option<u32>
         ensures { result ≡ coldest self.now }
     {

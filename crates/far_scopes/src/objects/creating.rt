@@ -1,4 +1,4 @@
-// Creates objects, and takes back the last one.
+// Creates objects, and removes the last one.
 ghost use Rattle.std.specs.Prelude.{◌≡◌, ◌-◌, ◌<◌, ◌^◌, ◌↔◌, ◌⊎◌, ◌∷◌, length, false, true, Some, None, OnOk, OnErr, IfOk, IfErr, IsErrOf, ℕ, List};
 ghost use Rattle.far_log.specs.RegionState.{fits_in, spaces_of, fit_in_order};
 ghost use Rattle.far_scopes.specs.Memory.{ChangesList};

@@ -113,7 +113,7 @@ impl<T: Elem, S: FarTickets> Objects<T, S> {
         self.memory.mark(o as usize);
     }
 
-    /// Whether an object is local: its list is in local memory, and may be borrowed. Allocates nothing.
+    /// Returns whether an object is local: its list is in local memory, and may be borrowed. Allocates nothing.
     pub fn is_local(&self, o: u32) -> bool
         requires { o < length self.now.records }
         ensures { result ≡ is_local self.now o }
@@ -124,7 +124,7 @@ impl<T: Elem, S: FarTickets> Objects<T, S> {
         }
     }
 
-    // Whether an object is away.
+    // Returns whether an object is away.
     pub(super) fn is_away(&self, o: u32) -> bool
         requires { o < length self.now.records }
         ensures { result ≡ not (is_local self.now o) }
@@ -132,7 +132,7 @@ impl<T: Elem, S: FarTickets> Objects<T, S> {
         !self.is_local(o)
     }
 
-    // The refusal that says that an object is away.
+    // Returns the refusal that says that an object is away.
     pub(super) fn absent(&self, o: u32) -> Refusal
         requires { o < length self.now.records }
         ensures { result ≡ (absent self.now o).1 }

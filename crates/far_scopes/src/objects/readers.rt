@@ -9,14 +9,14 @@ use far_store::FarTickets;
 use far_types::Name;
 
 impl<T: Elem, S: FarTickets> Objects<T, S> {
-    /// How many objects there are: the numbers below are in use. Allocates nothing.
+    /// Returns how many objects there are: the numbers below are in use. Allocates nothing.
     pub fn count(&self) -> u32
         ensures { result ≡ length self.now.records }
     {
         self.records.len() as u32
     }
 
-    /// Whether every object is local. Allocates nothing, and reads no object: the local ones are those in the order of use.
+    /// Returns whether every object is local. Allocates nothing, and reads no object: the local ones are those in the order of use.
     pub fn are_all_local(&self) -> bool
         ensures { IsTrue result ↔ ((o : ℕ) → o < length self.now.records → is_local self.now o ≡ true) }
     {
@@ -25,7 +25,7 @@ impl<T: Elem, S: FarTickets> Objects<T, S> {
         local == all
     }
 
-    /// How many elements the list of an object has, local or away. Allocates nothing.
+    /// Returns how many elements the list of an object has, local or away. Allocates nothing.
     pub fn len(&self, o: u32) -> usize
         requires { o < length self.now.records }
         ensures { option_map (λ object_record. object_record.len) (record_of self.now o) ≡ Some result }
@@ -33,7 +33,7 @@ impl<T: Elem, S: FarTickets> Objects<T, S> {
         self.records[o as usize].len
     }
 
-    /// The name of an object: the column and the row group that were given to `create`. Allocates nothing.
+    /// Returns the name of an object: the column and the row group that were given to `create`. Allocates nothing.
     pub fn name(&self, o: u32) -> Name
         requires { o < length self.now.records }
         ensures { option_map (λ object_record. object_record.name) (record_of self.now o) ≡ Some result }
@@ -41,15 +41,15 @@ impl<T: Elem, S: FarTickets> Objects<T, S> {
         self.records[o as usize].name
     }
 
-    /// Whether some segment has the space for a list of `len` elements. Allocates nothing.
+    /// Returns whether some segment has the space for a list of `len` elements. Allocates nothing.
     pub fn fits(&self, len: usize) -> bool
         ensures { result ≡ fits_in self.now.memory.state len }
     {
         self.memory.fits(len)
     }
 
-    /// Whether at most 16 lists of these lengths, none of them empty, can be placed one after the other. Each goes to the lowest segment
-    /// that has the space. Allocates nothing.
+    /// Returns whether at most 16 lists of these lengths, none of them empty, can be placed one after the other. Each goes to the lowest
+    /// segment that has the space. Allocates nothing.
     pub fn fits_in_order(&self, lens: &[usize]) -> bool
         requires few { length lens.now ≤ 16 }
         requires some { All (λ len. 0 < len) lens.now }
@@ -58,7 +58,7 @@ impl<T: Elem, S: FarTickets> Objects<T, S> {
         self.memory.fits_in_order(lens)
     }
 
-    /// The space of all segments together, in elements. Allocates nothing.
+    /// Returns the space of all segments together, in elements. Allocates nothing.
     ///
     /// A list needs its space in one segment. So a list that is no longer than this may still not fit.
     pub fn space(&self) -> usize
@@ -67,14 +67,14 @@ impl<T: Elem, S: FarTickets> Objects<T, S> {
         self.memory.space()
     }
 
-    /// The capacity of all segments together, in elements. Allocates nothing.
+    /// Returns the capacity of all segments together, in elements. Allocates nothing.
     pub fn capacity(&self) -> usize
         ensures { result ≡ capacity_of self.now.memory.state }
     {
         self.memory.capacity()
     }
 
-    /// Whether an object may go away once more: each may do so as often as the limits of `new` say. Allocates nothing.
+    /// Returns whether an object may go away once more: each may do so as often as the limits of `new` say. Allocates nothing.
     pub fn may_leave(&self, o: u32) -> bool
         requires { o < length self.now.records }
         ensures { IsTrue result ↔ (leavings_of self.now o < self.now.leavings) }

@@ -86,7 +86,7 @@ impl<T: Elem, S: FarTickets> Objects<T, S> {
         }
     }
 
-    // The ticket of an object that is away; none for a local one.
+    // Returns the ticket of an object that is away; none for a local one.
     fn away_ticket(&self, o: u32) -> Option<&S::Ticket>
         requires { o < length self.now.records }
         ensures { option_map (λ ticket. ticket.now) result ≡ (if is_local self.now o then None else ticket_of self.now o) }

@@ -73,7 +73,7 @@ impl<T: Elem, S: FarTickets> Objects<T, S> {
         Ok(())
     }
 
-    // Takes the pins back that `pin_all` took.
+    // Removes the pins that `pin_all` added.
     fn unpin_all(&mut self, objects: &[u32])
         requires { All (λ o. o < length self.old.records) objects.now }
         ensures undone { (m : Movement T S.Ticket) → self.old ≡ after_pin_all m objects.now → self.new ≡ m }
@@ -85,7 +85,7 @@ impl<T: Elem, S: FarTickets> Objects<T, S> {
         }
     }
 
-    // Takes a pin of an object back. Returns whether it had one.
+    // Removes a pin of an object. Returns whether it had one.
     fn take_pin(&mut self, o: u32) -> bool
         requires { o < length self.old.records }
         ensures taken { IsTrue result → self.new ≡ after_unpin self.old o }
@@ -97,7 +97,7 @@ impl<T: Elem, S: FarTickets> Objects<T, S> {
         self.unpin(o).is_ok()
     }
 
-    /// Takes back one pin for each listing of an object in a scope, if the object has one. Returns how many it took back. Allocates
+    /// Removes one pin for each listing of an object in a scope, if the object has one. Returns how many it removed. Allocates
     /// nothing.
     pub fn close(&mut self, scope: Scope) -> u32
         requires { All (λ o. o < length self.old.records) scope }

@@ -6,8 +6,6 @@ use far_types::Refusal;
 #[derive(Drop)]
 pub enum Call<L> {
     Create(L),
-    /// Unmakes the last object.
-    Uncreate,
     /// Changes one object.
     On(u32, Change<L>),
     Move(Phase),

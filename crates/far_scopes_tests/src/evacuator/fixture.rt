@@ -1,7 +1,6 @@
 // Objects with their store, and the last job of each kind.
-ghost use Rattle.std.specs.Prelude.{◌≡◌, ◌<◌, ℕ, List, length, false, Some, IfOk, IsTrue};
-ghost use Rattle.far_scopes.specs.Memory.{list_in};
-ghost use Rattle.far_scopes.specs.Movement.{AreClean, AreHere, dirty};
+ghost use Rattle.std.specs.Prelude.{ℕ, List, IfOk};
+ghost use Rattle.far_scopes.specs.Movement.{AreClean, AreHere};
 
 mod changing;
 mod moving;
@@ -10,9 +9,8 @@ use crate::evacuator::call::{Call, done};
 use changing::change;
 use far_evacuator::{Carried, EvacJob, FetchJob, Fetched};
 use far_fixtures::{Element, digest_of};
-use far_scopes::laws::clean_objects_have_copies;
 use far_scopes::{ObjectLimits, Objects};
-use far_store::{FarStore, Meter};
+use far_store::FarStore;
 use far_types::Refusal;
 use std::alloc::Global;
 use std::marker::Model;
@@ -112,18 +110,6 @@ impl<'a, T: Element, S: FarStore> Fixture<'a, T, S> {
         }
         self.objects.may_write(o)
     }
-
-    /// Whether the store has the far form of the list of an object that is local and clean.
-    pub fn has_copy(&self, alloc: Global, o: u32) -> Result<bool, Refusal> {
-        if o >= self.objects.count() {
-            return Err(Refusal::NoRow);
-        }
-        if self.objects.word(o).dirty() {
-            return Ok(false);
-        }
-        let list = self.objects.lend(o)?;
-        reads_copy(alloc, &self.objects, self.store, o, list)
-    }
 }
 
 fn no_objects<T: Element, S: FarStore>(
@@ -140,32 +126,5 @@ fn no_objects<T: Element, S: FarStore>(
     match Objects::new(alloc, number, limits) {
         Err(Refusal::NoMemory) => Objects::new(alloc, number, limits),
         reply => reply,
-    }
-}
-
-// Whether the far copy of a local object that is clean is the far form of its list. It always is.
-fn reads_copy<T: Element, S: FarStore>(
-    alloc: Global,
-    objects: &Objects<T, S>,
-    store: &S,
-    o: u32,
-    list: &[T],
-) -> Result<bool, Refusal>
-    requires within { o < length objects.now.records }
-    requires here { AreHere S.is_of (S.store_id store.now) objects.now }
-    requires clean { AreClean T.meaning S.content objects.now }
-    requires unwritten { dirty objects.now o ≡ false }
-    requires lent { list_in objects.now.memory o ≡ Some list.now }
-    ensures { IfOk result IsTrue }
-{
-    let _ = objects.number();
-    clean_objects_have_copies::<T, S>();
-    let Some(ticket) = objects.ticket(o) else {
-        unreachable!()
-    };
-    let mut bytes = Vec::new(alloc);
-    match store.get(alloc, &mut Meter::new(), ticket, &mut bytes) {
-        Ok(()) => Ok(T::spells(&bytes, list)),
-        Err(refusal) => Err(refusal),
     }
 }

@@ -5,10 +5,10 @@ use crate::evacuator::call::Call::{self, Create, Move};
 use crate::evacuator::call::Phase::{self, Begin, BeginFetch, Carry, CarryFetch, Commit, Install};
 use crate::evacuator::call::away;
 use crate::evacuator::fixture::Fixture;
-use crate::evacuator::stores::{Plan, failing, sound};
+use crate::evacuator::stores::{Plan, sound};
 use far_evacuator::Want;
 use far_scopes::ObjectLimits;
-use far_store::FarStore;
+use far_store::{FarStore, FaultyStore};
 use far_types::Refusal;
 use std::alloc::Global;
 use std::sync::Wait;
@@ -37,8 +37,6 @@ enum Step {
     IsAway(u32),
     /// The object is local, with this list.
     Has(u32, &'static [i64]),
-    /// The object is local and clean: the store has the far form of its list.
-    HasCopy(u32),
     /// The frame has this number from now on, and eight new objects alone.
     Frame(u32),
 }
@@ -49,17 +47,18 @@ fn play<R: Wait + Sync + Drop + Copy>(
     alloc: Global,
     case: &Case,
 ) -> Result<Option<usize>, Refusal> {
-    let store = failing(sound(rt, alloc, case.store), case.store);
-    play_in(alloc, store, case)
+    play_in(alloc, sound(rt, alloc, case.store), case)
 }
 
-// The same over a store, if it was made. It knows no store, so to take it out of its result costs it little.
+// The same over a store, if it was made, which fails as the case says. It knows no store, so to take it out of its result costs it
+// little.
 fn play_in<S: FarStore>(
     alloc: Global,
     store: Result<S, Refusal>,
     case: &Case,
 ) -> Result<Option<usize>, Refusal> {
-    play_over(alloc, &store?, case)
+    let store = FaultyStore::new(store?, case.store.failing_put, case.store.failing_get);
+    play_over(alloc, &store, case)
 }
 
 fn play_over<S: FarStore>(alloc: Global, store: &S, case: &Case) -> Result<Option<usize>, Refusal> {
@@ -99,7 +98,6 @@ fn turns_out<S: FarStore>(
         Step::BroughtBack(o) => are_done(fixture, alloc, &[BeginFetch(*o), CarryFetch, Install]),
         Step::Frame(number) => begins_frame(fixture, alloc, limits, *number),
         Step::Has(o, list) => fixture.list(*o) == Ok(*list),
-        Step::HasCopy(o) => fixture.has_copy(alloc, *o) == Ok(true),
         Step::IsAway(o) => is_away(fixture, *o),
     }
 }

@@ -1,6 +1,6 @@
 // The stores that cases are played over.
 use far_byte_log::ByteLog;
-use far_store::{EngineStore, FarStore, FaultyStore};
+use far_store::EngineStore;
 use far_types::Refusal;
 use std::alloc::Global;
 
@@ -16,7 +16,7 @@ pub struct Plan {
     pub failing_get: u64,
 }
 
-/// A store over a log as it is planned, which does not fail.
+/// A store over a log of so many bytes, which does not fail.
 pub fn sound<R: Drop>(
     rt: R,
     alloc: Global,
@@ -25,16 +25,5 @@ pub fn sound<R: Drop>(
     match ByteLog::new(alloc, plan.bytes) {
         Ok(log) => EngineStore::new(rt, alloc, log, plan.capacity),
         Err(_) => Err(Refusal::NoMemory),
-    }
-}
-
-/// The store, if it was made, which fails as it is planned.
-pub fn failing<S: FarStore>(
-    store: Result<S, Refusal>,
-    plan: Plan,
-) -> Result<FaultyStore<S>, Refusal> {
-    match store {
-        Ok(store) => Ok(FaultyStore::new(store, plan.failing_put, plan.failing_get)),
-        Err(refusal) => Err(refusal),
     }
 }

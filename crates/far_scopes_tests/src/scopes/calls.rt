@@ -1,13 +1,10 @@
 // Calls on objects.
-ghost use Rattle.std.specs.Prelude.{◌≡◌, ◌≢◌, ◌<◌, ◌^◌, ℕ, List, length, All, false, Some, IfOk, IfErr, OnOk};
-ghost use Rattle.far_pointer.specs.declared.pointer.At.{At};
-ghost use Rattle.far_log.specs.RegionState.{fits_in};
-ghost use Rattle.far_scopes.specs.Memory.{place_of};
+ghost use Rattle.std.specs.Prelude.{◌≡◌, ◌<◌, ◌^◌, ℕ, List, length, All, IfOk, OnOk};
 ghost use Rattle.far_scopes.specs.Movement.{AreHere};
 
 use crate::scopes::script::{Call, Change, Fact, WRONG, found};
+use crate::writing::write_over;
 use far_fixtures::{bring_back, digest_of, send_away};
-use far_pointer::Pointer;
 use far_scopes::{Objects, Replacement, Scope};
 use far_store::{FarStore, FarTickets};
 use far_types::{Name, Refusal};
@@ -42,35 +39,13 @@ fn reply<S: FarStore>(
 {
     match call {
         Call::Create(group, list) => create(objects, *group, list),
-        Call::Uncreate => uncreate(objects),
         Call::On(o, change) => change_one(alloc, store, objects, *o, change),
         Call::Find(o, fact) => find(store, objects, *o, fact),
-        Call::GiveBoth(second, first) => give_both(alloc, objects, second, first),
         Call::PinTogether(listed, pins) => pin_three(alloc, objects, *listed, *pins, false),
         Call::PinAndUnpin(listed, pins) => pin_three(alloc, objects, *listed, *pins, true),
         Call::Compact(segment) => objects.compact(alloc, *segment),
-        call => found(is_so(objects, call)),
+        Call::Coldest(o) => found(objects.coldest() == *o),
     }
-}
-
-/// Whether all objects are so.
-fn is_so<S: FarTickets>(objects: &Objects<i64, S>, call: &Call) -> bool {
-    match call {
-        Call::Count(count) => objects.count() == *count,
-        Call::Coldest(o) => objects.coldest() == *o,
-        Call::Space(space) => objects.space() == *space,
-        Call::Capacity(capacity) => objects.capacity() == *capacity,
-        Call::FitBesideTwo => fit_beside_two(objects),
-        _ => false,
-    }
-}
-
-/// Whether lists fit as they should where there is space for two numbers in the first segment and for four in the second:
-/// those of four and two numbers and of one and four do, those of one, four and two do not.
-fn fit_beside_two<S: FarTickets>(objects: &Objects<i64, S>) -> bool {
-    objects.fits_in_order(&[4, 2])
-        && objects.fits_in_order(&[1, 4])
-        && !objects.fits_in_order(&[1, 4, 2])
 }
 
 fn create<S: FarTickets>(
@@ -84,22 +59,6 @@ fn create<S: FarTickets>(
         return Err(WRONG);
     }
     objects.create(Name { column: 0, group }, list)?;
-    Ok(())
-}
-
-/// Unmakes the last object, where there is one, it is local and has no pin.
-fn uncreate<S: FarTickets>(objects: &mut Objects<i64, S>) -> Result<(), Refusal>
-    ensures { (id : List ℕ) → AreHere S.is_of id objects.old → AreHere S.is_of id objects.new }
-{
-    let count = objects.count();
-    if count == 0 {
-        return Err(WRONG);
-    }
-    objects.lend(count - 1)?;
-    if objects.pins(count - 1) > 0 {
-        return Err(WRONG);
-    }
-    objects.uncreate();
     Ok(())
 }
 
@@ -118,8 +77,7 @@ fn change_one<S: FarStore>(
     }
     match change {
         Change::Write(list) => write_over(objects, o, list),
-        Change::Replace([]) | Change::Give([]) => Err(WRONG),
-        Change::Replace(list) => objects.replace(o, list),
+        Change::Give([]) => Err(WRONG),
         Change::Give(list) => give(objects, replacement(alloc, o, list)?),
         Change::Pin(times) => pin_often(objects, o, *times),
         Change::Leave => send_away(alloc, objects, store, o),
@@ -129,22 +87,6 @@ fn change_one<S: FarStore>(
             Ok(())
         }
     }
-}
-
-fn write_over<S: FarTickets>(
-    objects: &mut Objects<i64, S>,
-    o: u32,
-    list: &[i64],
-) -> Result<(), Refusal>
-    requires { o < length objects.old.records }
-    ensures { (id : List ℕ) → AreHere S.is_of id objects.old → AreHere S.is_of id objects.new }
-{
-    objects.may_write(o)?;
-    let lent = objects.lend_mut(o);
-    if lent.len() == list.len() {
-        lent.copy_from_slice(list);
-    }
-    Ok(())
 }
 
 fn pin_often<S: FarTickets>(
@@ -239,37 +181,16 @@ fn enter<S: FarTickets>(
     Ok(scope)
 }
 
-/// Gives an object another list by the call that gives several. It is not refused for lack of memory where no segment has
-/// the space.
+/// Gives an object another list by the call that gives several.
 fn give<S: FarTickets>(
     objects: &mut Objects<i64, S>,
     replacement: Replacement<i64>,
 ) -> Result<(), Refusal>
     requires some { 0 < length replacement.list.items }
     requires within { replacement.object < length objects.old.records }
-    ensures store { (id : List ℕ) → AreHere S.is_of id objects.old → AreHere S.is_of id objects.new }
-    ensures memory { fits_in objects.old.memory.state (length replacement.list.items) ≡ false → IfErr result (λ e. e ≢ Refusal.NoMemory) }
-{
-    objects.replace_all(&[replacement])
-}
-
-/// Gives the objects 1 and 0 other lists, both or none.
-fn give_both<S: FarTickets>(
-    alloc: Global,
-    objects: &mut Objects<i64, S>,
-    second: &[i64],
-    first: &[i64],
-) -> Result<(), Refusal>
     ensures { (id : List ℕ) → AreHere S.is_of id objects.old → AreHere S.is_of id objects.new }
 {
-    if second.is_empty() || first.is_empty() || objects.count() < 2 {
-        return Err(WRONG);
-    }
-    let lists = [
-        replacement(alloc, 1, second)?,
-        replacement(alloc, 0, first)?,
-    ];
-    objects.replace_all(&lists)
+    objects.replace_all(&[replacement])
 }
 
 /// A list for an object.
@@ -299,7 +220,6 @@ fn find<S: FarStore>(
     match fact {
         Fact::List(list) => found(objects.lend(o)? == *list),
         Fact::PutBefore(p) if *p < count => found(is_put_before(store, objects, o, *p)),
-        Fact::ApartFrom(p) if *p < count && *p != o => found(lie_apart(objects, o, *p)),
         fact => found(is_so_of(objects, o, fact)),
     }
 }
@@ -308,24 +228,10 @@ fn find<S: FarStore>(
 fn is_so_of<S: FarTickets>(objects: &Objects<i64, S>, o: u32, fact: &Fact) -> bool
     requires { o < length objects.now.records }
 {
-    let word = objects.word(o);
     match fact {
         Fact::Version(times) => objects.version(o) == *times,
-        Fact::Leavings(times) => objects.leavings(o) == *times,
         Fact::Pins(pins) => objects.pins(o) == *pins,
-        Fact::Dirty(is_dirty) => word.dirty() == *is_dirty,
-        Fact::Hot(is_hot) => word.hot() == *is_hot,
-        Fact::Copied(has_copy) => objects.ticket(o).is_some() == *has_copy,
-        Fact::Group(group) => objects.name(o).group == *group,
-        Fact::Cold(at) => {
-            word.read()
-                == Pointer::Local {
-                    at: *at,
-                    dirty: true,
-                    hot: false,
-                    far: false,
-                }
-        }
+        Fact::Dirty(is_dirty) => objects.word(o).dirty() == *is_dirty,
         _ => false,
     }
 }
@@ -339,23 +245,4 @@ fn is_put_before<S: FarStore>(store: &S, objects: &Objects<i64, S>, o: u32, p: u
         (Some(one), Some(other)) => store.number(one) < store.number(other),
         _ => false,
     }
-}
-
-/// Whether two objects lie at different places, if both are local. So they always do (`places_are_own`).
-fn lie_apart<S: FarTickets>(objects: &Objects<i64, S>, o: u32, p: u32) -> bool
-    requires one { o < length objects.now.records }
-    requires other { p < length objects.now.records }
-{
-    places_are_own(objects);
-    match (objects.word(o).read(), objects.word(p).read()) {
-        (Pointer::Local { at: one, .. }, Pointer::Local { at: other, .. }) => one != other,
-        _ => true,
-    }
-}
-
-/// No place is that of two objects.
-fn places_are_own<S: FarTickets>(objects: &Objects<i64, S>)
-    ensures { (o p : ℕ) (at : At) → place_of objects.now.memory.words o ≡ Some at → place_of objects.now.memory.words p ≡ Some at → o ≡ p }
-{
-    let _ = objects.number();
 }

@@ -1,51 +1,19 @@
 // Calls on a vector.
-ghost use Rattle.std.specs.Prelude.{◌≡◌, ◌<◌, ℕ, List, length, None, OnOk};
+ghost use Rattle.std.specs.Prelude.{◌≡◌, ◌<◌, None};
 ghost use Rattle.far_codec.specs.PlainNumbers.{plain_meaning};
 ghost use Rattle.far_scopes.specs.Movement.{list_of};
-ghost use Rattle.far_vector.specs.Vector.{Vector, IsVector};
+ghost use Rattle.far_vector.specs.Vector.{IsVector};
 ghost use Rattle.far_vector.specs.Refusing.{write_part_refusal};
-ghost use Rattle.far_vector.specs.Effects.{after_push, pushed_in};
 
 use crate::vector::script::{Call, WRONG, finds, found};
 use far_codec::Elem;
-use far_fixtures::{Element, digest_of, send_away, with, with_optional};
 use far_scopes::Objects;
 use far_store::{FarStore, FarTickets};
 use far_types::Refusal;
 use far_vector::FarVector;
-use std::alloc::Global;
 
-/// What a call answers that is made once more where it finds no memory. A refused call leaves all as it was.
-pub fn last_reply<S: FarStore>(
-    alloc: Global,
-    store: &S,
-    vector: &mut FarVector<i64>,
-    objects: &mut Objects<i64, S>,
-    call: &Call,
-) -> Result<(), Refusal>
-    requires { IsVector (list_of plain_meaning S.content objects.old) vector.old }
-    ensures { IsVector (list_of plain_meaning S.content objects.new) vector.new }
-{
-    let before = digest(vector, objects);
-    match reply(alloc, store, vector, objects, call) {
-        Err(_) if digest(vector, objects) != before => Err(WRONG),
-        Err(Refusal::NoMemory) => reply(alloc, store, vector, objects, call),
-        reply => reply,
-    }
-}
-
-/// A number that all goes into that is known of a vector and of its objects. Allocates nothing.
-fn digest<S: FarTickets>(vector: &FarVector<i64>, objects: &Objects<i64, S>) -> u64 {
-    let mut digest = with(digest_of(objects), vector.len() as u64);
-    for group in 0..objects.count() {
-        digest = with_optional(digest, vector.object(group).map(u64::from));
-    }
-    digest
-}
-
-fn reply<S: FarStore>(
-    alloc: Global,
-    store: &S,
+/// What a call answers.
+pub fn reply<S: FarStore>(
     vector: &mut FarVector<i64>,
     objects: &mut Objects<i64, S>,
     call: &Call,
@@ -57,21 +25,18 @@ fn reply<S: FarStore>(
         Call::Push(x) => push(vector, objects, *x),
         Call::Set(i, x) => vector.set(objects, *i, *x),
         Call::Overwrite(from, to, x) => overwrite(vector, objects, *from, *to, *x),
-        Call::LastAway => send_last_away(alloc, objects, store),
         call => find(vector, objects, call),
     }
 }
 
 /// Pushes an element, once more where the first try finds no memory; there are few objects.
-pub fn push<S: FarTickets>(
+fn push<S: FarTickets>(
     vector: &mut FarVector<i64>,
     objects: &mut Objects<i64, S>,
     x: i64,
 ) -> Result<(), Refusal>
     requires { IsVector (list_of plain_meaning S.content objects.old) vector.old }
-    ensures pushed { OnOk result (vector.new ≡ after_push vector.old (length objects.old.records)) }
-    ensures written { OnOk result (objects.new ≡ pushed_in objects.old vector.old x) }
-    ensures is { IsVector (list_of plain_meaning S.content objects.new) vector.new }
+    ensures { IsVector (list_of plain_meaning S.content objects.new) vector.new }
 {
     if objects.count() >= 8 {
         return Err(WRONG);
@@ -119,21 +84,6 @@ fn write_first<T: Elem, S: FarTickets>(
     part[0] = x;
 }
 
-/// Sends the last object away, and leaves vectors what they are.
-fn send_last_away<T: Element, S: FarStore>(
-    alloc: Global,
-    objects: &mut Objects<T, S>,
-    store: &S,
-) -> Result<(), Refusal>
-    ensures { (v : Vector T) → IsVector (list_of T.meaning S.content objects.old) v → IsVector (list_of T.meaning S.content objects.new) v }
-{
-    let count = objects.count();
-    if count == 0 {
-        return Err(WRONG);
-    }
-    send_away(alloc, objects, store, count - 1)
-}
-
 /// Finds something of a vector.
 fn find<S: FarTickets>(
     vector: &FarVector<i64>,
@@ -143,12 +93,9 @@ fn find<S: FarTickets>(
     requires { IsVector (list_of plain_meaning S.content objects.now) vector.now }
 {
     match call {
-        Call::MayWritePart(from, to) => vector.may_write_part(objects, *from, *to),
         Call::Get(i, x) => finds(vector.get(objects, *i), *x),
         Call::Part(from, to, part) => finds(vector.part(objects, *from, *to), part),
         Call::Pieces(from, to, lens) => find_pieces(vector, objects, *from, *to, lens),
-        Call::Len(len) => found(vector.len() == *len),
-        Call::Object(group, object) => found(vector.object(*group) == *object),
         _ => Err(WRONG),
     }
 }

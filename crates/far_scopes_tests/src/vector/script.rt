@@ -4,25 +4,6 @@ use far_types::Refusal;
 /// A call, and its reply.
 pub type Line = (Call, Result<(), Refusal>);
 
-/// What is played on a vector of numbers without an element, in four segments of four; each object may go away once.
-pub struct Script {
-    /// What it shows, in a sentence.
-    pub name: &'static str,
-    /// How many places a row group has.
-    pub group: u32,
-    /// How often an object may be written.
-    pub max_writes: u64,
-    pub lines: &'static [Line],
-}
-
-/// A script of no line.
-pub const SCRIPT: Script = Script {
-    name: "",
-    group: 4,
-    max_writes: 5,
-    lines: &[],
-};
-
 /// A call on a vector, or what is looked for.
 pub enum Call {
     Push(i64),
@@ -30,19 +11,12 @@ pub enum Call {
     Set(usize, i64),
     /// Writes over the first element of a part in place.
     Overwrite(usize, usize, i64),
-    MayWritePart(usize, usize),
-    /// Sends the last object away.
-    LastAway,
     /// Finds the element at a place.
     Get(usize, i64),
     /// Finds these elements in a part.
     Part(usize, usize, &'static [i64]),
     /// Finds that the pieces of a part are so long.
     Pieces(usize, usize, &'static [usize]),
-    /// Finds how many elements there are.
-    Len(usize),
-    /// Finds the object of a row group.
-    Object(u32, Option<u32>),
 }
 
 /// What a call answers that found something else than it should.

@@ -10,8 +10,8 @@ use super::{ByteRange, Input, Line};
 use crate::bounded::MAX_READS;
 use crate::fault::ShellFault;
 use crate::output::Output;
+use crate::sink::Sink;
 use crate::source::Source;
-use std::io::Write;
 use std::str;
 
 /// One turn more than the reads of a script: each turn but the last makes one.
@@ -42,9 +42,9 @@ fn line_len(line: &[u8]) -> usize
 impl<R: Source + Drop> Input<R> {
     /// Reads until a whole line is at hand, and returns where it ends; `None` at the end of the script. Replies are written
     /// before the reader is asked.
-    fn seek_line<W: Write>(
+    fn seek_line<W: Sink>(
         &mut self,
-        output: &mut Output,
+        output: &mut Output<W>,
         writer: &mut W,
     ) -> Result<Option<usize>, ShellFault>
         ensures read { OnOk result (Reads R.Read self.old [] self.new) }
@@ -86,9 +86,9 @@ impl<R: Source + Drop> Input<R> {
     }
 
     /// Takes the next line. Its end is a line feed, and a carriage return directly before that, if there is one.
-    pub fn line<W: Write>(
+    pub fn line<W: Sink>(
         &mut self,
-        output: &mut Output,
+        output: &mut Output<W>,
         writer: &mut W,
     ) -> Result<Line, ShellFault>
         ensures line { IfOk result (λ line. Holds R.Read self.new (byte_range_of R.Read line) × TakesLine R.Read self.old line self.new) }
@@ -114,9 +114,9 @@ impl<R: Source + Drop> Input<R> {
     }
 
     /// Takes the next bytes, as many as asked. If the script ends before them, or no more of it comes, the fault is `Input`.
-    pub fn bytes<W: Write>(
+    pub fn bytes<W: Sink>(
         &mut self,
-        output: &mut Output,
+        output: &mut Output<W>,
         writer: &mut W,
         count: usize,
     ) -> Result<ByteRange, ShellFault>

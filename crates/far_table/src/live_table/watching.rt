@@ -70,7 +70,7 @@ impl<S: FarTickets> LiveTable<S> {
         ensures ok { OnOk result (IsScanned self.old self.new a group) }
         ensures err { IfErr result (λ e. Refuses (scan_refusal self.old (aggregate_at self.old.table a) group) true self.old e self.new) }
     {
-        // For the proof: what the rows are, and how many places there are.
+        // For the proof: give `AreRows`, and how many places there are.
         let _held = self.rows.held();
         let _len = self.rows.len();
         let Some(spec) = self.aggregates.spec(a) else {
@@ -100,6 +100,7 @@ impl<S: FarTickets> LiveTable<S> {
         ensures ok { IfOk result (Answers self.now.table.places (aggregate_at self.now.table a)) }
         ensures err { IfErr result (λ e. Refuses (ask_refusal (aggregate_at self.now.table a)) true self.now e self.now) }
     {
+        // For the proof: gives `AreLimits`.
         let _limits = self.rows.limits();
         self.aggregates.answer(self.alloc, a)
     }

@@ -30,7 +30,7 @@ impl<S: FarTickets> TableRows<S> {
         ensures free { OnOk result (MayPush S.content self.new) }
         ensures stays { self.new ≡ record self.old { new_row = self.new.new_row } }
     {
-        // For the proof: what the rows are, and that the row's numbers are those of 64 bits.
+        // For the proof: give `AreRows`, and that the row's numbers are those of 64 bits.
         let len = self.rows.len();
         let _cells = row.as_slice();
         row_faults(&self.schema, &self.limits, len, &row)?;
@@ -59,7 +59,7 @@ impl<S: FarTickets> TableRows<S> {
         ensures cell { IfOk result (λ value. cell_of value ≡ cell) }
         ensures free { IfOk result (MayPut S.content self.now column place) }
     {
-        // For the proof: what the rows are.
+        // For the proof: gives `AreRows`.
         let _len = self.rows.len();
         cell_faults(&self.schema, column, self.is_alive(place as usize), &cell)?;
         let Some(kind) = self.schema.get(column as usize) else {
@@ -82,7 +82,7 @@ impl<S: FarTickets> TableRows<S> {
         ensures refused { refusal_in result ≡ edit_due (asked self.now) (edit.Remove place) }
         ensures row { IfOk result (λ row. option_map (λ p. p.cells) (slice_get self.now.places place) ≡ Some row) }
     {
-        // For the proof: what always holds of the rows.
+        // For the proof: gives `AreRows`.
         let _len = self.rows.len();
         living(self.is_alive(place as usize))?;
         let row = self.row(place as usize)?;
@@ -97,7 +97,7 @@ impl<S: FarTickets> TableRows<S> {
         requires { group * self.now.limits.group < length self.now.places }
         ensures { refusal_in result ≡ first_of (needed_from self.now.held spec.now group 0 self.now.held.column_indexes) }
     {
-        // For the proof: what the rows are.
+        // For the proof: gives `AreRows`.
         let _len = self.rows.len();
         for column in 0..self.schema.len() {
             if spec.needs(column as u32) {

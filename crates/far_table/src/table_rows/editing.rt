@@ -45,7 +45,7 @@ impl<S: FarTickets> TableRows<S> {
         ensures memory { IfErr result (λ e. e ≡ Refusal.NoMemory) }
         ensures err { OnErr result (self.new ≡ self.old) }
     {
-        // For the proof: a number is one of 64 bits.
+        // For the proof: gives that a number is one of 64 bits.
         let _cell = fitting(value);
         self.rows
             .set(alloc, column as usize, place as usize, value)?;

@@ -47,6 +47,7 @@ impl<'a> Cursor<'a> {
         ensures place { result.place ≡ place }
         ensures cursor { IsCursor (lists_of S.content objects.now) column.now place result.group result.index result.form.now }
     {
+        // For the proof: gives `HasGroups`.
         let _size = column.size();
         let group = column.group_of(place);
         let form = column.form_here(objects, group);

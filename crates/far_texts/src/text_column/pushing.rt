@@ -70,7 +70,7 @@ impl TextColumn {
         form_with_next(spare, form, text)
     }
 
-    // For the proof: the column has groups, and the next object's number has no list.
+    // For the proof: gives that the column has groups, and that the next object's number has no list.
     pub(super) fn next_object_is_unused<S: FarTickets>(&self, objects: &Objects<u8, S>)
         requires { IsTextColumn (lists_of S.content objects.now) self.now }
         ensures objects { length self.now.objects ≤ length objects.now.records }

@@ -20,7 +20,7 @@ impl TextColumn {
         ensures object { result ≡ slice_index self.now.objects group }
         ensures used { result < length objects.now.records }
     {
-        // For the proof: an object with a list is in use.
+        // For the proof: gives that an object with a list is in use.
         let _number = objects.number();
         self.objects[group]
     }

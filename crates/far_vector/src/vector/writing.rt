@@ -73,7 +73,7 @@ impl<T: Elem> FarVector<T> {
         ensures clean { AreClean T.meaning S.content objects.old → AreClean T.meaning S.content objects.new }
         ensures store { (id : List ℕ) → AreHere S.is_of id objects.old → AreHere S.is_of id objects.new }
     {
-        // For the proof: that a row group is begun for each element.
+        // For the proof: gives that a row group is begun for each element.
         let _len = self.len();
         let at = self.position_in(objects, group as usize, i);
         self.write(objects, at, x);
@@ -159,7 +159,7 @@ impl<T: Elem> FarVector<T> {
         ensures clean { AreClean T.meaning S.content objects.old → AreClean T.meaning S.content objects.new }
         ensures store { (id : List ℕ) → AreHere S.is_of id objects.old → AreHere S.is_of id objects.new }
     {
-        // For the proof: how many elements a row group has, and that the object has its list in local memory.
+        // For the proof: give how many elements a row group has, and that the object has its list in local memory.
         let _len = self.len();
         let _ = objects.lend(at.object);
         let range = objects.lend_range_mut(at.object, at.index, at.index + 1);

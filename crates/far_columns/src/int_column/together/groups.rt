@@ -45,7 +45,7 @@ pub(super) fn begin_groups<S: FarTickets>(
     let Some((number, numbers)) = numbers.split_first() else {
         unreachable!()
     };
-    // For the proof: that a row group has a place.
+    // For the proof: gives that a row group has a place.
     let _len = column.len();
     column.push(objects, *number)?;
     if let Err(refusal) = begin_groups(objects, columns, numbers) {

@@ -1,12 +1,12 @@
-use Rattle.std.proofs.Common.{◌≤◌, ◌<◌, ◌∙◌, refl, sym, codes, length, arith}
+use Rattle.std.proofs.Common.{◌≡◌, ◌≤◌, ◌<◌, ◌∙◌, refl, sym, codes, length, arith}
 use Rattle.far_types.specs.Table.{rows_of}
 use Rattle.far_frame.specs.State.{live}
 use Rattle.far_script.specs.declared.fault.ShellFault.TheVariants as fault
 use Rattle.far_script.specs.Printing.{numbered_text, refusal_text}
 use Rattle.far_script.proofs.FlowLaws.{prints}
 use Rattle.far_script.proofs.StopLaws.{handed-on}
-use Rattle.far_commands.specs.Listings.{cells_at, row_line}
-use Rattle.far_commands.proofs.DumpLaws.{gather-cut, gather-end, gather-memory, gather-row, gather-skip, listed-refusal, rows-cut, rows-listed}
+use Rattle.far_commands.specs.Listings.{cells_at, listing_of, row_line}
+use Rattle.far_commands.proofs.DumpLaws.{cut-at-once, gather-cut, gather-end, gather-memory, gather-row, gather-skip, listed-refusal, rows-cut, rows-listed}
 use Rattle.far_commands.proofs.listing.dump.Goals.{then-is_live+in-Ok-print_place+in_ok-add_if_long-in-Ok-print_place, else-is_live}
 use Rattle.far_commands.proofs.listing.dump.Goals as goal
 
@@ -15,6 +15,14 @@ returns-in-Err-clause-ok g c =
     let s = live c.args.frame.now in
     let refused = rw c.scope-view.ensures at c.in-Err.ensures.refused in
     rw (listed-refusal s c.in-Err.refusal refused) (prints (g.W.Write.contents c.args.writer.now) c.args.output.now.page (refusal_text c.in-Err.refusal) c.add_refusal.new.self.page c.in_ok-add_refusal-in-Err.ensures.ok)
+
+pub returns-in_err-add_refusal-in-Err-clause-err : goal.returns-in_err-add_refusal-in-Err-clause-err
+returns-in_err-add_refusal-in-Err-clause-err g c =
+    handed-on c.from_residual.result fault.Memory _ (rw c.in_err-add_refusal-in-Err.ensures.memory at c.from_residual.ensures.1)
+    (rw c.in_err-add_refusal-in-Err.ensures.err (cut-at-once (λ said. said ≡ listing_of (live c.args.frame.now)) (g.W.Write.contents c.args.writer.now) c.args.output.now.page))
+
+pub returns-in-Err-numbered-clause-err : goal.returns-in-Err-numbered-clause-err
+returns-in-Err-numbered-clause-err g c = rw c.of_memory.ensures (cut-at-once (λ said. said ≡ listing_of (live c.args.frame.now)) (g.W.Write.contents c.args.writer.now) c.args.output.now.page)
 
 pub of_memory-requires-in-Err-print_place : goal.of_memory-requires-in-Err-print_place
 of_memory-requires-in-Err-print_place g c =

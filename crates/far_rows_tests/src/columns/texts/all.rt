@@ -1,14 +1,13 @@
 // Two columns of texts get a text each.
-ghost use Rattle.std.specs.Prelude.{◌≡◌, ℕ, List, length, All, IsTrue};
-ghost use Rattle.far_scopes.specs.Movement.{AreHere};
+ghost use Rattle.std.specs.Prelude.{◌≡◌, length, All, IsTrue};
 ghost use Rattle.far_texts.specs.Texts.{lists_of};
 ghost use Rattle.far_texts.specs.Columns.{AreTextColumns};
 ghost use Rattle.far_texts.specs.Together.{AreColumns};
 
-use crate::columns::script::WRONG;
+use super::{Layout, column_of, no_texts};
 use far_scopes::Objects;
 use far_store::FarTickets;
-use far_texts::{TextColumn, fill_texts, may_push_texts, push_texts};
+use far_texts::{TextColumn, push_texts};
 use far_types::{Refusal, Text};
 use std::alloc::Global;
 
@@ -26,24 +25,8 @@ fn are_same_length<S: FarTickets>(
     columns.len() == 2 && columns[0].len() == columns[1].len()
 }
 
-/// Whether two columns may get a text each.
-pub fn may_push_all<S: FarTickets>(
-    objects: &Objects<u8, S>,
-    columns: &[TextColumn],
-    size: u32,
-    texts: &[Option<Text>; 2],
-) -> Result<(), Refusal>
-    requires are { AreTextColumns (lists_of S.content objects.now) columns.now }
-    requires sized { All (λ c. c.size ≡ size) columns.now }
-{
-    if !are_same_length(objects, columns, size) {
-        return Err(WRONG);
-    }
-    may_push_texts(objects, columns, texts)
-}
-
-/// Pushes a text to each of two columns; there are few objects.
-pub fn push_all<S: FarTickets>(
+// Pushes a text to each of two columns; there are few objects.
+fn push_all<S: FarTickets>(
     alloc: Global,
     objects: &mut Objects<u8, S>,
     columns: &mut [TextColumn],
@@ -53,32 +36,53 @@ pub fn push_all<S: FarTickets>(
     requires are { AreTextColumns (lists_of S.content objects.old) columns.old }
     requires sized { All (λ c. c.size ≡ size) columns.old }
     ensures are { AreTextColumns (lists_of S.content objects.new) columns.new }
-    ensures sized { All (λ c. c.size ≡ size) columns.new }
-    ensures here { (id : List ℕ) → AreHere S.is_of id objects.old → AreHere S.is_of id objects.new }
 {
     if !are_same_length(objects, columns, size) || objects.count() >= 32 {
-        return Err(WRONG);
+        return Err(Refusal::TableFull);
     }
     push_texts(alloc, &mut Vec::new(alloc), objects, columns, texts)
 }
 
-/// Pushes a text to each of two columns, as `push_all` does, once it is known that they may be pushed.
-pub fn fill_all<S: FarTickets>(
+// Whether a column has this text at its first place.
+fn has_text<S: FarTickets>(
+    objects: &Objects<u8, S>,
+    columns: &[TextColumn],
+    k: usize,
+    text: &str,
+) -> bool
+    requires { AreTextColumns (lists_of S.content objects.now) columns.now }
+{
+    match column_of(objects, columns, k) {
+        Ok(column) => column.text(objects, 0) == Ok(Some(text)),
+        Err(_) => false,
+    }
+}
+
+// Whether each column has its text once they are pushed.
+fn get_their_own<S: FarTickets>(
     alloc: Global,
     objects: &mut Objects<u8, S>,
     columns: &mut [TextColumn],
     size: u32,
     texts: &[Option<Text>; 2],
-) -> Result<(), Refusal>
+) -> Result<bool, Refusal>
     requires are { AreTextColumns (lists_of S.content objects.old) columns.old }
     requires sized { All (λ c. c.size ≡ size) columns.old }
-    ensures are { AreTextColumns (lists_of S.content objects.new) columns.new }
-    ensures sized { All (λ c. c.size ≡ size) columns.new }
-    ensures here { (id : List ℕ) → AreHere S.is_of id objects.old → AreHere S.is_of id objects.new }
 {
-    if !are_same_length(objects, columns, size) || objects.count() >= 32 {
-        return Err(WRONG);
-    }
-    may_push_texts(objects, columns, texts)?;
-    fill_texts(alloc, &mut Vec::new(alloc), objects, columns, texts)
+    push_all(alloc, objects, columns, size, texts)?;
+    Ok(has_text(objects, columns, 0, "one") && has_text(objects, columns, 1, "two"))
+}
+
+/// Whether each of two columns of texts in row groups of two places gets its own text.
+pub fn comes_out<S: FarTickets>(
+    alloc: Global,
+    objects: &mut Objects<u8, S>,
+    texts: &[Option<Text>; 2],
+) -> Result<bool, Refusal> {
+    let layout = Layout {
+        columns: 2,
+        group: 2,
+    };
+    let mut columns = no_texts(alloc, layout)?;
+    get_their_own(alloc, objects, &mut columns, 2, texts)
 }

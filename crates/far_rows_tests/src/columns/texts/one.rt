@@ -1,28 +1,27 @@
-// Calls on one of several columns of texts that share their objects.
-ghost use Rattle.std.specs.Prelude.{◌≡◌, ◌<◌, ◌^◌, ℕ, List, length, All};
-ghost use Rattle.far_scopes.specs.Movement.{AreHere};
+// A column of texts: what is pushed and set reads back, and is lent with the flags of its places.
 ghost use Rattle.far_texts.specs.Texts.{lists_of, IsTextColumn};
-ghost use Rattle.far_texts.specs.Columns.{AreTextColumns, ChangesColumn};
 
-use crate::columns::moving::{bring_texts_back, send_texts_away};
-use crate::columns::script::{Call, WRONG};
+use crate::cell::Cell::Text as Letters;
+use crate::cell::Word;
+use crate::columns::flags::flags;
+use far_columns::Alive;
 use far_scopes::Objects;
-use far_store::FarStore;
-use far_texts::TextColumn;
-use far_texts::laws::columns_stay_together;
+use far_store::FarTickets;
+use far_texts::{TextCell, TextColumn};
 use far_types::{Refusal, Text};
 use std::alloc::Global;
 
-fn push<S: FarStore>(
+/// What a call answers that found something else than it should.
+const WRONG: Refusal = Refusal::BadSpec;
+
+fn push<S: FarTickets>(
     alloc: Global,
     objects: &mut Objects<u8, S>,
     column: &mut TextColumn,
     text: &Option<Text>,
 ) -> Result<(), Refusal>
-    requires is { IsTextColumn (lists_of S.content objects.old) column.old }
-    ensures changes { ChangesColumn (lists_of S.content objects.old) (lists_of S.content objects.new) column.old column.new }
-    ensures size { column.new.size ≡ column.old.size }
-    ensures here { (id : List ℕ) → AreHere S.is_of id objects.old → AreHere S.is_of id objects.new }
+    requires { IsTextColumn (lists_of S.content objects.old) column.old }
+    ensures { IsTextColumn (lists_of S.content objects.new) column.new }
 {
     if objects.count() >= 1 << 28 {
         return Err(Refusal::TableFull);
@@ -31,16 +30,15 @@ fn push<S: FarStore>(
 }
 
 // Sets a text, and asks beforehand.
-fn set<S: FarStore>(
+fn set<S: FarTickets>(
     alloc: Global,
     objects: &mut Objects<u8, S>,
     column: &TextColumn,
     place: usize,
     text: &Option<Text>,
 ) -> Result<(), Refusal>
-    requires is { IsTextColumn (lists_of S.content objects.old) column.now }
-    ensures changes { ChangesColumn (lists_of S.content objects.old) (lists_of S.content objects.new) column.now column.now }
-    ensures here { (id : List ℕ) → AreHere S.is_of id objects.old → AreHere S.is_of id objects.new }
+    requires { IsTextColumn (lists_of S.content objects.old) column.now }
+    ensures { IsTextColumn (lists_of S.content objects.new) column.now }
 {
     let due = column.may_set(objects, place, text);
     let reply = column.set(alloc, objects, place, text);
@@ -51,51 +49,105 @@ fn set<S: FarStore>(
     }
 }
 
-// A call on a column.
-fn change_column<S: FarStore>(
+// Pushes the first text, none and the second, and sets the last to none.
+fn fill<S: FarTickets>(
     alloc: Global,
     objects: &mut Objects<u8, S>,
-    store: &S,
     column: &mut TextColumn,
-    call: Call,
-    text: &Option<Text>,
+    texts: &[Option<Text>; 2],
 ) -> Result<(), Refusal>
-    requires is { IsTextColumn (lists_of S.content objects.old) column.old }
-    requires here { AreHere S.is_of (S.store_id store.now) objects.old }
-    ensures changes { ChangesColumn (lists_of S.content objects.old) (lists_of S.content objects.new) column.old column.new }
-    ensures size { column.new.size ≡ column.old.size }
-    ensures here { AreHere S.is_of (S.store_id store.now) objects.new }
+    requires { IsTextColumn (lists_of S.content objects.old) column.old }
+    ensures { IsTextColumn (lists_of S.content objects.new) column.new }
 {
-    match call {
-        Call::Push(_, _) => push(alloc, objects, column, text),
-        Call::Set(_, place, _) => set(alloc, objects, column, place, text),
-        Call::Away(_, group) => send_texts_away(alloc, objects, store, column, group as usize),
-        Call::Back(_, group) => bring_texts_back(alloc, objects, store, column, group as usize),
-        _ => Err(WRONG),
-    }
+    push(alloc, objects, column, &texts[0])?;
+    push(alloc, objects, column, &None)?;
+    push(alloc, objects, column, &texts[1])?;
+    set(alloc, objects, column, 2, &None)
 }
 
-/// A call on one of several columns, of this text.
-pub fn change<S: FarStore>(
+// Whether this is the text of a place and its flag.
+fn is_cell<S: FarTickets>(
+    objects: &Objects<u8, S>,
+    column: &TextColumn,
+    alive: &Alive,
+    cell: Option<TextCell<'_>>,
+    place: usize,
+) -> bool
+    requires { IsTextColumn (lists_of S.content objects.now) column.now }
+{
+    let Some(cell) = cell else {
+        return false;
+    };
+    column.text(objects, place) == Ok(cell.text) && alive.get(place) == Some(cell.alive)
+}
+
+// Lends a part of a column, and finds the text of each place and its flag.
+fn lend<S: FarTickets>(
+    objects: &Objects<u8, S>,
+    column: &TextColumn,
+    alive: &Alive,
+    part: (usize, usize),
+) -> Result<(), Refusal>
+    requires { IsTextColumn (lists_of S.content objects.now) column.now }
+{
+    let (from, to) = part;
+    if alive.len() != column.len() {
+        return Err(WRONG);
+    }
+    let mut cells = column.texts(objects, alive.all(), from, to)?;
+    for place in from..to {
+        if !is_cell(objects, column, alive, cells.next(), place) {
+            return Err(WRONG);
+        }
+    }
+    Ok(())
+}
+
+// Whether the first text is at its place, the two others are missing, and none is past the end.
+fn is_filled<S: FarTickets>(objects: &Objects<u8, S>, column: &TextColumn) -> bool
+    requires { IsTextColumn (lists_of S.content objects.now) column.now }
+{
+    column.text(objects, 0) == Ok(Some("one"))
+        && column.text(objects, 2) == Ok(None)
+        && column.text(objects, 3) == Err(Refusal::NoRow)
+}
+
+// Whether a text of 4,097 bytes is too long for a column.
+fn is_bounded<S: FarTickets>(
     alloc: Global,
     objects: &mut Objects<u8, S>,
-    store: &S,
-    columns: &mut [TextColumn],
-    _size: u32,
-    k: usize,
-    call: Call,
-    text: &Option<Text>,
-) -> Result<(), Refusal>
-    requires are { AreTextColumns (lists_of S.content objects.old) columns.old }
-    requires sized { All (λ c. c.size ≡ _size) columns.old }
-    requires here { AreHere S.is_of (S.store_id store.now) objects.old }
-    ensures are { AreTextColumns (lists_of S.content objects.new) columns.new }
-    ensures sized { All (λ c. c.size ≡ _size) columns.new }
-    ensures here { AreHere S.is_of (S.store_id store.now) objects.new }
+    column: &mut TextColumn,
+) -> Result<bool, Refusal>
+    requires { IsTextColumn (lists_of S.content objects.old) column.old }
 {
-    columns_stay_together();
-    if k >= columns.len() {
-        return Err(Refusal::NoColumn);
+    let long = Letters(Word::A, 4_097).text(alloc)?;
+    Ok(push(alloc, objects, column, &long) == Err(Refusal::TextTooLong))
+}
+
+// Whether a column without a text is filled and lent.
+fn is_right<S: FarTickets>(
+    alloc: Global,
+    objects: &mut Objects<u8, S>,
+    column: &mut TextColumn,
+    texts: &[Option<Text>; 2],
+    alive: &Alive,
+) -> Result<bool, Refusal>
+    requires { IsTextColumn (lists_of S.content objects.old) column.old }
+{
+    fill(alloc, objects, column, texts)?;
+    if !is_filled(objects, column) || lend(objects, column, alive, (0, 3)) != Ok(()) {
+        return Ok(false);
     }
-    change_column(alloc, objects, store, &mut columns[k], call, text)
+    is_bounded(alloc, objects, column)
+}
+
+/// Whether a column of texts in row groups of two places gives back what is pushed and set.
+pub fn comes_out<S: FarTickets>(
+    alloc: Global,
+    objects: &mut Objects<u8, S>,
+    texts: &[Option<Text>; 2],
+) -> Result<bool, Refusal> {
+    let alive = flags(alloc, 3)?;
+    let mut column = TextColumn::new(alloc, 0, 2, 64);
+    is_right(alloc, objects, &mut column, texts, &alive)
 }

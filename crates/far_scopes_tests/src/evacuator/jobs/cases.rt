@@ -1,6 +1,6 @@
 // The cases.
 use super::{Case, Step};
-use crate::evacuator::call::Call::{Create, Move, On, Uncreate};
+use crate::evacuator::call::Call::{Create, Move, On};
 use crate::evacuator::call::Change::{Pin, Replace, Touch, Unpin, Write};
 use crate::evacuator::call::Phase::{Begin, BeginFetch, Carry, CarryFetch, Commit, Install};
 use crate::evacuator::stores::Plan;
@@ -138,22 +138,6 @@ pub static CASES: &[Case] = &[
         ],
     },
     Case {
-        name: "a pinned object stays until it is unpinned",
-        store: SOUND,
-        limits: LIMITS,
-        steps: &[
-            Step::Done(Create(&[1, 2])),
-            Step::Done(On(0, Pin)),
-            Step::Done(Move(Begin(Want::Object(0)))),
-            Step::Done(Move(Carry)),
-            Step::Refused(Move(Commit), Refusal::Pinned),
-            Step::Done(On(0, Unpin)),
-            Step::Done(Move(Commit)),
-            Step::BroughtBack(0),
-            Step::Has(0, &[1, 2]),
-        ],
-    },
-    Case {
         name: "a carry into a full store is refused and keeps its job",
         store: Plan {
             capacity: 1,
@@ -208,7 +192,7 @@ pub static CASES: &[Case] = &[
     },
 ];
 
-/// Objects that are written, go away and come back, and are unmade, while others are made.
+/// Objects that are written, go away and come back.
 pub static COME_AND_GO: Case = Case {
     name: "objects come and go",
     store: SOUND,
@@ -219,17 +203,13 @@ pub static COME_AND_GO: Case = Case {
         Step::SentAway(0),
         Step::SentAway(1),
         Step::BroughtBack(0),
-        Step::HasCopy(0),
         Step::SentAway(0),
         Step::BroughtBack(1),
         Step::Has(1, &[3, 4]),
-        Step::Done(Uncreate),
-        Step::Done(Create(&[5, 6])),
         Step::BroughtBack(0),
         Step::Done(On(0, Write(&[7, 8]))),
         Step::SentAway(0),
         Step::BroughtBack(0),
         Step::Has(0, &[7, 8]),
-        Step::Has(1, &[5, 6]),
     ],
 };

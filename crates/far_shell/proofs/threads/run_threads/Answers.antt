@@ -19,12 +19,12 @@ pub returns-in_err-print_sessions-clause-err : goal.returns-in_err-print_session
 returns-in_err-print_sessions-clause-err g c =
     let why = c.in_err-print_sessions.field-0.0 in
     handed-on c.from_residual.result why _ c.from_residual.ensures.1
-    ([], cut-stopped why c.args.sessions c.args.edits c.in_err-print_sessions.ensures.fault, Appends-nil (g.W.Write.contents c.args.writer.now))
+    ([], cut-stopped g.W.Sink.may_fail why c.args.sessions c.args.edits c.in_err-print_sessions.ensures.fault, Appends-nil (g.W.Write.contents c.args.writer.now))
 
 pub returns-in_err-flush-clause-err : goal.returns-in_err-flush-clause-err
 returns-in_err-flush-clause-err g c =
     let s = c.in_ok-print_sessions.ensures.ok in
     let f = c.in_err-flush.ensures in
     handed-on c.from_residual-in_err-flush.result fault.Output _ (rw f.fault at c.from_residual-in_err-flush.ensures.1)
-    (cut-unwritten (g.W.Write.contents c.args.writer.now) (g.W.Write.contents c.flush.new.writer) c.args.sessions c.args.edits s.0 c.print_sessions.new.output.page c.flush.new.self.page
-    s.1 (rw c.new-output.ensures at s.2) f.printed)
+    (cut-unwritten g.W.Sink.may_fail (g.W.Write.contents c.args.writer.now) (g.W.Write.contents c.flush.new.writer) c.args.sessions c.args.edits s.0 c.print_sessions.new.output.page c.flush.new.self.page
+    (c.flush.new.self.cause f.failed) s.1 (rw c.new-output.ensures at s.2) f.printed)

@@ -13,7 +13,7 @@ use far_store::FarTickets;
 use far_types::{Refusal, Text};
 use std::alloc::Global;
 
-// For the proof: the columns have groups, and an object number that is not given yet has no list.
+// For the proof: gives that the columns have groups, and that an object number that is not given yet has no list.
 pub(super) fn next_objects_are_unused<S: FarTickets>(
     objects: &Objects<u8, S>,
     columns: &[TextColumn],

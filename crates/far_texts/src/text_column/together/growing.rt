@@ -60,7 +60,7 @@ pub(super) fn begin_groups<S: FarTickets>(
     Ok(())
 }
 
-// Each column, whose last row group is not full, has a text more.
+// Adds one to the length of each column. No column's last row group is full.
 fn lengthen(columns: &mut [TextColumn])
     requires { All (λ c. begins_group c ≡ false) columns.old }
     ensures { (n : ℕ) → columns.new ≡ all_pushed n columns.old }

@@ -1,4 +1,0 @@
-use Rattle.far_rows_tests.proofs.columns.texts.TextColumns.new.Goals as goal
-
-pub invariant_of-result : goal.invariant_of-result
-invariant_of-result g c = (c.in_ok-columns.ensures.are _, c.in_ok-columns.ensures.sized, c.in-Ok.ensures.here _)

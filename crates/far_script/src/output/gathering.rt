@@ -1,0 +1,90 @@
+// Replies, as they are gathered.
+ghost use Rattle.std.specs.Prelude.{◌≡◌, [], ◌++◌, OnOk, OnErr, IfErr, IsOk};
+ghost use Rattle.far_script.specs.Flow.{has_failed};
+ghost use Rattle.far_script.specs.Printing.{refusal_text};
+
+use super::Output;
+use crate::fault::ShellFault;
+use crate::page::Page;
+use crate::print::refused;
+use crate::sink::Sink;
+use far_types::Refusal;
+use std::alloc::Global;
+use std::marker::PhantomData;
+
+impl<W: Sink> Output<W> {
+    /// Returns an output to which nothing was printed yet.
+    pub fn new(alloc: Global) -> Output<W>
+        ensures { result.page ≡ [] }
+    {
+        Output {
+            page: Page::new(alloc),
+            reply: Page::new(alloc),
+            failed: false,
+            of: PhantomData,
+        }
+    }
+
+    /// Adds the current reply. If memory runs out, the fault is `Memory`, and nothing is added.
+    pub fn add(&mut self) -> Result<(), ShellFault>
+        ensures ok { OnOk result (self.new.page ≡ self.old.page ++ self.old.reply) }
+        ensures err { OnErr result (self.new.page ≡ self.old.page) }
+        ensures failed { has_failed self.new ≡ has_failed self.old }
+        ensures memory { IfErr result (λ fault. fault ≡ ShellFault.Memory) }
+    {
+        match self.page.bytes(self.reply.as_slice()) {
+            Ok(()) => Ok(()),
+            Err(refusal) => Err(ShellFault::of_memory(refusal)),
+        }
+    }
+
+    /// Adds the current reply, if it was printed. If it was not, memory ran out: the fault is `Memory`, and nothing is added.
+    /// It is inlined into its callers, since each step ends with it.
+    #[inline(always)]
+    pub fn add_printed(&mut self, printed: Result<(), Refusal>) -> Result<(), ShellFault>
+        requires { IfErr printed (λ e. e ≡ Refusal.NoMemory) }
+        ensures printed { OnOk result (IsOk printed) }
+        ensures ok { OnOk result (self.new.page ≡ self.old.page ++ self.old.reply) }
+        ensures err { OnErr result (self.new.page ≡ self.old.page) }
+        ensures failed { has_failed self.new ≡ has_failed self.old }
+        ensures memory { IfErr result (λ fault. fault ≡ ShellFault.Memory) }
+    {
+        match printed {
+            Ok(()) => {
+                self.add()?;
+                Ok(())
+            }
+            Err(refusal) => Err(ShellFault::of_memory(refusal)),
+        }
+    }
+
+    /// Adds a text as a reply of its own. If memory runs out, the fault is `Memory`, and nothing is added.
+    pub fn add_text(&mut self, text: &str) -> Result<(), ShellFault>
+        ensures ok { OnOk result (self.new.page ≡ self.old.page ++ text.now) }
+        ensures err { OnErr result (self.new.page ≡ self.old.page) }
+        ensures failed { has_failed self.new ≡ has_failed self.old }
+        ensures memory { IfErr result (λ fault. fault ≡ ShellFault.Memory) }
+    {
+        match self.page.text(text) {
+            Ok(()) => Ok(()),
+            Err(refusal) => Err(ShellFault::of_memory(refusal)),
+        }
+    }
+
+    /// Adds the line of a refusal. If memory runs out, the fault is `Memory`, and nothing is added.
+    pub fn add_refusal(&mut self, refusal: &Refusal) -> Result<(), ShellFault>
+        ensures ok { OnOk result (self.new.page ≡ self.old.page ++ refusal_text refusal.now) }
+        ensures err { OnErr result (self.new.page ≡ self.old.page) }
+        ensures failed { has_failed self.new ≡ has_failed self.old }
+        ensures memory { IfErr result (λ fault. fault ≡ ShellFault.Memory) }
+    {
+        self.reply.truncate(0);
+        match refused(&mut self.reply, refusal) {
+            Ok(()) => {
+                self.add()?;
+                Ok(())
+            }
+            Err(unprinted) => Err(ShellFault::of_memory(unprinted)),
+        }
+    }
+}

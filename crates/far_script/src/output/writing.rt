@@ -1,0 +1,77 @@
+// Replies, as they are written.
+ghost use Rattle.std.specs.Prelude.{◌≡◌, ◌≤◌, ◌<◌, [], length, take, true, OnOk, OnErr, IfErr, IsTrue};
+ghost use Rattle.std.specs.Io.KnownBytes.{Appends, Keeps};
+ghost use Rattle.far_script.specs.Flow.{Prints, has_failed};
+
+use super::Output;
+use crate::fault::ShellFault;
+use crate::sink::Sink;
+use std::io::ErrorKind;
+
+/// How many bytes are gathered before they are written.
+const FULL: usize = 65_536;
+
+/// Writes bytes until they are all taken or a write fails, and returns how many were taken.
+fn write_out<W: Sink>(writer: &mut W, bytes: &[u8]) -> usize
+    ensures sent { Appends (W.contents writer.old) (W.contents writer.new) (take result bytes.now) }
+    ensures within { result ≤ length bytes.now }
+    ensures stopped { result < length bytes.now → IsTrue W.may_fail }
+{
+    let mut taken = 0;
+    for turn in 0..u64::MAX {
+        if taken >= bytes.len() {
+            return taken;
+        }
+        match writer.write_some(&bytes[taken..]) {
+            Ok(0) => return taken,
+            Ok(count) => taken += count,
+            Err(error) => {
+                if error.kind() != ErrorKind::Interrupted {
+                    return taken;
+                }
+            }
+        }
+    }
+    taken
+}
+
+impl<W: Sink> Output<W> {
+    /// Writes what was gathered, and flushes the writer. If that fails, the fault is `Output`. What the writer took is a front
+    /// of what was gathered, and nothing is written again.
+    pub fn flush(&mut self, writer: &mut W) -> Result<(), ShellFault>
+        ensures printed { Prints (W.contents writer.old) self.old.page [] (W.contents writer.new) self.new.page }
+        ensures ok { OnOk result (self.new.page ≡ []) }
+        ensures going { OnOk result (has_failed self.new ≡ has_failed self.old) }
+        ensures failed { OnErr result (has_failed self.new ≡ true) }
+        ensures stopped { has_failed self.old ≡ true → Keeps (W.contents writer.old) (W.contents writer.new) }
+        ensures fault { IfErr result (λ fault. fault ≡ ShellFault.Output) }
+    {
+        if self.page.is_empty() {
+            return Ok(());
+        }
+        if self.failed {
+            return Err(ShellFault::Output);
+        }
+        let taken = write_out(writer, self.page.as_slice());
+        self.page.forget(taken);
+        self.failed = !self.page.is_empty() || writer.flush_all().is_err();
+        if self.failed {
+            return Err(ShellFault::Output);
+        }
+        Ok(())
+    }
+
+    /// Does the same if much was gathered.
+    pub fn flush_if_full(&mut self, writer: &mut W) -> Result<(), ShellFault>
+        ensures printed { Prints (W.contents writer.old) self.old.page [] (W.contents writer.new) self.new.page }
+        ensures going { OnOk result (has_failed self.new ≡ has_failed self.old) }
+        ensures failed { OnErr result (has_failed self.new ≡ true) }
+        ensures stopped { has_failed self.old ≡ true → Keeps (W.contents writer.old) (W.contents writer.new) }
+        ensures fault { IfErr result (λ fault. fault ≡ ShellFault.Output) }
+    {
+        if self.page.len() < FULL {
+            return Ok(());
+        }
+        self.flush(writer)
+    }
+}

@@ -1,0 +1,53 @@
+// Writers, and when a write to them may fail.
+ghost use Rattle.std.specs.Prelude.{◌≡◌, ◌<◌, Bool, false, length, IfOk, IsTrue, OnErr};
+ghost use Rattle.std.specs.Io.{WritesAtMost};
+ghost use Rattle.std.specs.Io.KnownBytes.{Keeps, WriteAppends};
+
+use std::io;
+use std::io::Write;
+
+/// A writer of which contracts know whether a write may fail. So a script that ends by a failed write shows that writers of its
+/// type may fail.
+///
+/// An implementation writes and flushes as `write` and `flush` do:
+///
+/// ```
+/// fn write_some(&mut self, bytes: &[u8]) -> io::Result<usize> {
+///     self.write(bytes)
+/// }
+///
+/// fn flush_all(&mut self) -> io::Result<()> {
+///     self.flush()
+/// }
+/// ```
+///
+/// [`io::Sink`], which drops what it is given, never fails. Any other writer goes into [`Fallible`](crate::Fallible), a `Vec` too: it
+/// may run out of memory.
+pub trait Sink: Write {
+    /// Whether writes to writers of this type may fail.
+    ghost may_fail: { Bool };
+
+    /// Writes once, as `write` does. A write that takes none of some bytes is a failed one.
+    fn write_some(&mut self, bytes: &[u8]) -> io::Result<usize>
+        ensures bound { WritesAtMost result bytes.now }
+        ensures bytes { WriteAppends (Self.contents self.old) (Self.contents self.new) result bytes.now }
+        ensures none { IfOk result (λ count. count ≡ 0 → 0 < length bytes.now → IsTrue may_fail) }
+        ensures failed { OnErr result (IsTrue may_fail) };
+
+    /// Flushes, as `flush` does.
+    fn flush_all(&mut self) -> io::Result<()>
+        ensures bytes { Keeps (Self.contents self.old) (Self.contents self.new) }
+        ensures failed { OnErr result (IsTrue may_fail) };
+}
+
+impl Sink for io::Sink {
+    ghost may_fail = { false };
+
+    fn write_some(&mut self, bytes: &[u8]) -> io::Result<usize> {
+        self.write(bytes)
+    }
+
+    fn flush_all(&mut self) -> io::Result<()> {
+        self.flush()
+    }
+}
