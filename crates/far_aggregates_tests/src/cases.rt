@@ -7,7 +7,7 @@ use std::process::Abort;
 pub trait NamedCase {
     fn name(&self) -> &'static str;
 
-    /// Whether all calls answer as the row says.
+    /// Returns whether all calls return what the row says.
     fn is_right(&self, alloc: Global) -> Result<bool, Refusal>;
 }
 

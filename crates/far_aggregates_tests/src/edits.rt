@@ -9,7 +9,7 @@ use far_aggregates::Aggregates;
 use far_types::{CellRef, LendCells, Refusal, Spec};
 use std::alloc::Global;
 
-/// A row of a name, and of the price 5.
+/// A row of a name and the price 5.
 struct Sale {
     name: &'static str,
 }
@@ -30,7 +30,7 @@ impl LendCells for Sale {
     }
 }
 
-/// One aggregate over no rows, in row groups of 4.
+/// Returns one aggregate over no rows, in row groups of 4.
 fn with_one(alloc: Global, spec: Spec) -> Result<Aggregates, Refusal>
     ensures { IfOk result (λ aggregates. Keeps 4 [] aggregates) }
 {
@@ -42,7 +42,7 @@ fn with_one(alloc: Global, spec: Spec) -> Result<Aggregates, Refusal>
     Ok(aggregates)
 }
 
-/// Brings in a row that is appended at a place, and ends the edit.
+/// Applies the deltas of a row that is appended at a place, and ends the edit.
 fn append(
     alloc: Global,
     aggregates: &mut Aggregates,
@@ -60,7 +60,7 @@ fn append(
 
 static ANN: Sale = Sale { name: "ann" };
 
-/// Whether a second row under a name allocates nothing. The first one alone may be refused for lack of memory.
+/// Returns whether a second row under a name allocates nothing. Only the first may run out of memory.
 fn knows_a_name(alloc: Global, aggregates: &mut Aggregates) -> Result<bool, Refusal>
     requires { Keeps 4 [] aggregates.old }
 {
@@ -74,7 +74,7 @@ fn knows_its_name(alloc: Global, spec: Spec) -> Result<bool, Refusal> {
 }
 
 #[test]
-fn a_row_under_a_known_text_takes_no_memory(rt: HostRuntime) {
+fn a_row_under_a_known_text_allocates_nothing(rt: HostRuntime) {
     let alloc = rt.alloc();
     let totals = knows_its_name(alloc, Spec::totals(alloc, 1));
     must_be(&rt, totals, Ok(true));

@@ -67,7 +67,7 @@ impl Lines<'_> {
         }
     }
 
-    /// Whether an answer has these lines.
+    /// Returns whether an answer has these lines.
     pub fn are_of(self, answer: Result<Answer, Refusal>) -> Result<bool, Refusal> {
         match answer {
             Ok(answer) => Ok(self.are_in(&answer)),

@@ -8,7 +8,7 @@ use std::process::Abort;
 
 /// A row of a table of tests.
 pub trait Case {
-    /// Whether all calls answer as the row says.
+    /// Returns whether all calls return what the row says.
     fn is_right(&self, alloc: Global) -> Result<bool, Refusal>;
 }
 
@@ -24,7 +24,7 @@ pub fn must_be<R: Abort, T: PartialEq + Drop>(rt: &R, answer: T, due: T) {
     assert!(rt; answer == due);
 }
 
-/// Whether all answers are yes; the first that is not, if there is one.
+/// Returns the first result that is not `Ok(true)`, or `Ok(true)` if there is none.
 pub fn all(answers: &[Result<bool, Refusal>]) -> Result<bool, Refusal> {
     for answer in answers {
         if *answer != Ok(true) {
@@ -34,7 +34,7 @@ pub fn all(answers: &[Result<bool, Refusal>]) -> Result<bool, Refusal> {
     Ok(true)
 }
 
-/// Whether two values that were made are equal.
+/// Returns whether two values that were made are equal.
 pub fn are_equal<T: PartialEq + Drop>(
     one: Result<T, Refusal>,
     other: Result<T, Refusal>,
@@ -44,7 +44,7 @@ pub fn are_equal<T: PartialEq + Drop>(
     Ok(one == other)
 }
 
-/// Whether a list that was made has these elements.
+/// Returns whether a list that was made has these elements.
 pub fn is_list<T: PartialEq + Drop>(
     made: Result<Vec<T>, Refusal>,
     list: &[T],
@@ -55,7 +55,7 @@ pub fn is_list<T: PartialEq + Drop>(
     }
 }
 
-/// Whether nothing was found.
+/// Returns whether nothing was found.
 pub fn is_nothing<T: Drop>(found: Result<Option<T>, Refusal>) -> Result<bool, Refusal> {
     match found {
         Ok(found) => Ok(found.is_none()),

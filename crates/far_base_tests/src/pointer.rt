@@ -54,7 +54,7 @@ fn word_of(pointer: Pointer) -> Option<Word> {
     }
 }
 
-/// Whether a word has these bits, and is read back from them.
+/// Returns whether a word has these bits, and is read back from them.
 fn is_laid_out(pointer: Pointer, bits: u64) -> bool {
     let Some(word) = word_of(pointer) else {
         return false;
@@ -111,7 +111,7 @@ fn a_local_word_that_is_neither_dirty_nor_far_is_not_made(rt: HostRuntime) {
     assert!(rt; Word::local(AT_1, false, true, false).is_none());
 }
 
-/// Whether a local word that is far alone is moved, is hot, is dirty, and is cold again.
+/// Returns whether a local word that is far alone is moved, is hot, is dirty, and is cold again.
 fn changes_part_by_part() -> bool {
     let Some(word) = Word::from_bits(0x9000_0000_0000_0000) else {
         return false;

@@ -6,7 +6,7 @@ use far_prefetcher::Prefetcher;
 use far_types::Refusal;
 use std::alloc::Global;
 
-// Column 0 of three, after these groups were accessed of it.
+// Returns a prefetcher of three columns, after accesses to these row groups of column 0.
 fn after(alloc: Global, accessed: &[u32]) -> Result<Prefetcher, Refusal>
     ensures columns { IfOk result (λ prefetcher. length prefetcher ≡ 3) }
 {
@@ -17,7 +17,7 @@ fn after(alloc: Global, accessed: &[u32]) -> Result<Prefetcher, Refusal>
     Ok(prefetcher)
 }
 
-// The groups that were accessed of a column, how many it has, and those that are proposed then.
+// A case: the row groups of a column that were accessed, how many the column has, and those that are proposed then.
 struct Accessed(&'static [u32], u32, &'static [u32]);
 
 impl Case for Accessed {
@@ -35,11 +35,11 @@ static CASES: [Accessed; 4] = [
 ];
 
 #[test]
-fn the_next_two_groups_of_a_stride_are_proposed_where_they_exist(rt: HostRuntime) {
+fn the_next_two_groups_of_a_stride_are_proposed_if_they_exist(rt: HostRuntime) {
     all_are_right(&rt, rt.alloc(), &CASES);
 }
 
-// Whether groups that were accessed of all three columns are proposed for the first, and none for the second.
+// Returns whether groups that were accessed of all three columns are proposed for the first, and none for the second.
 fn are_proposed_distinct(alloc: Global, prefetcher: &mut Prefetcher) -> Result<bool, Refusal> {
     prefetcher.saw(1, 9);
     prefetcher.saw(2, 0);

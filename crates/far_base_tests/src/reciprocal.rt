@@ -3,7 +3,7 @@ use far_reciprocal::Reciprocal;
 
 static NUMBERS: [usize; 7] = [0, 1, 63, 64, 4_099, 16_777_215, 1_099_511_627_776];
 
-/// Whether a number is divided by 64 with the hint for that, and with the one for 3.
+/// Returns whether a number is divided by 64 with the hint for that, and with the one for 3.
 fn is_divided(number: usize) -> bool {
     let hint = Reciprocal::new(64);
     hint.quotient(number, 64) == number / 64

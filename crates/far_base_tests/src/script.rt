@@ -1,4 +1,4 @@
-// A script that is read, and what is said of the faults that end one.
+// Reading a script, and what the faults that end one print.
 use crate::cases::{Case, all_are_right, must_be};
 use far_script::{Fallible, Input, Output, ShellFault, Sink, Source};
 use far_types::Refusal;
@@ -8,7 +8,7 @@ use std::io;
 /// Two lines, which come at one read.
 const SCRIPT: &[u8] = b"schema 4 int\ninsert 1\n";
 
-/// How many reads and bytes are left of a script once two lines and its end were read.
+/// Returns how many reads and bytes are left of a script once two lines and its end were read.
 fn left_behind<R: Source + Drop, W: Sink>(
     input: &mut Input<R>,
     output: &mut Output<W>,

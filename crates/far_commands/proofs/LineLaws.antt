@@ -1,4 +1,4 @@
--- What a line is answered.
+-- The reply to a line.
 use Rattle.std.proofs.Common.{◌≡◌, ◌+◌, ℕ, List, [], ◌∷◌, length, refl}
 use Rattle.std.specs.Prelude.{IsUtf8}
 use Rattle.far_store.specs.declared.store.FarTickets.{Ghosts as Tickets}

@@ -1,4 +1,4 @@
--- What is printed of an answer that a fault ends, and which lines cannot be answered.
+-- What is printed of a reply that a fault ends, and which lines can get no reply.
 use Rattle.std.specs.Prelude.{◌≡◌, ◌⊎◌, ◌<◌, ◌≤◌, ℕ, List, [], ◌++◌, length, take, Option, Some, IsUtf8}
 use Rattle.far_types.specs.declared.cell.Kind.{Kind}
 use Rattle.far_frame.specs.State.{live}
@@ -11,11 +11,11 @@ use Rattle.far_commands.specs.Commands.{command_of}
 use Rattle.far_commands.specs.Listings.{listing_of}
 use Rattle.far_commands.specs.Progress.{At}
 
--- a front of an answer; it may be empty
+-- a front of a reply; it may be empty
 abbrev pub IsFront : (List ℕ → Type 0) → List ℕ → Type 0
 IsFront answer text = (text ≡ []) ⊎ ((rest : List ℕ) × answer (text ++ rest))
 
--- what is printed of the answer that a fault ends: nothing if the input is at fault
+-- what is printed of the reply that a fault ends: nothing if the input is at fault
 abbrev pub CutOff : ShellFault → (List ℕ → Type 0) → List ℕ → Type 0
 CutOff fault.BadStart answer text = ⊥
 CutOff fault.Input answer text = text ≡ []
@@ -23,15 +23,15 @@ CutOff fault.Output answer text = IsFront answer text
 CutOff fault.Memory answer text = IsFront answer text
 CutOff fault.Turns answer text = ⊥
 
--- a fault comes, and of an answer a front is printed
+-- a fault comes, and a front of a reply is printed
 abbrev pub PrintsCut : ShellFault → (List ℕ → Type 0) → Option (List ℕ) → List ℕ → Option (List ℕ) → List ℕ → Type 0
 PrintsCut why answer old held new left = (text : List ℕ) × Prints old held text new left × CutOff why answer text
 
--- a load whose bytes did not all come, or came and are no text. The first argument says why no more came
+-- a load lacks bytes, or its bytes are no text. The first argument says why no more came
 abbrev pub FailsBy : Type 0 → Option Command → List ℕ → Type 0
 FailsBy short asked behind = (count : ℕ) × (asked ≡ Some (command.Load count)) × (((length behind < count) × short) ⊎ ((count ≤ length behind) × ¬ (IsUtf8 (take count behind))))
 
--- a line that cannot be answered with the bytes behind it: it is no text, or such a load
+-- a line can get no reply with the bytes behind it: it is no text, or such a load
 abbrev pub Fails : Type 0 → List Kind → List ℕ → List ℕ → Type 0
 Fails short kinds line behind = ¬ (IsUtf8 line) ⊎ FailsBy short (command_of kinds line) behind
 

@@ -43,6 +43,6 @@ row_line cells = row_text default_writer (map cell_text cells)
 abbrev pub dump_text : Table → List ℕ
 dump_text table = numbered_text (codes "rows") (length (rows_of table.places)) ++ texts_of row_line (rows_of table.places)
 
--- what a dump is answered: why an object of the rows is away, if one is, or else the live rows
+-- the reply to a dump: the refusal for an object of the rows that is away, if there is one, or else the live rows
 abbrev pub listing_of : {K : Type 0} → State K → List ℕ
 listing_of s = option_map_or refusal_text (away s) (dump_text s.table)

@@ -1,4 +1,4 @@
--- What a renewal is answered, and what it makes of a world.
+-- The reply to a renewal, and the world after it.
 use Rattle.std.specs.Prelude.{◌≡◌, ◌⊎◌, ℕ, ◌+◌, List, [], ◌∷◌, codes}
 use Rattle.far_types.specs.declared.refusal.Refusal.{Refusal}
 use Rattle.far_store.specs.declared.store.FarTickets.{Ghosts as Tickets}

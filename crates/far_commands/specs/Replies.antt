@@ -1,4 +1,4 @@
--- What the commands of a script are answered.
+-- The replies to the commands of a script.
 use Rattle.std.specs.Prelude.{◌≡◌, ℕ, ◌+◌, List, [], ◌∷◌, ◌++◌, length, map, Option, None, Some, codes, IsUtf8}
 use Rattle.csv.specs.Reading.{default_config, records, strip_bom}
 use Rattle.far_types.specs.declared.cell.Kind.{Kind}
@@ -45,7 +45,7 @@ reply_text done (reply.Refused refusal) = refusal_text refusal
 abbrev pub insert_of_record : List Kind → List (List ℕ) → Step
 insert_of_record kinds fields = step.Edit (edit.Insert (cells_from kinds 0 fields))
 
--- what a reply makes of a load: a refusal ends it
+-- how a load goes on after the reply to a record: a refusal ends it
 abbrev pub AfterReply : Reply → (Refusal → Type 0) → Type 0 → Type 0
 AfterReply (reply.Refused refusal) ends goes = ends refusal
 AfterReply _ ends goes = goes
@@ -66,7 +66,7 @@ module _ {S K : Type 0} (tickets : Tickets S K) where
       (given : Reply) × (mid : World K) × IsStep tickets.content tickets.number_of old (insert_of_record old.state.table.schema fields) given mid
       × AfterReply given (λ refusal. (new ≡ mid) × (text ≡ numbered_text (codes "loaded") count ++ refusal_text refusal)) (Loads (count + 1) mid more text new)
 
-  -- a command is answered; the rows are the bytes behind its line that belong to it
+  -- a command is served, and the text is its reply. The rows are the bytes behind its line that belong to it
   abbrev pub Serves : World K → Command → List ℕ → List ℕ → World K → Type 0
   Serves old (command.Step s) rows text new = (rows ≡ []) × Takes old s text new
   Serves old (command.Load count) rows text new = (length rows ≡ count) × IsUtf8 rows × Loads 0 old (records_of rows) text new
@@ -74,7 +74,7 @@ module _ {S K : Type 0} (tickets : Tickets S K) where
   Serves old (command.Renew capacity) rows text new = (rows ≡ []) × Renews tickets capacity old text new
   Serves old (command.Recount a) rows text new = (rows ≡ []) × Recounts old.state.table a text × (new ≡ old)
 
-  -- a line is answered; one that spells no command changes nothing
+  -- a line is served, and the text is its reply. A line that spells no command changes nothing
   abbrev pub ServesLine : ℕ → World K → Option Command → List ℕ → List ℕ → World K → Type 0
   ServesLine number old None rows text new = (rows ≡ []) × (text ≡ numbered_text (codes "syntax command") number) × (new ≡ old)
   ServesLine number old (Some asked) rows text new = Serves old asked rows text new

@@ -5,8 +5,8 @@ use crate::Element;
 use far_scopes::Objects;
 use far_store::FarTickets;
 
-/// The digest of all that is known of objects. It covers their lists, words and records, whether lists of up to 64 elements fit, and which
-/// object goes away first. Allocates nothing.
+/// Returns the digest of all that is known of objects. It covers their lists, words and records, whether lists of up to 64 elements fit,
+/// and which object goes away first. Allocates nothing.
 pub fn digest_of<T: Element, S: FarTickets>(objects: &Objects<T, S>) -> u64 {
     let mut digest = with_optional(0, objects.coldest().map(u64::from));
     for len in 0..65 {

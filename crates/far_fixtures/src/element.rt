@@ -3,7 +3,7 @@ ghost use Rattle.std.specs.Prelude.{IsTrue};
 
 use far_codec::Elem;
 
-/// An element for tests: a test can tell whether a list of it has a far form, and can add it to a digest.
+/// An element for tests: it says whether a list of it has a far form, and can be added to a digest.
 ///
 /// The list of an object goes into a digest:
 ///
@@ -15,11 +15,11 @@ use far_codec::Elem;
 /// }
 /// ```
 pub trait Element: Elem + PartialEq {
-    /// Whether the list has a far form.
+    /// Returns whether the list has a far form.
     fn is_spelled(list: &[Self]) -> bool
         ensures { IsTrue result → Self.has_spelling list.now };
 
-    /// A number that tells the element from the others of a test. Allocates nothing.
+    /// Returns a number that no other element of a test has. Allocates nothing.
     fn number(&self) -> u64;
 }
 

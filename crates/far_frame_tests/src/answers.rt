@@ -1,4 +1,4 @@
-//! What a call answers, as plain data, and whether a reply is that.
+//! What a call returns, as plain data, and whether a reply is that.
 use crate::call::Value;
 use far_frame::{IntPiece, Reply, TextPiece};
 use far_types::{Answer, CellRef, Key, LentRow, Name, Refusal};
@@ -9,7 +9,7 @@ pub type Line = (Value, i128, i128);
 /// What is lent of a place: its value in a column, and whether the place is alive.
 pub type Lent = (Value, bool);
 
-/// What a call answers.
+/// What a call returns.
 #[derive(Clone, Copy)]
 pub enum Due<'a> {
     Done,
@@ -25,7 +25,7 @@ pub enum Due<'a> {
     Refused(Refusal),
 }
 
-// Whether a cell is there and has this value.
+// Returns whether a cell is there and has this value.
 fn is_cell(cell: Option<CellRef<'_>>, due: Value) -> bool {
     match (cell, due) {
         (Some(CellRef::Int(number)), Value::Int(due)) => number == due,
@@ -35,7 +35,7 @@ fn is_cell(cell: Option<CellRef<'_>>, due: Value) -> bool {
     }
 }
 
-// The value of a key, which is missing if there is no key column.
+// Returns the value of a key, which is missing if there is no key column.
 fn key_cell(key: &Option<Key>) -> CellRef<'_> {
     match key {
         Some(Key::Int(number)) => CellRef::Int(*number),
@@ -44,7 +44,7 @@ fn key_cell(key: &Option<Key>) -> CellRef<'_> {
     }
 }
 
-// The line of an answer at an index.
+// Returns the line of an answer at an index.
 fn line_at(answer: &Answer, at: usize) -> Option<(CellRef<'_>, i128, i128)> {
     match answer {
         Answer::Totals(lines) => match lines.as_slice().get(at) {
@@ -71,7 +71,7 @@ fn is_line(line: Option<(CellRef<'_>, i128, i128)>, due: Line) -> bool {
     }
 }
 
-// Whether an answer has these lines, in this order.
+// Returns whether an answer has these lines, in this order.
 fn is_answer(answer: &Answer, due: &[Line]) -> bool {
     let mut same = line_at(answer, due.len()).is_none();
     for (at, line) in due.iter().enumerate() {
@@ -82,10 +82,10 @@ fn is_answer(answer: &Answer, due: &[Line]) -> bool {
 
 /// Places of one row group that follow each other.
 trait Piece {
-    /// The value of the n-th place.
+    /// Returns the value of the n-th place.
     fn value(&self, n: usize) -> Option<CellRef<'_>>;
 
-    /// Whether each place is alive.
+    /// Returns whether each place is alive.
     fn flags(&self) -> &[bool];
 }
 
@@ -125,7 +125,7 @@ fn is_piece<P: Piece>(piece: &P, due: &[Lent]) -> bool {
     same
 }
 
-// Of how many places the piece is that begins at a place, if so many are lent in all from there on.
+// Returns how many places the piece has that begins at a place, if `left` are lent from there on.
 fn piece_len(place: usize, size: usize, left: usize) -> usize {
     if size == 0 {
         return 0;
@@ -133,7 +133,7 @@ fn piece_len(place: usize, size: usize, left: usize) -> usize {
     size.saturating_sub(place % size).min(left)
 }
 
-// Whether pieces are these, the places from one on in row groups of a size.
+// Returns whether pieces are these, the places from one on in row groups of a size.
 fn are_pieces<P: Piece>(pieces: &[P], size: u32, from: u32, due: &[Lent]) -> bool {
     let (mut place, mut left) = (from as usize, due);
     for piece in pieces {
@@ -147,7 +147,7 @@ fn are_pieces<P: Piece>(pieces: &[P], size: u32, from: u32, due: &[Lent]) -> boo
     left.is_empty() && pieces.is_empty() == due.is_empty()
 }
 
-/// Whether a reply is the one that is due, of a table with row groups of this size.
+/// Returns whether a reply is the one that is due, of a table with row groups of this size.
 pub fn is_reply(reply: &Reply, due: Due<'_>, size: u32) -> bool {
     match due {
         Due::Lines(lines) => match reply {
@@ -194,7 +194,7 @@ fn is_plain(reply: &Reply, due: Due<'_>) -> bool {
     }
 }
 
-/// Whether a row that is lent has these values.
+/// Returns whether a row that is lent has these values.
 pub fn is_row(row: &LentRow<'_>, due: &[Value]) -> bool {
     let mut same = row.len() == due.len();
     for (column, value) in due.iter().enumerate() {

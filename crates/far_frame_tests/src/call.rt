@@ -1,4 +1,4 @@
-//! Calls on a world, as data: every step of the table, and looks at what no step tells.
+//! Calls on a world, as data: every step of the table, and looks at what no step returns.
 use crate::opening::push;
 use far_frame::Step;
 use far_types::{Cell, Edit, Filter, Fold, Kind, Op, Refusal, Row, Spec, Test, Text};
@@ -174,7 +174,7 @@ fn compare(test: Compare) -> Test {
     }
 }
 
-/// The specification of an aggregate.
+/// Returns the specification of an aggregate.
 pub fn spec(alloc: Global, watched: Watched) -> Result<Spec, Refusal> {
     let mut tests = Vec::new(alloc);
     let mut refusal = None;
@@ -202,7 +202,7 @@ fn watch(alloc: Global, watched: Watched) -> Result<Step, Refusal> {
     }
 }
 
-/// The step of a call that is one.
+/// Returns the step of a call that is one.
 pub fn step(alloc: Global, call: Call) -> Result<Step, Refusal> {
     match call {
         Call::Insert(values) => insert(alloc, values),
@@ -213,7 +213,7 @@ pub fn step(alloc: Global, call: Call) -> Result<Step, Refusal> {
     }
 }
 
-// A step that owns nothing.
+// Returns a step that owns nothing.
 fn plain_step(call: Call) -> Step {
     match call {
         Call::Remove(place) => Step::Edit(Edit::Remove(place)),

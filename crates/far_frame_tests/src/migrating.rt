@@ -98,7 +98,7 @@ const FAULTED: Calls = &[
     (Call::Unpin(1, 1), Due::Refused(Refusal::NotPinned)),
 ];
 
-/// Likewise, and no store failed.
+/// The same, and no store failed.
 const FULL: Calls = &[
     (Call::Faults(0), Due::Done),
     (Call::Row(0), AWAY),

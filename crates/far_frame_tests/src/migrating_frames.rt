@@ -7,7 +7,7 @@ use crate::answers::Due;
 use crate::call::Value::Missing;
 use crate::opening::{FOUR_SEGMENTS, Plan, SOUND, frame, stores};
 use crate::script::{is_due, recounted, replied};
-use crate::two_tables::{End, Told, both, carried, insert, watch_totals};
+use crate::two_tables::{Checked, End, both, carried, insert, watch_totals};
 use far_frame::Frame;
 use far_store::{FarStore, FarTickets, Meter};
 use far_types::{Kind, Refusal};
@@ -58,15 +58,15 @@ fn fill<S: FarStore>(alloc: Global, frame: &mut Frame<S>, store: &S) -> Result<(
     watched.and(inserted).and(send_away(alloc, frame, store))
 }
 
-/// Whether a table over its store has its rows and answers, one row group is away, and it was refused another store for the reason that
-/// is due, if there is one.
+/// Returns whether a table over its store has its rows and answers, one row group is away, and it was refused another store for the reason
+/// that is due, if there is one.
 fn is_same<S: FarStore, R: Threads + Sync>(
     rt: &R,
     frame: &Frame<S>,
     store: &S,
     refused: Option<Refusal>,
     due: Option<Refusal>,
-) -> Told
+) -> Checked
     requires here { AreAt S.is_of (S.store_id store.now) frame.now.rows }
 {
     let is_away = frame.may_evac(0, 0).is_err() && frame.may_evac(0, 1).is_ok();
@@ -85,19 +85,19 @@ fn is_same_then<S: FarStore, R: Threads + Sync>(
     from: &S,
     to: &S,
     due: Option<Refusal>,
-) -> Told
+) -> Checked
     requires here { AreAt S.is_of (S.store_id from.now) frame.rows }
 {
     match Frame::migrate(frame, from, to, &mut Meter::new()) {
         Ok(frame) => {
-            let told = is_same(rt, &frame, to, None, due);
+            let checked = is_same(rt, &frame, to, None, due);
             drop(frame);
-            told
+            checked
         }
         Err((refusal, frame)) => {
-            let told = is_same(rt, &frame, from, Some(refusal), due);
+            let checked = is_same(rt, &frame, from, Some(refusal), due);
             drop(frame);
-            told
+            checked
         }
     }
 }
@@ -109,7 +109,7 @@ fn play_over<S: FarStore, R: Threads + Sync>(
     from: &S,
     to: &S,
     due: Option<Refusal>,
-) -> Told {
+) -> Checked {
     match frame(alloc, &[Kind::Int], FOUR_SEGMENTS, 0) {
         Ok(mut frame) => {
             let filled = fill(alloc, &mut frame, from);
@@ -125,15 +125,15 @@ fn play_between<S: FarStore, R: Threads + Sync>(
     alloc: Global,
     stores: Result<Vec<S>, Refusal>,
     due: Option<Refusal>,
-) -> Told {
+) -> Checked {
     match stores {
         Ok(stores) => {
-            let told = match stores.as_slice() {
+            let checked = match stores.as_slice() {
                 [from, to] => play_over(rt, alloc, from, to, due),
                 _ => Ok(false),
             };
             drop(stores);
-            told
+            checked
         }
         Err(refusal) => Err(refusal),
     }
@@ -145,20 +145,25 @@ fn play_once<R: Threads + Wait + Sync>(
     alloc: Global,
     to: Plan,
     due: Option<Refusal>,
-) -> Told {
+) -> Checked {
     play_between(rt, alloc, stores(rt, alloc, &[SOUND, to]), due)
 }
 
-/// The same, the second time if the first finds no memory.
-fn play<R: Threads + Wait + Sync>(rt: &R, alloc: Global, to: Plan, due: Option<Refusal>) -> Told {
+/// The same, a second time if memory runs out.
+fn play<R: Threads + Wait + Sync>(
+    rt: &R,
+    alloc: Global,
+    to: Plan,
+    due: Option<Refusal>,
+) -> Checked {
     match play_once(rt, alloc, to, due) {
         Err(Refusal::NoMemory) => play_once(rt, alloc, to, due),
-        told => told,
+        checked => checked,
     }
 }
 
-/// Whether all tables are the same that go on with a store that is sound, or are refused one that is full.
-fn are_same<R: Threads + Wait + Sync>(rt: &R, alloc: Global) -> Told {
+/// Returns whether all tables are the same that go on with a store that is sound, or are refused one that is full.
+fn are_same<R: Threads + Wait + Sync>(rt: &R, alloc: Global) -> Checked {
     let sound = play(rt, alloc, SOUND, None);
     both(sound, play(rt, alloc, FULL, Some(Refusal::FarFull)))
 }

@@ -114,7 +114,7 @@ static SCRIPT: Script = Script {
     }],
 };
 
-/// A store over a new log, which notes how long its contents are.
+/// Returns a store over a new log, which notes how long its contents are.
 fn log_store<'a, R: Wait + Sync>(
     rt: &'a R,
     alloc: Global,
@@ -126,7 +126,7 @@ fn log_store<'a, R: Wait + Sync>(
     }
 }
 
-/// The lengths of the contents that a world puts into its second log, in order; 0 if a call does not answer what it should.
+/// Returns the lengths of the contents that a world puts into its second log, in order; 0 if a call does not return what it should.
 fn lengths_once<R: Threads + Wait + Sync>(rt: &R, alloc: Global) -> Result<u64, Refusal> {
     let (before, lengths) = (AtomicU64::new(0), AtomicU64::new(0));
     let first = with_next(Ok(Vec::new(alloc)), log_store(rt, alloc, &before));
@@ -137,7 +137,7 @@ fn lengths_once<R: Threads + Wait + Sync>(rt: &R, alloc: Global) -> Result<u64, 
         Err(refusal) => Err(refusal),
     }
 }
-/// The same, the second time if the first finds no memory.
+/// The same, a second time if memory runs out.
 fn lengths<R: Threads + Wait + Sync>(rt: &R, alloc: Global) -> Result<u64, Refusal> {
     match lengths_once(rt, alloc) {
         Err(Refusal::NoMemory) => lengths_once(rt, alloc),

@@ -92,7 +92,7 @@ pub const SOUND: Plan = Plan {
     failing_get: 0,
 };
 
-// A store that fails as a plan says, if it was made.
+// Returns a store that fails as a plan says, if it was made.
 fn faulty<S: Drop>(made: Result<S, Refusal>, plan: Plan) -> Result<FaultyStore<S>, Refusal> {
     match made {
         Ok(store) => Ok(FaultyStore::new(store, plan.failing_put, plan.failing_get)),
@@ -100,7 +100,7 @@ fn faulty<S: Drop>(made: Result<S, Refusal>, plan: Plan) -> Result<FaultyStore<S
     }
 }
 
-/// The store of a plan.
+/// Returns the store of a plan.
 pub fn store<R: Wait + Sync + Drop + Copy>(
     rt: R,
     alloc: Global,
@@ -109,7 +109,7 @@ pub fn store<R: Wait + Sync + Drop + Copy>(
     faulty(AgentStore::new(rt, alloc, plan.capacity), plan)
 }
 
-/// The stores of plans.
+/// Returns the stores of plans.
 pub fn stores<R: Wait + Sync + Drop + Copy>(
     rt: R,
     alloc: Global,
@@ -129,7 +129,7 @@ pub fn stores<R: Wait + Sync + Drop + Copy>(
     }
 }
 
-/// Stores with one more, if all were made.
+/// Returns stores with one more, if all were made.
 pub fn with_next<S: Drop>(
     stores: Result<Vec<S>, Refusal>,
     next: Result<S, Refusal>,
@@ -149,7 +149,7 @@ pub fn with_next<S: Drop>(
     }
 }
 
-/// Appends what was made, or tells why it is not there.
+/// Appends what was made, or returns why it was refused.
 pub fn push<T: Drop>(items: &mut Vec<T>, made: Result<T, Refusal>) -> Option<Refusal> {
     match made {
         Ok(item) => match items.push(item) {
@@ -167,7 +167,7 @@ fn schema(alloc: Global, kinds: &[Kind]) -> Result<Schema, Refusal> {
     }
 }
 
-/// A table without a row.
+/// Returns a table without a row.
 pub fn frame<S: FarTickets>(
     alloc: Global,
     kinds: &[Kind],
@@ -182,7 +182,7 @@ pub fn frame<S: FarTickets>(
     }
 }
 
-/// A world of such a table over a store, if that was made.
+/// Returns a world of such a table over a store, if that was made.
 pub fn world<S: FarStore>(
     alloc: Global,
     kinds: &[Kind],
@@ -209,8 +209,8 @@ fn split<M>(moved: Result<M, (Refusal, M)>) -> (M, Option<Refusal>) {
     }
 }
 
-// A world over another store, or why it is not and the world as it was. It has met few faults, else it is refused in a way that is never
-// due.
+// Returns a world over another store, or why it is not and the world as it was. It has met few faults, else it is refused in a way that is
+// never due.
 fn migrate_few<S: FarStore>(world: World<S>, store: S) -> Result<World<S>, (Refusal, World<S>)> {
     if world.faults() < 9 {
         world.migrate(store)
@@ -219,7 +219,7 @@ fn migrate_few<S: FarStore>(world: World<S>, store: S) -> Result<World<S>, (Refu
     }
 }
 
-/// A world over another store; or as it was, and why.
+/// Returns a world over another store; or as it was, and why.
 pub fn migrate<S: FarStore>(world: World<S>, store: S) -> (World<S>, Option<Refusal>) {
     split(migrate_few(world, store))
 }

@@ -61,7 +61,7 @@ static SCRIPT: Script = Script {
     then: &[],
 };
 
-/// The store over a log.
+/// Returns the store over a log.
 fn log_store<'a, R: Wait + Sync>(
     rt: &'a R,
     alloc: Global,
@@ -72,7 +72,7 @@ fn log_store<'a, R: Wait + Sync>(
     }
 }
 
-/// The index of the first call that does not answer what it should, over a new log.
+/// Returns the index of the first call over a new log that does not return what it should.
 fn first_wrong_once<R: Threads + Wait + Sync>(
     rt: &R,
     alloc: Global,
@@ -81,7 +81,7 @@ fn first_wrong_once<R: Threads + Wait + Sync>(
     play_over(rt, alloc, stores, &SCRIPT)
 }
 
-/// The same, the second time if the first finds no memory.
+/// The same, a second time if memory runs out.
 fn first_wrong<R: Threads + Wait + Sync>(rt: &R, alloc: Global) -> Result<Option<usize>, Refusal> {
     match first_wrong_once(rt, alloc) {
         Err(Refusal::NoMemory) => first_wrong_once(rt, alloc),

@@ -1,7 +1,7 @@
 //! Random steps of every kind on a world that goes over several stores, against plain lists, reply by reply.
 //!
 //! The lists know how long each list and far form is, so where each lies, when one does not fit, and which object goes away first. How
-//! many pins an object has, later unpins and evacuations tell. How old a far copy of a dirty one is, no call tells.
+//! many pins an object has, later unpins and evacuations show. How old a far copy of a dirty one is, no call shows.
 mod aggregates;
 mod drawing;
 mod edits;
@@ -40,7 +40,7 @@ struct Run {
 }
 
 impl Run {
-    /// The store of a turn. If the table is looked at after each step none fails; the others do, and are full before the end.
+    /// Returns the store of a turn. If the table is looked at after each step none fails; the others do, and are full before the end.
     fn plan(&self, turn: u64) -> Plan {
         let n = self.seed.wrapping_add(turn.wrapping_mul(3));
         if self.at_each_step {
@@ -105,17 +105,17 @@ fn run_with_space(seed: u64) -> Run {
     }
 }
 
-/// What was told so far, a bit for each kind of step that was accepted and, by its number, for each refusal of one. A proposal counts
-/// if it names a row group, and the coldest object if there is one.
-fn with_told(told: u64, call: Call, due: Due<'_>) -> u64 {
+/// Returns what was covered so far, a bit for each kind of step that was accepted and, by its number, for each refusal of one. A proposal
+/// counts if it names a row group, and the coldest object if there is one.
+fn with_covered(covered: u64, call: Call, due: Due<'_>) -> u64 {
     match due {
-        Due::Refused(refusal) => told | 1u64.wrapping_shl(refusal.number()),
-        Due::Next([]) | Due::Coldest(None) => told,
-        _ => told | 1u64.wrapping_shl(kind(call)),
+        Due::Refused(refusal) => covered | 1u64.wrapping_shl(refusal.number()),
+        Due::Next([]) | Due::Coldest(None) => covered,
+        _ => covered | 1u64.wrapping_shl(kind(call)),
     }
 }
 
-/// The number of the kind of a step, from 32 on.
+/// Returns the number of the kind of a step, from 32 on.
 fn kind(call: Call) -> u32 {
     match call {
         Call::InsertDrawn(_) => 32,
@@ -143,17 +143,17 @@ fn kind(call: Call) -> u32 {
     }
 }
 
-/// Whether a call answers what it should, and meets the faults that it should. What it tells goes with it.
+/// Returns whether a call returns what it should, and meets the faults that it should. Adds it to what is covered.
 fn is_right<S: FarStore, R: Threads + Sync>(
     rt: &R,
     alloc: Global,
     world: &mut World<S>,
     plain: &mut Plain,
     call: Call,
-    told: &mut u64,
+    covered: &mut u64,
 ) -> Result<bool, Refusal> {
     let due = plain.serve(call);
-    *told = with_told(*told, call, due);
+    *covered = with_covered(*covered, call, due);
     let answered = is_answered(rt, alloc, world, call, due);
     if world.faults() == plain.store.faults {
         answered
@@ -162,7 +162,7 @@ fn is_right<S: FarStore, R: Threads + Sync>(
     }
 }
 
-/// Whether a look answers what it should, if there is one.
+/// Returns whether a look, if there is one, returns what it should.
 fn is_seen_right<S: FarStore, R: Threads + Sync>(
     rt: &R,
     alloc: Global,
@@ -176,7 +176,7 @@ fn is_seen_right<S: FarStore, R: Threads + Sync>(
     }
 }
 
-/// Whether the table is as it should be, by so many looks of each kind.
+/// Returns whether the table is as it should be, by so many looks of each kind.
 fn agree<S: FarStore, R: Threads + Sync>(
     rt: &R,
     alloc: Global,
@@ -193,15 +193,15 @@ fn agree<S: FarStore, R: Threads + Sync>(
     Ok(true)
 }
 
-/// A run that is on: what is drawn next, and what was told so far.
+/// A run that is on: what is drawn next, and what was covered so far.
 #[derive(Drop)]
 struct Running {
     run: Run,
     draws: Draws,
-    told: u64,
+    covered: u64,
 }
 
-/// Whether the next step of a run answers what it should, and the table is as it should be if it is looked at then.
+/// Returns whether the next step of a run returns what it should, and the table is as it should be if it is looked at then.
 fn is_next_right<S: FarStore, R: Threads + Sync>(
     rt: &R,
     alloc: Global,
@@ -211,7 +211,7 @@ fn is_next_right<S: FarStore, R: Threads + Sync>(
     n: u32,
 ) -> Result<bool, Refusal> {
     let call = drawn_call(&mut running.draws, plain);
-    match is_right(rt, alloc, world, plain, call, &mut running.told) {
+    match is_right(rt, alloc, world, plain, call, &mut running.covered) {
         Ok(true) if running.run.at_each_step || n % LOOK == 0 => {
             agree(rt, alloc, world, plain, running.run.reach)
         }
@@ -219,7 +219,7 @@ fn is_next_right<S: FarStore, R: Threads + Sync>(
     }
 }
 
-/// Makes the steps of a run over one store: which is the first that is not right, or after which the table is not.
+/// Makes the steps of a run over one store. Returns the index of the first that is not right, or after which the table is not.
 fn first_wrong<S: FarStore, R: Threads + Sync>(
     rt: &R,
     alloc: Global,
@@ -237,17 +237,21 @@ fn first_wrong<S: FarStore, R: Threads + Sync>(
     Ok(None)
 }
 
-/// Whether a world went on with another store, or was refused it, as it is due. What it tells goes with it.
-fn is_due(refused: Option<Refusal>, due: Option<Refusal>, told: &mut u64) -> Result<bool, Refusal> {
+/// Returns whether a world went on with another store, or was refused it, as is due. Adds that to what is covered.
+fn is_due(
+    refused: Option<Refusal>,
+    due: Option<Refusal>,
+    covered: &mut u64,
+) -> Result<bool, Refusal> {
     match refused {
         Some(Refusal::NoMemory) => return Err(Refusal::NoMemory),
-        Some(_) => *told |= 1 << 54,
-        None => *told |= 1 << 53,
+        Some(_) => *covered |= 1 << 54,
+        None => *covered |= 1 << 53,
     }
     Ok(refused == due)
 }
 
-/// What is wrong so far: the first wrong step, or 0 if a world did not go on as it should.
+/// Returns what is wrong so far: the first wrong step, or 0 if a world did not go on as it should.
 fn so_far(
     wrong: Result<Option<u32>, Refusal>,
     right: Result<bool, Refusal>,
@@ -260,8 +264,8 @@ fn so_far(
     }
 }
 
-/// Makes the steps of a run over one store after the other: the first over its store that is not right, 0 if a world does not go on as
-/// it should.
+/// Makes the steps of a run over one store after the other. Returns the index, over its store, of the first that is not right, or 0 if a
+/// world does not go on as it should.
 fn first_wrong_of<S: FarStore, R: Threads + Sync>(
     rt: &R,
     alloc: Global,
@@ -275,7 +279,7 @@ fn first_wrong_of<S: FarStore, R: Threads + Sync>(
         let (next, refused) = migrate(world, store);
         world = next;
         let due = plain.migrate(running.run.plan(turn));
-        wrong = match so_far(wrong, is_due(refused, due, &mut running.told)) {
+        wrong = match so_far(wrong, is_due(refused, due, &mut running.covered)) {
             Ok(None) => first_wrong(rt, alloc, &mut world, plain, running),
             wrong => wrong,
         };
@@ -318,39 +322,39 @@ fn play_once<R: Threads + Wait + Sync>(
     rt: &R,
     alloc: Global,
     run: &Run,
-    told: &mut u64,
+    covered: &mut u64,
 ) -> Result<Option<u32>, Refusal> {
     let mut plain = Plain::new(run.limits, Store::new(run.plan(0)));
     let mut running = Running {
         run: *run,
         draws: Draws::new(run.seed),
-        told: *told,
+        covered: *covered,
     };
     let plans = [run.plan(0), run.plan(1), run.plan(2), run.plan(3)];
     let made = stores(rt, alloc, &plans);
     let wrong = first_wrong_if_made(rt, alloc, made, &mut plain, &mut running);
-    *told = running.told;
+    *covered = running.covered;
     wrong
 }
 
-// The same, the second time if the first finds no memory.
+// The same, a second time if memory runs out.
 fn play<R: Threads + Wait + Sync>(
     rt: &R,
     alloc: Global,
     run: &Run,
-    told: &mut u64,
+    covered: &mut u64,
 ) -> Result<Option<u32>, Refusal> {
-    match play_once(rt, alloc, run, told) {
-        Err(Refusal::NoMemory) => play_once(rt, alloc, run, told),
+    match play_once(rt, alloc, run, covered) {
+        Err(Refusal::NoMemory) => play_once(rt, alloc, run, covered),
         played => played,
     }
 }
 
-/// The first run that is not right, by the number that it has among all, with its first step that is not.
+/// Returns the number of the first run that is not right, with the index of its first wrong step.
 fn first_wrong_run<R: Threads + Wait + Sync>(
     rt: &R,
     alloc: Global,
-    told: &mut u64,
+    covered: &mut u64,
 ) -> Result<Option<(u64, u32)>, Refusal> {
     for n in 0..2 * SEEDS {
         let run = if n < SEEDS {
@@ -358,7 +362,7 @@ fn first_wrong_run<R: Threads + Wait + Sync>(
         } else {
             run_with_space(n)
         };
-        match play(rt, alloc, &run, told) {
+        match play(rt, alloc, &run, covered) {
             Ok(None) => {}
             Ok(Some(step)) => return Ok(Some((n, step))),
             Err(refusal) => return Err(refusal),
@@ -373,8 +377,8 @@ const DUE: u64 = 0x7F_FFFF_017F_FF78;
 
 #[test]
 fn random_steps_of_every_kind_agree_with_plain_lists(rt: HostRuntime) -> Result<(), Fail> {
-    let mut told = 0;
-    let wrong = first_wrong_run(&rt, rt.alloc(), &mut told)?;
-    assert_eq!(rt; (wrong, told), (None, DUE));
+    let mut covered = 0;
+    let wrong = first_wrong_run(&rt, rt.alloc(), &mut covered)?;
+    assert_eq!(rt; (wrong, covered), (None, DUE));
     Ok(())
 }

@@ -88,7 +88,7 @@ const UNEVEN: Calls = &[
     (Call::Recount(0, 3), Due::Lines(&[(Missing, 7, 56)])),
 ];
 
-/// A missing aggregate is told before a wrong number of workers.
+/// A recount of no aggregate is refused before one with a wrong number of workers.
 const UNKNOWN: Calls = &[
     (Call::Recount(1, 3), Due::Refused(Refusal::NoAggregate)),
     (Call::Recount(1, 0), Due::Refused(Refusal::NoAggregate)),

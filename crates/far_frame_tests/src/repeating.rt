@@ -1,5 +1,5 @@
-//! Every step of the table, in each way in which it allocates. A step that is refused for lack of memory changes nothing, and the
-//! player makes it again: so the script answers the same whichever allocation is refused.
+//! Every step of the table, in each way in which it allocates. A step that runs out of memory changes nothing, and the
+//! player makes it again: so the replies are the same, whichever allocation fails.
 use crate::answers::Due;
 use crate::call::Value::{Int, Missing, Text};
 use crate::call::{Call, EXTREMA, EXTREMA_BY_TEXT, TOTALS, TOTALS_BY_TEXT};

@@ -1,4 +1,4 @@
-//! A list of steps that is served by one call. The call is refused before any step or not at all, so one that finds no memory is made
+//! A list of steps that is served by one call. The call is refused before any step or not at all, so one that runs out of memory is made
 //! again.
 use crate::answers::{Due, is_reply};
 use crate::call::Value::{Int, Missing};
@@ -47,7 +47,7 @@ const BUILT: Calls = &[
     (Call::Ask(0), Due::Lines(&[(Missing, 8, 36)])),
 ];
 
-/// The steps of calls.
+/// Returns the steps of calls.
 fn steps(alloc: Global, calls: Calls) -> Result<Vec<Step>, Refusal> {
     let mut steps = Vec::new(alloc);
     for (call, _) in calls {
@@ -56,7 +56,7 @@ fn steps(alloc: Global, calls: Calls) -> Result<Vec<Step>, Refusal> {
     Ok(steps)
 }
 
-// The replies of a run of steps. There are few of them, and few faults were met before.
+// Returns the replies of a run of steps. There are few of them, and few faults were met before.
 fn run_few<S: FarStore>(world: &mut World<S>, steps: Vec<Step>) -> Result<Vec<Reply>, Refusal> {
     if world.faults() < 9 && steps.len() < 99 {
         run(world, steps)
@@ -65,7 +65,7 @@ fn run_few<S: FarStore>(world: &mut World<S>, steps: Vec<Step>) -> Result<Vec<Re
     }
 }
 
-/// The replies of a run of calls.
+/// Returns the replies of a run of calls.
 fn replies_once<S: FarStore>(
     alloc: Global,
     world: &mut World<S>,
@@ -89,8 +89,8 @@ fn replies<S: FarStore>(
     }
 }
 
-/// The index of the first reply that is not what it should be, of row groups of this size. Nothing can be said if a step ran out
-/// of memory.
+/// Returns the index of the first reply that is not what it should be, of row groups of this size. Nothing can be said if a step ran out of
+/// memory.
 fn first_wrong_in(replies: &[Reply], calls: Calls, size: u32) -> Result<Option<usize>, Refusal> {
     for (at, (_, due)) in calls.iter().enumerate() {
         match replies.get(at) {
@@ -134,7 +134,7 @@ fn play_once<R: Wait + Sync + Drop + Copy>(rt: R, alloc: Global) -> Result<Optio
     first_wrong_over(alloc, store(rt, alloc, SOUND))
 }
 
-/// The same, the second time if the first finds no memory.
+/// The same, a second time if memory runs out.
 fn play<R: Wait + Sync + Drop + Copy>(rt: R, alloc: Global) -> Result<Option<usize>, Refusal> {
     match play_once(rt, alloc) {
         Err(Refusal::NoMemory) => play_once(rt, alloc),

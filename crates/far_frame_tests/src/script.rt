@@ -1,4 +1,4 @@
-//! The player of scripts: calls on a world, each with what it answers. A call that finds no memory is made again.
+//! The player of scripts: calls on a world, each with its reply. A call that runs out of memory is made again.
 ghost use Rattle.far_rows.specs.Jobs.{AreAt};
 
 use crate::answers::{Due, is_reply, is_row};
@@ -13,10 +13,10 @@ use std::test::Fail;
 use std::thread::Threads;
 use std::vec::IntoIter;
 
-/// Calls, each with what it answers.
+/// Calls, each with its reply.
 pub type Calls = &'static [(Call, Due<'static>)];
 
-/// A table goes on with its next store, or why it is refused that, and what calls answer then.
+/// A table goes on with its next store, or why it is refused that, and the calls after that.
 pub struct Turn {
     pub refused: Option<Refusal>,
     pub calls: Calls,
@@ -31,10 +31,10 @@ pub struct Script {
     pub then: &'static [Turn],
 }
 
-/// The script and the index of the first of its calls that did not answer what it should.
+/// The script and the index of the first of its calls that did not return what it should.
 pub type Wrong = (&'static str, usize);
 
-/// Fails if a call of a script did not answer what it should, and names both.
+/// Fails if a call of a script did not return what it should, and names both.
 pub fn answered(first_wrong: Result<Option<Wrong>, Refusal>) -> Result<(), Fail> {
     match first_wrong? {
         Some((name, at)) => Err(Fail::new(format_args!("{name}: call {at}"))),
@@ -58,7 +58,7 @@ pub fn play_all<R: Threads + Wait + Sync>(
     Ok(None)
 }
 
-// Plays a script, the second time if there was no memory for its table or its store at the first.
+// Plays a script, a second time if memory ran out for its table or its store.
 fn play<R: Threads + Wait + Sync>(
     rt: &R,
     alloc: Global,
@@ -78,7 +78,7 @@ fn play_once<R: Threads + Wait + Sync>(
     play_over(rt, alloc, stores(rt, alloc, script.plans), script)
 }
 
-/// The index of the first call of a script over these stores, if they were made, that does not answer what it should.
+/// Returns the index of the first call of a script over these stores, if they were made, that does not return what it should.
 pub fn play_over<S: FarStore, R: Threads + Sync>(
     rt: &R,
     alloc: Global,
@@ -140,7 +140,7 @@ fn play_first<S: FarStore, R: Threads + Sync>(
     }
 }
 
-// What is wrong so far: a call, or the index behind all calls if a world did not go on with another store as is due.
+// Returns what is wrong so far: a call, or the index behind all calls if a world did not go on with another store as is due.
 fn so_far(
     wrong: Result<Option<usize>, Refusal>,
     refused: Option<Refusal>,
@@ -154,7 +154,7 @@ fn so_far(
     }
 }
 
-/// The index of the first call that does not answer what it should.
+/// Returns the index of the first call that does not return what it should.
 pub fn first_wrong<S: FarStore, R: Threads + Sync>(
     rt: &R,
     alloc: Global,
@@ -171,7 +171,7 @@ pub fn first_wrong<S: FarStore, R: Threads + Sync>(
     Ok(None)
 }
 
-/// Whether a call answers this, the second time if the first finds no memory.
+/// Returns whether a call returns this. It is made a second time if memory runs out.
 pub fn is_answered<S: FarStore, R: Threads + Sync>(
     rt: &R,
     alloc: Global,
@@ -185,7 +185,7 @@ pub fn is_answered<S: FarStore, R: Threads + Sync>(
     }
 }
 
-// Whether a call answers this. Nothing can be said if it finds no memory.
+// Returns whether a call returns this. Nothing can be said if memory runs out.
 fn is_answered_once<S: FarStore, R: Threads + Sync>(
     rt: &R,
     alloc: Global,
@@ -203,7 +203,7 @@ fn is_answered_once<S: FarStore, R: Threads + Sync>(
     }
 }
 
-// Whether a row, or the object that goes away first, is this.
+// Returns whether a row, or the object that goes away first, is this.
 fn is_shown<S: FarStore>(world: &World<S>, call: Call, due: Due<'_>) -> Result<bool, Refusal> {
     match call {
         Call::Row(place) => Ok(is_row_due(world.frame().scope().row(place), due)),
@@ -211,7 +211,7 @@ fn is_shown<S: FarStore>(world: &World<S>, call: Call, due: Due<'_>) -> Result<b
     }
 }
 
-// Whether a step, or a look that owns nothing, answers this.
+// Returns whether a step, or a look that owns nothing, returns this.
 fn is_served<S: FarStore>(
     alloc: Global,
     world: &mut World<S>,
@@ -229,7 +229,7 @@ fn is_served<S: FarStore>(
     }
 }
 
-/// Whether a reply is the one that is due. Nothing can be said if memory ran out.
+/// Returns whether a reply is the one that is due. Nothing can be said if memory ran out.
 pub fn is_due(reply: Reply, due: Due<'_>, size: u32) -> Result<bool, Refusal> {
     let found_none = is_reply(&reply, Due::Refused(Refusal::NoMemory), size);
     let is_right = is_reply(&reply, due, size);
@@ -259,7 +259,7 @@ fn stepped<S: FarStore>(world: &mut World<S>, step: Result<Step, Refusal>) -> Re
     }
 }
 
-// Why a look does not find what it asks for.
+// Returns why a look does not find what it asks for.
 fn looked<S: FarStore>(world: &World<S>, call: Call) -> Result<(), Refusal> {
     match call {
         Call::IsAlive(place) => alive(world.frame().scope().is_alive(place)),
@@ -304,7 +304,7 @@ fn is_row_due(row: Result<LentRow<'_>, Refusal>, due: Due<'_>) -> bool {
     }
 }
 
-// The object of a job, if there is one.
+// Returns the object of a job, if there is one.
 fn object_of<S: FarTickets>(
     job: &Result<Option<Job<S>>, Refusal>,
 ) -> Result<Option<Name>, Refusal> {
@@ -315,7 +315,7 @@ fn object_of<S: FarTickets>(
     }
 }
 
-// Whether the object of a job, if there is one, is the one that is due.
+// Returns whether the object of a job, if there is one, is the one that is due.
 fn is_job_due<S: FarTickets>(
     job: Result<Option<Job<S>>, Refusal>,
     due: Due<'_>,
@@ -333,7 +333,7 @@ fn is_object_due(object: Result<Option<Name>, Refusal>, due: Due<'_>) -> Result<
     }
 }
 
-/// What a recount answers. One that is refused for a fault has met one, else it answers `Done`, which is never due.
+/// Returns the reply to a recount. One that is refused for a fault has met one; else the reply is `Done`, which is never due.
 pub fn recounted<S: FarStore, R: Threads + Sync>(
     rt: &R,
     frame: &Frame<S>,
@@ -354,7 +354,7 @@ pub fn recounted<S: FarStore, R: Threads + Sync>(
     }
 }
 
-/// The reply of what an aggregate answers.
+/// Returns the reply that has an aggregate's answer.
 pub fn replied(found: Result<Answer, Refusal>) -> Reply {
     match found {
         Ok(answer) => Reply::Answer(answer),

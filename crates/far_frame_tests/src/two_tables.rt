@@ -12,7 +12,7 @@ use std::alloc::Global;
 use std::sync::Wait;
 
 /// Whether something is as it should be, or why a call was refused.
-pub type Told = Result<bool, Refusal>;
+pub type Checked = Result<bool, Refusal>;
 
 /// How a job ends.
 #[derive(Clone, Copy)]
@@ -29,7 +29,7 @@ fn watch<S: FarTickets>(frame: &mut Frame<S>, spec: Spec) -> Result<u32, Refusal
     frame.watch(spec)
 }
 
-/// A row of one number.
+/// Returns a row of one number.
 fn row_of(alloc: Global, number: i64) -> Result<Row, Refusal> {
     match Vec::from_array(alloc, [Cell::Int(number)]) {
         Ok(cells) => Ok(Row::new(cells)),
@@ -72,8 +72,8 @@ fn fill<S: FarTickets>(alloc: Global, frame: &mut Frame<S>) -> Result<(), Refusa
     inserted.and(watch_totals(alloc, frame))
 }
 
-/// What two looks tell: whether both are as they should be, or why one was refused.
-pub fn both(first: Told, second: Told) -> Told {
+/// Returns whether both results are as they should be, or why one was refused.
+pub fn both(first: Checked, second: Checked) -> Checked {
     match (first, second) {
         (Ok(first), Ok(second)) => Ok(first && second),
         (Err(refusal), _) => Err(refusal),
@@ -109,19 +109,19 @@ pub fn carried<S: FarStore>(
     }
 }
 
-// Why a job was refused.
+// Returns why a job was refused.
 fn why<J: Drop>(refused: (Refusal, J)) -> Refusal {
     refused.0
 }
 
-/// Whether the end of a job is answered so. Nothing can be said if memory ran out.
+/// Returns whether the end of a job gets this reply. Nothing can be said if memory ran out.
 fn ends_so<S: FarStore>(
     frame: &mut Frame<S>,
     store: &S,
     job: &Job<S>,
     end: End,
     due: Result<(), Refusal>,
-) -> Told
+) -> Checked
     requires here { AreAt S.is_of (S.store_id store.now) frame.old.rows }
     requires job_here { IsJobAt S.is_of (S.store_id store.now) job.now }
     ensures { AreAt S.is_of (S.store_id store.now) frame.new.rows }
@@ -134,15 +134,15 @@ fn ends_so<S: FarStore>(
     is_due(reply, due)
 }
 
-fn is_due(reply: Result<(), Refusal>, due: Result<(), Refusal>) -> Told {
+fn is_due(reply: Result<(), Refusal>, due: Result<(), Refusal>) -> Checked {
     match reply {
         Err(Refusal::NoMemory) => Err(Refusal::NoMemory),
         reply => Ok(reply == due),
     }
 }
 
-/// Whether a job is stale at a table, at whichever end.
-fn is_stale<S: FarStore>(frame: &mut Frame<S>, store: &S, job: &Job<S>) -> Told
+/// Returns whether a job is stale at a table, at whichever end.
+fn is_stale<S: FarStore>(frame: &mut Frame<S>, store: &S, job: &Job<S>) -> Checked
     requires here { AreAt S.is_of (S.store_id store.now) frame.old.rows }
     requires job_here { IsJobAt S.is_of (S.store_id store.now) job.now }
     ensures { AreAt S.is_of (S.store_id store.now) frame.new.rows }
@@ -163,8 +163,8 @@ fn next(end: End) -> End {
     }
 }
 
-/// Whether a job is stale at its table at the two ends that are not its own.
-fn is_of_one_kind<S: FarStore>(frame: &mut Frame<S>, store: &S, job: &Job<S>, end: End) -> Told
+/// Returns whether a job is stale at its table at the two ends that are not its own.
+fn is_of_one_kind<S: FarStore>(frame: &mut Frame<S>, store: &S, job: &Job<S>, end: End) -> Checked
     requires here { AreAt S.is_of (S.store_id store.now) frame.old.rows }
     requires job_here { IsJobAt S.is_of (S.store_id store.now) job.now }
     ensures { AreAt S.is_of (S.store_id store.now) frame.new.rows }
@@ -175,29 +175,30 @@ fn is_of_one_kind<S: FarStore>(frame: &mut Frame<S>, store: &S, job: &Job<S>, en
     both(at_next, at_last)
 }
 
-/// Whether a job that is begun is stale at its own table before it is carried.
-fn is_stale_uncarried<S: FarStore>(frame: &mut Frame<S>, store: &S, end: End) -> Told
+/// Returns whether a job that is begun is stale at its own table before it is carried.
+fn is_stale_uncarried<S: FarStore>(frame: &mut Frame<S>, store: &S, end: End) -> Checked
     requires here { AreAt S.is_of (S.store_id store.now) frame.old.rows }
     ensures { AreAt S.is_of (S.store_id store.now) frame.new.rows }
 {
     match begun(frame, store, end) {
         Ok(job) => {
-            let told = is_stale(frame, store, &job);
+            let checked = is_stale(frame, store, &job);
             drop(job);
-            told
+            checked
         }
         Err(refusal) => Err(refusal),
     }
 }
 
-/// Whether a carried job is stale at another table, and at its own as a job of another kind; accepted there, and stale from then on.
+/// Returns whether a carried job is stale at another table, and at its own as a job of another kind; accepted there, and stale from then
+/// on.
 fn is_of_one_table<S: FarStore>(
     own: &mut Frame<S>,
     other: &mut Frame<S>,
     store: &S,
     job: &Job<S>,
     end: End,
-) -> Told
+) -> Checked
     requires own { AreAt S.is_of (S.store_id store.now) own.old.rows }
     requires other { AreAt S.is_of (S.store_id store.now) other.old.rows }
     requires job_here { IsJobAt S.is_of (S.store_id store.now) job.now }
@@ -219,7 +220,7 @@ fn is_told_at_its_end<S: FarStore>(
     other: &mut Frame<S>,
     store: &S,
     end: End,
-) -> Told
+) -> Checked
     requires own { AreAt S.is_of (S.store_id store.now) own.old.rows }
     requires other { AreAt S.is_of (S.store_id store.now) other.old.rows }
     ensures own { AreAt S.is_of (S.store_id store.now) own.new.rows }
@@ -227,9 +228,9 @@ fn is_told_at_its_end<S: FarStore>(
 {
     match carried(alloc, own, store, end) {
         Ok(job) => {
-            let told = is_of_one_table(own, other, store, &job, end);
+            let checked = is_of_one_table(own, other, store, &job, end);
             drop(job);
-            told
+            checked
         }
         Err(refusal) => Err(refusal),
     }
@@ -242,7 +243,7 @@ fn is_told_apart<S: FarStore>(
     other: &mut Frame<S>,
     store: &S,
     end: End,
-) -> Told
+) -> Checked
     requires own { AreAt S.is_of (S.store_id store.now) own.old.rows }
     requires other { AreAt S.is_of (S.store_id store.now) other.old.rows }
     ensures own { AreAt S.is_of (S.store_id store.now) own.new.rows }
@@ -258,46 +259,46 @@ fn all_are_told_apart<S: FarStore>(
     own: &mut Frame<S>,
     other: &mut Frame<S>,
     store: &S,
-) -> Told
+) -> Checked
     requires own { AreAt S.is_of (S.store_id store.now) own.old.rows }
     requires other { AreAt S.is_of (S.store_id store.now) other.old.rows }
 {
     let filled = fill(alloc, own).and(fill(alloc, other));
     let goes = is_told_apart(alloc, own, other, store, End::Commit);
     let other_goes = is_told_apart(alloc, other, own, store, End::Commit);
-    let is_built_in = is_told_apart(alloc, own, other, store, End::Merge);
+    let is_merged = is_told_apart(alloc, own, other, store, End::Merge);
     let comes_back = is_told_apart(alloc, own, other, store, End::Install);
-    filled.and(both(both(goes, other_goes), both(is_built_in, comes_back)))
+    filled.and(both(both(goes, other_goes), both(is_merged, comes_back)))
 }
 
 /// The same of an empty table and another.
-fn are_told_from_another<S: FarStore>(alloc: Global, own: &mut Frame<S>, store: &S) -> Told
+fn are_told_from_another<S: FarStore>(alloc: Global, own: &mut Frame<S>, store: &S) -> Checked
     requires own { AreAt S.is_of (S.store_id store.now) own.old.rows }
 {
     match frame(alloc, &[Kind::Int], FOUR_SEGMENTS, 1) {
         Ok(mut other) => {
-            let told = all_are_told_apart(alloc, own, &mut other, store);
+            let checked = all_are_told_apart(alloc, own, &mut other, store);
             drop(other);
-            told
+            checked
         }
         Err(refusal) => Err(refusal),
     }
 }
 
 /// The same of two empty tables over a store.
-fn are_told_over<S: FarStore>(alloc: Global, store: &S) -> Told {
+fn are_told_over<S: FarStore>(alloc: Global, store: &S) -> Checked {
     match frame(alloc, &[Kind::Int], FOUR_SEGMENTS, 0) {
         Ok(mut own) => {
-            let told = are_told_from_another(alloc, &mut own, store);
+            let checked = are_told_from_another(alloc, &mut own, store);
             drop(own);
-            told
+            checked
         }
         Err(refusal) => Err(refusal),
     }
 }
 
 /// The same over a store, if that was made.
-fn are_told_if_made<S: FarStore>(alloc: Global, store: Result<S, Refusal>) -> Told {
+fn are_told_if_made<S: FarStore>(alloc: Global, store: Result<S, Refusal>) -> Checked {
     match store {
         Ok(store) => are_told_over(alloc, &store),
         Err(refusal) => Err(refusal),
@@ -305,15 +306,15 @@ fn are_told_if_made<S: FarStore>(alloc: Global, store: Result<S, Refusal>) -> To
 }
 
 /// The same over a new store.
-fn play_once<R: Wait + Sync + Drop + Copy>(rt: R, alloc: Global) -> Told {
+fn play_once<R: Wait + Sync + Drop + Copy>(rt: R, alloc: Global) -> Checked {
     are_told_if_made(alloc, store(rt, alloc, SOUND))
 }
 
-/// The same, the second time if the first finds no memory.
-fn play<R: Wait + Sync + Drop + Copy>(rt: R, alloc: Global) -> Told {
+/// The same, a second time if memory runs out.
+fn play<R: Wait + Sync + Drop + Copy>(rt: R, alloc: Global) -> Checked {
     match play_once(rt, alloc) {
         Err(Refusal::NoMemory) => play_once(rt, alloc),
-        told => told,
+        checked => checked,
     }
 }
 

@@ -28,7 +28,7 @@ module _ {K : Type 0} (r : Rows K) (column group : ℕ) (due : Object) (at : obj
   free None is = absurd (none-some due is)
   free (Some s) is = ap (λ (some : Option Object). first_of ((is_none some, refusal.OutOfRange) ∷ [])) is
 
-  -- an object that is there is answered
+  -- an object that is there is returned
   pub answered : (result : Result Object Refusal) → IfOk result (λ found. object_at r column group ≡ Some found) → refusal_in result ≡ object_refusal r column group → result ≡ Ok due
   answered (Ok found) told refused = ap Ok (same_Some found due (sym told ∙ at))
   answered (Err e) told refused = absurd (none-some e (sym (refused ∙ free (slice_get r.column_indexes column) at)))

@@ -1,2 +1,2 @@
-mod Told
+mod Outcomes
 mod Found

@@ -4,7 +4,7 @@ ghost use Rattle.std.specs.Prelude.{◌≡◌, ⊤};
 use far_types::{Refusal, Text};
 use std::alloc::{AllocError, Global};
 
-/// The letters of a text. They are named, since the proof of a test goes through each letter of its data.
+/// The letters of a text. Each text has a name, since the proof of a test goes through each letter of its data.
 pub enum Word {
     Empty,
     A,
@@ -27,7 +27,7 @@ impl Word {
     }
 }
 
-/// What a cell has: a number, or a text, by its letters and how often they are repeated.
+/// The value of a cell: missing, a number, or a text. A text is given by its letters and how often they are repeated.
 pub enum Cell {
     Missing,
     Number(i64),
@@ -60,7 +60,7 @@ impl Clone for Cell {
 impl Copy for Cell {}
 
 impl Cell {
-    /// The number, where it is one.
+    /// Returns the number, if the cell has one.
     pub fn number(self) -> Option<i64> {
         match self {
             Cell::Number(number) => Some(number),
@@ -68,7 +68,7 @@ impl Cell {
         }
     }
 
-    /// The text, where it is one.
+    /// Returns the text, if the cell has one. Refused with `NoMemory` if memory runs out.
     pub fn text(self, alloc: Global) -> Result<Option<Text>, Refusal> {
         let Cell::Text(word, times) = self else {
             return Ok(None);
@@ -80,7 +80,7 @@ impl Cell {
         Ok(Some(Text::new(string)))
     }
 
-    /// Whether this is its text.
+    /// Returns whether the cell has this text: it is missing if there is none.
     pub fn is_text(self, text: Option<&str>) -> bool {
         match (text, self) {
             (Some(text), Cell::Text(word, times)) => {
@@ -92,7 +92,7 @@ impl Cell {
     }
 }
 
-// Whether bytes are so many times these letters.
+// Returns whether bytes are these letters, repeated so many times.
 fn are_repeated(bytes: &[u8], letters: &[u8], times: usize) -> bool {
     for (index, byte) in bytes.iter().enumerate() {
         if letters.get(index % letters.len().max(1)) != Some(byte) {

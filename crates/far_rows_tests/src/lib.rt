@@ -1,6 +1,6 @@
 #![tactic(auto)]
-//! Tests of columns (far_columns, far_texts) and of rows (far_rows): what no clause says, that calls are served, and that worked examples
-//! come out as they should.
+//! Tests of columns (far_columns, far_texts) and of rows (far_rows). No clause says that calls succeed. These tests do, and that worked
+//! examples come out as they should.
 
 #[cfg(test)]
 mod cell;

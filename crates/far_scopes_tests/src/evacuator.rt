@@ -1,5 +1,4 @@
-// Tests of `far_evacuator`: what no clause says, that is, that calls are served, and that worked examples come out as they
-// should.
+// Tests of `far_evacuator`. No clause says that calls succeed. These tests do, and that worked examples come out as they should.
 mod call;
 mod fixture;
 mod jobs;

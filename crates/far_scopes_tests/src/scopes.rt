@@ -1,4 +1,4 @@
-// Tests of far_scopes: what no clause says, that calls are served, and that worked examples come out as they should.
+// Tests of far_scopes. No clause says that calls succeed. These tests do, and that worked examples come out as they should.
 mod calls;
 mod play;
 mod script;

@@ -1,4 +1,4 @@
-// A caller that writes through what objects lend.
+// A caller that writes through a borrow of an object's list.
 ghost use Rattle.std.specs.Prelude.{◌<◌, ℕ, List, length};
 ghost use Rattle.far_scopes.specs.Movement.{AreClean, AreHere};
 
@@ -7,7 +7,7 @@ use far_scopes::Objects;
 use far_store::FarStore;
 use far_types::Refusal;
 
-/// Writes a list over an object's where it is as long; else the object counts as written and no more.
+/// Writes a list over an object's, if it is as long. If it is not, the object only counts as written. Refused as `may_write` is.
 pub fn write_over<T: Element, S: FarStore>(
     objects: &mut Objects<T, S>,
     o: u32,

@@ -186,7 +186,7 @@ module _ {R : Type 0} (read : Ghosts R) where
   gives-then old mid new first bytes rest why p g =
       (starts-then old mid first bytes rest p g.0, if-input why (Counts read mid bytes new) (Counts read old (first ++ bytes) new) (λ c. counts-then old mid new first bytes p c) g.1)
 
-  -- bytes were taken before those that are told
+  -- the same of an input before it read some first bytes: these stand in front
   pub stops-then : (old mid new : Input R read) (first : List ℕ) (P Q : List ℕ → List ℕ → Type 0) → Reads read old first mid → ((bytes rest : List ℕ) → P bytes rest → Q (first ++ bytes) rest) → Stops read P mid new
       → Stops read Q old new
   stops-then old mid new first P Q p f s = (first ++ s.0, s.1, starts-then old mid first s.0 s.1 p s.2, counts-then old mid new first s.0 p s.3, f s.0 s.1 s.4)

@@ -1,4 +1,4 @@
-// Readers and writers that may fail.
+// Any reader or writer, as one that may fail.
 ghost use Rattle.std.specs.Prelude.{⊤, true};
 
 use super::sink::Sink;
@@ -6,7 +6,7 @@ use super::source::Source;
 use std::io;
 use std::io::{Read, Write};
 
-/// A reader each read of which may fail, or a writer each write of which may.
+/// A reader or a writer whose type says that it may fail. It reads and writes as the one in it does.
 ///
 /// ```
 /// let mut writer = Fallible(io::writer(&rt));

@@ -1,4 +1,4 @@
-// Replies that are gathered and then written.
+// The output of a script: replies that are collected and then written.
 ghost use Rattle.std.specs.Prelude.{IsTrue};
 
 mod gathering;
@@ -8,19 +8,19 @@ use super::page::Page;
 use super::sink::Sink;
 use std::marker::PhantomData;
 
-/// The replies that were printed and not written yet, for writers of the type `W`.
+/// The output of a script: the replies that were printed and not yet written, for writers of the type `W`.
 ///
 /// ```
 /// output.reply.truncate(0);
-/// let printed = outcome(&mut output.reply, &told);
+/// let printed = outcome(&mut output.reply, &ended);
 /// output.add_printed(printed)?;
 /// Ok(())
 /// ```
 #[derive(Drop)]
 pub struct Output<W: Sink> {
-    /// The replies that were not written yet.
+    /// The replies that were added and not yet written.
     pub page: Page,
-    /// The current reply, which is added when it is whole.
+    /// The reply that is being printed. It is added when it is whole.
     pub reply: Page,
     /// Whether a write failed. Nothing is written after it. It is private, so that no file but those of `output` can clear it.
     failed: bool,

@@ -1,4 +1,4 @@
-// Writers, and when a write to them may fail.
+// Writers whose type says whether a write may fail.
 ghost use Rattle.std.specs.Prelude.{◌≡◌, ◌<◌, Bool, false, length, IfOk, IsTrue, OnErr};
 ghost use Rattle.std.specs.Io.{WritesAtMost};
 ghost use Rattle.std.specs.Io.KnownBytes.{Keeps, WriteAppends};
@@ -6,8 +6,7 @@ ghost use Rattle.std.specs.Io.KnownBytes.{Keeps, WriteAppends};
 use std::io;
 use std::io::Write;
 
-/// A writer of which contracts know whether a write may fail. So a script that ends by a failed write shows that writers of its
-/// type may fail.
+/// A writer whose type says whether a write may fail. So if a script ends by a failed write, writers of its type may fail.
 ///
 /// An implementation writes and flushes as `write` and `flush` do:
 ///
@@ -21,20 +20,21 @@ use std::io::Write;
 /// }
 /// ```
 ///
-/// [`io::Sink`], which drops what it is given, never fails. Any other writer goes into [`Fallible`](crate::Fallible), a `Vec` too: it
-/// may run out of memory.
+/// [`io::Sink`], which drops what it is given, never fails. Any other writer is wrapped in [`Fallible`](crate::Fallible). A `Vec` is too,
+/// since it may run out of memory.
 pub trait Sink: Write {
     /// Whether writes to writers of this type may fail.
     ghost may_fail: { Bool };
 
-    /// Writes once, as `write` does. A write that takes none of some bytes is a failed one.
+    /// Writes once, as `write` does, and returns how many bytes the writer took. Fails only if `may_fail`. A write that takes none of at
+    /// least one byte counts as failed.
     fn write_some(&mut self, bytes: &[u8]) -> io::Result<usize>
         ensures bound { WritesAtMost result bytes.now }
         ensures bytes { WriteAppends (Self.contents self.old) (Self.contents self.new) result bytes.now }
         ensures none { IfOk result (λ count. count ≡ 0 → 0 < length bytes.now → IsTrue may_fail) }
         ensures failed { OnErr result (IsTrue may_fail) };
 
-    /// Flushes, as `flush` does.
+    /// Flushes, as `flush` does. Fails only if `may_fail`.
     fn flush_all(&mut self) -> io::Result<()>
         ensures bytes { Keeps (Self.contents self.old) (Self.contents self.new) }
         ensures failed { OnErr result (IsTrue may_fail) };

@@ -1,4 +1,4 @@
-// Readers, and when a read of them may fail.
+// Readers whose type says whether a read may fail.
 ghost use Rattle.std.specs.Prelude.{OnErr};
 ghost use Rattle.std.specs.Io.{ReadsAtMost};
 ghost use Rattle.std.specs.Io.KnownBytes.{ReadConsumes};
@@ -6,8 +6,7 @@ ghost use Rattle.std.specs.Io.KnownBytes.{ReadConsumes};
 use std::io;
 use std::io::Read;
 
-/// A reader of which contracts know whether a read may fail. So a script that ends by a failed read shows that readers of its
-/// type may fail.
+/// A reader whose type says whether a read may fail. So if a script ends by a failed read, readers of its type may fail.
 ///
 /// An implementation reads as `read` does:
 ///
@@ -17,12 +16,12 @@ use std::io::Read;
 /// }
 /// ```
 ///
-/// Bytes at hand never fail. Any other reader goes into [`Fallible`](crate::Fallible).
+/// Bytes at hand (`&[u8]`) never fail. Any other reader is wrapped in [`Fallible`](crate::Fallible).
 pub trait Source: Read {
     /// Whether reads of readers of this type may fail.
     ghost may_fail: { Type 0 };
 
-    /// Reads once, as `read` does.
+    /// Reads once, as `read` does, and returns how many bytes came. Fails only if `may_fail`.
     fn read_some(&mut self, buffer: &mut [u8]) -> io::Result<usize>
         ensures bound { ReadsAtMost result buffer.new }
         ensures bytes { ReadConsumes (Self.remaining self.old) (Self.remaining self.new) result buffer.new }

@@ -1,4 +1,4 @@
--- What is answered, one turn after another.
+-- The replies to turns, one after the other.
 use Rattle.std.proofs.Common.{◌≡◌, ◌==◌, ◌+◌, ◌≤◌, ℕ, true, false, ◌⊎◌, inl, inr, List, [], ◌∷◌, ◌++◌, length, Option, append_assoc, append-nil, length-append, ◌∙◌, refl, sym, ap, subst, arith}
 use Rattle.std.specs.List.{list_any, flat_map}
 use Rattle.std.proofs.lemmas.Grind.{flat_map-append}
@@ -70,7 +70,7 @@ module _ {R : Type 0} (read : Ghosts R) {S K : Type 0} (tickets : Tickets S K) w
         (no-rest rows (unread read after) (sym u.taken ∙ ap (λ (z : List ℕ). unread read mid ++ z) (u.none ended) ∙ append-nil (unread read mid) ∙ none), u.ended ended),
       )
 
-  -- a table is opened, and its lines are answered
+  -- a table is opened, and its lines get their replies
   pub serves-table : (old new : Input R read) (u w : Option (List ℕ)) (held k left bytes text : List ℕ) (opened : Opened) (at : At K)
       → k ≡ held ++ codes "ok\n" → IsNew tickets opened at → Reads read old bytes new → Prints u k text w left → Ends tickets at bytes text → IsSpent read new
       → (all : List ℕ) × (said : List ℕ) × Reads read old all new × Prints u held said w left × IsServed tickets opened all said × IsSpent read new

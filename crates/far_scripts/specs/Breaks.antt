@@ -12,7 +12,7 @@ use Rattle.far_commands.specs.Progress.{At}
 use Rattle.far_script.specs.Lines.{Blank, IsOneLine, without_return}
 use Rattle.far_scripts.specs.Scripts.{Answers, Begins, IsNew, Opens}
 
--- bytes that begin with no line that can be answered. Either no line has its end: `unseen` is why no more came. Or they are the last line,
+-- bytes that begin with no line that can get a reply. Either no line has its end: `unseen` is why no more came. Or they are the last line,
 -- and it is at fault: `spent` is that nothing comes behind it. Or the first line is at fault
 abbrev pub HasNoTurn : Type 0 → Type 0 → (List ℕ → List ℕ → Type 0) → List ℕ → Type 0
 HasNoTurn unseen spent fails bytes = (IsOneLine bytes × (unseen ⊎ (spent × fails bytes [])))
@@ -22,7 +22,7 @@ HasNoTurn unseen spent fails bytes = (IsOneLine bytes × (unseen ⊎ (spent × f
 abbrev pub IsUnknown : List ℕ → List ℕ → Type 0
 IsUnknown line text = (start_in line ≡ None) × (text ≡ codes "syntax command 1\n")
 
--- a table of these columns and limits may not be, and this is printed for it
+-- a table may not have these columns and limits, and this is printed for it
 abbrev pub IsRefused : Opened → List ℕ → Type 0
 IsRefused opened text = ¬ (IsSchema opened.0 × AreLimits opened.1) × (text ≡ refusal_text refusal.BadSchema)
 
@@ -30,7 +30,7 @@ IsRefused opened text = ¬ (IsSchema opened.0 × AreLimits opened.1) × (text �
 abbrev pub IsRejected : List ℕ → List ℕ → Type 0
 IsRejected line text = IsUnknown line text ⊎ ((opened : Opened) × (start_in line ≡ Some (Schema opened)) × IsRefused opened text)
 
--- what a fault has printed for a first line: `why` says it, if the line is at fault
+-- what is printed for a first line before a fault: as `why` says, if the line is at fault, and nothing if memory runs out
 abbrev pub Rejection : ShellFault → (List ℕ → Type 0) → List ℕ → Type 0
 Rejection fault.BadStart why text = why text
 Rejection fault.Input why text = ⊥
@@ -69,9 +69,9 @@ module _ {K : Type 0} where
   abbrev pub ListsNext : At K → List ℕ → List ℕ → List ℕ → Type 0
   ListsNext at line rest text = ((behind : List ℕ) × (rest ≡ 10 ∷ behind) × Lists at (without_return line) text) ⊎ ((rest ≡ []) × Lists at line text)
 
-  -- what follows the lines that were answered, and what is printed for it. Of an input at fault it is all that came: no whole turn. Else
-  -- it is a line, and if it asks for a dump, a front of that may be printed. `unseen` is why no more came though the end was not seen, and
-  -- `spent` that nothing comes behind. A load lacks bytes by either
+  -- what follows the lines that got their replies, and what is printed for it. If the input is at fault, it is all that came, and no whole
+  -- turn. Else it is a line, and if it asks for a dump, a front of that may be printed. `unseen` is why no more came though the end was not
+  -- seen, and `spent` that nothing comes behind. Either may be why a load lacks bytes
   abbrev pub BreaksIn : Type 0 → Type 0 → ShellFault → At K → List ℕ → List ℕ → List ℕ → Type 0
   BreaksIn unseen spent fault.BadStart at next rest front = ⊥
   BreaksIn unseen spent fault.Input at next rest front = (front ≡ []) × HasNoTurn unseen spent (Fails (spent ⊎ unseen) at.world.state.table.schema) next
@@ -81,7 +81,7 @@ module _ {K : Type 0} where
 
 -- `unseen` and `spent` say why no more came
 module _ {S K : Type 0} (tickets : Tickets S K) (unseen spent : Type 0) where
-  -- behind the first command a script breaks off: whole lines are answered, and then no more
+  -- a script breaks off behind its first command: whole lines get their replies, and then no more
   pub record BreaksOff (old : At K) (why : ShellFault) (bytes rest text : List ℕ) : Type 0 where
     pub before : List ℕ
     pub printed : List ℕ

@@ -1,4 +1,4 @@
--- What the lines of a script are answered, and a whole script.
+-- The replies to the lines of a script, and to a whole script.
 use Rattle.std.specs.Prelude.{◌≡◌, ◌⊎◌, ℕ, List, [], ◌∷◌, ◌++◌, Some, IsUtf8, codes}
 use Rattle.std.specs.List.{flat_map}
 use Rattle.far_store.specs.declared.store.FarTickets.{Ghosts as Tickets}
@@ -9,7 +9,7 @@ use Rattle.far_commands.specs.Replies.{AnswersLine}
 use Rattle.far_commands.specs.Tables.{IsEmpty}
 use Rattle.far_frame.specs.Worlds.{World}
 
--- one line of a script without its line feed, the bytes behind it that belong to it, and what is printed for it
+-- a turn: one line of a script without its line feed, the bytes behind it that belong to it, and the text of its reply
 pub record Turn : Type 0 where
   pub line : List ℕ
   pub rows : List ℕ
@@ -52,20 +52,20 @@ module _ {S K : Type 0} (tickets : Tickets S K) where
   abbrev pub Opens : List ℕ → Type 0 → At K → Type 0
   Opens bytes spent at = (line : List ℕ) × (opened : Opened) × Begins bytes spent line × (start_in line ≡ Some (Schema opened)) × IsNew opened at
 
-  -- one turn
+  -- a turn takes the table from the old state to the new one, and its text is the reply
   abbrev pub IsTurn : At K → Turn → At K → Type 0
   IsTurn old turn new = IsOneLine turn.line × AnswersLine tickets old (without_return turn.line) turn.rows turn.text new
 
-  -- turns follow one another
+  -- turns are taken one after the other
   abbrev pub AreTurns : At K → List Turn → At K → Type 0
   AreTurns old [] new = new ≡ old
   AreTurns old (turn ∷ turns) new = (mid : At K) × IsTurn old turn mid × AreTurns mid turns new
 
-  -- these bytes are whole lines and what belongs to them, and are answered by this text
+  -- these bytes are whole lines with what belongs to them, and the text is their replies
   abbrev pub Answers : At K → List ℕ → List ℕ → At K → Type 0
   Answers old bytes text new = (turns : List Turn) × (bytes ≡ flat_map bytes_of turns) × (text ≡ flat_map text_of turns) × AreTurns old turns new
 
-  -- the rest of a script is answered: whole lines, and a last one, which lacks its end and may be empty
+  -- the text is the replies to the rest of a script: to its whole lines, and to a last one, which lacks its end and may be empty
   pub record Ends (old : At K) (script text : List ℕ) : Type 0 where
     pub bytes : List ℕ
     pub printed : List ℕ
@@ -79,12 +79,12 @@ module _ {S K : Type 0} (tickets : Tickets S K) where
     pub whole : script ≡ bytes ++ last
     pub said : text ≡ printed ++ tail
 
-  -- what a script has behind its first command is answered. That one asks for a table of these columns and limits: it is opened, and then
-  -- the lines are answered
+  -- the text is the replies to a script from its first command on. That asks for a table of these columns and limits: the table is opened,
+  -- and the lines behind the command get their replies
   abbrev pub IsServed : Opened → List ℕ → List ℕ → Type 0
   IsServed opened bytes text = (at : At K) × (tail : List ℕ) × IsNew opened at × Ends at bytes tail × (text ≡ codes "ok\n" ++ tail)
 
-  -- a whole script is answered by a text
+  -- the text is the replies to a whole script
   pub record IsScript (script text : List ℕ) : Type 0 where
     pub first : List ℕ
     pub rest : List ℕ

@@ -12,7 +12,7 @@ use far_store::FarStore;
 /// More lines than a script can have: each takes a byte.
 pub const MAX_LINES: u32 = MAX_BYTES + 1;
 
-/// Answers the lines that follow the first command, up to the end of the script.
+/// Serves the lines that follow the first command, up to the end of the script.
 pub fn serve_lines<S: FarStore, A: Resources<S>, R: Source + Drop, W: Sink>(
     resources: &A,
     progress: &mut Progress<S>,

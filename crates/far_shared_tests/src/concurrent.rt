@@ -16,10 +16,10 @@ static EDITED: Scene = Scene {
         Role::Does(Duty::Reads(4)),
         Role::Does(Duty::Reads(4)),
     ],
-    end: End::LeavesWhatIsTold,
+    end: End::LeavesReported,
 };
 
-// How often they do. Their calls come in another order each time.
+// How often the scene is played. The calls come in another order each time.
 const RUNS: u32 = 20;
 
 #[test]

@@ -23,12 +23,12 @@ struct Rows {
     edits: u64,
 }
 
-// How many places a list has.
+// Returns how many places a list has.
 fn places_in(numbers: &[Option<i64>]) -> u32 {
     u32::try_from(numbers.len()).unwrap_or(u32::MAX)
 }
 
-// The next edit of a list of so many places.
+// Returns the next edit of a list of so many places.
 fn draw(draws: &mut Draws, places: u32) -> Call {
     let kind = draws.below(8);
     let number = i64::from(draws.below(2_000_001)).wrapping_sub(1_000_000);
@@ -42,7 +42,7 @@ fn draw(draws: &mut Draws, places: u32) -> Call {
     }
 }
 
-// The place of an edit on a list.
+// Returns the place of an edit on a list.
 fn place_of(rows: &Rows, call: Call) -> u32 {
     match call {
         Call::Insert(_) => places_in(&rows.numbers),
@@ -51,7 +51,7 @@ fn place_of(rows: &Rows, call: Call) -> u32 {
     }
 }
 
-// Whether an edit is one of a removed place.
+// Returns whether an edit is one of a removed place.
 fn is_removed(rows: &Rows, call: Call) -> bool {
     matches!(rows.numbers.get(place_of(rows, call) as usize), Some(None))
 }
@@ -74,7 +74,7 @@ fn keep(rows: &mut Rows, call: Call) -> Result<(), Refusal> {
     Ok(())
 }
 
-// What the list has.
+// Returns what the list has.
 fn left_of(numbers: &[Option<i64>]) -> Left {
     let mut count = 0u64;
     let mut sum = 0i128;
@@ -91,7 +91,7 @@ fn left_of(numbers: &[Option<i64>]) -> Left {
     }
 }
 
-// The call that makes an edit on a stripe.
+// Returns the call that makes an edit on a stripe.
 fn step_of(home: u32, edit: Call) -> Step {
     match edit {
         Call::Insert(number) => Step::Insert(home, number),
@@ -130,7 +130,7 @@ fn follow_applied(rows: &mut Rows, edit: Call, number: u64, place: u32) -> Resul
     }
 }
 
-// Makes an edit of the table on the list, as it was answered.
+// Makes an edit on the list too, if the table accepted it. Refused as the table refused it, unless its place is removed on the list too.
 fn follow(rows: &mut Rows, edit: Call, reply: Replied) -> Result<(), Refusal> {
     match reply {
         Ok(Reply::Applied(number, place)) => follow_applied(rows, edit, number, place),

@@ -23,12 +23,12 @@ pub struct Finale<P> {
 // What `close` returns if a session is missing.
 type Refused<N, B, S> = (Refusal, Shared<N, B, S>, Vec<Session<B>>);
 
-// Whether a table has these rows.
+// Returns whether a table has these rows.
 fn has_left<S: FarTickets>(frame: &Frame<S>, left: Left) -> bool {
     frame.places() == left.places && frame.plain(0) == Some((left.count, left.sum))
 }
 
-// Whether four tables have these rows.
+// Returns whether four tables have these rows.
 fn have_left<S: FarTickets>(frames: &Four<Frame<S>>, left: &[Left; 4]) -> bool {
     has_left(&frames.zero, left[0])
         && has_left(&frames.one, left[1])
@@ -36,8 +36,8 @@ fn have_left<S: FarTickets>(frames: &Four<Frame<S>>, left: &[Left; 4]) -> bool {
         && has_left(&frames.three, left[3])
 }
 
-// Whether it went well, and what came is as it should be. It knows nothing of what came: to take four tables out of a result costs the
-// proof of a function minutes, and here it costs none.
+// Returns whether a result is `Ok` with a value that passes a test. The type of the value is a parameter: to take four tables out of a
+// result costs the proof of a function minutes, and here it costs none.
 fn is_ok_and<T: Drop, E: Drop, F: FnOnce(&T) -> bool + Drop>(
     answer: Result<T, E>,
     is_right: F,
@@ -50,7 +50,7 @@ fn is_ok_and<T: Drop, E: Drop, F: FnOnce(&T) -> bool + Drop>(
     }
 }
 
-// Whether it was refused, and what came back does as it should. It knows nothing of that either.
+// Returns whether a result is `Err` with an error that passes a test. The type of the error is a parameter too.
 fn is_err_and<T: Drop, E: Drop, F: FnOnce(E) -> bool + Drop>(
     answer: Result<T, E>,
     does_right: F,
@@ -63,7 +63,7 @@ fn is_err_and<T: Drop, E: Drop, F: FnOnce(E) -> bool + Drop>(
     }
 }
 
-// Whether a shared table is closed with these sessions, and leaves these rows.
+// Returns whether a shared table is closed with these sessions, and leaves these rows.
 fn closes<N: PlanTag, B: TableTag, S: FarTickets, R: Wait>(
     rt: &R,
     shared: Shared<N, B, S>,
@@ -76,13 +76,13 @@ fn closes<N: PlanTag, B: TableTag, S: FarTickets, R: Wait>(
     )
 }
 
-// A list with one more.
+// Returns a list with one more.
 fn with_last<P: Drop>(mut list: Vec<P>, last: P) -> Result<Vec<P>, AllocError> {
     list.push(last)?;
     Ok(list)
 }
 
-// Whether a shared table that came back with its sessions is closed when the one that was missing is there again.
+// Returns whether a shared table that came back with its sessions is closed when the one that was missing is there again.
 fn closes_again<N: PlanTag, B: TableTag, S: FarTickets, R: Wait>(
     rt: &R,
     refused: Refused<N, B, S>,
@@ -122,8 +122,8 @@ pub fn ends<N: PlanTag, B: TableTag, S: FarTickets, R: Wait>(
     finale.map(|finale: Finale<Session<B>>| -> bool { closes_with_all(rt, shared, finale) })
 }
 
-// What four sessions at least say that they left, in order.
-fn told_of<P>(played: &[Played<P>]) -> [Left; 4] {
+// Returns what four sessions at least say that they left, in order.
+fn left_by<P>(played: &[Played<P>]) -> [Left; 4] {
     match played {
         [zero, one, two, three, ..] => [
             zero.left.unwrap_or(NO_ROW),
@@ -135,15 +135,15 @@ fn told_of<P>(played: &[Played<P>]) -> [Left; 4] {
     }
 }
 
-// What the four stripes are to have.
+// Returns what the four stripes are to have.
 fn due_of<P>(played: &[Played<P>], end: End) -> [Left; 4] {
     match end {
         End::Leaves(left) => *left,
-        End::LeavesWhatIsTold => told_of(played),
+        End::LeavesReported => left_by(played),
     }
 }
 
-// Refused as the first session is whose role did not come out.
+// Checks that all roles came out. Refused as the first role that did not.
 fn all_came_out<P>(played: &[Played<P>]) -> Result<(), Refusal> {
     for one in played {
         if let Err(refusal) = one.left {
@@ -153,7 +153,7 @@ fn all_came_out<P>(played: &[Played<P>]) -> Result<(), Refusal> {
     Ok(())
 }
 
-// The sessions that played.
+// Returns the sessions that played.
 fn sessions_of<P: Drop>(alloc: Global, played: Vec<Played<P>>) -> Result<Vec<P>, AllocError> {
     let mut sessions = Vec::with_capacity(alloc, played.len())?;
     for one in played {
@@ -174,7 +174,7 @@ fn parted<P: Drop>(mut sessions: Vec<P>, left: [Left; 4]) -> Result<Finale<P>, R
     }
 }
 
-// What comes at the end of a scene. Refused as the first session is whose role did not come out.
+// Returns what comes at the end of a scene. Refused as the first session is whose role did not come out.
 pub fn finale_of<P: Drop>(
     alloc: Global,
     played: Vec<Played<P>>,

@@ -9,7 +9,7 @@ use far_types::Refusal;
 
 static EXAMPLES: &[Scene] = &[
     Scene {
-        name: "a_gauge_tells_what_its_session_did",
+        name: "a_gauge_reads_what_its_session_did",
         table: Table::Numbers,
         gate: Gate::Open,
         roles: &[Role::Plays(&[

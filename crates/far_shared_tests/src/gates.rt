@@ -3,12 +3,12 @@ use crate::scenes::Gate;
 use far_store::GateStore;
 use std::thread;
 
-// For how many turns it is waited for a put.
+// How many turns a wait for a put takes at most.
 const TURNS: u32 = 1_000_000;
 
 // What a session does about a gate.
 pub trait Gated {
-    // Whether a put has come to the gate.
+    // Returns whether a put has come to the gate.
     fn is_held(&self) -> bool;
 
     // Opens the gate.
@@ -25,7 +25,7 @@ impl<S> Gated for GateStore<S> {
     }
 }
 
-// A gate over a store.
+// Returns a gate over a store.
 pub fn gate_of<S>(store: S, gate: Gate) -> GateStore<S> {
     match gate {
         Gate::Open => open_gate(store),
@@ -34,14 +34,14 @@ pub fn gate_of<S>(store: S, gate: Gate) -> GateStore<S> {
     }
 }
 
-// A gate that is open.
+// Returns a gate that is open.
 fn open_gate<S>(store: S) -> GateStore<S> {
     let gate = GateStore::new(store);
     gate.release();
     gate
 }
 
-// Waits until a put has come to the gate. Says whether one came.
+// Waits until a put has come to the gate. Returns whether one came.
 pub fn awaits_put<S: Gated>(store: &S) -> bool {
     for _ in 0..TURNS {
         if store.is_held() {

@@ -62,7 +62,7 @@ pub fn insert_pairs<M, F: Fn(&mut M, Step) -> Replied>(
     if_first(registered, is_answered)
 }
 
-// Whether an answer has no second row of a pair without the first, and at most one first row without its second; and, if it is the
+// Returns whether an answer has no second row of a pair without the first, and at most one first row without its second; and, if it is the
 // last, whether it has all.
 fn is_right(reply: Replied, is_last: bool, pairs: u32) -> Result<bool, Refusal> {
     match reply {

@@ -8,7 +8,7 @@ use far_shared::{Shared, TableTag};
 use far_store::FarTickets;
 use std::sync::Wait;
 
-// The one number of a part.
+// Returns the one number of a part.
 fn number_in(values: &[Option<i64>]) -> Replied {
     match values {
         [Some(number)] => Ok(Reply::Lent(*number)),
@@ -16,7 +16,7 @@ fn number_in(values: &[Option<i64>]) -> Replied {
     }
 }
 
-// The number that is lent of a first place.
+// Returns the number that is lent of a first place.
 fn first_number<S: FarTickets>(view: &View<'_, S>) -> Replied {
     match view.ints(0, 0, 1) {
         Ok(mut lents) => match lents.next() {
@@ -30,8 +30,8 @@ fn first_number<S: FarTickets>(view: &View<'_, S>) -> Replied {
 // Sends a signal, waits until so many signals were sent, and looks at the first row then.
 fn look_later<S: FarTickets>(view: &View<'_, S>, signals: &Signals, times: u64) -> Replied {
     signals.send();
-    let is_told = signals.awaits(times);
-    waited(is_told && view.is_alive(0).is_some())
+    let is_signalled = signals.awaits(times);
+    waited(is_signalled && view.is_alive(0).is_some())
 }
 
 // Looks at the first row: at once, or when so many signals were sent.

@@ -19,7 +19,7 @@ use std::thread::Threads;
 // How many contents a store takes.
 const CAPACITY: u64 = 16_777_216;
 
-// Whether a scene comes out on a table whose cells and store have these names.
+// Returns whether a scene comes out on a table whose cells and store have these names.
 fn opened<
     N: PlanTag + Send + Sync,
     B: TableTag + Send + Sync,
@@ -102,7 +102,7 @@ pub fn comes_out<R: Threads + Wait + Sync>(rt: &R, alloc: Global, scene: &Scene)
     answer == Ok(true)
 }
 
-// The name of the first of these scenes that does not come out, or nothing.
+// Returns the name of the first of these scenes that does not come out, or nothing.
 pub fn first_wrong<R: Threads + Wait + Sync>(
     rt: &R,
     alloc: Global,

@@ -12,7 +12,7 @@ use far_types::Refusal;
 use std::alloc::Global;
 use std::sync::Wait;
 
-// Why a job was not carried.
+// Returns why a job was not carried.
 fn why<J: Drop>(refused: (Refusal, J)) -> Refusal {
     refused.0
 }

@@ -18,7 +18,7 @@ pub const LIMITS: Limits = Limits {
     text_size: 4_096,
 };
 
-// The kinds of the columns of a table.
+// Returns the kinds of the columns of a table.
 fn kinds_of(alloc: Global, table: Table) -> Result<Vec<Kind>, AllocError> {
     match table {
         Table::Numbers => Ok(Vec::from_array(alloc, [Kind::Int])?),
@@ -27,7 +27,7 @@ fn kinds_of(alloc: Global, table: Table) -> Result<Vec<Kind>, AllocError> {
     }
 }
 
-// The tests of a table's gauge.
+// Returns the tests of a table's gauge.
 fn tests_of(alloc: Global, table: Table) -> Result<Vec<Test>, AllocError> {
     match table {
         Table::Numbers => Ok(Vec::new(alloc)),
@@ -45,7 +45,7 @@ fn above_zero() -> Test {
     }
 }
 
-// An aggregate of all numbers, with a key column or without.
+// Returns an aggregate of all numbers, with a key column or without.
 pub fn all_numbers(alloc: Global, fold: Fold, key: Option<u32>) -> Spec {
     Spec {
         fold,
@@ -55,7 +55,7 @@ pub fn all_numbers(alloc: Global, fold: Fold, key: Option<u32>) -> Spec {
     }
 }
 
-// The gauge of a table.
+// Returns the gauge of a table.
 fn gauge_of(alloc: Global, table: Table) -> Result<Spec, AllocError> {
     Ok(Spec {
         fold: Fold::Totals,
@@ -65,13 +65,13 @@ fn gauge_of(alloc: Global, table: Table) -> Result<Spec, AllocError> {
     })
 }
 
-// The plan of a table for so many sessions.
+// Returns the plan of a table for so many sessions.
 pub fn plan_of(alloc: Global, table: Table, sessions: u64) -> Result<Plan, Refusal> {
     let schema = Schema::new(kinds_of(alloc, table)?)?;
     Plan::new(schema, LIMITS, gauge_of(alloc, table)?, sessions)
 }
 
-// Why a plan of numbers is refused with such a gauge and so many sessions.
+// Returns why a plan of numbers is refused with such a gauge and so many sessions.
 pub fn why_no_plan(
     alloc: Global,
     fold: Fold,
@@ -83,12 +83,12 @@ pub fn why_no_plan(
     Ok(())
 }
 
-// The row of a number.
+// Returns the row of a number.
 pub fn row_of(alloc: Global, number: i64) -> Result<Row, AllocError> {
     Ok(Row::new(Vec::from_array(alloc, [Cell::Int(number)])?))
 }
 
-// The row of the number 1 and a key.
+// Returns the row of the number 1 and a key.
 pub fn keyed_row(alloc: Global, key: Letter) -> Result<Row, AllocError> {
     let text = Text::new(String::from_str(alloc, key.text())?);
     let cells = [Cell::Int(1), Cell::Text(text)];

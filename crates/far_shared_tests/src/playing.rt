@@ -33,7 +33,7 @@ struct Stage {
     scene: Scene,
 }
 
-// The role of a session.
+// Returns the role of a session.
 fn role_of(scene: &Scene, number: u64) -> Role {
     match scene.roles.get(number as usize) {
         Some(role) => *role,
@@ -41,7 +41,7 @@ fn role_of(scene: &Scene, number: u64) -> Role {
     }
 }
 
-// Plays the role of a session, which its player knows by the answers to its calls. A player is handed no scene: the borrow checker does
+// Plays the role of a session, which its player knows by the replies to its calls. A player is handed no scene: the borrow checker does
 // not cover a closure beside what lives for ever.
 fn play_as<
     N: PlanTag + Send + Sync,

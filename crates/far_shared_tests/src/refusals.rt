@@ -3,7 +3,7 @@ use crate::plans::why_no_plan;
 use far_types::{Fold, Refusal};
 use std::alloc::Global;
 
-// What a gauge folds and by which key, for how many sessions, and what the plan answers.
+// What a gauge folds and by which key, for how many sessions, and the reply to the plan.
 type Case = (Fold, Option<u32>, u64, Result<(), Refusal>);
 
 // A gauge has one count and one sum. A shared table has 1 to 64 sessions.
@@ -17,7 +17,7 @@ static PLANS: &[Case] = &[
     (Fold::Totals, None, 65, Err(Refusal::OutOfRange)),
 ];
 
-// How many of these plans, from the first on, are answered so.
+// Returns how many of these plans, from the first on, get their reply.
 fn answered(alloc: Global, cases: &[Case]) -> usize {
     let mut right = 0usize;
     for case in cases {

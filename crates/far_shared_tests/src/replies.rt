@@ -1,10 +1,10 @@
-// What is said of the answers of a shared table. None of it knows the table, so that what does has one way out.
+// Replies of a shared table, as data. No function here knows the table, so each function that does has one way out.
 use crate::scenes::{Letter, Replied, Reply};
 use far_history::Reading;
 use far_shared::{Applied, Report};
 use far_types::{Answer, Key, Name, Refusal};
 
-// Of a reading.
+// Returns the reply to a reading.
 pub fn read(reading: Result<Reading, Refusal>) -> Replied {
     match reading {
         Ok(reading) => Ok(Reply::Reading(reading.edits, reading.count, reading.sum)),
@@ -12,7 +12,7 @@ pub fn read(reading: Result<Reading, Refusal>) -> Replied {
     }
 }
 
-// Of an edit.
+// Returns the reply to an edit.
 pub fn applied(applied: Result<Applied, Refusal>) -> Replied {
     match applied {
         Ok(applied) => Ok(Reply::Applied(applied.number, applied.place)),
@@ -20,7 +20,7 @@ pub fn applied(applied: Result<Applied, Refusal>) -> Replied {
     }
 }
 
-// Of an aggregate that is registered.
+// Returns the reply to a registration.
 pub fn numbered(number: Result<u32, Refusal>) -> Replied {
     match number {
         Ok(number) => Ok(Reply::Number(number)),
@@ -28,7 +28,7 @@ pub fn numbered(number: Result<u32, Refusal>) -> Replied {
     }
 }
 
-// Of an object that is sent away.
+// Returns the reply to an evacuation.
 pub fn moved(name: Result<Option<Name>, Refusal>) -> Replied {
     match name {
         Ok(Some(name)) => Ok(Reply::Object(name)),
@@ -37,7 +37,7 @@ pub fn moved(name: Result<Option<Name>, Refusal>) -> Replied {
     }
 }
 
-// Of what is just done.
+// Returns the reply to a call that returns nothing.
 pub fn done(answer: Result<(), Refusal>) -> Replied {
     match answer {
         Ok(()) => Ok(Reply::Done),
@@ -45,7 +45,7 @@ pub fn done(answer: Result<(), Refusal>) -> Replied {
     }
 }
 
-// Of a build.
+// Returns the reply to a build.
 pub fn built(is_built: Result<bool, Refusal>) -> Replied {
     match is_built {
         Ok(is_built) => waited(is_built),
@@ -53,7 +53,7 @@ pub fn built(is_built: Result<bool, Refusal>) -> Replied {
     }
 }
 
-// Of works that threads do.
+// Returns the reply to works that threads do.
 pub fn worked(report: Result<Report, Refusal>) -> Replied {
     match report {
         Ok(report) => Ok(Reply::Worked(report.done, report.refused)),
@@ -61,7 +61,7 @@ pub fn worked(report: Result<Report, Refusal>) -> Replied {
     }
 }
 
-// That something was waited for.
+// Returns the reply to a wait: `Done` if what it waited for came.
 pub fn waited(is_so: bool) -> Replied {
     if is_so {
         Ok(Reply::Done)
@@ -70,7 +70,7 @@ pub fn waited(is_so: bool) -> Replied {
     }
 }
 
-// What an answer's first line has.
+// Returns what an answer's first line has.
 fn first_line(answer: &Answer) -> Reply {
     match answer {
         Answer::Totals(lines) => match lines.as_slice() {
@@ -91,7 +91,7 @@ fn is_key(key: &Option<Key>, letter: Letter) -> bool {
     }
 }
 
-// How many rows an answer counts under a key.
+// Returns how many rows an answer counts under a key.
 fn count_under(answer: &Answer, letter: Letter) -> u64 {
     let Answer::Totals(lines) = answer else {
         return 0;
@@ -104,16 +104,16 @@ fn count_under(answer: &Answer, letter: Letter) -> u64 {
     0
 }
 
-// Of an aggregate's answer: its first line.
-pub fn told(answer: Result<Answer, Refusal>) -> Replied {
+// Returns the reply to a question to an aggregate: the first line of its answer.
+pub fn answered(answer: Result<Answer, Refusal>) -> Replied {
     match answer {
         Ok(answer) => Ok(first_line(&answer)),
         Err(refusal) => Err(refusal),
     }
 }
 
-// Of an aggregate's answer by key: how many rows it counts under each of the two keys.
-pub fn told_by_key(answer: Result<Answer, Refusal>) -> Replied {
+// Returns the reply to a question to an aggregate by key: how many rows its answer counts under each of the two keys.
+pub fn answered_by_key(answer: Result<Answer, Refusal>) -> Replied {
     match answer {
         Ok(answer) => Ok(Reply::Pairs(
             count_under(&answer, Letter::P),

@@ -32,7 +32,7 @@ pub enum Letter {
 }
 
 impl Letter {
-    // The text.
+    // Returns the text.
     pub fn text(self) -> &'static str {
         match self {
             Letter::P => "p",
@@ -103,7 +103,7 @@ pub enum Step {
     Hold(u32, u64),
 }
 
-// What a call answers.
+// The reply to a call.
 #[derive(Clone, Copy, PartialEq, Eq)]
 pub enum Reply {
     // It is done.
@@ -130,7 +130,7 @@ pub enum Reply {
     Extrema(i64, i64),
 }
 
-// What a call answers, or why it is refused.
+// The reply to a call, or why it is refused.
 pub type Replied = Result<Reply, Refusal>;
 
 // A call, and what is due.
@@ -217,8 +217,8 @@ pub const AWAY: Refusal = Refusal::Absent {
 pub enum End {
     // These rows.
     Leaves(&'static [Left; 4]),
-    // The rows that the first four sessions tell, one each.
-    LeavesWhatIsTold,
+    // What the first four sessions report that they left, one stripe each.
+    LeavesReported,
 }
 
 // A scene: as many sessions as roles play on a table.

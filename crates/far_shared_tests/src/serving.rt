@@ -5,7 +5,9 @@ use crate::gates::{Gated, awaits_put};
 use crate::looking::look;
 use crate::phases::complete_work;
 use crate::plans::{all_numbers, keyed_row, row_of};
-use crate::replies::{applied, built, done, moved, numbered, read, told, told_by_key, waited};
+use crate::replies::{
+    answered, answered_by_key, applied, built, done, moved, numbered, read, waited,
+};
 use crate::scenes::{Replied, Reply, Step};
 use crate::signals::Signals;
 use crate::workers::run;
@@ -18,7 +20,7 @@ use std::alloc::Global;
 use std::sync::Wait;
 use std::thread::Threads;
 
-// The edit that sets the number of a place.
+// Returns the edit that sets the number of a place.
 fn setting(place: u32, number: i64) -> Edit {
     Edit::Set {
         place,
@@ -27,7 +29,7 @@ fn setting(place: u32, number: i64) -> Edit {
     }
 }
 
-// The stripe and the edit of a call that makes one.
+// Returns the stripe and the edit of a call that makes one.
 fn edit_of(alloc: Global, step: Step) -> Result<(u32, Edit), Refusal> {
     match step {
         Step::Insert(stripe, number) => Ok((stripe, Edit::Insert(row_of(alloc, number)?))),
@@ -52,7 +54,7 @@ fn edit<N: PlanTag, B: TableTag, S: FarTickets, R: Wait>(
     }
 }
 
-// The aggregate that a call registers.
+// Returns the aggregate that a call registers.
 fn spec_of(alloc: Global, step: Step) -> Spec {
     match step {
         Step::WatchTotals => all_numbers(alloc, Fold::Totals, None),
@@ -61,7 +63,7 @@ fn spec_of(alloc: Global, step: Step) -> Spec {
     }
 }
 
-// What a call answers that needs no store. Those that are not named make an edit.
+// Makes a call that needs no store, and returns its reply. Calls that are not named make an edit.
 fn serve_here<N: PlanTag, B: TableTag, S: FarTickets, R: Wait>(
     rt: &R,
     alloc: Global,
@@ -74,8 +76,8 @@ fn serve_here<N: PlanTag, B: TableTag, S: FarTickets, R: Wait>(
         Step::Gauge(stripe) => read(shared.cells().gauge(rt, me, stripe)),
         Step::Lend(stripe) => look(rt, shared, signals, stripe, None),
         Step::Hold(stripe, times) => look(rt, shared, signals, stripe, Some(times)),
-        Step::Ask(a) => told(shared.ask_all(rt, a)),
-        Step::AskByKey(a) => told_by_key(shared.ask_all(rt, a)),
+        Step::Ask(a) => answered(shared.ask_all(rt, a)),
+        Step::AskByKey(a) => answered_by_key(shared.ask_all(rt, a)),
         Step::Watch | Step::WatchTotals | Step::WatchByKey => numbered(shared.watch_all(
             rt,
             spec_of(alloc, step),
@@ -84,7 +86,7 @@ fn serve_here<N: PlanTag, B: TableTag, S: FarTickets, R: Wait>(
     }
 }
 
-// What a call answers that moves an object or builds a row group.
+// Makes a call that moves an object or builds a row group, and returns its reply.
 fn move_or_build<N: PlanTag, B: TableTag, S: FarStore, R: Wait>(
     rt: &R,
     alloc: Global,
@@ -105,7 +107,7 @@ fn move_or_build<N: PlanTag, B: TableTag, S: FarStore, R: Wait>(
 }
 
 // Waits for signals or for a put, or sends a signal.
-fn wait_or_tell<S: Gated>(store: &S, signals: &Signals, step: Step) -> Replied {
+fn wait_or_signal<S: Gated>(store: &S, signals: &Signals, step: Step) -> Replied {
     match step {
         Step::AwaitPut => waited(awaits_put(store)),
         Step::Await(times) => waited(signals.awaits(times)),
@@ -120,7 +122,7 @@ fn wait_or_tell<S: Gated>(store: &S, signals: &Signals, step: Step) -> Replied {
     }
 }
 
-// What a call answers.
+// Makes a call and returns its reply.
 pub fn serve<
     N: PlanTag + Send + Sync,
     B: TableTag + Send + Sync,
@@ -138,7 +140,7 @@ pub fn serve<
     requires store { S.store_id store.now ≡ B.store }
 {
     match step {
-        Step::AwaitPut | Step::OpenGate | Step::Signal | Step::Await(_) => wait_or_tell(
+        Step::AwaitPut | Step::OpenGate | Step::Signal | Step::Await(_) => wait_or_signal(
             store, signals, step,
         ),
         Step::Evacuate(_) | Step::Fetch(_, _) | Step::Build(_) | Step::InPhases(_) => move_or_build(

@@ -14,7 +14,7 @@ use std::alloc::{AllocError, Global};
 use std::sync::Wait;
 use std::thread::Threads;
 
-// The works of a list.
+// Returns the works of a list.
 fn works_in(list: Works) -> &'static [Work] {
     match list {
         Works::Eight => &[
@@ -44,7 +44,7 @@ const SECOND_COLUMN: Name = Name {
     group: 0,
 };
 
-// A list of these works.
+// Returns a list of these works.
 fn list_of(alloc: Global, works: &[Work]) -> Result<Vec<Work>, AllocError> {
     let mut list = Vec::with_capacity(alloc, works.len())?;
     for work in works {

@@ -23,7 +23,7 @@ struct Worked {
     registered: u32,
 }
 
-// Whether a work beside other sessions may answer so. It may be overtaken.
+// Returns whether a work may get this reply while other sessions run. They may overtake it.
 fn may_answer(reply: Replied) -> Result<(), Refusal> {
     match reply {
         Ok(_) => Ok(()),
@@ -32,7 +32,7 @@ fn may_answer(reply: Replied) -> Result<(), Refusal> {
     }
 }
 
-// How many edits a reading has.
+// Returns how many edits a reading has.
 fn edits_in(reply: Replied) -> u64 {
     match reply {
         Ok(Reply::Reading(edits, _, _)) => edits,
@@ -40,12 +40,12 @@ fn edits_in(reply: Replied) -> u64 {
     }
 }
 
-// Whether a worker has taken its eight turns to each edit.
+// Returns whether a worker has taken its eight turns to each edit.
 fn is_ahead(worked: Worked, edits: u64) -> bool {
     u64::from(worked.turns) >= edits.saturating_mul(8)
 }
 
-// Whether one more aggregate is to be registered after so many edits.
+// Returns whether one more aggregate is to be registered after so many edits.
 fn is_due(worked: Worked, edits: u64) -> bool {
     worked.registered < AGGREGATES && edits / EDITS_BETWEEN > u64::from(worked.registered)
 }
@@ -72,7 +72,7 @@ fn next_step(worked: Worked, edits: u64) -> Step {
     }
 }
 
-// What a worker has done after its next step, which is answered so.
+// Returns what a worker has done after its next step, which got this reply.
 fn after(worked: Worked, edits: u64, reply: Replied) -> Result<Worked, Refusal> {
     let registers = u32::from(is_due(worked, edits));
     let next = Worked {
@@ -170,7 +170,7 @@ fn differs(one: Replied, other: Replied) -> Result<bool, Refusal> {
     }
 }
 
-// Whether all aggregates answer what the gauge does.
+// Returns whether all aggregates have the answer of the gauge.
 fn are_alike<M, F: Fn(&mut M, Step) -> Replied>(call: &F, me: &mut M) -> Result<bool, Refusal>
     requires { F.IsAlwaysCallable call.now }
 {
@@ -232,7 +232,7 @@ pub fn work_beside<M, F: Fn(&mut M, Step) -> Replied>(
     }
 }
 
-// Whether a reading comes after another of the same stripe, or is the same.
+// Returns whether a reading comes after another of the same stripe, or is the same.
 fn is_later(reading: Replied, before: Replied) -> bool {
     edits_in(reading) > edits_in(before) || reading == before
 }

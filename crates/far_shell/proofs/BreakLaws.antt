@@ -102,7 +102,7 @@ breaks-unwritten tickets unseen spent splits may_fail u v w why bytes rest text 
     let all = prints-then-nothing u v w [] text left lost p q in
     record { bytes = bytes; rest = rest; begins = begins; text = text; sent = all.0; lost = lost; written = all.1; said = all.2; ends = (cause, inr (why, split, b)) }
 
--- a script is answered, and then a write fails
+-- a script gets its replies, and then a write fails
 pub whole-unwritten : {S K : Type 0} (tickets : Tickets S K) (unseen spent : List ℕ → Type 0) (splits : ShellFault → List ℕ → List ℕ → Type 0) (may_fail : Bool) (u v w : Option (List ℕ)) (script rest text left lost : List ℕ) → IsTrue may_fail → splits fault.Output script rest → Prints u [] text v left → IsAnswered tickets script (rest ≡ []) text → Prints v left [] w lost
     → Breaks tickets unseen spent splits may_fail u w fault.Output
 whole-unwritten tickets unseen spent splits may_fail u v w script rest text left lost cause begins p s q =

@@ -32,9 +32,9 @@ gauges-more readings i told page after whole low grown e =
 pub gauges-end : (readings : List Reading) (i : ℕ) (page whole : List ℕ) → length readings ≤ i → page ++ gauges_text i (drop i readings) ≡ whole → page ≡ whole
 gauges-end readings i page whole past e = sym (append-nil page) ∙ sym (ap (λ (rest : List Reading). page ++ gauges_text i rest) (drop-past readings i past)) ∙ e
 
--- what sessions leave is printed as it is told
-pub told-of : (sessions edits : ℕ) (o : Outcome) (page : List ℕ) → IsOutcome sessions edits o → page ≡ outcome_text o → TellsOutcome sessions edits page
-told-of sessions edits o page is said = said ∙ (λ i. gauges_text 0 (is.gauges i) ++ answer_text (is.total i))
+-- the printed outcome of sessions is the one that is due
+pub outcome-of : (sessions edits : ℕ) (o : Outcome) (page : List ℕ) → IsOutcome sessions edits o → page ≡ outcome_text o → TellsOutcome sessions edits page
+outcome-of sessions edits o page is said = said ∙ (λ i. gauges_text 0 (is.gauges i) ++ answer_text (is.total i))
 
 -- sessions that were stopped, and nothing is written
 pub cut-stopped : (may_fail : Bool) (why : ShellFault) (sessions edits : ℕ) → (why ≡ fault.Memory) ⊎ (why ≡ fault.Turns) → CutOutcome may_fail why sessions edits []

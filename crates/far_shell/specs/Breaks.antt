@@ -1,4 +1,4 @@
--- What was printed of a script that a fault ends early.
+-- What was written of the replies to a script that a fault ends early.
 use Rattle.std.specs.Prelude.{◌≡◌, ◌⊎◌, ◌≤◌, ℕ, Bool, IsTrue, List, [], ◌++◌, length, Option}
 use Rattle.std.specs.Io.KnownBytes.{Appends}
 use Rattle.far_store.specs.declared.store.FarTickets.{Ghosts as Tickets}
@@ -7,9 +7,9 @@ use Rattle.far_script.specs.declared.fault.ShellFault.TheVariants as fault
 use Rattle.far_scripts.specs.Breaks.{BreaksLater, HasNotBegun}
 use Rattle.far_shell.specs.Sessions.{AsksSessions, IsAnswered}
 
--- why no more came is told of these first bytes, and that nothing comes behind them is told of the rest
+-- `unseen` says of the first bytes why no more came, and `spent` says of the rest that nothing comes behind the first bytes
 module _ {S K : Type 0} (tickets : Tickets S K) (unseen spent : List ℕ → Type 0) where
-  -- what these first bytes of a script, with the rest behind them, are answered up to a fault
+  -- the text is what is printed for these first bytes of a script, with the rest behind them, up to a fault
   abbrev pub IsBroken : ShellFault → List ℕ → List ℕ → List ℕ → Type 0
   IsBroken fault.BadStart bytes rest text = HasNotBegun (unseen bytes) (spent rest) fault.BadStart bytes rest text
   IsBroken fault.Input bytes rest text = HasNotBegun (unseen bytes) (spent rest) fault.Input bytes rest text ⊎ BreaksLater tickets (unseen bytes) (spent rest) fault.Input bytes rest text
@@ -17,8 +17,8 @@ module _ {S K : Type 0} (tickets : Tickets S K) (unseen spent : List ℕ → Typ
   IsBroken fault.Memory bytes rest text = HasNotBegun (unseen bytes) (spent rest) fault.Memory bytes rest text ⊎ BreaksLater tickets (unseen bytes) (spent rest) fault.Memory bytes rest text
   IsBroken fault.Turns bytes rest text = (text ≡ []) × ((sessions : ℕ) × (edits : ℕ) × AsksSessions bytes (rest ≡ []) sessions edits)
 
-  -- the same, with what the writer did not take: all was written, unless the fault is the writer's. Then writers of its type may fail. How a
-  -- script is split at a fault is told by the first argument, and whether writers may fail by the second
+  -- the same, with the bytes that the writer did not take. There are none, unless the fault is the writer's: then writers of its type may
+  -- fail. The first argument says how a script is split at a fault, and the second whether writers may fail
   abbrev pub EndsBy : (ShellFault → List ℕ → List ℕ → Type 0) → Bool → ShellFault → List ℕ → List ℕ → List ℕ → List ℕ → Type 0
   EndsBy splits may_fail fault.BadStart bytes rest text lost = IsBroken fault.BadStart bytes rest text × (lost ≡ [])
   EndsBy splits may_fail fault.Input bytes rest text lost = IsBroken fault.Input bytes rest text × (lost ≡ [])
@@ -27,7 +27,7 @@ module _ {S K : Type 0} (tickets : Tickets S K) (unseen spent : List ℕ → Typ
   EndsBy splits may_fail fault.Output bytes rest text lost =
       IsTrue may_fail × (IsAnswered tickets bytes (rest ≡ []) text ⊎ ((why : ShellFault) × splits why bytes rest × IsBroken why bytes rest text))
 
-  -- a script ends early: of what its first bytes are answered a front was written
+  -- a script ends early: what was written is a front of the replies to its first bytes
   pub record Breaks (splits : ShellFault → List ℕ → List ℕ → Type 0) (may_fail : Bool) (old new : Option (List ℕ)) (why : ShellFault) : Type 0 where
     pub bytes : List ℕ
     pub rest : List ℕ
@@ -39,6 +39,7 @@ module _ {S K : Type 0} (tickets : Tickets S K) (unseen spent : List ℕ → Typ
     pub said : text ≡ sent ++ lost
     pub ends : EndsBy splits may_fail why bytes rest text lost
 
--- why no more came of a script behind these bytes: readers of this type may fail, or the bytes are at least as many as reads are made
+-- why no more of a script came after these bytes: readers of this type may fail, or there are at least as many bytes as a script may have
+-- reads
 abbrev pub IsUnfinished : Type 0 → List ℕ → Type 0
 IsUnfinished may_fail bytes = may_fail ⊎ (1048576 ≤ length bytes)

@@ -1,4 +1,4 @@
--- What a script of sessions on threads is answered.
+-- The replies to a script of sessions on threads.
 use Rattle.std.specs.Prelude.{◌≡◌, ◌⊎◌, ℕ, ◌+◌, ◌*◌, Bool, IsTrue, List, [], ◌∷◌, ◌++◌, Some, replicate}
 use Rattle.far_history.specs.declared.reading.Reading.{Reading}
 use Rattle.far_store.specs.declared.store.FarTickets.{Ghosts as Tickets}
@@ -16,12 +16,12 @@ use Rattle.far_scripts.specs.Scripts.{Begins, IsScript}
 abbrev pub line_of : ℕ → Reading → List ℕ
 line_of session reading = gauge_text session reading.edits reading.count reading.sum
 
--- the gauge lines of sessions, from one on
+-- the gauge lines of sessions, numbered from a first one on
 abbrev pub gauges_text : ℕ → List Reading → List ℕ
 gauges_text session [] = []
 gauges_text session (reading ∷ readings) = line_of session reading ++ gauges_text (session + 1) readings
 
--- what sessions leave, as it is printed: the gauge lines of sessions 0, 1 and so on, and the answer over all they did
+-- the printed outcome of sessions: the gauge lines of sessions 0, 1 and so on, and the answer over the rows of all of them
 abbrev pub outcome_text : Outcome → List ℕ
 outcome_text o = gauges_text 0 o.gauges.items ++ answer_text o.answer
 
@@ -29,18 +29,18 @@ outcome_text o = gauges_text 0 o.gauges.items ++ answer_text o.answer
 abbrev pub gauge_lines : ℕ → ℕ → List ℕ
 gauge_lines sessions edits = gauges_text 0 (replicate sessions (all_of edits))
 
--- a text tells how so many sessions ended, each with so many edits: their gauge lines, and the answer over the rows of all of them,
--- `count N sum N`, where N is the number of sessions times that of edits
+-- a text is the outcome of so many sessions with so many edits each: their gauge lines, and the answer over the rows of all of them,
+-- `count N sum N`. N is the number of sessions times that of edits
 abbrev pub TellsOutcome : ℕ → ℕ → List ℕ → Type 0
 TellsOutcome sessions edits text = text ≡ gauge_lines sessions edits ++ answer_text (total_of (sessions * edits))
 
--- what ends a script whose sessions are stopped
+-- the fault that ends a script whose sessions are stopped
 abbrev pub fault_of : Stop → ShellFault
 fault_of stop.Memory = fault.Memory
 fault_of stop.Turns = fault.Turns
 
--- what was written of how sessions ended if a fault comes: a front if the writer is at fault, and else nothing. The writer is at fault only
--- if writers of its type may fail, which the first argument tells
+-- what was written of the outcome of sessions if a fault comes: a front if the writer is at fault, and else nothing. The writer is at fault
+-- only if writers of its type may fail, which the first argument says
 abbrev pub CutOutcome : Bool → ShellFault → ℕ → ℕ → List ℕ → Type 0
 CutOutcome may_fail fault.BadStart sessions edits sent = ⊥
 CutOutcome may_fail fault.Input sessions edits sent = ⊥
@@ -52,7 +52,7 @@ CutOutcome may_fail fault.Turns sessions edits sent = sent ≡ []
 abbrev pub AsksSessions : List ℕ → Type 0 → ℕ → ℕ → Type 0
 AsksSessions bytes spent sessions edits = (line : List ℕ) × Begins bytes spent line × (start_in line ≡ Some (Threads sessions edits))
 
--- a script begins with sessions, and is answered by how they ended. What stands behind its first command says nothing
+-- a script begins with sessions, and the reply is their outcome. What stands behind its first command changes nothing
 pub record IsThreads (bytes : List ℕ) (spent : Type 0) (text : List ℕ) : Type 0 where
   pub sessions : ℕ
   pub edits : ℕ
@@ -60,6 +60,6 @@ pub record IsThreads (bytes : List ℕ) (spent : Type 0) (text : List ℕ) : Typ
   pub told : TellsOutcome sessions edits text
 
 module _ {S K : Type 0} (tickets : Tickets S K) where
-  -- a script is answered by a text: these bytes are all of it, or its first command asks for sessions
+  -- a text is the reply to a script: these bytes are all of it, or its first command asks for sessions
   abbrev pub IsAnswered : List ℕ → Type 0 → List ℕ → Type 0
   IsAnswered bytes spent text = (IsScript tickets bytes text × spent) ⊎ IsThreads bytes spent text

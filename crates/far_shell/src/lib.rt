@@ -1,6 +1,5 @@
 #![tactic(auto)]
-//! Whole scripts. The first line says whether a table is opened or sessions share one. What it asks for is run up to the end of the
-//! script.
+//! Whole scripts. The first line opens a table or asks for sessions that share one. The script is then run up to its end.
 //!
 //! `far_script` has the language as text, and `far_commands` its commands over a table. `far_scripts` has a script over a table, and
 //! `far_threads` what sessions on threads do.

@@ -1,4 +1,4 @@
-// Scripts, read as they are answered.
+// Runs whole scripts: each line is read when the replies before it are written.
 ghost use Rattle.std.specs.Prelude.{◌≡◌, ℕ, List, [], ◌++◌, ◌≤◌, true, IfErr, IfSome, OnErr, OnOk};
 ghost use Rattle.std.specs.Io.KnownBytes.{Appends, Keeps};
 ghost use Rattle.far_script.specs.Flow.{Gives, IsFrontOf, IsOver, IsSpent, IsUnseen, Prints, Reads, has_failed};
@@ -13,8 +13,10 @@ use far_store::{AgentStore, FarStore, FarTickets};
 use std::sync::Wait;
 use std::thread::Threads;
 
-/// Answers a script by what its first command says: a table is opened and the lines behind it are answered, or sessions share a
-/// table, and nothing behind the command is read. It knows no table, and the store of one as a type parameter alone.
+/// Runs a script by its first command. If that opens a table, the lines behind it are answered. If it asks for sessions, they share a
+/// table, and nothing behind the command is read. The store is a type parameter, so the proof unfolds no store.
+///
+/// The faults are those of `run_script`.
 fn serve<
     S: FarStore,
     A: Resources<S>,
@@ -47,9 +49,10 @@ fn serve<
     }
 }
 
-/// Writes the replies that are left when a fault ends a script. If the fault is a failed write, nothing is written.
+/// Writes the replies that are left when a fault ends a script. If the fault is a failed write, nothing is written. Ends with `Output` if a
+/// write fails, or failed before.
 ///
-/// For the proof: `fault` is an argument for the contract alone. The body goes by the mark that a failed write leaves in the output.
+/// For the proof: only the contract reads `fault`. The body knows from `output` whether a write failed.
 fn flush_at<W: Sink>(
     fault: ShellFault,
     output: &mut Output<W>,
@@ -65,22 +68,24 @@ fn flush_at<W: Sink>(
     output.flush(writer)
 }
 
-/// Runs a script as `run_script` does, from an input that its caller lends. Behind a first command that asks for sessions no line is read,
+/// Runs a script as `run_script` does, from an input that it borrows. Behind a first command that asks for sessions no line is read,
 /// though its bytes may have come with that command.
 ///
-/// The faults are those of `run_script`. Afterwards no more reads are left than before. At the end of the script and at the fault `Input`
-/// each byte that came is taken off those that were left. That holds too of a reader whose bytes no contract knows, as standard input. At
-/// the fault `Input` all whole lines that came are answered. The next line or its load came and is no UTF-8, or lacks what did not come:
+/// The faults are those of `run_script`. Afterwards no more reads are left than before. At the end of the script and at the fault `Input`,
+/// the bytes that came are subtracted from those that were left. That holds too for a reader whose bytes no contract knows, as standard
+/// input.
 ///
-/// - the line its end; then the end of the script was not seen;
-/// - the load its bytes; then the end of the script was seen, and nothing is left behind them, or it was not seen.
+/// At the fault `Input` all whole lines that came are answered. The next line or its load is no UTF-8, or it is incomplete:
+///
+/// - A line lacks its end. Then the end of the script was not seen.
+/// - A load lacks bytes. If the end of the script was seen, nothing is left behind them.
 ///
 /// The last line, which has no end, is no UTF-8 only if the end of the script was seen. If it was not seen, the reader was asked, or no
-/// reads are left. And one of these holds:
+/// reads are left. One of these holds too:
 ///
 /// - readers of its type may fail;
 /// - no reads are left, and at least as many bytes came as there were reads;
-/// - no bytes are left, and the bytes of the reader, if they are known, are more than were left.
+/// - no bytes are left, and the reader, if its bytes are known, has more bytes than were left.
 pub fn run_input<T: AllocGlobal + Sync + Threads + Wait, R: Source + Drop, W: Sink>(
     rt: &T,
     input: &mut Input<R>,
@@ -109,17 +114,17 @@ pub fn run_input<T: AllocGlobal + Sync + Threads + Wait, R: Source + Drop, W: Si
 /// its table go to a store in this process, which takes 1,048,576 contents. If the first command asks for sessions, it is the whole
 /// script (`run_threads`), and no line behind it is read.
 ///
-/// A script has at most 16,777,216 bytes, and is read in at most 1,048,576 reads. What lies wholly before a fault is answered. Ends with:
+/// A script has at most 16,777,216 bytes, and is read in at most 1,048,576 reads. All lines before a fault are answered. Ends with:
 ///
-/// - `Input`, if a read fails or one of these bounds is passed. Also if a line or the bytes of a load are no UTF-8, or the script ends
+/// - `Input`, if a read fails or one of these bounds is exceeded. Also if a line or the bytes of a load are no UTF-8, or the script ends
 ///   inside a load;
 /// - `Output`, if a write fails;
 /// - `Memory`, if the shell itself runs out of memory;
 /// - `BadStart`, if the first command opens no table and asks for no sessions;
 /// - `Turns`, if sessions give up on an edit.
 ///
-/// Say that a script has fewer than 1,048,576 bytes, that they are known, and that readers of its type never fail. Then it ends with
-/// `Input` only if a line or the bytes of a load are no UTF-8, or it ends inside a load
+/// Take a script with fewer than 1,048,576 bytes that are known, and a reader whose type never fails. It ends with `Input` only if a line
+/// or the bytes of a load are no UTF-8, or the script ends inside a load
 /// ([`a_short_script_at_hand_comes_whole`](crate::laws::a_short_script_at_hand_comes_whole)).
 ///
 /// It ends with `Output` only if writers of the type of its writer may fail

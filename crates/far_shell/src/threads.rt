@@ -1,4 +1,4 @@
-// Sessions on threads, and what they leave as it is printed.
+// Sessions on threads, and their printed outcome.
 ghost use Rattle.std.specs.Prelude.{◌≡◌, ◌⊎◌, ◌≤◌, ℕ, List, ◌++◌, IfErr, OnOk, OnErr};
 ghost use Rattle.std.specs.Io.KnownBytes.{Appends};
 ghost use Rattle.far_shell.specs.Sessions.{CutOutcome, TellsOutcome, fault_of, gauges_text, line_of, outcome_text};
@@ -11,7 +11,7 @@ use far_types::Refusal;
 use std::sync::Wait;
 use std::thread::Threads;
 
-/// What ends a script whose sessions were stopped.
+/// Returns the fault that ends a script whose sessions were stopped.
 fn fault_of(stop: Stop) -> ShellFault
     ensures fault { result ≡ fault_of stop }
     ensures one { (result ≡ ShellFault.Memory) ⊎ (result ≡ ShellFault.Turns) }
@@ -22,15 +22,15 @@ fn fault_of(stop: Stop) -> ShellFault
     }
 }
 
-/// The gauge line of a session.
-fn gauge_line(page: &mut Page, session: u64, told: &Reading) -> Result<(), Refusal>
-    ensures ok { OnOk result (page.new ≡ page.old ++ line_of session told.now) }
+/// Prints the gauge line of a session. Refused with `NoMemory` if memory runs out.
+fn gauge_line(page: &mut Page, session: u64, reading: &Reading) -> Result<(), Refusal>
+    ensures ok { OnOk result (page.new ≡ page.old ++ line_of session reading.now) }
     ensures memory { IfErr result (λ e. e ≡ Refusal.NoMemory) }
 {
-    gauge(page, session, told.edits, told.count, told.sum)
+    gauge(page, session, reading.edits, reading.count, reading.sum)
 }
 
-/// The gauge lines of sessions 0, 1 and so on.
+/// Prints the gauge lines of sessions 0, 1 and so on. Refused with `NoMemory` if memory runs out.
 fn gauges(page: &mut Page, readings: &[Reading]) -> Result<(), Refusal>
     ensures ok { OnOk result (page.new ≡ page.old ++ gauges_text 0 readings.now) }
     ensures memory { IfErr result (λ e. e ≡ Refusal.NoMemory) }
@@ -41,7 +41,7 @@ fn gauges(page: &mut Page, readings: &[Reading]) -> Result<(), Refusal>
     Ok(())
 }
 
-/// The gauge lines of the sessions, and the answer over all they did.
+/// Prints the gauge lines of the sessions, and the answer over the rows of all of them. Refused with `NoMemory` if memory runs out.
 fn outcome(page: &mut Page, outcome: &Outcome) -> Result<(), Refusal>
     ensures ok { OnOk result (page.new ≡ page.old ++ outcome_text outcome.now) }
     ensures memory { IfErr result (λ e. e ≡ Refusal.NoMemory) }
@@ -50,7 +50,8 @@ fn outcome(page: &mut Page, outcome: &Outcome) -> Result<(), Refusal>
     answer(page, &outcome.answer)
 }
 
-/// Lets sessions share a table, and prints how they ended, whole or not at all.
+/// Lets sessions share a table, and prints their outcome, whole or not at all. Ends with `Memory` if a call runs out of memory, and with
+/// `Turns` if sessions give up on an edit. Nothing is printed then.
 pub fn print_sessions<T: AllocGlobal + Sync + Threads + Wait, W: Sink>(
     rt: &T,
     sessions: u32,
@@ -64,9 +65,9 @@ pub fn print_sessions<T: AllocGlobal + Sync + Threads + Wait, W: Sink>(
     ensures fault { IfErr result (λ fault. (fault ≡ ShellFault.Memory) ⊎ (fault ≡ ShellFault.Turns)) }
 {
     match run_sessions(rt, rt.alloc(), sessions, edits) {
-        Ok(told) => {
+        Ok(ended) => {
             output.reply.truncate(0);
-            let printed = outcome(&mut output.reply, &told);
+            let printed = outcome(&mut output.reply, &ended);
             output.add_printed(printed)?;
             Ok(())
         }
@@ -75,13 +76,13 @@ pub fn print_sessions<T: AllocGlobal + Sync + Threads + Wait, W: Sink>(
 }
 
 /// Runs the script line `threads SESSIONS EDITS`. The sessions share a table of one column of numbers, each on a thread of its own if one
-/// can be made. Each inserts EDITS rows of the number 1 on its home stripe. Meanwhile a worker in the background sends objects away. When
-/// all have ended, the gauge of each session's home stripe is written, and the answer over all stripes.
+/// can be made. Each inserts EDITS rows of the number 1 on its home stripe. Meanwhile a worker in the background evicts objects. When all
+/// have ended, it writes the gauge of each session's home stripe and the answer over all stripes.
 ///
 /// Ends with:
 ///
 /// - `Memory`, if a call runs out of memory; nothing is written then;
-/// - `Turns`, if an edit was tried 10,000 times, or is refused for a reason that no other try mends; nothing is written then;
+/// - `Turns`, if an edit was tried 10,000 times, or was refused for a reason that a further try cannot change; nothing is written then;
 /// - `Output`, if a write fails; then writers of the type may fail.
 pub fn run_threads<T: AllocGlobal + Sync + Threads + Wait, W: Sink>(
     rt: &T,

@@ -81,9 +81,9 @@ module _ (p : Planned) (n : ℕ) (sessions : List Known) (t0 t1 t2 t3 : Table) (
   closed-at (suc (suc (suc (suc k)))) low = absurd (omega (arith, low))
 
   -- what the gauge answers over them, by their histories
-  told-by-histories : (answer : Answer) → IfSome (spec_at t0 0) (λ (spec : Spec). answer ≡ answer_over spec (all_rows t0 t1 t2 t3))
+  answer-by-histories : (answer : Answer) → IfSome (spec_at t0 0) (λ (spec : Spec). answer ≡ answer_over spec (all_rows t0 t1 t2 t3))
       → answer ≡ answer_over p.gauge (all_rows (replay p c0.log) (replay p c1.log) (replay p c2.log) (replay p c3.log))
-  told-by-histories answer told =
+  answer-by-histories answer told =
       let gauge : spec_at t0 0 ≡ Some p.gauge = ap (option_map (λ (aggregate : Registered). aggregate.spec)) c0.stripe.gauge in
       let over : answer ≡ answer_over p.gauge (all_rows t0 t1 t2 t3) = subst (λ (found : Option Spec). IfSome found (λ (spec : Spec). answer ≡ answer_over spec (all_rows t0 t1 t2 t3))) gauge told in
       over
@@ -102,7 +102,7 @@ module _ (p : Planned) (n : ℕ) (sessions : List Known) (t0 t1 t2 t3 : Table) (
       let h1 : IsHistory p n 1 c1.log = history-of p n sessions o.gauges.items gauged 1 c1.log (omega arith) c1.legal c1.settled in
       let h2 : IsHistory p n 2 c2.log = history-of p n sessions o.gauges.items gauged 2 c2.log (omega arith) c2.legal c2.settled in
       let h3 : IsHistory p n 3 c3.log = history-of p n sessions o.gauges.items gauged 3 c3.log (omega arith) c3.legal c3.settled in
-      let answered = told-by-histories o.answer told in record {
+      let answered = answer-by-histories o.answer told in record {
         gauges = all-one o.gauges.items p.sessions (all_of n) gauged.told each;
         answer = record { zeroth = c0.log; first = c1.log; second = c2.log; third = c3.log; histories = (h0, h1, h2, h3); is = answered };
         total = answered ∙ total-is p n c0.log c1.log c2.log c3.log homes.few homes.gauge h0 h1 h2 h3;

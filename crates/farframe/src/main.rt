@@ -1,9 +1,13 @@
 #![tactic(auto)]
 //! Runs a script: reads it from standard input, and writes its replies to standard output.
 //!
-//! The exit status is 0 at the end of the script, refusals included; 2 where its first command opens no table and asks for no sessions;
-//! 3 where a read or a write fails, a line or a load is no UTF-8, or the script ends inside a load, is too long or needs too many reads;
-//! 4 where memory is refused; 5 where sessions give up on an edit.
+//! The exit status is:
+//!
+//! - 0 at the end of the script, also if commands were refused;
+//! - 2 if the first command opens no table and asks for no sessions;
+//! - 3 if a read or a write fails, a line or a load is no UTF-8, or the script ends inside a load, is too long or needs too many reads;
+//! - 4 if memory runs out;
+//! - 5 if sessions give up on an edit.
 
 use far_shell::{Fallible, run_script};
 use std::io;

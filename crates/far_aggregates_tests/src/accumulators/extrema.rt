@@ -5,7 +5,7 @@ use far_extrema::GroupExtrema;
 use far_types::Refusal;
 use std::alloc::Global;
 
-/// Observes a row, at the second call where the first is refused.
+/// Observes a row, by a second call if the first runs out of memory.
 fn observe(alloc: Global, group: &mut GroupExtrema, name: Name, value: i64) -> Result<(), Refusal> {
     let key = key_of(alloc, name)?;
     match group.observe_under(&key, value) {
@@ -26,7 +26,7 @@ static ROWS: [Row; 2] = [(Name::Word("a"), 3), (Name::Word("a"), -3)];
 
 static LINES: Lines<'static> = Lines::Extrema(&[(Name::Nobody, -6, 5), (Name::Word("a"), -3, 3)]);
 
-/// Whether rows under a text, one under no key, and rows there from -6 to 3 that the caller folded, have the extrema of all.
+/// Returns whether rows under a text, one under no key, and rows there from -6 to 3 that the caller folded, have the extrema of all.
 fn observes_all(alloc: Global, group: &mut GroupExtrema) -> Result<bool, Refusal> {
     observe_all(alloc, group, &ROWS)?;
     group.see(None, 5)?;

@@ -9,7 +9,7 @@ use far_extrema::{GroupExtrema, LiveExtrema, MinMax, RowsLeft};
 use far_types::{Answer, Key, Refusal};
 use std::alloc::Global;
 
-/// The answer, at the second call where the first is refused.
+/// Returns the answer, by a second call if the first runs out of memory.
 fn answer(alloc: Global, live: &LiveExtrema) -> Result<Answer, Refusal> {
     match live.answer(alloc) {
         Err(Refusal::NoMemory) => live.answer(alloc),
@@ -17,17 +17,17 @@ fn answer(alloc: Global, live: &LiveExtrema) -> Result<Answer, Refusal> {
     }
 }
 
-/// What is told while a row group is left.
-fn told_early(alloc: Global) -> Result<bool, Refusal> {
+/// Asks extrema while a row group is pending: refused with `Building`.
+fn while_pending(alloc: Global) -> Result<bool, Refusal> {
     Lines::Extrema(&[]).are_of(LiveExtrema::new(alloc, 1).answer(alloc))
 }
 
 #[test]
-fn extrema_are_told_once_their_row_groups_are_in(rt: HostRuntime) {
-    must_be(&rt, told_early(rt.alloc()), Err(Refusal::Building(1)));
+fn extrema_are_refused_while_a_row_group_is_pending(rt: HostRuntime) {
+    must_be(&rt, while_pending(rt.alloc()), Err(Refusal::Building(1)));
 }
 
-/// Reserves a row group and its keys, at the second call where the first is refused.
+/// Reserves a row group and its keys, by a second call if the first runs out of memory.
 fn reserve_for(live: &mut LiveExtrema, group: u32, extrema: &GroupExtrema) -> Result<(), Refusal>
     ensures left { live.new.left ≡ live.old.left }
     ensures groups { OnOk result (live.new.groups ≡ with_reserved group live.old.groups) }
@@ -69,7 +69,7 @@ fn merge_rows(alloc: Global, live: &mut LiveExtrema, rows: &[Row]) -> Result<(),
     ready
 }
 
-/// These rows are those of a row group.
+/// Sets the extrema of a row group to those of these rows.
 fn set_rows(
     alloc: Global,
     live: &mut LiveExtrema,
@@ -84,18 +84,18 @@ fn set_rows(
     ready
 }
 
-/// Row groups, and the lines of the answer to them.
+/// A case: the rows of two row groups, and the lines of the answer over both.
 struct Groups {
     name: &'static str,
-    /// The rows of the first one, which is merged.
+    /// The rows of row group 0, which is merged.
     merged: &'static [Row],
-    /// The rows of one that is set then.
+    /// The number and the rows of the row group that is set after that.
     set: (u32, &'static [Row]),
     lines: &'static [(Name, i64, i64)],
 }
 
 impl Groups {
-    fn are_told_by(&self, alloc: Global, live: &mut LiveExtrema) -> Result<bool, Refusal>
+    fn are_answered_by(&self, alloc: Global, live: &mut LiveExtrema) -> Result<bool, Refusal>
         requires left { live.old.left ≢ 0 }
         requires empty { live.old.groups ≡ [] }
     {
@@ -115,7 +115,7 @@ impl NamedCase for Groups {
     }
 
     fn is_right(&self, alloc: Global) -> Result<bool, Refusal> {
-        self.are_told_by(alloc, &mut LiveExtrema::new(alloc, 1))
+        self.are_answered_by(alloc, &mut LiveExtrema::new(alloc, 1))
     }
 }
 
@@ -153,7 +153,7 @@ impl RowsLeft for Left {
     }
 }
 
-/// Whether a min-max follows two rows, of which the second goes.
+/// Returns whether a min-max follows two rows, of which the second is retracted.
 fn follows_rows(live: &mut LiveExtrema, key: &Option<Key>) -> Result<bool, Refusal> {
     live.make_room(1);
     live.observe_under(1, key, 4)?;
@@ -174,8 +174,8 @@ fn a_min_max_follows_rows(rt: HostRuntime) {
     must_be(&rt, follows_rows_under_a_text(rt.alloc()), Ok(true));
 }
 
-/// Whether rows under a key that a row group has are observed without memory, and each call returns what stood there. The first row
-/// alone may be refused for lack of memory.
+/// Returns whether a row under a key that the row group has allocates nothing, and each call returns the min-max before it. Only the first
+/// row may run out of memory.
 fn knows_a_key(live: &mut LiveExtrema, key: &Option<Key>) -> Result<bool, Refusal> {
     live.make_room(1);
     let first = live.observe_under(1, key, 4)?;
@@ -190,6 +190,6 @@ fn knows_a_text(alloc: Global) -> Result<bool, Refusal> {
 }
 
 #[test]
-fn a_row_under_a_known_key_takes_no_memory(rt: HostRuntime) {
+fn a_row_under_a_known_key_allocates_nothing(rt: HostRuntime) {
     must_be(&rt, knows_a_text(rt.alloc()), Ok(true));
 }

@@ -26,7 +26,7 @@ fn add_all(alloc: Global, live: &mut LiveTotals, rows: &[Row]) -> Result<(), Ref
     Ok(())
 }
 
-/// The answer, at the second call where the first is refused.
+/// Returns the answer, by a second call if the first runs out of memory.
 fn answer(alloc: Global, live: &LiveTotals) -> Result<Answer, Refusal> {
     match live.answer(alloc) {
         Err(Refusal::NoMemory) => live.answer(alloc),
@@ -34,7 +34,7 @@ fn answer(alloc: Global, live: &LiveTotals) -> Result<Answer, Refusal> {
     }
 }
 
-/// Merges, a second time where the first call is refused.
+/// Merges, by a second call if the first runs out of memory.
 fn merge(live: &mut LiveTotals, partial: &LiveTotals) -> Result<(), Refusal>
     requires left { live.old.left ≢ 0 }
     requires can_join { CanJoin live.old.totals partial.now.totals }
@@ -45,7 +45,7 @@ fn merge(live: &mut LiveTotals, partial: &LiveTotals) -> Result<(), Refusal>
     }
 }
 
-/// Merges rows to others.
+/// Adds rows to live and to partial totals, and merges the partial ones into the live ones.
 fn merge_rows(
     alloc: Global,
     live: &mut LiveTotals,
@@ -62,17 +62,17 @@ fn merge_rows(
     merge(live, partial)
 }
 
-/// What is told while a row group is left.
-fn told_early(alloc: Global) -> Result<bool, Refusal> {
+/// Asks totals while a row group is pending: refused with `Building`.
+fn while_pending(alloc: Global) -> Result<bool, Refusal> {
     Lines::Totals(&[]).are_of(LiveTotals::new(alloc, 1).answer(alloc))
 }
 
 #[test]
-fn totals_are_told_once_their_row_groups_are_in(rt: HostRuntime) {
-    must_be(&rt, told_early(rt.alloc()), Err(Refusal::Building(1)));
+fn totals_are_refused_while_a_row_group_is_pending(rt: HostRuntime) {
+    must_be(&rt, while_pending(rt.alloc()), Err(Refusal::Building(1)));
 }
 
-/// Rows that are in while one row group is left, the rows of that, and the lines of the answer to all.
+/// Rows that are added while one row group is pending, the rows of that one, and the lines of the answer over all.
 struct Merged {
     name: &'static str,
     here: &'static [Row],
@@ -83,8 +83,8 @@ struct Merged {
 }
 
 impl Merged {
-    /// Whether the answer has the lines once the row group is merged.
-    fn is_told_by(
+    /// Returns whether the answer has the lines once the row group is merged.
+    fn is_answered_by(
         &self,
         alloc: Global,
         live: &mut LiveTotals,
@@ -109,7 +109,7 @@ impl NamedCase for Merged {
 
     fn is_right(&self, alloc: Global) -> Result<bool, Refusal> {
         let mut live = LiveTotals::new(alloc, 1);
-        self.is_told_by(alloc, &mut live, &mut LiveTotals::new(alloc, 0))
+        self.is_answered_by(alloc, &mut live, &mut LiveTotals::new(alloc, 0))
     }
 }
 
@@ -149,8 +149,8 @@ static TWO_ROWS: [Row; 2] = [(Name::Nobody, 3), (Name::Nobody, 4)];
 
 static ONE_LEFT: Lines<'static> = Lines::Totals(&[(Name::Nobody, 1, 4)]);
 
-/// Whether two rows without key, of 3 and 4, are one of 4 once the other is taken.
-fn is_one_once_the_other_is_taken(alloc: Global, live: &mut LiveTotals) -> Result<bool, Refusal>
+/// Returns whether two rows without a key, 3 and 4, leave the 4 once the 3 is retracted.
+fn is_one_once_the_other_is_retracted(alloc: Global, live: &mut LiveTotals) -> Result<bool, Refusal>
     requires { live.old.totals ≡ fin.empty }
 {
     add_all(alloc, live, &TWO_ROWS)?;
@@ -165,9 +165,9 @@ fn is_one_once_the_other_is_taken(alloc: Global, live: &mut LiveTotals) -> Resul
 }
 
 #[test]
-fn a_row_is_taken(rt: HostRuntime) {
+fn a_row_is_retracted(rt: HostRuntime) {
     let alloc = rt.alloc();
-    let is_one = is_one_once_the_other_is_taken(alloc, &mut LiveTotals::new(alloc, 0));
+    let is_one = is_one_once_the_other_is_retracted(alloc, &mut LiveTotals::new(alloc, 0));
     must_be(&rt, is_one, Ok(true));
 }
 
@@ -175,7 +175,7 @@ static ONE_ROW: [Row; 1] = [(Name::Nobody, 5)];
 
 static TWO_LINES: Lines<'static> = Lines::Totals(&[(Name::Nobody, 1, 5), (Name::Word("a"), 1, 3)]);
 
-/// Adds a row, a second time where the first call is refused.
+/// Adds a row, by a second call if the first runs out of memory.
 fn add_again(live: &mut LiveTotals, key: &Option<Key>) -> Result<(), Refusal>
     requires { count_in (fin.get live.old.totals key.now) < 2 ^ 26 }
 {
@@ -185,7 +185,7 @@ fn add_again(live: &mut LiveTotals, key: &Option<Key>) -> Result<(), Refusal>
     }
 }
 
-/// Whether a row under `a` is in beside the one row once it is added.
+/// Returns whether a row under `a` gets a line of its own after the one row.
 fn has_both_lines(alloc: Global, live: &mut LiveTotals, key: &Option<Key>) -> Result<bool, Refusal>
     requires { live.old.totals ≡ fin.empty }
 {
@@ -200,11 +200,11 @@ fn has_both_lines_in_the_end(alloc: Global) -> Result<bool, Refusal> {
 }
 
 #[test]
-fn a_row_is_in_beside_another(rt: HostRuntime) {
+fn a_row_is_added_to_another(rt: HostRuntime) {
     must_be(&rt, has_both_lines_in_the_end(rt.alloc()), Ok(true));
 }
 
-/// The count and the sum of a row, and of three that the caller folded.
+/// Returns the count and the sum of a row, and of three that the caller folded.
 fn folded(alloc: Global, live: &mut LiveTotals) -> Result<(u64, i128), Refusal>
     requires { live.old.totals ≡ fin.empty }
 {
@@ -214,7 +214,7 @@ fn folded(alloc: Global, live: &mut LiveTotals) -> Result<(u64, i128), Refusal>
 }
 
 #[test]
-fn rows_that_the_caller_folded_come_in_at_once(rt: HostRuntime) {
+fn rows_that_the_caller_folded_are_added_at_once(rt: HostRuntime) {
     let alloc = rt.alloc();
     must_be(
         &rt,

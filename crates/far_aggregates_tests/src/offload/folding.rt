@@ -22,7 +22,7 @@ pub struct Case {
     pub name: &'static str,
     pub rows: RowGroup,
     pub key: Option<u32>,
-    /// The rows pass whose text begins so, and all where there is nothing.
+    /// The rows pass whose text begins so; all rows do if there is none.
     pub prefix: Option<&'static str>,
     pub lines: Lines<'static>,
 }
@@ -42,8 +42,8 @@ fn answer_of(alloc: Global, done: &PartialDone) -> Result<Answer, Refusal> {
     }
 }
 
-/// Whether the answer of a partial aggregate has these lines, or the refusal in its place.
-pub fn is_told(
+/// Returns whether the answer of a partial aggregate has these lines, or the refusal in its place.
+pub fn has_lines(
     alloc: Global,
     lines: Lines<'_>,
     done: Result<PartialDone, Refusal>,
@@ -54,7 +54,7 @@ pub fn is_told(
     }
 }
 
-/// The columns of a row group at hand: the numbers in a list and the texts in a form.
+/// Returns the columns of a row group at hand: the numbers in a list and the texts in a form.
 fn columns<'a>(numbers: &'a [Option<i64>], form: &'a [u8]) -> [Column<'a>; 2]
     requires { IsTextsForm form.now }
 {
@@ -90,7 +90,7 @@ impl NamedCase for Case {
         self.name
     }
 
-    /// Whether the row group with its columns at hand has the lines.
+    /// Returns whether the row group with its columns at hand has the lines.
     fn is_right(&self, alloc: Global) -> Result<bool, Refusal> {
         if !self.rows.is_short() {
             return Ok(false);
@@ -99,6 +99,6 @@ impl NamedCase for Case {
         let form = form_of(alloc, self.rows.words)?;
         let columns = columns(self.rows.numbers, &form);
         let done = fold(alloc, &spec, &columns, self.rows.alive);
-        is_told(alloc, self.lines, done)
+        has_lines(alloc, self.lines, done)
     }
 }

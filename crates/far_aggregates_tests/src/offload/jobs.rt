@@ -3,7 +3,7 @@ ghost use Rattle.std.specs.Prelude.{All};
 
 use crate::cases::must_be;
 use crate::lines::{Lines, Name};
-use crate::offload::folding::is_told;
+use crate::offload::folding::has_lines;
 use crate::offload::rows::put_ints;
 use far_offload::{OffloadJob, PartialDone};
 use far_store::{AgentStore, FarStore, FaultyStore, Meter};
@@ -14,17 +14,17 @@ static ALIVE: [bool; 4] = [true, false, true, true];
 
 static LINES: Lines<'static> = Lines::Totals(&[(Name::Nobody, 3, 8)]);
 
-/// Whether a job that is kept comes to the count and the sum of its rows, and has what it was made with.
+/// Returns whether a job that is kept comes to the count and the sum of its rows, and has what it was made with.
 fn is_kept<S: FarStore>(alloc: Global, store: &S, job: &OffloadJob<S>) -> Result<bool, Refusal>
     requires { All (λ ticket. S.is_of ticket.1 (S.store_id store.now)) job.now.tickets }
 {
     let done = job.partial(alloc, store, &mut Meter::new());
-    let folded = is_told(alloc, LINES, done);
+    let folded = has_lines(alloc, LINES, done);
     let kept = job.tickets().len() == 1 && job.alive() == ALIVE.as_slice() && job.spec().value == 0;
     if kept { folded } else { Ok(false) }
 }
 
-/// What was carried, or the refusal alone.
+/// Returns what was carried, or the refusal alone.
 fn without_job<D: Drop, J: Drop>(carried: Result<D, (Refusal, J)>) -> Result<D, Refusal> {
     match carried {
         Ok(done) => Ok(done),
@@ -32,7 +32,7 @@ fn without_job<D: Drop, J: Drop>(carried: Result<D, (Refusal, J)>) -> Result<D, 
     }
 }
 
-/// What a job comes to at the second call, where the first meets a fault.
+/// Carries a job again after a fault, and returns its partial aggregate. Refused with `StaleJob` if the first carry meets no fault.
 fn carry_again<S: FarStore>(
     alloc: Global,
     store: &S,
@@ -53,12 +53,12 @@ fn carry_again<S: FarStore>(
     }
 }
 
-/// Whether a job is kept, and carried once it met a fault.
+/// Returns whether a job is kept, and carried once it met a fault.
 fn is_carried<S: FarStore>(alloc: Global, store: &S, job: OffloadJob<S>) -> Result<bool, Refusal>
     requires { All (λ ticket. S.is_of ticket.1 (S.store_id store.now)) job.tickets }
 {
     match is_kept(alloc, store, &job) {
-        Ok(true) => is_told(alloc, LINES, carry_again(alloc, store, job)),
+        Ok(true) => has_lines(alloc, LINES, carry_again(alloc, store, job)),
         reply => {
             drop(job);
             reply

@@ -4,8 +4,7 @@ use far_types::Refusal;
 use std::alloc::Global;
 use std::process::Abort;
 
-/// Whether a case is right. One that is refused for lack of memory is tried again, since a run may ask that one allocation
-/// fails.
+/// Returns whether a case is right. It is tried again if memory runs out, since a run may ask that one allocation fails.
 fn holds<C: Case>(alloc: Global, case: &C) -> bool {
     match case.is_right(alloc) {
         Err(Refusal::NoMemory) => case.is_right(alloc) == Ok(true),

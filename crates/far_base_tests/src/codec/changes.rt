@@ -8,7 +8,7 @@ use far_codec::{Elem, count_texts, form_with, form_with_next, length_with, lengt
 use far_types::{Refusal, Text};
 use std::alloc::Global;
 
-/// The text of a word, or one that is missing.
+/// Returns the text of a word, or one that is missing.
 fn text(alloc: Global, word: Option<&str>) -> Result<Option<Text>, Refusal> {
     match word {
         Some(word) => Ok(Some(Text::new(String::from_str(alloc, word)?))),
@@ -16,7 +16,7 @@ fn text(alloc: Global, word: Option<&str>) -> Result<Option<Text>, Refusal> {
     }
 }
 
-/// The form once text `i` is this one, or once it stands behind the others; no bytes where that is too long.
+/// Returns the form with this text in place of text `i`, or behind the others if there is no text `i`. No bytes if that is too long.
 fn changed_texts(
     alloc: Global,
     form: &[u8],
@@ -35,7 +35,7 @@ fn changed_texts(
     Ok(Vec::new(alloc))
 }
 
-/// As `changed_texts`, of bytes that may be no form.
+/// Returns the same for bytes that may be no form. No bytes if they are none.
 fn changed(alloc: Global, bytes: &[u8], i: usize, word: Option<&str>) -> Result<Vec<u8>, Refusal> {
     let text = text(alloc, word)?;
     match <u8 as Elem>::unspell(alloc, bytes)? {
@@ -47,7 +47,7 @@ fn changed(alloc: Global, bytes: &[u8], i: usize, word: Option<&str>) -> Result<
 /// A form, the changes that are made to it, and the form that it is then.
 struct Changes {
     from: &'static [u8],
-    /// Text `i` becomes this one, or it comes behind the others.
+    /// The changes: this text in place of text `i`, or behind the others if there is no text `i`.
     changes: &'static [(usize, Option<&'static str>)],
     to: &'static [u8],
 }
@@ -65,7 +65,7 @@ impl Case for Changes {
     }
 }
 
-/// From no texts on. The mask comes with a missing text, and goes with it.
+/// Begins without a text. The form has a mask while a text is missing.
 static CHANGES: [Changes; 1] = [Changes {
     from: &[1, 1, 0, 0, 0, 0],
     changes: &[

@@ -6,7 +6,7 @@ use far_codec::{decode, kind_of, text_at};
 use far_types::Refusal;
 use std::alloc::Global;
 
-/// Whether no call reads the bytes.
+/// Returns whether no call reads the bytes.
 pub fn is_no_form(alloc: Global, bytes: &[u8]) -> Result<bool, Refusal> {
     all(&[
         is_nothing(decode(alloc, bytes)),
@@ -81,7 +81,7 @@ fn other_bytes_are_no_form(rt: HostRuntime) {
     all_hold(&rt, rt.alloc(), &NO_FORMS);
 }
 
-/// Whether no part of a form from its beginning on is a form.
+/// Returns whether no part of a form from its beginning on is a form.
 fn is_whole_alone(alloc: Global) -> Result<bool, Refusal> {
     for length in 0..21 {
         let (prefix, _) = THREE_TEXTS.split_at(length);

@@ -9,26 +9,26 @@ use far_random::Draws;
 use far_types::Refusal;
 use std::alloc::Global;
 
-/// Whether what is read from the bytes is written as them, and all calls agree whether they are a form.
-fn is_read_as_told(alloc: Global, bytes: &[u8]) -> Result<bool, Refusal> {
+/// Returns whether what is read from the bytes is written as them, and all calls agree whether they are a form.
+fn is_read_alike(alloc: Global, bytes: &[u8]) -> Result<bool, Refusal> {
     match kind_of(bytes) {
         Some(kind) => are_rewritten(alloc, bytes, kind),
         None => is_no_form(alloc, bytes),
     }
 }
 
-/// Whether a form is read as told with one of its bytes changed, cut off there, and then with one byte more.
+/// Returns whether all calls agree on a form with one of its bytes changed, cut off there, and then with one byte more.
 fn is_changed_at_random(alloc: Global, form: &[u8], draws: &mut Draws) -> Result<bool, Refusal> {
     let mut bytes = Vec::from_slice(alloc, form)?;
     let at = draws.index_or_end(bytes.len());
     if at < bytes.len() {
         bytes[at] = draws.below(4) as u8;
     }
-    let changed = is_read_as_told(alloc, bytes.as_slice());
+    let changed = is_read_alike(alloc, bytes.as_slice());
     bytes.truncate(at);
-    let cut = is_read_as_told(alloc, bytes.as_slice());
+    let cut = is_read_alike(alloc, bytes.as_slice());
     bytes.push(draws.below(256) as u8)?;
-    all(&[changed, cut, is_read_as_told(alloc, bytes.as_slice())])
+    all(&[changed, cut, is_read_alike(alloc, bytes.as_slice())])
 }
 
 static FORMS: [&[u8]; 5] = [
@@ -39,7 +39,7 @@ static FORMS: [&[u8]; 5] = [
     MISSING_AND_A,
 ];
 
-/// Whether each form is read as told however it is changed, a hundred times.
+/// Returns whether all calls agree on each form, whichever byte is changed, a hundred times.
 fn are_changed_at_random(alloc: Global) -> Result<bool, Refusal> {
     let mut draws = Draws::new(1);
     for i in 0..500 {

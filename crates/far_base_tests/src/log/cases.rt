@@ -49,7 +49,7 @@ static CASES: [Case; 3] = [
 ];
 
 #[test]
-fn a_region_answers_as_each_case_says(rt: HostRuntime) {
+fn a_region_replies_as_each_case_says(rt: HostRuntime) {
     for case in &CASES {
         let name = case.name;
         assert!(rt; case.is_right(rt.alloc()) == Ok(true), "{name}");

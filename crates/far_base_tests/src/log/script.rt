@@ -10,7 +10,7 @@ use std::alloc::Global;
 /// A segment, and an offset in it.
 pub type Spot = (u16, u32);
 
-/// A call, and the answer.
+/// A call, and its reply.
 #[derive(Clone, Copy)]
 pub enum Line {
     /// A list is placed there.
@@ -33,7 +33,7 @@ fn place_of((segment, offset): Spot) -> At {
     At { segment, offset }
 }
 
-/// Whether a part lies there, of these elements.
+/// Returns whether a part lies there, of these elements.
 fn has_part<T: Elem + PartialEq>(region: &Region<T>, at: At, list: &[T]) -> bool {
     if !region.holds(at) {
         return false;
@@ -42,7 +42,7 @@ fn has_part<T: Elem + PartialEq>(region: &Region<T>, at: At, list: &[T]) -> bool
     part == list && region.part_long(at, part.len()) == list
 }
 
-/// Drops the part there; false where none begins.
+/// Drops the part that begins there, and returns whether there was one.
 fn drop_part<T: Elem>(region: &mut Region<T>, at: At) -> bool {
     if !region.holds(at) {
         return false;
@@ -51,12 +51,12 @@ fn drop_part<T: Elem>(region: &mut Region<T>, at: At) -> bool {
     true
 }
 
-/// Whether a list that is not empty goes there, or is refused so.
+/// Returns whether a list has elements and its placing gets the reply that is due.
 fn goes_to(region: &mut Region<i64>, list: &[i64], wanted: Result<At, Refusal>) -> bool {
     !list.is_empty() && region.place(list) == wanted
 }
 
-/// Whether a segment whose parts begin at these offsets is compacted so.
+/// Returns whether the compaction of a segment whose parts begin at these offsets gets the reply that is due.
 fn compacts(
     alloc: Global,
     region: &mut Region<i64>,
@@ -74,7 +74,7 @@ fn compacts(
 }
 
 impl Line {
-    /// Whether the region answers so.
+    /// Returns whether the region gives the reply of a line.
     fn holds(self, alloc: Global, region: &mut Region<i64>) -> bool {
         match self {
             Line::Place(list, spot) => goes_to(region, list, Ok(place_of(spot))),
@@ -108,7 +108,7 @@ pub struct Case {
 }
 
 impl Case {
-    /// Whether the region answers each line as it should.
+    /// Returns whether the region gives each line its reply.
     pub fn is_right(&self, alloc: Global) -> Result<bool, Refusal> {
         let mut region = Region::new(alloc, u32::from(self.segments), self.size)?;
         Ok(plays(alloc, &mut region, self.lines))

@@ -16,7 +16,7 @@ fn set_first<T: Elem>(region: &mut Region<T>, at: At, value: T)
     list[0] = value;
 }
 
-/// Writes the first element of a part; false where none begins there.
+/// Writes the first element of the part that begins there, and returns whether there was one.
 pub fn write_first<T: Elem>(region: &mut Region<T>, at: At, value: T) -> bool {
     if !region.holds(at) || region.part(at).is_empty() {
         return false;

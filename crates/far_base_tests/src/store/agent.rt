@@ -53,7 +53,7 @@ static CASES: [Case; 6] = [
 ];
 
 #[test]
-fn an_agent_answers_as_each_case_says(rt: HostRuntime) {
+fn an_agent_replies_as_each_case_says(rt: HostRuntime) {
     all_hold(&rt, rt.alloc(), &CASES);
 }
 

@@ -5,7 +5,7 @@ use far_store::{FarRead, FarStore, FarTickets, Meter};
 use far_types::Refusal;
 use std::alloc::Global;
 
-// Whether a ticket and its copy read these bytes.
+// Returns whether a ticket and its copy read these bytes.
 fn is_read_alike<S: FarRead>(
     store: &S,
     alloc: Global,
@@ -21,7 +21,7 @@ fn is_read_alike<S: FarRead>(
     }
 }
 
-// Whether a content of one store is read in another once it was carried there.
+// Returns whether a content of one store is read in another once it was carried there.
 fn is_carried<S: FarStore, N: FarStore>(
     from: &S,
     to: &N,
@@ -34,7 +34,7 @@ fn is_carried<S: FarStore, N: FarStore>(
     is_read_alike(to, alloc, &copy, bytes)
 }
 
-// Whether a content is got as it was put.
+// Returns whether a content is got as it was put.
 fn is_served<S: FarStore>(store: &S, alloc: Global, bytes: &[u8]) -> bool {
     match round_trip(store, alloc, bytes) {
         Ok(read) => read.as_slice() == bytes,
@@ -42,7 +42,7 @@ fn is_served<S: FarStore>(store: &S, alloc: Global, bytes: &[u8]) -> bool {
     }
 }
 
-// Whether each generic caller is served by two stores. They put two contents into each.
+// Returns whether each generic caller is served by two stores. They put two contents into each.
 fn serve_callers<S: FarStore, N: FarStore>(from: &S, to: &N, alloc: Global) -> bool {
     is_served(from, alloc, &[1, 2])
         && is_served(to, alloc, &[3])

@@ -24,9 +24,9 @@ pub struct Case {
     pub name: &'static str,
     pub base: Base,
     pub capacity: u64,
-    // Which put fails, of those that find memory; 0 for none.
+    // Which put fails, of those that do not run out of memory; 0 for none.
     pub failing_put: u64,
-    // Which get fails, likewise.
+    // Which get fails, counted in the same way.
     pub failing_get: u64,
     pub lines: &'static [Line],
 }
@@ -48,7 +48,7 @@ pub const LOG: Case = Case {
     ..AGENT
 };
 
-// A store of so many contents over a log of so many bytes, whose calls turn out as planned.
+// Returns a store of so many contents over a log of so many bytes, whose calls turn out as planned.
 pub fn logged<R: Drop>(
     rt: R,
     alloc: Global,
@@ -62,7 +62,7 @@ pub fn logged<R: Drop>(
 }
 
 impl Case {
-    // Whether the store answers each line as it should. One that finds no memory is made again.
+    // Returns whether the store gives each line its reply. It is made again if memory runs out.
     pub fn holds<R: Threads + Wait + Sync + Drop>(&self, rt: &R, alloc: Global) -> bool {
         match self.tried(rt, alloc) {
             Err(Refusal::NoMemory) => self.tried(rt, alloc) == Ok(true),
@@ -70,7 +70,7 @@ impl Case {
         }
     }
 
-    // Whether a store that was made for the case answers each line as it should, under a `FaultyStore`.
+    // Returns whether a store that was made for the case gives each line its reply, under a `FaultyStore`.
     fn is_played<R: Threads + Sync, S: FarStore>(
         &self,
         rt: &R,
@@ -101,7 +101,7 @@ impl Case {
     }
 }
 
-// Ends the test at the first case whose store answers a line otherwise.
+// Ends the test at the first case whose store gives a line another reply.
 pub fn all_hold<R: Abort + Threads + Wait + Sync + Drop>(rt: &R, alloc: Global, cases: &[Case]) {
     for case in cases {
         let name = case.name;

@@ -1,4 +1,4 @@
-// Stores over engines: what an engine's failure is answered with, and a log that is full.
+// Stores over engines: what a store returns if its engine fails, and a log that is full.
 use crate::cases::must_be;
 use crate::store::case::{Base, Case, LOG, all_hold};
 use crate::store::generic::Why::{Fault, Full, NoMemory};
@@ -36,7 +36,7 @@ static CASES: [Case; 5] = [
         ],
         ..LOG
     },
-    // The engine would fail.
+    // The engine would fail if it was asked.
     Case {
         name: "a full store does not ask its engine",
         base: Base::Log(64, &[Turn::Serve, Turn::Serve, Turn::Fail, Turn::Fail]),
@@ -65,7 +65,7 @@ static CASES: [Case; 5] = [
 ];
 
 #[test]
-fn a_store_over_an_engine_answers_as_each_case_says(rt: HostRuntime) {
+fn a_store_over_an_engine_replies_as_each_case_says(rt: HostRuntime) {
     all_hold(&rt, rt.alloc(), &CASES);
 }
 
@@ -78,7 +78,7 @@ static IN_FIVE_BYTES: [Line; 6] = [
     Put(&[], Ok(2)),
 ];
 
-// Whether a store over a log of five bytes answers each line as it should, and uses all of them then.
+// Returns whether a store over a log of five bytes gives each line its reply, and uses all five at the end.
 fn uses_all<R: Threads + Wait + Sync + Drop>(
     rt: &R,
     alloc: Global,

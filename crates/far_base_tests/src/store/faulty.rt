@@ -4,7 +4,7 @@ use crate::store::generic::Why::{Fault, Full, NoMemory};
 use crate::store::planned_engine::Turn;
 use crate::store::script::Line::{self, FourThreads, Get, Put};
 
-// What five puts draw of which the first fails, or the third: the one that fails draws nothing.
+// The numbers that five puts draw if the first fails, or the third. The put that fails draws none.
 const FIRST_FAILS: &[Line] = &[
     Put(&[1], Err(Fault)),
     Put(&[1], Ok(0)),
@@ -45,9 +45,9 @@ static CASES: [Case; 6] = [
         ],
         ..AGENT
     },
-    // The first put and the first get that find memory are the second ones.
+    // The first put and the first get run out of memory, and are not counted.
     Case {
-        name: "a call that finds no memory is not counted",
+        name: "a call that runs out of memory is not counted",
         base: Base::Log(
             64,
             &[Turn::NoMemory, Turn::Serve, Turn::Serve, Turn::NoMemory],

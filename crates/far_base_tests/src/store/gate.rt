@@ -23,11 +23,11 @@ enum Opener {
 // What is tried on a gate.
 #[derive(Clone, Copy)]
 enum Trial {
-    // Lines are answered one after another, and a put was at the gate.
+    // Lines get their replies one after another, and a put was at the gate.
     Plays(&'static [Line]),
-    // A put is served that is held until it is released, and the next one without.
+    // A put that is held is served once it is released, and the next one at once.
     ServesTheReleased,
-    // Of two threads that put once each, so many meet a fault, and so many are served.
+    // Two threads put once each: so many meet a fault, and so many are served.
     AnswersTwo(usize, usize),
 }
 
@@ -38,7 +38,7 @@ fn gated<S: FarStore>(store: S, opener: Opener) -> GateStore<S> {
     }
 }
 
-// Waits until a put is held, and then opens the gate. Says whether one came.
+// Waits until a put is held, and then opens the gate. Returns whether one came.
 fn release_when_held<S>(gate: &GateStore<S>) -> bool {
     for _ in 0..1_000_000 {
         if gate.held() {
@@ -50,12 +50,12 @@ fn release_when_held<S>(gate: &GateStore<S>) -> bool {
     false
 }
 
-// Why a put is not served, if it is not.
+// Returns why a put is not served, if it is not.
 fn unserved<S: FarStore>(store: &S, alloc: Global) -> Option<Why> {
     put(store, alloc, &[1]).err()
 }
 
-// Whether a put is served that is held until it is released, and the next one without.
+// Returns whether a put that is held is served once it is released, and the next one at once.
 fn serves_the_released<R: Threads, S: FarStore>(
     rt: &R,
     gate: &GateStore<S>,
@@ -66,7 +66,7 @@ fn serves_the_released<R: Threads, S: FarStore>(
     !is_held_before && came && [held, unserved(gate, alloc)] == [None, None]
 }
 
-// How two puts at once are answered.
+// Returns the replies to two puts at once.
 fn two_at_once<R: Threads, S: FarStore>(
     rt: &R,
     gate: &GateStore<S>,
@@ -76,7 +76,7 @@ fn two_at_once<R: Threads, S: FarStore>(
     [one, other]
 }
 
-// Whether a trial comes out on a gate.
+// Returns whether a trial comes out on a gate.
 fn comes_out<R: Threads + Sync, S: FarStore>(
     rt: &R,
     gate: &GateStore<S>,
@@ -93,7 +93,7 @@ fn comes_out<R: Threads + Sync, S: FarStore>(
     }
 }
 
-// Whether a trial comes out on a gate over a store that was made for it.
+// Returns whether a trial comes out on a gate over a store that was made for it.
 fn comes_out_on<R: Threads + Sync, S: FarStore>(
     rt: &R,
     alloc: Global,

@@ -6,7 +6,7 @@ use far_store::{FarRead, FarStore, FarTickets, Meter};
 use far_types::Refusal;
 use std::alloc::Global;
 
-// Why a call is not served, in the three ways that there are.
+// Why a call is refused: there are three reasons.
 #[derive(Clone, Copy, PartialEq, Eq)]
 pub enum Why {
     Fault,
@@ -14,7 +14,7 @@ pub enum Why {
     NoMemory,
 }
 
-// A caller that names these three has named all.
+// Puts bytes. A match on these three reasons is complete.
 pub fn put<S: FarStore>(store: &S, alloc: Global, bytes: &[u8]) -> Result<S::Ticket, Why>
     ensures { IfOk result (λ t. S.is_of t (S.store_id store.now)) }
 {
@@ -27,7 +27,7 @@ pub fn put<S: FarStore>(store: &S, alloc: Global, bytes: &[u8]) -> Result<S::Tic
     }
 }
 
-// A get is never refused by a store that is full.
+// Gets a content. That is never refused because the store is full.
 pub fn get<S: FarRead>(
     store: &S,
     alloc: Global,
@@ -44,7 +44,7 @@ pub fn get<S: FarRead>(
     }
 }
 
-// What is put is got.
+// Puts bytes, and gets the same bytes.
 pub fn round_trip<S: FarStore>(store: &S, alloc: Global, bytes: &[u8]) -> Result<Vec<u8>, Refusal>
     ensures whole { IfOk result (λ got. got.items ≡ bytes.now) }
     ensures refused { RefusedBy (21 ∷ 22 ∷ 1 ∷ []) result }
@@ -56,7 +56,7 @@ pub fn round_trip<S: FarStore>(store: &S, alloc: Global, bytes: &[u8]) -> Result
     Ok(buffer)
 }
 
-// A content moves from one store to another.
+// Carries a content from one store to another.
 pub fn carry_over<S: FarRead, N: FarStore>(
     from: &S,
     to: &N,
@@ -97,7 +97,7 @@ pub fn reads_alike<S: FarRead>(
     Ok(Some(buffer))
 }
 
-// The bytes that one of four threads puts as its n-th content.
+// Returns the bytes that one of four threads puts as its n-th content.
 fn nth_content(thread: u64, n: u64) -> [u8; 8] {
     n.wrapping_mul(4).wrapping_add(thread).to_le_bytes()
 }
@@ -119,7 +119,7 @@ pub fn puts_all<S: FarStore>(
     Ok(tickets)
 }
 
-// How many of these tickets give back what the thread put.
+// Returns how many of these tickets read what the thread put.
 pub fn gets_all<S: FarRead>(
     store: &S,
     alloc: Global,

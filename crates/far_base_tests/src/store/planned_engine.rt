@@ -1,4 +1,4 @@
-// An engine that fails in the calls in which it is told to.
+// An engine that fails in planned calls.
 use far_store::{Engine, Failure};
 use std::alloc::Global;
 use std::sync::atomic::{AtomicUsize, Ordering};
@@ -11,7 +11,7 @@ pub enum Turn {
     Fail,
 }
 
-// The engine failed as it was told to, or the engine under it failed.
+// The engine failed as planned, or the engine under it failed.
 #[derive(Drop)]
 pub struct Failed;
 
@@ -42,7 +42,7 @@ impl<E> PlannedEngine<E> {
     }
 }
 
-// The failure of the engine under it.
+// Returns the failure of the engine under it.
 fn passed_on<F: Drop>(failure: Failure<F>) -> Failure<Failed> {
     match failure {
         Failure::NoMemory => Failure::NoMemory,

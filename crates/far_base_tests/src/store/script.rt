@@ -8,12 +8,12 @@ use far_store::{FarRead, FarStore, FarTickets};
 use std::alloc::Global;
 use std::thread::Threads;
 
-// A call, or many, and the answer.
+// A call, or many, and the reply.
 #[derive(Clone, Copy)]
 pub enum Line {
-    // A put of these bytes draws this number, or is not served.
+    // A put of these bytes draws this number, or is refused.
     Put(&'static [u8], Result<u64, Why>),
-    // A get of what was put last replaces what the buffer has by these bytes, or is not served and leaves none.
+    // A get of what was put last replaces what the buffer has by these bytes, or is refused and leaves none.
     Get(Result<&'static [u8], Why>),
     // So many puts draw the numbers from 0 upwards.
     Fill(u64),
@@ -23,11 +23,11 @@ pub enum Line {
     ToShelf,
     // The generic callers are served by a shelf and the store.
     FromShelf,
-    // Of four threads that put so many contents each, so many read back all of their own, and so many meet a fault.
+    // Four threads put so many contents each: so many read back all of their own, and so many meet a fault.
     FourThreads(u64, usize, usize),
 }
 
-// Whether a store answers each line as it should.
+// Returns whether a store gives each line its reply.
 pub fn plays<R: Threads + Sync, S: FarStore>(
     rt: &R,
     store: &S,
@@ -45,7 +45,7 @@ pub fn plays<R: Threads + Sync, S: FarStore>(
 }
 
 impl Line {
-    // Whether a store answers so, given the ticket that it gave last.
+    // Returns whether a store gives the reply of a line. `ticket` is the one that it gave last.
     fn holds<R: Threads + Sync, S: FarStore>(
         self,
         rt: &R,
@@ -71,7 +71,7 @@ impl Line {
     }
 }
 
-// A put that is made again where it finds no memory, which is not wanted.
+// Makes a put, and makes it again if memory runs out and that is not the reply that is due.
 fn put_at_last<S: FarStore>(
     store: &S,
     alloc: Global,
@@ -86,7 +86,7 @@ fn put_at_last<S: FarStore>(
     }
 }
 
-// Whether a put is answered so.
+// Returns whether a put gets this reply.
 fn is_put<S: FarStore>(
     store: &S,
     alloc: Global,
@@ -107,7 +107,7 @@ fn is_put<S: FarStore>(
     }
 }
 
-// A get that is made again where it finds no memory, which is not wanted.
+// Makes a get, and makes it again if memory runs out and that is not the reply that is due.
 fn get_at_last<S: FarRead>(
     store: &S,
     alloc: Global,
@@ -123,7 +123,7 @@ fn get_at_last<S: FarRead>(
     }
 }
 
-// Whether a get by a copy of the last ticket is answered so.
+// Returns whether a get by a copy of the last ticket gets this reply.
 fn is_got<S: FarRead>(
     store: &S,
     alloc: Global,
@@ -143,7 +143,7 @@ fn is_got<S: FarRead>(
     }
 }
 
-// Whether so many puts draw the numbers from 0 upwards.
+// Returns whether so many puts draw the numbers from 0 upwards.
 fn are_drawn<S: FarStore>(store: &S, alloc: Global, count: u64) -> bool {
     for number in 0..count {
         if !is_put(store, alloc, &mut None, &[1, 2, 3], Ok(number)) {
@@ -153,7 +153,7 @@ fn are_drawn<S: FarStore>(store: &S, alloc: Global, count: u64) -> bool {
     true
 }
 
-// Whether so many puts of so many bytes find the store full.
+// Returns whether so many puts of so many bytes find the store full.
 fn stays_full<S: FarStore>(store: &S, alloc: Global, puts: u32, length: usize) -> bool {
     let Ok(content) = vec![in alloc; 0x61; length] else {
         return false;

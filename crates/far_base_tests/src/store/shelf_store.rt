@@ -37,7 +37,7 @@ impl SlotRule<Vec<u8>> for AnyContent {
 }
 
 impl ShelfStore {
-    /// A store of `capacity` places. Refused with `NoMemory` (1) alone.
+    /// Returns a store of `capacity` places. Refused with `NoMemory` (1) alone.
     pub fn new(alloc: Global, capacity: usize) -> Result<ShelfStore, Refusal>
         ensures { IfOk result (λ s. ⟦<ShelfStore as FarTickets>⟧.capacity_of s ≡ capacity) }
     {

@@ -5,7 +5,7 @@ use far_types::Refusal;
 use std::alloc::{AllocError, Global};
 use std::thread::{self, Threads};
 
-// How many of so many contents that a thread put it read back as they were put.
+// Returns how many of so many contents that a thread put it read back as they were put.
 fn own_contents<S: FarStore>(
     store: &S,
     alloc: Global,
@@ -16,7 +16,7 @@ fn own_contents<S: FarStore>(
     gets_all(store, alloc, thread, &tickets)
 }
 
-// Of four threads that put so many contents each, how many read back all of their own, and how many meet a fault.
+// Lets four threads put so many contents each. Returns how many read back all of their own, and how many meet a fault.
 pub fn read_back_by_four<R: Threads + Sync, S: FarStore>(
     rt: &R,
     store: &S,
@@ -32,7 +32,7 @@ pub fn read_back_by_four<R: Threads + Sync, S: FarStore>(
     Ok((had(&read, &Ok(puts)), had(&read, &Err(Refusal::FarFault))))
 }
 
-// How many of the answers are this one.
+// Returns how many of the results are this one.
 pub fn had<T: PartialEq>(answers: &[T], wanted: &T) -> usize {
     let mut count = 0usize;
     for answer in answers {

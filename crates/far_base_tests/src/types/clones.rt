@@ -4,11 +4,11 @@ use crate::types::samples::{row, schema, spec, text_key};
 use far_types::{Cell, Edit, Key, Kind, Refusal, Schema, Spec, clone_key};
 use std::alloc::Global;
 
-/// What is cloned where there is memory.
+/// What is cloned while memory is left.
 trait Cloned: Drop {
     fn cloned(&self) -> Result<Self, Refusal>;
 
-    /// Whether this is a clone of a value.
+    /// Returns whether this is a clone of a value.
     fn is_clone_of(&self, value: &Self) -> bool;
 }
 
@@ -28,7 +28,7 @@ impl Cloned for Schema {
     }
 }
 
-/// Whether these are the cells of the row of 1 and `a`.
+/// Returns whether these are the cells of the row of 1 and `a`.
 fn are_cells(cells: &[Cell]) -> bool {
     matches!(cells, [Cell::Int(1), Cell::Text(text)] if text.as_str() == "a")
 }

@@ -5,13 +5,13 @@ use far_types::{
 };
 use std::alloc::Global;
 
-/// A column of texts and one of numbers.
+/// Returns a column of texts and one of numbers.
 fn breads(alloc: Global) -> Result<Schema, Refusal> {
     let kinds = Vec::from_array(alloc, [Kind::Text, Kind::Int])?;
     Schema::new(kinds)
 }
 
-/// Whether limits are those of a table that has at most 1,000 rows.
+/// Returns whether limits are those of a table that has at most 1,000 rows.
 fn are_small_limits_allowed() -> bool {
     let limits = Limits {
         places: 1_000,
@@ -20,13 +20,13 @@ fn are_small_limits_allowed() -> bool {
     limits.check() == Ok(())
 }
 
-/// A row of a bread and how many were sold.
+/// Returns a row of a bread and how many were sold.
 fn sale(alloc: Global, bread: &str, sold: i64) -> Result<Row, Refusal> {
     let cells = [Cell::of_text(alloc, bread)?, Cell::from(sold)];
     Ok(Row::from(Vec::from_array(alloc, cells)?))
 }
 
-/// Whether each cell of a row has a value.
+/// Returns whether each cell of a row has a value.
 fn is_whole(row: &Row) -> bool {
     for cell in row {
         if let Cell::Missing = cell {
@@ -36,7 +36,7 @@ fn is_whole(row: &Row) -> bool {
     true
 }
 
-/// A text, a number, and a number that nobody knows.
+/// Returns a text, a number, and a number that is not known.
 fn cells(alloc: Global) -> Result<Vec<Cell>, Refusal> {
     let bread = Cell::of_text(alloc, "bread")?;
     let sold = Cell::from(5i64);
@@ -44,14 +44,14 @@ fn cells(alloc: Global) -> Result<Vec<Cell>, Refusal> {
     Ok(Vec::from_array(alloc, [bread, sold, unknown])?)
 }
 
-/// Whether texts are in the order of their bytes, and numbers in that of their values.
+/// Returns whether texts are in the order of their bytes, and numbers in that of their values.
 fn are_in_order(alloc: Global) -> Result<bool, Refusal> {
     let bread = Key::of_text(alloc, "bread")?;
     let rye = Key::of_text(alloc, "rye")?;
     Ok(bread < rye && Key::from(2i64) < Key::from(10i64))
 }
 
-/// The tests of rows of which more than two ryes were sold.
+/// Returns the tests of rows of which more than two ryes were sold.
 fn many_ryes(alloc: Global) -> Result<Filter, Refusal> {
     let is_rye = Test::text_is(alloc, 0, "rye")?;
     let are_many = Test::Int {
@@ -62,13 +62,13 @@ fn many_ryes(alloc: Global) -> Result<Filter, Refusal> {
     Ok(Filter::from(Vec::from_array(alloc, [is_rye, are_many])?))
 }
 
-/// How many were sold of each bread whose name begins with an r.
+/// Returns how many were sold of each bread whose name begins with an r.
 fn sold_by_bread(alloc: Global) -> Result<Spec, Refusal> {
     let begins_with_r = Test::text_begins(alloc, 0, "r")?;
     Spec::totals(alloc, 1).by(0).only(begins_with_r)
 }
 
-/// How many keys have a sum, or a least value, above 0.
+/// Returns how many keys have a sum, or a least value, above 0.
 fn lines_above_zero(answer: &Answer) -> usize {
     match answer {
         Answer::Totals(lines) => lines.iter().filter(|line| line.2 > 0).count(),
@@ -76,8 +76,8 @@ fn lines_above_zero(answer: &Answer) -> usize {
     }
 }
 
-/// What is printed of a schema without a column.
-fn told_of_no_column(alloc: Global) -> Result<String, Refusal> {
+/// Returns what is printed of a schema without a column.
+fn printed_of_no_column(alloc: Global) -> Result<String, Refusal> {
     match Schema::new(Vec::new(alloc)) {
         Ok(_) => Ok(String::new(alloc)),
         Err(refusal) => Ok(format!(in alloc; "{}: {refusal}", refusal.number())?),
@@ -102,11 +102,11 @@ fn is_spec_right(alloc: Global) -> Result<bool, Refusal> {
 }
 
 fn is_sentence_right(alloc: Global) -> Result<bool, Refusal> {
-    let told = told_of_no_column(alloc)?;
-    Ok(told.as_str() == "2: a table may not have this schema or these limits")
+    let printed = printed_of_no_column(alloc)?;
+    Ok(printed.as_str() == "2: a table may not have this schema or these limits")
 }
 
-/// Whether one of two lines is counted.
+/// Returns whether one of two lines is counted.
 fn are_totals_right(alloc: Global) -> Result<bool, Refusal> {
     let one = (Some(Key::from(1i64)), 1, 5);
     let other = (Some(Key::from(2i64)), 1, -5);

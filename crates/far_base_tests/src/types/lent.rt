@@ -1,11 +1,11 @@
-// Rows that are lent where they lie.
+// Rows that are lent in place.
 use far_types::{CellRef, LentRow};
 
 fn is_text(cell: Option<CellRef<'_>>, expected: &str) -> bool {
     matches!(cell, Some(CellRef::Text(text)) if text == expected)
 }
 
-/// Whether a row has its cells in order, and another cell in its column.
+/// Returns whether a row has its cells in order, and another cell in its column.
 fn has_its_cells() -> bool {
     let mut row = LentRow::new();
     row.push(CellRef::Int(1));

@@ -1,7 +1,7 @@
 // The usual limits.
 use far_types::Limits;
 
-/// Those in row groups of four places.
+/// The usual limits, in row groups of four places.
 const FOURS: Limits = Limits {
     group: 4,
     places: 16_777_216,

@@ -7,7 +7,7 @@ use std::alloc::Global;
 /// What a row gives to an aggregate.
 type Pair = Option<(Option<Key>, i64)>;
 
-/// The pair of a row by the totals of its number, 7, under its second cell, where this key is at hand.
+/// Returns the pair of a row by the totals of its number, 7, under its second cell, if this key is at hand.
 fn pair_under(alloc: Global, cell: CellRef<'_>, earlier: Option<Key>) -> Result<Pair, Refusal> {
     let mut row = LentRow::new();
     row.push(CellRef::Int(7));
@@ -16,14 +16,14 @@ fn pair_under(alloc: Global, cell: CellRef<'_>, earlier: Option<Key>) -> Result<
     spec.lend_pair(&row).pair(alloc, earlier)
 }
 
-/// Whether a row gives its value under its text, where the key of a number is at hand.
+/// Returns whether a row gives its value under its text, if the key of a number is at hand.
 fn is_under_text(alloc: Global) -> Result<bool, Refusal> {
     let key = text_key(alloc, "ab")?;
     let pair = pair_under(alloc, CellRef::Text("ab"), Some(Key::Int(3)));
     are_equal(pair, Ok(Some((Some(key), 7))))
 }
 
-/// Whether a row gives the same in hand and lent.
+/// Returns whether a row gives the same in hand and lent.
 fn gives_the_same(alloc: Global, row: &Row) -> Result<bool, Refusal> {
     if row.len() > 16 {
         return Ok(false);

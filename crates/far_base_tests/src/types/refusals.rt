@@ -35,7 +35,7 @@ static REFUSALS: [(Refusal, u32, &str); 23] = [
     (Refusal::EditsUsedUp, 24, "EditsUsedUp"),
 ];
 
-fn are_told() -> bool {
+fn are_as_listed() -> bool {
     for (refusal, number, name) in &REFUSALS {
         if refusal.number() != *number || refusal.name() != *name {
             return false;
@@ -46,5 +46,5 @@ fn are_told() -> bool {
 
 #[test]
 fn each_refusal_has_its_number_and_name(rt: HostRuntime) {
-    assert!(rt; are_told());
+    assert!(rt; are_as_listed());
 }

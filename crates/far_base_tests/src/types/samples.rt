@@ -6,23 +6,23 @@ pub fn text(alloc: Global, bytes: &str) -> Result<Text, Refusal> {
     Ok(Text::new(String::from_str(alloc, bytes)?))
 }
 
-/// The key that a text is.
+/// Returns the key that a text is.
 pub fn text_key(alloc: Global, bytes: &str) -> Result<Key, Refusal> {
     Ok(Key::Text(text(alloc, bytes)?))
 }
 
-/// The row of the number 1 and the text `a`.
+/// Returns the row of the number 1 and the text `a`.
 pub fn row(alloc: Global) -> Result<Row, Refusal> {
     let cells = [Cell::Int(1), Cell::Text(text(alloc, "a")?)];
     Ok(Row::new(Vec::from_array(alloc, cells)?))
 }
 
-/// A column of numbers and one of texts.
+/// Returns a column of numbers and one of texts.
 pub fn schema(alloc: Global) -> Result<Schema, Refusal> {
     Schema::new(Vec::from_array(alloc, [Kind::Int, Kind::Text])?)
 }
 
-/// The extrema of column 0 by column 1, over the rows whose text there begins with `a`.
+/// Returns the extrema of column 0 by column 1, over the rows whose text there begins with `a`.
 pub fn spec(alloc: Global) -> Result<Spec, Refusal> {
     let text = text(alloc, "a")?;
     Spec::extrema(alloc, 0)

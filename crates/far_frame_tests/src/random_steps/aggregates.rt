@@ -6,7 +6,7 @@ use crate::call::{EXTREMA, TOTALS, TOTALS_BY_TEXT, Value, Values, Watched};
 use far_types::{Fold, Op, Refusal};
 
 /// How many aggregates are registered at most.
-const SLOTS: u32 = 32;
+const MOST: u32 = 32;
 
 /// How many numbers are kept. Calls name some that are never given out: no aggregate stands there.
 pub const NUMBERS: usize = 64;
@@ -66,13 +66,13 @@ pub static DRAWN: [Watched; 12] = [
     },
 ];
 
-// The bit of a column.
+// Returns the bit of a column.
 fn bit(column: u32) -> u32 {
     1u32.wrapping_shl(column)
 }
 
 impl Watched {
-    // The columns that it folds or tests, a bit for each.
+    // Returns the columns that it folds or tests, a bit for each.
     fn folded(&self) -> u32 {
         let mut columns = bit(self.value);
         for test in self.tests {
@@ -81,7 +81,7 @@ impl Watched {
         columns
     }
 
-    // The columns that it needs.
+    // Returns the columns that it needs.
     fn columns(&self) -> u32 {
         match self.key {
             Some(column) => self.folded() | bit(column),
@@ -89,7 +89,7 @@ impl Watched {
         }
     }
 
-    // Why a table has it not.
+    // Returns why a table has it not.
     fn refusal(&self) -> Option<Refusal> {
         if self.tests.len() > 4 {
             Some(Refusal::BadSpec)
@@ -110,7 +110,7 @@ impl Watched {
         }
     }
 
-    // Whether a row passes its tests.
+    // Returns whether a row passes its tests.
     fn keeps(&self, values: &Values) -> bool {
         let mut keeps = true;
         for test in self.tests {
@@ -119,7 +119,7 @@ impl Watched {
         keeps
     }
 
-    // The value of a row that stands under a key, if it has one and is kept. Without a key column each row stands under none.
+    // Returns the value of a row that stands under a key, if it has one and is kept. Without a key column each row stands under none.
     fn value_under(&self, values: &Values, key: Value) -> Option<i128> {
         let own = match self.key {
             Some(column) => values[column as usize % 4],
@@ -133,7 +133,7 @@ impl Watched {
     }
 }
 
-// Whether a value is a number that stands so to a constant.
+// Returns whether a value is a number that stands so to a constant.
 fn holds(value: Value, op: Op, constant: i64) -> bool {
     let Value::Int(number) = value else {
         return false;
@@ -187,7 +187,7 @@ impl Sums {
         }
     }
 
-    // The line of a key.
+    // Returns the line of a key.
     fn line(self, fold: Fold, key: Value) -> Line {
         match fold {
             Fold::Totals => (key, self.count, self.sum),
@@ -197,14 +197,14 @@ impl Sums {
 }
 
 impl Plain {
-    /// The aggregate of a number.
+    /// Returns the aggregate of a number.
     pub fn aggregate(&self, a: u32) -> Aggregate {
         self.aggregates[a as usize % NUMBERS]
     }
 
-    // The lowest free number.
+    // Returns the lowest free number.
     fn free(&self) -> Option<u32> {
-        for a in 0..SLOTS {
+        for a in 0..MOST {
             if !self.aggregate(a).registered {
                 return Some(a);
             }
@@ -212,7 +212,7 @@ impl Plain {
         None
     }
 
-    /// An aggregate is registered under the lowest free number, with all row groups still pending.
+    /// Registers an aggregate under the lowest free number, with all row groups pending. Returns the reply that is due.
     pub fn watch(&mut self, watched: Watched) -> Due<'static> {
         match (watched.refusal(), self.free()) {
             (Some(refusal), _) => Due::Refused(refusal),
@@ -231,26 +231,26 @@ impl Plain {
         }
     }
 
-    // Why nothing is asked of an aggregate.
+    // Returns why nothing is asked of an aggregate.
     fn unknown(&self, a: u32) -> Option<Refusal> {
         let is_free = !self.aggregate(a).registered;
         is_free.then_some(Refusal::NoAggregate)
     }
 
-    /// An aggregate is forgotten.
+    /// Forgets an aggregate, or returns why not.
     pub fn unwatch(&mut self, a: u32) -> Option<Refusal> {
         let refusal = self.unknown(a);
         self.aggregates[a as usize % NUMBERS] = FREE;
         refusal
     }
 
-    /// A row group is built into an aggregate.
+    /// Scans a row group into an aggregate.
     pub fn build(&mut self, a: u32, group: u32) {
         let aggregate = &mut self.aggregates[a as usize % NUMBERS];
         aggregate.pending &= !bit(group);
     }
 
-    /// Why a row group is not there and still pending in an aggregate.
+    /// Returns why a row group is not there and still pending in an aggregate.
     pub fn build_refusal(&self, a: u32, group: u32) -> Option<Refusal> {
         if group >= self.groups() {
             self.unknown(a).or(Some(Refusal::OutOfRange))
@@ -261,13 +261,13 @@ impl Plain {
         }
     }
 
-    /// Why it is not scanned.
+    /// Returns why it is not scanned.
     pub fn scan_refusal(&self, a: u32, group: u32) -> Option<Refusal> {
         let away = self.some_away(self.aggregate(a).columns, group);
         self.build_refusal(a, group).or(away)
     }
 
-    /// A row group is scanned.
+    /// Scans a row group into an aggregate, or returns why not.
     pub fn scan(&mut self, a: u32, group: u32) -> Option<Refusal> {
         let refusal = self.scan_refusal(a, group);
         if refusal.is_none() {
@@ -276,7 +276,7 @@ impl Plain {
         refusal
     }
 
-    /// An aggregate is asked.
+    /// Asks an aggregate, and returns the reply that is due.
     pub fn ask(&mut self, a: u32) -> Due<'_> {
         let left = self.aggregate(a).pending.count_ones();
         let is_pending = left > 0;
@@ -286,7 +286,7 @@ impl Plain {
         self.answer_or(refusal, a)
     }
 
-    /// The lines of an aggregate, unless they are refused.
+    /// Returns the lines of an aggregate, unless they are refused.
     pub fn answer_or(&mut self, refusal: Option<Refusal>, a: u32) -> Due<'_> {
         if let Some(refusal) = refusal {
             return Due::Refused(refusal);
@@ -314,7 +314,7 @@ impl Plain {
         count.saturating_add(usize::from(is_total || sums.count > 0))
     }
 
-    // What stands under a key, over the places that are alive.
+    // Returns what stands under a key, over the places that are alive.
     fn sums(&self, watched: &Watched, key: Value) -> Sums {
         let mut sums = Sums {
             count: 0,

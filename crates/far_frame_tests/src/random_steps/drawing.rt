@@ -47,18 +47,18 @@ pub fn keys_of(kind: Kind) -> &'static [Value] {
     }
 }
 
-/// The kind of a column; of numbers if there is none.
+/// Returns the kind of a column; of numbers if there is none.
 pub fn kind_of(column: u32) -> Kind {
     KINDS[column as usize % 4]
 }
 
-// Whether a value that is drawn of a column is of texts. One time in twenty it is of the other kind.
+// Returns whether a value that is drawn of a column is of texts. One time in twenty it is of the other kind.
 fn draws_text(draws: &mut Draws, column: u32) -> bool {
     let is_other = draws.below(20) == 0;
     is_other != (kind_of(column) == Kind::Text)
 }
 
-/// A value of a column, one time in twenty of the other kind.
+/// Returns a value of a column, one time in twenty of the other kind.
 fn drawn_value(draws: &mut Draws, column: u32) -> Value {
     if draws_text(draws, column) {
         nth(&TEXTS, draws.below(6))
@@ -67,7 +67,7 @@ fn drawn_value(draws: &mut Draws, column: u32) -> Value {
     }
 }
 
-// The n-th of values, from 1 on. None is missing.
+// Returns the n-th of values, from 1 on. None is missing.
 fn nth(values: &[Value], n: u32) -> Value {
     match values.get((n as usize).wrapping_sub(1)) {
         Some(value) => *value,
@@ -97,7 +97,7 @@ fn drawn_edit(draws: &mut Draws, len: u32) -> Call {
     }
 }
 
-/// A step about aggregates.
+/// Returns a step about aggregates.
 fn drawn_asking(draws: &mut Draws, len: u32) -> Call {
     let a = draws.below(34);
     let group = draws.below(len.saturating_add(4)) / SIZE;
@@ -114,7 +114,7 @@ fn drawn_asking(draws: &mut Draws, len: u32) -> Call {
     }
 }
 
-/// A step that moves objects, or lends them, but for the later ones of jobs.
+/// Returns a step that moves objects, or lends them, but for the later ones of jobs.
 fn drawn_move(draws: &mut Draws, len: u32) -> Call {
     let column = draws.below(33) / 8;
     let group = draws.below(len.saturating_add(3)) / SIZE;
@@ -140,7 +140,7 @@ fn drawn_lending(draws: &mut Draws, column: u32, len: u32) -> Call {
     }
 }
 
-/// A later step of a job, mostly of one of the last that were begun and of its kind.
+/// Returns a later step of a job, mostly of one of the last that were begun and of its kind.
 fn drawn_work(draws: &mut Draws, plain: &Plain) -> Call {
     let back = u64::from(draws.below(6));
     let n = plain.begun.wrapping_sub(back);
@@ -153,7 +153,7 @@ fn drawn_work(draws: &mut Draws, plain: &Plain) -> Call {
     }
 }
 
-/// The next step. It may name what is not there.
+/// Returns the next step. It may name what is not there.
 pub fn drawn_call(draws: &mut Draws, plain: &Plain) -> Call {
     let len = plain.len;
     match draws.below(20) {
@@ -164,7 +164,7 @@ pub fn drawn_call(draws: &mut Draws, plain: &Plain) -> Call {
     }
 }
 
-/// Of each kind of look, that of a number, if there is one. Together they show all of a table that calls tell.
+/// Of each kind of look, that of a number, if there is one. Together they show all of a table that calls show.
 pub fn look(kind: u32, n: u32) -> Option<Call> {
     match kind {
         0 if n <= PLACES => Some(Call::Row(n)),

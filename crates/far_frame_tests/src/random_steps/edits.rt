@@ -9,7 +9,7 @@ use far_types::{Kind, Refusal};
 /// All columns, a bit for each.
 pub const ALL: u32 = 0b1111;
 
-// Whether a value may stand in a column of this kind.
+// Returns whether a value may stand in a column of this kind.
 fn is_of_kind(value: Value, kind: Kind) -> bool {
     match value {
         Value::Missing => true,
@@ -18,7 +18,7 @@ fn is_of_kind(value: Value, kind: Kind) -> bool {
     }
 }
 
-// Why so many of these values are no row.
+// Returns why so many of these values are no row.
 fn row_refusal(values: &Values, width: u32) -> Option<Refusal> {
     let mut fits = true;
     for column in 0..COLUMNS {
@@ -34,7 +34,7 @@ fn row_refusal(values: &Values, width: u32) -> Option<Refusal> {
     }
 }
 
-// How many bytes a value has in the far form of texts: those of its end and its own.
+// Returns how many bytes a value has in the far form of texts: those of its end and its own.
 fn len_in_form(value: Value) -> u32 {
     match value {
         Value::Text(letters) => u32::try_from(letters.len())
@@ -52,7 +52,7 @@ fn is_missing(value: Value) -> bool {
 }
 
 impl Plain {
-    // The value of a column at a place, once one of the places has this value; none if there is no such place.
+    // Returns the value of a column at a place, once one of the places has this value; none if there is no such place.
     fn value_then(&self, column: u32, p: u32, place: u32, value: Value) -> Option<Value> {
         if p == place {
             Some(value)
@@ -85,7 +85,7 @@ impl Plain {
         }
     }
 
-    // Why some text object is too long for a segment, once a place has these values.
+    // Returns why some text object is too long for a segment, once a place has these values.
     fn long_refusal(&self, place: u32, values: &Values) -> Option<Refusal> {
         let mut len = 0;
         for column in 0..COLUMNS {
@@ -96,7 +96,7 @@ impl Plain {
         is_long.then_some(Refusal::ChunkFull)
     }
 
-    // Why one more edit is not accepted: its objects do not fit, or the edits are used up.
+    // Returns why one more edit is not accepted: its objects do not fit, or the edits are used up.
     fn last_refusal(&self, fits: bool) -> Option<Refusal> {
         let is_last = self.edits >= self.limits.edits;
         (!fits)
@@ -104,7 +104,7 @@ impl Plain {
             .or(is_last.then_some(Refusal::EditsUsedUp))
     }
 
-    // Whether the list that an object gets, once a place has this value, fits beside all that is there. Numbers get one only if
+    // Returns whether the list that an object gets, once a place has this value, fits beside all that is there. Numbers get one only if
     // their row group begins.
     fn reserve_one(&mut self, place: u32, column: u32, value: Value, begins: bool) -> bool {
         let (kind, group) = (kind_of(column), place / SIZE);
@@ -116,7 +116,7 @@ impl Plain {
         }
     }
 
-    // The same of all objects of a row group, once a place has these values.
+    // The same for all objects of a row group, once a place has these values.
     fn reserve_all(&mut self, place: u32, values: &Values) -> bool {
         let mut fits = true;
         for column in 0..COLUMNS {
@@ -126,7 +126,7 @@ impl Plain {
         fits
     }
 
-    // A row is there, and its objects have it.
+    // Appends a row, to the list and to the objects.
     fn append(&mut self, place: u32, values: &Values) {
         self.rows[place as usize % 18] = Place {
             values: *values,
@@ -139,7 +139,7 @@ impl Plain {
         }
     }
 
-    // Why some object of the row group of the next place is not local. One that the place begins is.
+    // Returns why some object of the row group of the next place is not local. One that the place begins is.
     fn next_away(&self) -> Option<Refusal> {
         if self.len % SIZE == 0 {
             None
@@ -148,7 +148,7 @@ impl Plain {
         }
     }
 
-    // Why a row is not inserted, whatever space there is.
+    // Returns why a row is not inserted, whatever space there is.
     fn insert_refusal(&self, values: &Values, width: u32) -> Option<Refusal> {
         let is_full = self.len >= PLACES;
         row_refusal(values, width)
@@ -157,7 +157,7 @@ impl Plain {
             .or(self.long_refusal(self.len, values))
     }
 
-    /// A row more. It fits, if it begins a row group for objects that have no list yet, and is appended.
+    /// Inserts a row, and returns the reply that is due. It fits if it begins a row group, whose objects have no list yet.
     pub fn insert(&mut self, values: &Values, width: u32) -> Due<'static> {
         let place = self.len;
         let refusal = self.insert_refusal(values, width);
@@ -173,13 +173,13 @@ impl Plain {
         due
     }
 
-    /// Whether a place is alive, if there is one.
+    /// Returns whether a place is alive, if there is one.
     pub fn alive(&self, place: u32) -> Option<bool> {
         let is_there = place < self.len;
         is_there.then_some(self.rows[place as usize % 18].alive)
     }
 
-    /// Why a place is not alive.
+    /// Returns why a place is not alive.
     pub fn dead(&self, place: u32) -> Option<Refusal> {
         match self.alive(place) {
             None => Some(Refusal::NoRow),
@@ -188,12 +188,12 @@ impl Plain {
         }
     }
 
-    // Why a place is not edited.
+    // Returns why a place is not edited.
     fn edit_refusal(&self, place: u32) -> Option<Refusal> {
         self.dead(place).or(self.some_away(ALL, place / SIZE))
     }
 
-    // Why a value is not set, whatever space there is.
+    // Returns why a value is not set, whatever space there is.
     fn set_refusal(&self, place: u32, column: u32, value: Value) -> Option<Refusal> {
         let is_wrong = !is_of_kind(value, kind_of(column));
         let len = self.list_len(column, place / SIZE, place, value);
@@ -219,7 +219,7 @@ impl Plain {
         refusal
     }
 
-    /// A place is dead from now on.
+    /// Removes the row of a place, or returns why not.
     pub fn remove(&mut self, place: u32) -> Option<Refusal> {
         let refusal = self.edit_refusal(place).or(self.last_refusal(true));
         if refusal.is_none() {

@@ -50,7 +50,7 @@ pub const SPENT: Job = Job {
 const KEPT: u64 = 8;
 
 impl Plain {
-    /// The step that ends the job of a number by its kind.
+    /// Returns the step that ends the job of a number by its kind.
     pub fn end_of(&self, n: u64) -> Call {
         match self.job(n).kind {
             JobKind::Evac => Call::Commit(n),
@@ -59,7 +59,7 @@ impl Plain {
         }
     }
 
-    // The job of a number.
+    // Returns the job of a number.
     fn job(&self, n: u64) -> Job {
         if n < self.begun {
             self.jobs[(n % KEPT) as usize]
@@ -68,7 +68,7 @@ impl Plain {
         }
     }
 
-    // One job more, unless it is refused.
+    // Adds a job, unless it is refused. Returns the reply that is due.
     fn add(&mut self, refusal: Option<Refusal>, job: Job) -> Due<'static> {
         let n = self.begun;
         let is_last = n >= self.limits.edits;
@@ -82,7 +82,7 @@ impl Plain {
         }
     }
 
-    // A job on an object.
+    // Returns a job on an object.
     fn job_on(&self, kind: JobKind, column: u32, group: u32) -> Job {
         let object = self.object(column, group);
         Job {
@@ -97,14 +97,14 @@ impl Plain {
         }
     }
 
-    /// An evacuation begins.
+    /// Begins an evacuation, and returns the reply that is due.
     pub fn evac(&mut self, column: u32, group: u32) -> Due<'static> {
         let refusal = self.away(column, group);
         let job = self.job_on(JobKind::Evac, column, group);
         self.add(refusal, job)
     }
 
-    /// A fetch begins.
+    /// Begins a fetch, and returns the reply that is due.
     pub fn fetch(&mut self, column: u32, group: u32) -> Due<'static> {
         let is_local = self.object(column, group).part.is_some();
         let refusal = self
@@ -114,13 +114,13 @@ impl Plain {
         self.add(refusal, job)
     }
 
-    // The number under which the store has a row group of a column as it is now.
+    // Returns the number under which the store has a row group of a column as it is now.
     fn copy(&self, column: u32, group: u32) -> Option<u64> {
         let object = self.object(column, group);
         if object.dirty { None } else { object.ticket }
     }
 
-    // A build of a row group into an aggregate. It cannot be begun if the store has not all of what it needs.
+    // Returns a build of a row group into an aggregate. It cannot be begun if the store has not all of what it needs.
     fn offload_job(&self, a: u32, group: u32) -> Job {
         let aggregate = self.aggregate(a);
         let first = group.saturating_mul(SIZE);
@@ -145,21 +145,21 @@ impl Plain {
         job
     }
 
-    /// Why a build is not offloaded.
+    /// Returns why a build is not offloaded.
     pub fn offload_refusal(&self, a: u32, group: u32) -> Option<Refusal> {
         let is_stale = self.offload_job(a, group).spent;
         self.build_refusal(a, group)
             .or(is_stale.then_some(Refusal::StaleJob))
     }
 
-    /// An offloaded build begins.
+    /// Begins an offloaded build, and returns the reply that is due.
     pub fn offload(&mut self, a: u32, group: u32) -> Due<'static> {
         let refusal = self.offload_refusal(a, group);
         let job = self.offload_job(a, group);
         self.add(refusal, job)
     }
 
-    // The contents of a build are read, or why they are not.
+    // Reads the contents of a build, or returns why not.
     fn read_all(&mut self, job: &Job) -> Option<Refusal> {
         let mut refusal = None;
         for column in 0..4usize {
@@ -170,7 +170,7 @@ impl Plain {
         refusal
     }
 
-    // The content of a job is read or put, or why it is not.
+    // Reads or puts the content of a job, or returns why not.
     fn carried(&mut self, job: &Job) -> Option<Refusal> {
         match job.kind {
             JobKind::Evac if job.ticket.is_some() => None,
@@ -180,7 +180,7 @@ impl Plain {
         }
     }
 
-    /// The job of a number is carried.
+    /// Carries the job of a number, or returns why not.
     pub fn carry(&mut self, n: u64) -> Option<Refusal> {
         let mut job = self.job(n);
         if job.spent || job.carried {
@@ -195,7 +195,7 @@ impl Plain {
         refusal
     }
 
-    /// The job of a number ends as one of this kind. It is spent once it was accepted or stale.
+    /// Ends the job of a number as one of this kind, or returns why not. It is spent once it was accepted or stale.
     pub fn end(&mut self, n: u64, kind: JobKind) -> Option<Refusal> {
         let job = self.job(n);
         let refusal = if job.spent || job.kind != kind {
@@ -214,12 +214,12 @@ impl Plain {
         refusal
     }
 
-    // Whether a job is a build into an aggregate that is not registered.
+    // Returns whether a job is a build into an aggregate that is not registered.
     fn is_forgotten(&self, job: &Job) -> bool {
         job.kind == JobKind::Offload && !self.aggregate(job.aggregate).registered
     }
 
-    // A job that was carried ends, or why it does not.
+    // Ends a job that was carried, or returns why not.
     fn ended(&mut self, job: &Job) -> Option<Refusal> {
         match job.kind {
             JobKind::Evac => self.commit(job),
@@ -228,7 +228,7 @@ impl Plain {
         }
     }
 
-    // The object of an evacuation goes away.
+    // Sends the object of an evacuation away, or returns why not.
     fn commit(&mut self, job: &Job) -> Option<Refusal> {
         let o = index(job.column, job.group) % OBJECTS;
         let object = self.objects[o];
@@ -250,7 +250,7 @@ impl Plain {
         }
     }
 
-    // The object of a fetch comes back.
+    // Brings the object of a fetch back, or returns why not.
     fn install(&mut self, job: &Job) -> Option<Refusal> {
         let o = index(job.column, job.group) % OBJECTS;
         let object = self.objects[o];
@@ -273,7 +273,7 @@ impl Plain {
         }
     }
 
-    // Whether what a build rests on holds still.
+    // Returns whether what a build rests on holds still.
     fn holds(&self, job: &Job) -> bool {
         let now = self.offload_job(job.aggregate, job.group);
         let same = now.tickets == job.tickets && now.alive == job.alive;
@@ -281,7 +281,7 @@ impl Plain {
             && self.offload_refusal(job.aggregate, job.group).is_none()
     }
 
-    // The row group of a build into a registered aggregate is scanned.
+    // Scans the row group of a build into its aggregate, or returns why not.
     fn merge(&mut self, job: &Job) -> Option<Refusal> {
         if self.holds(job) {
             self.build(job.aggregate, job.group);

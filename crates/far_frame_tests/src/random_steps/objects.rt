@@ -54,7 +54,7 @@ struct Region {
     size: u32,
 }
 
-// Where the objects of a kind lie.
+// Returns where the objects of a kind lie.
 fn region_of(limits: &Limits, kind: Kind) -> Region {
     match kind {
         Kind::Int => Region {
@@ -70,7 +70,7 @@ fn region_of(limits: &Limits, kind: Kind) -> Region {
     }
 }
 
-// Where a part of this segment ends, else 0.
+// Returns where a part of this segment ends, else 0.
 fn end_in(part: Option<Part>, segment: u32) -> u32 {
     match part {
         Some(part) if part.segment == segment => part.offset.saturating_add(part.len),
@@ -78,12 +78,12 @@ fn end_in(part: Option<Part>, segment: u32) -> u32 {
     }
 }
 
-/// Whether an object is of a kind, by its index.
+/// Returns whether an object is of a kind, by its index.
 pub fn is_of(o: u32, kind: Kind) -> bool {
     kind_of(o % COLUMNS) == kind
 }
 
-/// The index of the object of a row group of a column.
+/// Returns the index of the object of a row group of a column.
 pub fn index(column: u32, group: u32) -> usize {
     group.saturating_mul(COLUMNS).saturating_add(column) as usize
 }
@@ -111,7 +111,7 @@ impl Object {
 }
 
 impl Plain {
-    /// Why there is no object of a row group of a column.
+    /// Returns why there is no object of a row group of a column.
     pub fn missing(&self, column: u32, group: u32) -> Option<Refusal> {
         if column >= COLUMNS {
             Some(Refusal::NoColumn)
@@ -122,12 +122,12 @@ impl Plain {
         }
     }
 
-    /// The object of a row group of a column; if there is none, any.
+    /// Returns the object of a row group of a column; if there is none, any.
     pub fn object(&self, column: u32, group: u32) -> Object {
         self.objects[index(column, group) % OBJECTS]
     }
 
-    /// Why it is not local.
+    /// Returns why it is not local.
     pub fn away(&self, column: u32, group: u32) -> Option<Refusal> {
         let refusal = self.missing(column, group);
         match self.object(column, group).part {
@@ -136,7 +136,7 @@ impl Plain {
         }
     }
 
-    /// Why not all of these columns of a row group are local. Each has a bit.
+    /// Returns why not all of these columns of a row group are local. Each has a bit.
     pub fn some_away(&self, columns: u32, group: u32) -> Option<Refusal> {
         let mut refusal = None;
         for column in 0..COLUMNS {
@@ -147,7 +147,7 @@ impl Plain {
         refusal
     }
 
-    // Where the last part of a segment ends.
+    // Returns where the last part of a segment ends.
     fn fill(&self, segment: u32) -> u32 {
         let mut fill = 0;
         for object in self.objects.iter() {
@@ -157,7 +157,7 @@ impl Plain {
         fill
     }
 
-    /// The lowest segment that takes a list behind all that it has.
+    /// Returns the lowest segment that takes a list behind all that it has.
     pub fn spot(&self, kind: Kind, len: u32) -> Option<Part> {
         let region = region_of(&self.limits, kind);
         for segment in region.first..region.end {
@@ -173,7 +173,7 @@ impl Plain {
         None
     }
 
-    /// Whether the next list of an object fits. If it does, it takes its space.
+    /// Returns whether the next list of an object fits. If it does, it takes its space.
     pub fn reserve(&mut self, o: usize, kind: Kind, len: u32) -> bool {
         let part = self.spot(kind, len);
         self.objects[o % OBJECTS].next = part;
@@ -187,13 +187,13 @@ impl Plain {
         }
     }
 
-    /// The time of a use, which is later than those before.
+    /// Returns the time of a use, which is later than those before.
     pub fn now(&mut self) -> u64 {
         self.uses = self.uses.wrapping_add(1);
         self.uses
     }
 
-    /// An object is written: in its place, or where its next list lies.
+    /// Writes an object: in its place, or where its next list lies.
     pub fn write(&mut self, o: usize) {
         let now = self.now();
         let object = &mut self.objects[o % OBJECTS];
@@ -205,7 +205,7 @@ impl Plain {
         object.version = object.version.wrapping_add(1);
     }
 
-    /// An object has so many pins more, unless it is refused.
+    /// Adds so many pins to an object, unless that is refused.
     pub fn pin(&mut self, refusal: Option<Refusal>, o: usize, more: u32) -> Option<Refusal> {
         if refusal.is_none() {
             let object = &mut self.objects[o % OBJECTS];
@@ -214,14 +214,14 @@ impl Plain {
         refusal
     }
 
-    /// Why a pin is not taken off.
+    /// Returns why a pin is not removed.
     pub fn unpin_refusal(&self, column: u32, group: u32) -> Option<Refusal> {
         let is_free = self.object(column, group).pins == 0;
         self.missing(column, group)
             .or(is_free.then_some(Refusal::NotPinned))
     }
 
-    // The object of a kind that goes away first: the one that was used longest ago, of those that are not hot if there is one.
+    // Returns the object of a kind that goes away first: the one that was used longest ago, of those that are not hot if there is one.
     fn coldest_of(&self, kind: Kind) -> Option<Name> {
         let mut found = None;
         let mut least = u64::MAX;
@@ -251,7 +251,7 @@ impl Plain {
         (space, all)
     }
 
-    /// The object that goes away first: of the kind that has less space, in proportion, if it has one.
+    /// Returns the object that goes away first: of the kind that has less space, in proportion, if it has one.
     pub fn coldest(&self) -> Option<Name> {
         let (numbers, all_numbers) = self.space(Kind::Int);
         let (texts, all_texts) = self.space(Kind::Text);
@@ -263,7 +263,7 @@ impl Plain {
         }
     }
 
-    // The lowest of these segments without parts but one.
+    // Returns the lowest of these segments without parts but one.
     fn empty_other(&self, region: Region, segment: u32) -> Option<u32> {
         for other in region.first..region.end {
             if other != segment && self.fill(other) == 0 {
@@ -273,7 +273,7 @@ impl Plain {
         None
     }
 
-    // The object that is moved out of a segment first: that of the lowest part, of those that are hot if there is one.
+    // Returns the object that is moved out of a segment first: that of the lowest part, of those that are hot if there is one.
     fn first_in(&self, segment: u32) -> Option<usize> {
         let mut found = None;
         let mut least = u32::MAX;
@@ -288,7 +288,7 @@ impl Plain {
         found
     }
 
-    // The object that is moved out of a segment first, if there is one, is moved to the end of another, and is not hot.
+    // Moves the first object of a compaction, if there is one, to the end of another segment. It is not hot then.
     fn move_first(&mut self, segment: u32, to: u32) {
         let offset = self.fill(to);
         if let Some(o) = self.first_in(segment) {
@@ -298,7 +298,7 @@ impl Plain {
         }
     }
 
-    /// A segment is compacted into the lowest other one without parts.
+    /// Compacts a segment into the lowest other one without parts, or returns why not.
     pub fn compact(&mut self, kind: Kind, segment: u32) -> Option<Refusal> {
         let region = region_of(&self.limits, kind);
         let segment = region.first.saturating_add(segment);
@@ -315,7 +315,7 @@ impl Plain {
     }
 }
 
-// A part, moved to a place in a segment.
+// Returns a part, moved to a place in a segment.
 fn moved(part: Option<Part>, segment: u32, offset: u32) -> Option<Part> {
     match part {
         Some(part) => Some(Part {
@@ -327,7 +327,7 @@ fn moved(part: Option<Part>, segment: u32, offset: u32) -> Option<Part> {
     }
 }
 
-/// Whether a column is among others, each of which has a bit.
+/// Returns whether a column is among others, each of which has a bit.
 pub fn has(columns: u32, column: u32) -> bool {
     columns.wrapping_shr(column) % 2 == 1
 }

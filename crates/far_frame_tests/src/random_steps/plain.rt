@@ -28,7 +28,7 @@ pub struct Accesses {
 
 /// All that a step can see or change: how many places there are and the rows, how often objects were used, and each, by row group and
 /// there by column, what was lent of each column, the aggregates by number, how many jobs were begun and the last of them, and the
-/// store. The last three lists are what the last call answered.
+/// store. The last three lists are what the last call returned.
 #[derive(Drop)]
 pub struct Plain {
     pub limits: Limits,
@@ -82,12 +82,12 @@ impl Plain {
         }
     }
 
-    /// How many row groups have a place.
+    /// Returns how many row groups have a place.
     pub fn groups(&self) -> u32 {
         self.len.div_ceil(SIZE)
     }
 
-    // Why a part of a column is not lent.
+    // Returns why a part of a column is not lent.
     fn lend_refusal(&self, column: u32, from: u32, to: u32) -> Option<Refusal> {
         let is_wrong = from > to || to > self.len;
         let mut refusal = (column >= COLUMNS)
@@ -101,14 +101,14 @@ impl Plain {
         refusal
     }
 
-    /// A part of a column is lent.
+    /// Lends a part of a column, and returns the reply that is due.
     fn lend(&mut self, column: u32, from: u32, to: u32) -> Due<'_> {
         if let Some(refusal) = self.lend_refusal(column, from, to) {
             return Due::Refused(refusal);
         }
         for group in 0..self.groups() {
             if has_some(group, from, to) {
-                self.see(column, group);
+                self.record_access(column, group);
             }
         }
         self.copy_out(column, from, to);
@@ -125,8 +125,8 @@ impl Plain {
         }
     }
 
-    // A row group of a column is lent.
-    fn see(&mut self, column: u32, group: u32) {
+    // Records that a row group of a column was lent.
+    fn record_access(&mut self, column: u32, group: u32) {
         let now = self.now();
         let object = &mut self.objects[index(column, group) % OBJECTS];
         object.hot = true;
@@ -135,7 +135,7 @@ impl Plain {
         *accesses = accesses_after(*accesses, i64::from(group));
     }
 
-    // Whether a row group may be the next of a column: it is so far on as three in turn were from the one before.
+    // Returns whether a row group may be the next of a column: it is so far on as three in turn were from the one before.
     fn may_come(&self, accesses: Accesses, group: i64) -> bool {
         accesses.times >= 3
             && accesses.stride != 0
@@ -143,7 +143,7 @@ impl Plain {
             && group < i64::from(self.groups())
     }
 
-    /// What to fetch next of a column: those of the next two row groups that are there.
+    /// Returns what to fetch next of a column: those of the next two row groups that are there.
     fn prefetch(&mut self, column: u32) -> Due<'_> {
         if column >= COLUMNS {
             return Due::Refused(Refusal::NoColumn);
@@ -161,7 +161,7 @@ impl Plain {
         Due::Next(self.next.get(..count).unwrap_or(&[]))
     }
 
-    // What a place shows.
+    // Returns what a place shows.
     fn row(&self, place: u32) -> Due<'_> {
         let is_none = place >= self.len;
         let away = self.some_away(ALL, place / SIZE);
@@ -171,7 +171,7 @@ impl Plain {
         }
     }
 
-    /// What a call answers.
+    /// Makes a call, and returns the reply that is due.
     pub fn serve(&mut self, call: Call) -> Due<'_> {
         match call {
             Call::Ask(a) => self.ask(a),
@@ -196,7 +196,7 @@ impl Plain {
         }
     }
 
-    // Why a call is refused that says nothing if it is done.
+    // Returns why a call is refused that says nothing if it is done.
     fn change(&mut self, call: Call) -> Option<Refusal> {
         match call {
             Call::Set(place, column, value) => self.set(place, column, value),
@@ -220,7 +220,7 @@ impl Plain {
         }
     }
 
-    // Why a look does not find what it asks for.
+    // Returns why a look does not find what it asks for.
     fn look(&self, call: Call) -> Option<Refusal> {
         match call {
             Call::IsAlive(place) => self.dead(place),
@@ -235,7 +235,7 @@ impl Plain {
     }
 }
 
-// The reply of a step that says nothing if it is done.
+// Returns the reply of a step that says nothing if it is done.
 fn done(refusal: Option<Refusal>) -> Due<'static> {
     match refusal {
         None => Due::Done,
@@ -243,13 +243,13 @@ fn done(refusal: Option<Refusal>) -> Due<'static> {
     }
 }
 
-// Whether a row group has some of the places from one up to another.
+// Returns whether a row group has some of the places from one up to another.
 fn has_some(group: u32, from: u32, to: u32) -> bool {
     let first = group.saturating_mul(SIZE);
     from < to && first < to && from < first.saturating_add(SIZE)
 }
 
-// What was seen of a column once one more row group of it is lent.
+// Returns what was seen of a column once one more row group of it is lent.
 fn accesses_after(accesses: Accesses, group: i64) -> Accesses {
     let stride = group.wrapping_sub(accesses.last);
     let times = if stride == accesses.stride {
@@ -264,7 +264,7 @@ fn accesses_after(accesses: Accesses, group: i64) -> Accesses {
     }
 }
 
-// The number of a row group.
+// Returns the number of a row group.
 fn number(group: i64) -> u32 {
     u32::try_from(group).unwrap_or(0)
 }

@@ -9,7 +9,7 @@ use crate::opening::Plan;
 use far_types::{Kind, Refusal};
 
 impl Plain {
-    /// An aggregate is computed from scratch, by one worker or none.
+    /// Computes an aggregate from scratch, by one worker or none, and returns the reply that is due.
     pub fn recount(&mut self, a: u32, workers: u32) -> Due<'_> {
         let aggregate = self.aggregate(a);
         // The world does not count the fault of a recount.
@@ -38,7 +38,7 @@ impl Plain {
         refusal
     }
 
-    /// What is away goes into another store, and all jobs are spent; or why not.
+    /// Puts what is away into another store and spends all jobs, or returns why not.
     pub fn migrate(&mut self, plan: Plan) -> Option<Refusal> {
         let (before, faults) = (self.objects, self.store.faults);
         let mut store = Store::new(plan);
@@ -57,7 +57,7 @@ impl Plain {
         refusal
     }
 
-    // The objects of a kind that are away are put into another store, and the others have no copy there.
+    // Puts the objects of a kind that are away into another store, or returns why not. The others have no copy there.
     fn put_all(&mut self, kind: Kind, store: &mut Store) -> Option<Refusal> {
         let mut refusal = None;
         for o in 0..self.groups().saturating_mul(COLUMNS) {
@@ -68,7 +68,7 @@ impl Plain {
         refusal
     }
 
-    // An object has the copy that was put last, or none if it is local.
+    // Puts an object into another store if it is away, or returns why not. A local one has no copy there.
     fn put_again(&mut self, o: usize, store: &mut Store) -> Option<Refusal> {
         let is_local = self.objects[o % OBJECTS].part.is_some();
         let refusal = if is_local {

@@ -26,7 +26,7 @@ impl Store {
         }
     }
 
-    /// A content is put under the next number, or why it is not.
+    /// Puts a content under the next number, or returns why not.
     pub fn put(&mut self) -> Option<Refusal> {
         self.puts = self.puts.wrapping_add(1);
         if self.puts == self.plan.failing_put {
@@ -41,7 +41,7 @@ impl Store {
         }
     }
 
-    /// A content is read, or why it is not.
+    /// Reads a content, or returns why not.
     pub fn get(&mut self) -> Option<Refusal> {
         self.gets = self.gets.wrapping_add(1);
         if self.gets == self.plan.failing_get {

@@ -3,7 +3,7 @@ use far_columns::Alive;
 use far_types::Refusal;
 use std::alloc::Global;
 
-// A flag more, or one less, as it takes to come to this count.
+// Adds a flag if there are fewer than `count`, and removes the last if there are more.
 fn keep_up(alive: &mut Alive, count: usize) -> Result<(), Refusal> {
     if alive.len() < count {
         alive.push()?;
@@ -13,7 +13,7 @@ fn keep_up(alive: &mut Alive, count: usize) -> Result<(), Refusal> {
     Ok(())
 }
 
-/// So many flags, of which the first is cleared.
+/// Returns so many flags, of which the first is cleared. Refused with `NoMemory` if memory runs out.
 pub fn flags(alloc: Global, count: usize) -> Result<Alive, Refusal> {
     let mut alive = Alive::new(alloc);
     for _ in 0..count {

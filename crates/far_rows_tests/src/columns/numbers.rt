@@ -38,7 +38,7 @@ fn fill<S: FarTickets>(
     column.set(objects, 0, Some(-1))
 }
 
-// Whether a piece has the numbers of these places and their flags.
+// Returns whether a piece has the numbers of these places and their flags.
 fn is_piece<S: FarTickets>(
     objects: &Objects<Option<i64>, S>,
     column: &IntColumn,
@@ -59,7 +59,7 @@ fn is_piece<S: FarTickets>(
     from < to && piece.values.len() == to - from
 }
 
-// Whether a column that is lent whole begins with the two places of its first row group.
+// Returns whether the first piece of a whole column is that of its first row group, of two places.
 fn is_lent<S: FarTickets>(
     objects: &Objects<Option<i64>, S>,
     column: &IntColumn,
@@ -77,7 +77,7 @@ fn is_lent<S: FarTickets>(
     }
 }
 
-// Whether a column without a number is lent as it is filled.
+// Fills an empty column, and returns whether its first piece is as it was filled.
 fn is_lent_as_filled<S: FarTickets>(
     objects: &mut Objects<Option<i64>, S>,
     column: &mut IntColumn,
@@ -109,7 +109,7 @@ fn reads_back<S: FarTickets>(alloc: Global) -> Result<bool, Refusal> {
     }
 }
 
-/// The store of the objects is not made, since one that is here asks it for nothing.
+/// No store is made: an object that is local needs none.
 #[test]
 fn numbers_are_pushed_set_and_lent(rt: HostRuntime) {
     assert!(rt; reads_back::<AgentStore<&'_ HostRuntime>>(rt.alloc()) == Ok(true));

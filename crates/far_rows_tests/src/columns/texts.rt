@@ -23,7 +23,7 @@ struct Layout {
     group: u32,
 }
 
-// Columns without a text, whose forms have at most 64 bytes.
+// Returns columns without a text, whose forms have at most 64 bytes.
 fn no_texts(alloc: Global, layout: Layout) -> Result<Vec<TextColumn>, Refusal>
     requires some { 0 < layout.group }
     requires small { layout.group ≤ 8 }
@@ -39,7 +39,7 @@ fn no_texts(alloc: Global, layout: Layout) -> Result<Vec<TextColumn>, Refusal>
     Ok(columns)
 }
 
-// A column, if there is one.
+// Returns the k-th column, counted from 0. Refused with `NoColumn` if there are fewer.
 fn column_of<'a, S: FarTickets>(
     _objects: &Objects<u8, S>,
     columns: &'a [TextColumn],
@@ -54,7 +54,7 @@ fn column_of<'a, S: FarTickets>(
     Ok(&columns[k])
 }
 
-/// Two texts.
+/// Returns the texts `one` and `two`.
 fn two_texts(alloc: Global) -> Result<[Option<Text>; 2], Refusal> {
     Ok([
         Letters(Word::One, 1).text(alloc)?,
@@ -62,7 +62,7 @@ fn two_texts(alloc: Global) -> Result<[Option<Text>; 2], Refusal> {
     ])
 }
 
-/// What is tried on objects of texts of which there is none.
+/// What is tried on an empty collection of objects of texts.
 #[derive(Clone, Copy)]
 enum Trial {
     OneColumn,
@@ -92,7 +92,7 @@ fn comes_out<S: FarTickets>(alloc: Global, trial: Trial) -> Result<bool, Refusal
     }
 }
 
-/// The store of the objects is not made, since one that is here asks it for nothing.
+/// No store is made: an object that is local needs none.
 #[test]
 fn texts_are_pushed_set_and_lent(rt: HostRuntime) {
     assert!(rt; comes_out::<AgentStore<&'_ HostRuntime>>(rt.alloc(), Trial::OneColumn) == Ok(true));

@@ -3,7 +3,7 @@ use crate::cell::Cell::{Missing, Number, Text};
 use crate::cell::Word::{Empty, One, Three, Two, Uno};
 use crate::rows::fixture::Values;
 use crate::rows::look::Look::{
-    AreNamed, Cell, Coldest, Copy, Numbers, TellTheirObjects, Values as Has,
+    AreNamed, Cell, Coldest, Copy, HaveTheirObjects, Numbers, Values as Has,
 };
 use crate::rows::script::Call::{CompactNumbers, CompactTexts, Evacuate, FetchBack, Push, Set};
 use crate::rows::script::Step::{Does, Is};
@@ -42,7 +42,7 @@ static CASES: [Case; 2] = [
             Is(Has(2, THIRD)),
             Is(Numbers(1, 0, &[Some(7), Some(-2)])),
             Is(Coldest(LAST_NUMBERS)),
-            Is(TellTheirObjects),
+            Is(HaveTheirObjects),
             Is(AreNamed(4, 4)),
         ],
         moved: &[],

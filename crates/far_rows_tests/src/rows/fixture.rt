@@ -17,7 +17,7 @@ use std::marker::Model;
 /// The values of a row, in the order of the columns.
 pub type Values = (Cell, Cell, Cell, Cell);
 
-/// Row groups of two places, and space for the objects of two of them and one more of numbers.
+/// Row groups of two places, and space for the objects of two row groups and one more object of numbers.
 pub const LIMITS: Limits = Limits {
     group: 2,
     places: 100,
@@ -28,7 +28,7 @@ pub const LIMITS: Limits = Limits {
     text_size: 64,
 };
 
-/// A table with its store, and another store that it may go into.
+/// A table with its store, and another store to which it may move.
 #[derive(Drop)]
 pub struct Fixture<'a, S: FarStore> {
     store: &'a S,
@@ -49,7 +49,7 @@ impl<'a, S: FarStore> Model for Fixture<'a, S> {
 }
 
 impl<'a, S: FarStore> Fixture<'a, S> {
-    /// No row.
+    /// Returns a table without a row. Refused as `Rows::new` is.
     pub fn new(
         alloc: Global,
         store: &'a S,
@@ -62,12 +62,12 @@ impl<'a, S: FarStore> Fixture<'a, S> {
         }
     }
 
-    /// The rows, lent in place.
+    /// Returns the rows.
     pub fn rows(&self) -> &Rows<S> {
         &self.rows
     }
 
-    /// The same rows, whose far copies are in the other store. The call is made once.
+    /// Moves the table's far copies to the other store. Refused as `Rows::renewal` is. The call is made once, even if memory runs out.
     pub fn moved(self, alloc: Global) -> Result<Fixture<'a, S>, Refusal> {
         let rows = self.rows;
         match rows.renewal(alloc, self.store, self.other, &mut Meter::new()) {
@@ -83,7 +83,7 @@ impl<'a, S: FarStore> Fixture<'a, S> {
         }
     }
 
-    /// What a call answers. One that is refused for lack of memory is made once more.
+    /// Makes a call and returns its reply. A call that runs out of memory is made once more.
     pub fn answer(&mut self, alloc: Global, call: &Call) -> Result<(), Refusal> {
         match self.reply(alloc, call) {
             Err(Refusal::NoMemory) => self.reply(alloc, call),
@@ -110,7 +110,7 @@ fn four_columns(alloc: Global) -> Result<Schema, Refusal>
     Schema::new(Vec::from_array(alloc, kinds)?)
 }
 
-// A table without a row.
+// Returns a table without a row.
 fn no_rows<S: FarStore>(alloc: Global, limits: &Limits) -> Result<Rows<S>, Refusal>
     ensures numbers { IfOk result (λ rows. length rows.numbers ≡ 2) }
     ensures texts { IfOk result (λ rows. length rows.texts ≡ 2) }

@@ -1,33 +1,33 @@
-// What a table is, as far as one call tells.
+// What the tests look at in a table: each fact is what one call returns.
 mod naming;
 
 use crate::cell::Cell;
+use crate::rows::callers::have_their_objects;
 use crate::rows::fixture::Values;
-use crate::rows::telling::tell_their_objects;
 use far_rows::{LentColumn, Rows};
 use far_store::FarTickets;
 use far_types::{CellRef, Name, Refusal};
 use naming::{numbers_named, texts_named};
 
-/// What is due of a table. Where a refusal is due, `None` stands for none.
+/// A fact that should hold of a table.
 pub enum Look {
     /// A place has these values, read cell by cell, and as one row.
     Values(usize, Values),
-    /// The object that goes away first.
+    /// The column and the row group of the coldest object, if there is one.
     Coldest(Option<Name>),
-    /// Whether the far store has a row group of a column as it is.
+    /// Whether the far store has a current copy of a row group of a column.
     Copy(usize, u32, bool),
-    /// How many objects of numbers, and of texts, are found by the column and the row group that they are named by.
+    /// How many objects of numbers, and how many of texts, are found by their own column and row group.
     AreNamed(u32, u32),
-    /// The rows tell what their objects are.
-    TellTheirObjects,
-    /// Why a column has no cell at a place.
+    /// The first two columns have objects of the right kinds, as calls on the rows show (`have_their_objects`).
+    HaveTheirObjects,
+    /// Why a column's cell at a place is refused, or `None` if it is not.
     Cell(usize, usize, Option<Refusal>),
     /// The numbers of a row group of a column.
     Numbers(usize, u32, &'static [Option<i64>]),
 }
 
-/// Whether a table is so.
+/// Returns whether a fact holds of a table.
 pub fn is_so<S: FarTickets>(rows: &Rows<S>, look: &Look) -> bool {
     match look {
         Look::Values(place, values) => has_values(rows, *place, values),
@@ -36,13 +36,13 @@ pub fn is_so<S: FarTickets>(rows: &Rows<S>, look: &Look) -> bool {
         Look::AreNamed(numbers, texts) => {
             numbers_named(rows) == *numbers && texts_named(rows) == *texts
         }
-        Look::TellTheirObjects => tell_their_objects(rows),
+        Look::HaveTheirObjects => have_their_objects(rows),
         Look::Cell(column, place, due) => rows.cell(*column, *place).err() == *due,
         Look::Numbers(column, group, numbers) => has_numbers(rows, *column, *group, numbers),
     }
 }
 
-// Whether a place has these values, read cell by cell, and as one row, and no other.
+// Returns whether a place has these values and no more, read cell by cell and as one row.
 fn has_values<S: FarTickets>(rows: &Rows<S>, place: usize, values: &Values) -> bool {
     if place >= rows.len() {
         return false;
@@ -59,7 +59,7 @@ fn has_values<S: FarTickets>(rows: &Rows<S>, place: usize, values: &Values) -> b
     true
 }
 
-// The value for a column.
+// Returns the value for a column, if there is one.
 fn value_in(values: &Values, column: usize) -> Option<Cell> {
     match column {
         0 => Some(values.0),
@@ -70,7 +70,7 @@ fn value_in(values: &Values, column: usize) -> Option<Cell> {
     }
 }
 
-// Whether both are the same cell, or none.
+// Returns whether both are the same cell, or neither is one.
 fn is_cell(one: Option<CellRef<'_>>, other: Option<Cell>) -> bool {
     match (one, other) {
         (Some(CellRef::Int(one)), Some(Cell::Number(other))) => one == other,
@@ -80,7 +80,7 @@ fn is_cell(one: Option<CellRef<'_>>, other: Option<Cell>) -> bool {
     }
 }
 
-// Whether a row group of a column is lent with these numbers.
+// Returns whether a row group of a column is lent with these numbers.
 fn has_numbers<S: FarTickets>(
     rows: &Rows<S>,
     column: usize,

@@ -1,5 +1,5 @@
-// Scripts: calls on a table, and what it is between them. They are data, since the proof of a test grows with its steps: one player makes
-// the stores and the table of all of them.
+// Scripts: calls on a table, and facts that should hold between them. They are data, since the proof of a test grows with its steps. One
+// player makes the stores and the table for all scripts.
 use crate::cell::Cell;
 use crate::rows::fixture::{Fixture, LIMITS, Values};
 use crate::rows::look::{Look, is_so};
@@ -26,9 +26,9 @@ pub enum Call {
 
 /// A line of a script.
 pub enum Step {
-    /// A call that is served.
+    /// A call that is accepted.
     Does(Call),
-    /// The table is so.
+    /// A fact that holds of the table.
     Is(Look),
 }
 
@@ -36,11 +36,11 @@ pub enum Step {
 pub struct Case {
     pub name: &'static str,
     pub steps: &'static [Step],
-    /// What comes once the table is in another store. It goes there if there is such a step.
+    /// The steps after the table has moved to another store. It moves only if there are such steps.
     pub moved: &'static [Step],
 }
 
-/// Plays cases, and fails at the first step that does not come out as it should: it names the case and the number of the step.
+/// Plays cases. Fails at the first step that does not come out as it should, and names the case and the index of the step.
 pub fn play<R: Wait + Sync + Drop + Copy>(
     rt: R,
     alloc: Global,
@@ -54,7 +54,7 @@ pub fn play<R: Wait + Sync + Drop + Copy>(
     Ok(())
 }
 
-// The step of a case that does not come out as it should.
+// Returns the index of the first step of a case that does not come out as it should.
 fn first_wrong<R: Wait + Sync + Drop + Copy>(
     rt: R,
     alloc: Global,
@@ -64,7 +64,8 @@ fn first_wrong<R: Wait + Sync + Drop + Copy>(
     first_wrong_over(alloc, first, agent(rt, alloc, 16), case)
 }
 
-// The same over two stores, if they were made. It knows no store, so to take them out of their results costs it little.
+// The same over two stores, if they were made. The stores are of a type parameter, so to take them out of their results costs the proof
+// little.
 fn first_wrong_over<S: FarStore>(
     alloc: Global,
     first: Result<S, Refusal>,
@@ -103,7 +104,7 @@ fn first_wrong_in<S: FarStore>(
     }
 }
 
-// The same of the steps that come once the table is in the other store, counted from a number on.
+// The same for the steps after the table has moved to the other store. Their indices begin at `from`.
 fn first_wrong_moved<S: FarStore>(
     alloc: Global,
     fixture: Fixture<'_, S>,
@@ -134,7 +135,7 @@ fn first_wrong_step<S: FarStore>(
     None
 }
 
-// Whether a step comes out as it should.
+// Returns whether a step comes out as it should.
 fn comes_out<S: FarStore>(alloc: Global, fixture: &mut Fixture<'_, S>, step: &Step) -> bool {
     match step {
         Step::Does(call) => fixture.answer(alloc, call) == Ok(()),

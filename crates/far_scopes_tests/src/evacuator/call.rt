@@ -14,7 +14,7 @@ pub enum Call<L> {
 /// What is done to an object.
 #[derive(Drop)]
 pub enum Change<L> {
-    /// Writes a list over the object's where it is as long.
+    /// Writes a list over the object's, if it is as long.
     Write(L),
     Replace(L),
     Pin,
@@ -22,7 +22,7 @@ pub enum Change<L> {
     Touch,
 }
 
-/// A phase of an evacuation or of a fetch. Each goes on with what was begun or carried last.
+/// A phase of an evacuation or of a fetch. A carry takes the job that was begun last, a commit or an install the one carried last.
 #[derive(Clone, Copy)]
 pub enum Phase {
     Begin(Want),
@@ -33,7 +33,7 @@ pub enum Phase {
     Install,
 }
 
-/// The reply of a call that gives no number: 0.
+/// Returns the reply of a call that gives no number: 0 stands for its `Ok`.
 pub fn done(reply: Result<(), Refusal>) -> Result<u32, Refusal> {
     match reply {
         Ok(()) => Ok(0),
@@ -41,7 +41,7 @@ pub fn done(reply: Result<(), Refusal>) -> Result<u32, Refusal> {
     }
 }
 
-/// The refusal of what only a local object may do.
+/// Returns the refusal of a call that needs object `o` to be local.
 pub fn away(o: u32) -> Refusal {
     Refusal::Absent {
         column: 0,

@@ -14,34 +14,34 @@ use std::alloc::Global;
 use std::sync::Wait;
 use std::test::Fail;
 
-/// What is played, beginning with no object.
+/// A case: steps on an empty collection of objects.
 struct Case {
-    /// What it shows, in a sentence.
+    /// A sentence that says what the case shows.
     name: &'static str,
     store: Plan,
     limits: ObjectLimits,
     steps: &'static [Step],
 }
 
-/// What is done, and how it turns out.
+/// A step: what is done, and how it should turn out.
 enum Step {
     /// The call is accepted.
     Done(Call<&'static [i64]>),
-    /// The call is refused so.
+    /// The call is refused, with this refusal.
     Refused(Call<&'static [i64]>, Refusal),
-    /// The object is sent away.
+    /// The object is evacuated.
     SentAway(u32),
-    /// The object is brought back.
+    /// The object is fetched.
     BroughtBack(u32),
-    /// The object is away: it is neither lent nor may it be written.
+    /// The object is away: it can be neither read nor written.
     IsAway(u32),
     /// The object is local, with this list.
     Has(u32, &'static [i64]),
-    /// The frame has this number from now on, and eight new objects alone.
+    /// The frame gets this number, and eight new objects in place of the old ones.
     Frame(u32),
 }
 
-/// The index of the first step of a case that turns out otherwise.
+/// Returns the index of the first step of a case that turns out otherwise.
 fn play<R: Wait + Sync + Drop + Copy>(
     rt: R,
     alloc: Global,
@@ -50,8 +50,8 @@ fn play<R: Wait + Sync + Drop + Copy>(
     play_in(alloc, sound(rt, alloc, case.store), case)
 }
 
-// The same over a store, if it was made, which fails as the case says. It knows no store, so to take it out of its result costs it
-// little.
+// The same over a store, if it was made. It fails as the case says. The store is of a type parameter, so to take it out of its result
+// costs the proof little.
 fn play_in<S: FarStore>(
     alloc: Global,
     store: Result<S, Refusal>,
@@ -102,7 +102,7 @@ fn turns_out<S: FarStore>(
     }
 }
 
-// Whether these phases are accepted, one after the other.
+// Returns whether these phases are accepted, one after the other.
 fn are_done<S: FarStore>(
     fixture: &mut Fixture<'_, i64, S>,
     alloc: Global,
@@ -116,7 +116,7 @@ fn are_done<S: FarStore>(
     true
 }
 
-// Whether an object is neither lent nor may be written since it is away.
+// Returns whether an object can be neither read nor written since it is away.
 fn is_away<S: FarStore>(fixture: &Fixture<'_, i64, S>, o: u32) -> bool {
     fixture.list(o) == Err(away(o)) && fixture.may_write(o) == Err(away(o))
 }
@@ -134,7 +134,7 @@ fn begins_frame<S: FarStore>(
     begins
 }
 
-/// Whether a case turns out over one log, and so many of its bytes are used then.
+/// Returns whether a case comes out over one log, and this many bytes of the log are used at the end.
 fn uses_log<R: Wait + Sync + Drop + Copy>(
     rt: R,
     alloc: Global,
@@ -159,7 +159,7 @@ fn play_all<R: Wait + Sync + Drop + Copy>(
     cases: &[Case],
 ) -> Result<(), Fail> {
     for case in cases {
-        // Once more where the making of the store or of the objects finds no memory.
+        // Plays once more if memory ran out for the store or the objects.
         let wrong = match play(rt, alloc, case) {
             Err(Refusal::NoMemory) => play(rt, alloc, case),
             reply => reply,

@@ -1,4 +1,4 @@
-// The stores that cases are played over.
+// The stores over which cases are played.
 use far_byte_log::ByteLog;
 use far_store::EngineStore;
 use far_types::Refusal;
@@ -16,7 +16,7 @@ pub struct Plan {
     pub failing_get: u64,
 }
 
-/// A store over a log of so many bytes, which does not fail.
+/// Returns a store over a log of so many bytes. Its log fails only if it is full. Refused with `NoMemory` if memory runs out.
 pub fn sound<R: Drop>(
     rt: R,
     alloc: Global,

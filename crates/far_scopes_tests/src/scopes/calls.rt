@@ -10,7 +10,8 @@ use far_store::{FarStore, FarTickets};
 use far_types::{Name, Refusal};
 use std::alloc::Global;
 
-/// What a call answers that is made once more where it finds no memory. A refused call leaves all as it was.
+/// Makes a call, and once more if it runs out of memory, and returns its last reply. A refused call must leave the objects as they were:
+/// else the reply is `WRONG`.
 pub fn last_reply<S: FarStore>(
     alloc: Global,
     store: &S,
@@ -105,7 +106,8 @@ fn pin_often<S: FarTickets>(
     Ok(())
 }
 
-/// Pins three listings together, may take a pin off the first object, and finds that so many pins are given back.
+/// Pins three listed objects as a scope, and closes it. Finds that the close removes so many pins. With `unpins`, a pin of the first
+/// object is removed before.
 fn pin_three<S: FarTickets>(
     alloc: Global,
     objects: &mut Objects<i64, S>,
@@ -156,7 +158,7 @@ fn pin_and_unpin<S: FarTickets>(
     found(objects.close(scope) == pins)
 }
 
-/// Takes a pin off an object. There are as many objects as before.
+/// Removes a pin of an object, if it has one. The number of objects stays.
 fn unpin_one<S: FarTickets>(objects: &mut Objects<i64, S>, o: u32)
     requires within { o < length objects.old.records }
     ensures count { length objects.new.records ≡ length objects.old.records }
@@ -165,7 +167,7 @@ fn unpin_one<S: FarTickets>(objects: &mut Objects<i64, S>, o: u32)
     objects.unpin(o).ok();
 }
 
-/// Pins listed objects. There are as many objects as before.
+/// Pins listed objects as a scope. The number of objects stays. Refused as `Objects::enter` is.
 fn enter<S: FarTickets>(
     alloc: Global,
     objects: &mut Objects<i64, S>,
@@ -181,7 +183,7 @@ fn enter<S: FarTickets>(
     Ok(scope)
 }
 
-/// Gives an object another list by the call that gives several.
+/// Replaces an object's list by the call that replaces several.
 fn give<S: FarTickets>(
     objects: &mut Objects<i64, S>,
     replacement: Replacement<i64>,
@@ -193,7 +195,7 @@ fn give<S: FarTickets>(
     objects.replace_all(&[replacement])
 }
 
-/// A list for an object.
+/// Returns a list to replace that of an object.
 fn replacement(alloc: Global, object: u32, list: &[i64]) -> Result<Replacement<i64>, Refusal>
     ensures object { IfOk result (λ r. r.object ≡ object) }
     ensures list { IfOk result (λ r. r.list.items ≡ list.now) }
@@ -204,7 +206,7 @@ fn replacement(alloc: Global, object: u32, list: &[i64]) -> Result<Replacement<i
     })
 }
 
-/// Finds something of an object.
+/// Returns `Ok` if a fact holds of an object, and `WRONG` if not.
 fn find<S: FarStore>(
     store: &S,
     objects: &Objects<i64, S>,
@@ -224,7 +226,7 @@ fn find<S: FarStore>(
     }
 }
 
-/// Whether an object is so.
+/// Returns whether a fact holds of an object that one call on it shows.
 fn is_so_of<S: FarTickets>(objects: &Objects<i64, S>, o: u32, fact: &Fact) -> bool
     requires { o < length objects.now.records }
 {

@@ -11,7 +11,7 @@ use std::alloc::Global;
 use std::sync::Wait;
 use std::test::Fail;
 
-/// Fails if a line of a script does not get its reply, and names both.
+/// Plays scripts. Fails if a line of one does not get its reply, and names the script and the index of the line.
 pub fn play_all<R: Wait + Sync + Copy + Drop>(
     rt: R,
     alloc: Global,
@@ -25,7 +25,7 @@ pub fn play_all<R: Wait + Sync + Copy + Drop>(
     Ok(())
 }
 
-/// The index of the first line that does not get its reply.
+/// Returns the index of the first line that does not get its reply.
 fn first_wrong<R: Wait + Sync + Copy + Drop>(
     rt: R,
     alloc: Global,
@@ -34,7 +34,7 @@ fn first_wrong<R: Wait + Sync + Copy + Drop>(
     play_over(alloc, agent(rt, alloc, 4), script)
 }
 
-// The same over a store, if it was made. It knows no store, so to take it out of its result costs it little.
+// The same over a store, if it was made. The store is of a type parameter, so to take it out of its result costs the proof little.
 fn play_over<S: FarStore>(
     alloc: Global,
     store: Result<S, Refusal>,
@@ -54,7 +54,7 @@ fn play_over<S: FarStore>(
     }
 }
 
-/// The index of the first line that does not get its reply.
+/// Returns the index of the first line that does not get its reply.
 fn play<S: FarStore>(
     alloc: Global,
     store: &S,

@@ -5,22 +5,22 @@ use far_types::Refusal;
 /// A call, and its reply.
 pub type Line = (Call, Result<(), Refusal>);
 
-/// What is played on objects of numbers, of which there is none at first.
+/// A script: lines on an empty collection of objects of numbers.
 pub struct Script {
-    /// What it shows, in a sentence.
+    /// A sentence that says what the script shows.
     pub name: &'static str,
     pub limits: ObjectLimits,
     pub lines: &'static [Line],
 }
 
-/// A script of no line.
+/// A script without a line.
 pub const SCRIPT: Script = Script {
     name: "",
     limits: TWO_OF_FOUR,
     lines: &[],
 };
 
-/// Two segments of four numbers; two writes and one leaving of each object.
+/// Two segments of four numbers. Each object may be written twice and leave once.
 pub const TWO_OF_FOUR: ObjectLimits = ObjectLimits {
     segments: 2,
     size: 4,
@@ -30,18 +30,18 @@ pub const TWO_OF_FOUR: ObjectLimits = ObjectLimits {
 
 /// A call on objects, or what is looked for.
 pub enum Call {
-    /// Makes an object of this list, of this row group of column 0. Objects are numbered in turn, from 0 on.
+    /// Makes an object with this list, of this row group of column 0. Objects get the numbers 0, 1 and so on.
     Create(u32, &'static [i64]),
     /// Changes an object.
     On(u32, Change),
-    /// Finds this of an object.
+    /// Finds that a fact holds of an object.
     Find(u32, Fact),
-    /// Pins the listed objects together, and takes back so many pins.
+    /// Pins the listed objects as a scope. Its close removes so many pins.
     PinTogether([u32; 3], u32),
-    /// Likewise, but takes a pin off the first object before.
+    /// The same, but a pin of the first object is removed before the close.
     PinAndUnpin([u32; 3], u32),
     Compact(u32),
-    /// Finds that this object goes away first.
+    /// Finds that this object is the coldest.
     Coldest(Option<u32>),
 }
 
@@ -49,7 +49,7 @@ pub enum Call {
 pub enum Change {
     /// Writes a list over the object's, which is as long.
     Write(&'static [i64]),
-    /// Gives it another list by the call that gives several.
+    /// Replaces its list by the call that replaces several.
     Give(&'static [i64]),
     /// Pins it so many times.
     Pin(u32),
@@ -58,7 +58,7 @@ pub enum Change {
     Arrive,
 }
 
-/// What is known of an object.
+/// A fact about an object.
 pub enum Fact {
     /// It is local, with this list.
     List(&'static [i64]),
@@ -69,10 +69,10 @@ pub enum Fact {
     PutBefore(u32),
 }
 
-/// What a call answers that found something else than it should.
+/// What a call returns that found something else than it should.
 pub const WRONG: Refusal = Refusal::BadSpec;
 
-/// The reply of a call that finds what it should, or not.
+/// Returns `Ok` if a call found what it should, and `WRONG` if not.
 pub fn found(right: bool) -> Result<(), Refusal> {
     if right { Ok(()) } else { Err(WRONG) }
 }

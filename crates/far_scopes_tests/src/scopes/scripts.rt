@@ -104,6 +104,6 @@ static SCRIPTS: &[Script] = &[
 ];
 
 #[test]
-fn calls_on_objects_are_answered(rt: HostRuntime) -> Result<(), Fail> {
+fn calls_on_objects_get_their_replies(rt: HostRuntime) -> Result<(), Fail> {
     play_all(&rt, rt.alloc(), SCRIPTS)
 }

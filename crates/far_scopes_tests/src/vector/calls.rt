@@ -12,7 +12,7 @@ use far_store::{FarStore, FarTickets};
 use far_types::Refusal;
 use far_vector::FarVector;
 
-/// What a call answers.
+/// Makes a call and returns its reply.
 pub fn reply<S: FarStore>(
     vector: &mut FarVector<i64>,
     objects: &mut Objects<i64, S>,
@@ -29,7 +29,7 @@ pub fn reply<S: FarStore>(
     }
 }
 
-/// Pushes an element, once more where the first try finds no memory; there are few objects.
+/// Pushes an element, and tries once more if memory runs out. Returns `WRONG` if there are 8 objects.
 fn push<S: FarTickets>(
     vector: &mut FarVector<i64>,
     objects: &mut Objects<i64, S>,
@@ -47,7 +47,7 @@ fn push<S: FarTickets>(
     }
 }
 
-/// Writes over the first element of a part in place.
+/// Writes over the first element of a part in place. Returns `WRONG` if the part is empty, and else refuses as `may_write_part` does.
 fn overwrite<S: FarTickets>(
     vector: &FarVector<i64>,
     objects: &mut Objects<i64, S>,
@@ -79,12 +79,13 @@ fn write_first<T: Elem, S: FarTickets>(
     requires free { write_part_refusal objects.old vector.now from to ≡ None }
     ensures { IsVector (list_of T.meaning S.content objects.new) vector.now }
 {
+    // For the proof: gives `IsShaped` of the vector.
     let _ = vector.len();
     let part = FarVector::part_mut(objects, vector, from, to);
     part[0] = x;
 }
 
-/// Finds something of a vector.
+/// Returns `Ok` if a vector has what the call looks for, and `WRONG` if not.
 fn find<S: FarTickets>(
     vector: &FarVector<i64>,
     objects: &Objects<i64, S>,
@@ -100,7 +101,7 @@ fn find<S: FarTickets>(
     }
 }
 
-/// Finds that the pieces of a part are so long.
+/// Returns `Ok` if the pieces of a part have these lengths, and `WRONG` if not.
 fn find_pieces<S: FarTickets>(
     vector: &FarVector<i64>,
     objects: &Objects<i64, S>,

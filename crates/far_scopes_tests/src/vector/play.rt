@@ -23,8 +23,7 @@ const LIMITS: ObjectLimits = ObjectLimits {
     leavings: 1,
 };
 
-/// The index of the first line that does not get its reply, of lines that are played on a vector without an element, in row groups of
-/// four places.
+/// Plays lines on an empty vector with row groups of four places. Returns the index of the first line that does not get its reply.
 pub fn first_wrong<R: Wait + Sync + Copy + Drop>(
     rt: R,
     alloc: Global,
@@ -33,7 +32,7 @@ pub fn first_wrong<R: Wait + Sync + Copy + Drop>(
     play_over(alloc, agent(rt, alloc, 4), lines)
 }
 
-// The same over a store, if it was made. It knows no store, so to take it out of its result costs it little.
+// The same over a store, if it was made. The store is of a type parameter, so to take it out of its result costs the proof little.
 fn play_over<S: FarStore>(
     alloc: Global,
     store: Result<S, Refusal>,
@@ -59,7 +58,7 @@ fn play_in<S: FarStore>(
     Ok(play(&mut vector, objects, lines))
 }
 
-/// A vector without an element, of column 0, made a second time where the first finds no memory.
+/// Returns an empty vector of column 0. It is made a second time if memory runs out.
 fn no_elements(alloc: Global, size: u32) -> Result<FarVector<i64>, Refusal>
     requires { 0 < size }
     ensures { IfOk result (λ v. (lists : ℕ → Option (List ℤ)) → IsVector lists v) }
@@ -70,7 +69,7 @@ fn no_elements(alloc: Global, size: u32) -> Result<FarVector<i64>, Refusal>
     }
 }
 
-/// The index of the first line that does not get its reply.
+/// Returns the index of the first line that does not get its reply.
 fn play<S: FarStore>(
     vector: &mut FarVector<i64>,
     objects: &mut Objects<i64, S>,

@@ -15,19 +15,19 @@ pub enum Call {
     Get(usize, i64),
     /// Finds these elements in a part.
     Part(usize, usize, &'static [i64]),
-    /// Finds that the pieces of a part are so long.
+    /// Finds that the pieces of a part have these lengths.
     Pieces(usize, usize, &'static [usize]),
 }
 
-/// What a call answers that found something else than it should.
+/// What a call returns that found something else than it should.
 pub const WRONG: Refusal = Refusal::BadSpec;
 
-/// The reply of a call that finds what it should, or not.
+/// Returns `Ok` if a call found what it should, and `WRONG` if not.
 pub fn found(right: bool) -> Result<(), Refusal> {
     if right { Ok(()) } else { Err(WRONG) }
 }
 
-/// The reply of a call that is refused, or finds what it should, or not.
+/// Returns `Ok` if a call returned what is due, and `WRONG` if it returned something else. A refusal stays.
 pub fn finds<T: PartialEq + Drop>(reply: Result<T, Refusal>, due: T) -> Result<(), Refusal> {
     match reply {
         Ok(value) => found(value == due),

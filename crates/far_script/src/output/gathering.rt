@@ -1,4 +1,4 @@
-// Replies, as they are gathered.
+// Adds replies to an output.
 ghost use Rattle.std.specs.Prelude.{◌≡◌, [], ◌++◌, OnOk, OnErr, IfErr, IsOk};
 ghost use Rattle.far_script.specs.Flow.{has_failed};
 ghost use Rattle.far_script.specs.Printing.{refusal_text};
@@ -13,7 +13,7 @@ use std::alloc::Global;
 use std::marker::PhantomData;
 
 impl<W: Sink> Output<W> {
-    /// Returns an output to which nothing was printed yet.
+    /// Returns an empty output. Allocates nothing.
     pub fn new(alloc: Global) -> Output<W>
         ensures { result.page ≡ [] }
     {
@@ -25,7 +25,7 @@ impl<W: Sink> Output<W> {
         }
     }
 
-    /// Adds the current reply. If memory runs out, the fault is `Memory`, and nothing is added.
+    /// Adds the current reply to the replies. Ends with `Memory` if memory runs out, and adds nothing then.
     pub fn add(&mut self) -> Result<(), ShellFault>
         ensures ok { OnOk result (self.new.page ≡ self.old.page ++ self.old.reply) }
         ensures err { OnErr result (self.new.page ≡ self.old.page) }
@@ -38,7 +38,7 @@ impl<W: Sink> Output<W> {
         }
     }
 
-    /// Adds the current reply, if it was printed. If it was not, memory ran out: the fault is `Memory`, and nothing is added.
+    /// Adds the current reply, if it was printed. Ends with `Memory` if it was not, or if memory runs out now. Nothing is added then.
     /// It is inlined into its callers, since each step ends with it.
     #[inline(always)]
     pub fn add_printed(&mut self, printed: Result<(), Refusal>) -> Result<(), ShellFault>
@@ -58,7 +58,7 @@ impl<W: Sink> Output<W> {
         }
     }
 
-    /// Adds a text as a reply of its own. If memory runs out, the fault is `Memory`, and nothing is added.
+    /// Adds a text as a reply of its own. Ends with `Memory` if memory runs out, and adds nothing then.
     pub fn add_text(&mut self, text: &str) -> Result<(), ShellFault>
         ensures ok { OnOk result (self.new.page ≡ self.old.page ++ text.now) }
         ensures err { OnErr result (self.new.page ≡ self.old.page) }
@@ -71,7 +71,7 @@ impl<W: Sink> Output<W> {
         }
     }
 
-    /// Adds the line of a refusal. If memory runs out, the fault is `Memory`, and nothing is added.
+    /// Adds the line of a refusal. Ends with `Memory` if memory runs out, and adds nothing then.
     pub fn add_refusal(&mut self, refusal: &Refusal) -> Result<(), ShellFault>
         ensures ok { OnOk result (self.new.page ≡ self.old.page ++ refusal_text refusal.now) }
         ensures err { OnErr result (self.new.page ≡ self.old.page) }

@@ -1,4 +1,4 @@
-// Replies, as they are written.
+// Writes the replies of an output.
 ghost use Rattle.std.specs.Prelude.{◌≡◌, ◌≤◌, ◌<◌, [], length, take, true, OnOk, OnErr, IfErr, IsTrue};
 ghost use Rattle.std.specs.Io.KnownBytes.{Appends, Keeps};
 ghost use Rattle.far_script.specs.Flow.{Prints, has_failed};
@@ -8,10 +8,10 @@ use crate::fault::ShellFault;
 use crate::sink::Sink;
 use std::io::ErrorKind;
 
-/// How many bytes are gathered before they are written.
+/// How many bytes of replies are collected before they are written.
 const FULL: usize = 65_536;
 
-/// Writes bytes until they are all taken or a write fails, and returns how many were taken.
+/// Writes bytes until the writer took all of them or a write fails. Returns how many the writer took.
 fn write_out<W: Sink>(writer: &mut W, bytes: &[u8]) -> usize
     ensures sent { Appends (W.contents writer.old) (W.contents writer.new) (take result bytes.now) }
     ensures within { result ≤ length bytes.now }
@@ -36,8 +36,10 @@ fn write_out<W: Sink>(writer: &mut W, bytes: &[u8]) -> usize
 }
 
 impl<W: Sink> Output<W> {
-    /// Writes what was gathered, and flushes the writer. If that fails, the fault is `Output`. What the writer took is a front
-    /// of what was gathered, and nothing is written again.
+    /// Writes the replies and flushes the writer. Does nothing if there are no replies.
+    ///
+    /// Ends with `Output` if that fails, or if a write failed before. What the writer took is a front of the replies, and nothing is
+    /// written afterwards.
     pub fn flush(&mut self, writer: &mut W) -> Result<(), ShellFault>
         ensures printed { Prints (W.contents writer.old) self.old.page [] (W.contents writer.new) self.new.page }
         ensures ok { OnOk result (self.new.page ≡ []) }
@@ -61,7 +63,7 @@ impl<W: Sink> Output<W> {
         Ok(())
     }
 
-    /// Does the same if much was gathered.
+    /// Writes the replies as `flush` does, if they are at least 65,536 bytes. Ends with `Output` if that fails.
     pub fn flush_if_full(&mut self, writer: &mut W) -> Result<(), ShellFault>
         ensures printed { Prints (W.contents writer.old) self.old.page [] (W.contents writer.new) self.new.page }
         ensures going { OnOk result (has_failed self.new ≡ has_failed self.old) }

@@ -11,7 +11,7 @@ use far_texts::{TextColumn, push_texts};
 use far_types::{Refusal, Text};
 use std::alloc::Global;
 
-// Whether there are two columns of one length and one size of row groups.
+// Returns whether there are two columns of the same length. Their row groups have the same size.
 fn are_same_length<S: FarTickets>(
     _objects: &Objects<u8, S>,
     columns: &[TextColumn],
@@ -25,7 +25,7 @@ fn are_same_length<S: FarTickets>(
     columns.len() == 2 && columns[0].len() == columns[1].len()
 }
 
-// Pushes a text to each of two columns; there are few objects.
+// Pushes a text to each of two columns. Refused with `TableFull` if there are other columns, or 32 objects.
 fn push_all<S: FarTickets>(
     alloc: Global,
     objects: &mut Objects<u8, S>,
@@ -43,7 +43,7 @@ fn push_all<S: FarTickets>(
     push_texts(alloc, &mut Vec::new(alloc), objects, columns, texts)
 }
 
-// Whether a column has this text at its first place.
+// Returns whether a column has this text at its first place.
 fn has_text<S: FarTickets>(
     objects: &Objects<u8, S>,
     columns: &[TextColumn],
@@ -58,7 +58,7 @@ fn has_text<S: FarTickets>(
     }
 }
 
-// Whether each column has its text once they are pushed.
+// Pushes both texts, and returns whether each column has its own.
 fn get_their_own<S: FarTickets>(
     alloc: Global,
     objects: &mut Objects<u8, S>,
@@ -73,7 +73,7 @@ fn get_their_own<S: FarTickets>(
     Ok(has_text(objects, columns, 0, "one") && has_text(objects, columns, 1, "two"))
 }
 
-/// Whether each of two columns of texts in row groups of two places gets its own text.
+/// Returns whether each of two columns of texts in row groups of two places gets its own text.
 pub fn comes_out<S: FarTickets>(
     alloc: Global,
     objects: &mut Objects<u8, S>,

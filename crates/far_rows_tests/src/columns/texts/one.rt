@@ -11,7 +11,7 @@ use far_texts::{TextCell, TextColumn};
 use far_types::{Refusal, Text};
 use std::alloc::Global;
 
-/// What a call answers that found something else than it should.
+/// What a call returns that found something else than it should.
 const WRONG: Refusal = Refusal::BadSpec;
 
 fn push<S: FarTickets>(
@@ -29,7 +29,7 @@ fn push<S: FarTickets>(
     column.push(alloc, objects, text)
 }
 
-// Sets a text, and asks beforehand.
+// Sets a text. Before that it asks `may_set`, which must give the same reply, unless memory runs out.
 fn set<S: FarTickets>(
     alloc: Global,
     objects: &mut Objects<u8, S>,
@@ -65,7 +65,7 @@ fn fill<S: FarTickets>(
     set(alloc, objects, column, 2, &None)
 }
 
-// Whether this is the text of a place and its flag.
+// Returns whether a cell is the text of a place and its flag.
 fn is_cell<S: FarTickets>(
     objects: &Objects<u8, S>,
     column: &TextColumn,
@@ -81,7 +81,7 @@ fn is_cell<S: FarTickets>(
     column.text(objects, place) == Ok(cell.text) && alive.get(place) == Some(cell.alive)
 }
 
-// Lends a part of a column, and finds the text of each place and its flag.
+// Borrows a part of a column, and compares each cell with the text of its place and its flag.
 fn lend<S: FarTickets>(
     objects: &Objects<u8, S>,
     column: &TextColumn,
@@ -103,7 +103,7 @@ fn lend<S: FarTickets>(
     Ok(())
 }
 
-// Whether the first text is at its place, the two others are missing, and none is past the end.
+// Returns whether the first text is at its place, that of place 2 is missing, and no place is past the end.
 fn is_filled<S: FarTickets>(objects: &Objects<u8, S>, column: &TextColumn) -> bool
     requires { IsTextColumn (lists_of S.content objects.now) column.now }
 {
@@ -112,7 +112,7 @@ fn is_filled<S: FarTickets>(objects: &Objects<u8, S>, column: &TextColumn) -> bo
         && column.text(objects, 3) == Err(Refusal::NoRow)
 }
 
-// Whether a text of 4,097 bytes is too long for a column.
+// Returns whether a text of 4,097 bytes is too long for a column.
 fn is_bounded<S: FarTickets>(
     alloc: Global,
     objects: &mut Objects<u8, S>,
@@ -124,7 +124,7 @@ fn is_bounded<S: FarTickets>(
     Ok(push(alloc, objects, column, &long) == Err(Refusal::TextTooLong))
 }
 
-// Whether a column without a text is filled and lent.
+// Returns whether an empty column is filled, and then read and lent as it should be.
 fn is_right<S: FarTickets>(
     alloc: Global,
     objects: &mut Objects<u8, S>,
@@ -141,7 +141,7 @@ fn is_right<S: FarTickets>(
     is_bounded(alloc, objects, column)
 }
 
-/// Whether a column of texts in row groups of two places gives back what is pushed and set.
+/// Returns whether what is pushed and set reads back from a column of texts in row groups of two places.
 pub fn comes_out<S: FarTickets>(
     alloc: Global,
     objects: &mut Objects<u8, S>,

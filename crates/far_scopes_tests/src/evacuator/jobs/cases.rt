@@ -1,4 +1,4 @@
-// The cases.
+// The cases of jobs.
 use super::{Case, Step};
 use crate::evacuator::call::Call::{Create, Move, On};
 use crate::evacuator::call::Change::{Pin, Replace, Touch, Unpin, Write};
@@ -28,7 +28,7 @@ const SOUND: Plan = Plan {
     failing_get: 0,
 };
 
-/// The refusal of what only a local object may do, of the object 0.
+/// The refusal of a call that needs object 0 to be local.
 const AWAY: Refusal = Refusal::Absent {
     column: 0,
     group: 0,

@@ -1,5 +1,5 @@
 use Rattle.far_rows_tests.proofs.Found.{begun-is-ok}
-use Rattle.far_rows_tests.proofs.rows.telling.object_begun.Goals as goal
+use Rattle.far_rows_tests.proofs.rows.callers.object_begun.Goals as goal
 
 pub returns : goal.returns
 returns g c = begun-is-ok g.S.FarTickets.content c.args.rows.now c.len-len.ensures.rows c.args.group c.requires.used c.args.column c.requires.column c.object.result c.object.ensures.object c.object.ensures.refused
