@@ -34,7 +34,7 @@ all-more P (suc i) (x ∷ xs) y l h k = (h.0, all-more P i xs y (omega arith) h.
 pub all-take_set : {X : Type 0} (P : X → Type 0) (i : ℕ) (xs : List X) (y : X) → i < length xs → AllByRecursion P (take i xs) → P y → AllByRecursion P (take (i + 1) (slice_set xs i y))
 all-take_set P i xs y l h k = subst (λ n. AllByRecursion P (take n (slice_set xs i y))) (sym (add-one i)) (all-more P i xs y l h k)
 
--- what f cannot tell from the element before
+-- what f does not distinguish from the element before
 pub map-set_like : {X Y : Type 0} (f : X → Y) (xs : List X) (i : ℕ) (x y : X) → slice_get xs i ≡ Some x → f y ≡ f x → map f (slice_set xs i y) ≡ map f xs
 map-set_like f [] i x y h e = refl
 map-set_like f (z ∷ xs) zero x y h e = let k : z ≡ x = cc in ap (λ v. v ∷ map f xs) (e ∙ ap f (sym k))

@@ -1,4 +1,4 @@
--- What the readers of an aggregate tell.
+-- What the readers of an aggregate return.
 use Rattle.std.proofs.Common.{◌≡◌, ℕ, Bool, true, false, cond, List, [], ◌∷◌, map, refl, sym, ap, ◌∙◌, subst, Option, None, Some}
 use Rattle.std.specs.Prelude.{ℤ, pos, unwrap_or, is_none, ◌&&◌, ◌==◌}
 use Rattle.std.specs.List.{filter_map, cons_option}

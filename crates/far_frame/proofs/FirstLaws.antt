@@ -3,7 +3,7 @@ use Rattle.std.proofs.Common.{◌≡◌, ◌⊎◌, inl, inr, Bool, true, false,
 use Rattle.far_types.specs.declared.refusal.Refusal.{Refusal}
 use Rattle.far_types.specs.FirstOf.{first_of}
 
--- each of these tests that holds tells a refusal of one sort
+-- each of these tests that holds gives a refusal of one sort
 abbrev pub AllTell : (Refusal → Type 0) → List (Bool × Refusal) → Type 0
 AllTell P [] = Unit {0}
 AllTell P (case ∷ cases) = (case.0 ≡ true → P case.1) × AllTell P cases

@@ -30,11 +30,11 @@ group-within p size len some below =
     omega (arith, up)
 
 module _ {K : Type 0} (r : Rows K) where
-  -- a row group that is here leaves the question to those behind it
+  -- a row group that is here leaves the decision to those behind it
   pub here-first : (g count : ℕ) → first_of (absents r g) ≡ None → first_of (absents_of r g (suc count)) ≡ first_of (absents_of r (g + 1) count)
   here-first g count here = first-behind (absents r g) (absents_of r (g + 1) count) ∙ ap (λ o. option_or o (first_of (absents_of r (g + 1) count))) here
 
-  -- and one that is not answers it
+  -- and one that is not here decides it
   pub away-first : (g count : ℕ) (e : Refusal) → first_of (absents r g) ≡ Some e → first_of (absents_of r g (suc count)) ≡ Some e
   away-first g count e away = first-behind (absents r g) (absents_of r (g + 1) count) ∙ ap (λ o. option_or o (first_of (absents_of r (g + 1) count))) away
 

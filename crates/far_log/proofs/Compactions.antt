@@ -81,7 +81,7 @@ module _ {X : Type 0} (old : RegionState X) (from to : ℕ) (order : List ℕ) (
       (ap (λ s. s.size) (sym (stays from (λ e. target.other (sym e)))))
       (omega arith)
 
-  -- what is skipped, if that is told of the segment that is empty now
+  -- what is skipped, if the segment that is empty now is recorded
   pub compacted-skip : (known new : Skip) → IsSkip old known → IsSpaced known new from (segment_of old 0).size → IsSkip (compacted old from to order) new
   compacted-skip known new skip spaced =
       let filled_one : SegmentState X = record (segment_of old to) { parts = gathered (segment_of old from).parts order } in

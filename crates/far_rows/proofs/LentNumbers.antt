@@ -1,4 +1,4 @@
--- Parts of columns of numbers that are lent, as rows tell of them.
+-- Lent parts of columns of numbers, as the contracts of rows describe them.
 use Rattle.std.proofs.Common.{◌≡◌, ℕ, zero, suc, ℤ, ◌+◌, ◌<◌, Bool, false, List, [], ◌∷◌, map, length, get_or, take, drop, Option, Some, inl, inr, refl, sym, ap, ◌∙◌, arith}
 use Rattle.std.specs.Prelude.{◌||◌, nat_lt, is_none, option_map, slice_get, slice_range}
 use Rattle.std.specs.List.{range_with_len}

@@ -1,4 +1,4 @@
--- Parts of columns of texts that are lent, as rows tell of them.
+-- Lent parts of columns of texts, as the contracts of rows describe them.
 use Rattle.std.proofs.Common.{◌≡◌, ℕ, ◌+◌, ◌-◌, ◌/◌, ◌<◌, Bool, true, false, List, [], ◌∷◌, map, length, get_or, drop, Option, Some, refl, sym, ap, ◌∙◌}
 use Rattle.std.specs.Prelude.{◌||◌, nat_lt, min, if◌then◌else◌, is_none, option_map, slice_get, slice_range}
 use Rattle.std.specs.List.{range_with_len, zip}

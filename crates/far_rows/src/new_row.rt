@@ -90,7 +90,7 @@ impl NewRow {
         mem::replace(&mut self.spare, Vec::new(alloc))
     }
 
-    // Puts the value of a cell, which is of the kind of its index. The cell gets a text that stood there.
+    // Puts the value of a cell, which is of the kind of its index. The cell gets the text that was there before.
     #[inline(always)]
     fn put(&mut self, column_index: ColumnIndex, cell: &mut Cell)
         requires within { IsWithin (length self.old.numbers) (length self.old.texts) column_index }

@@ -4,7 +4,7 @@ use Rattle.std.proofs.Math.ListN.{get_or-map}
 use Rattle.boxcar.specs.Table.{Shelves, Where, Shows}
 use Rattle.far_store.specs.StoreState.{IsOf, bucket_ids}
 
--- a place of a vector is of the store that is told by its buckets
+-- a place of a vector is of the store that its buckets name
 pub is-of : {T : Type 0} (shelves : Shelves) (place : Where T) → Shows shelves place → IsOf place (bucket_ids shelves)
 is-of shelves place shows = shows ∙ sym (get_or-map (λ bucket. bucket.id) shelves.buckets place.bucket record { id = 0; tag = [] })
 

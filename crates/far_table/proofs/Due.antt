@@ -1,4 +1,4 @@
--- Why an insert and a removal are refused: as the rows over objects tell it, and in the plain table's words.
+-- Why an insert and a removal are refused: by the rows over objects, and in the plain table's words.
 use Rattle.std.proofs.Common.{◌≡◌, ℕ, ◌/◌, ◌<◌, ◌≤◌, Bool, true, false, not, List, [], ◌∷◌, ◌++◌, map, length, Option, None, Some, refl, sym, ap, subst, ◌∙◌, arith}
 use Rattle.std.specs.Prelude.{◌==◌, ◌||◌, cond, nat_lt}
 use Rattle.std.specs.List.{list_any}

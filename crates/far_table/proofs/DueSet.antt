@@ -1,4 +1,4 @@
--- Why a set is refused: as the rows over objects tell it, and in the plain table's words.
+-- Why a set is refused: by the rows over objects, and in the plain table's words.
 use Rattle.std.proofs.Common.{◌≡◌, ℕ, zero, suc, ◌/◌, ◌<◌, Bool, false, not, List, [], ◌∷◌, ◌++◌, length, ℤ, Option, None, Some, refl, sym, ap, subst, ◌∙◌, arith}
 use Rattle.std.specs.Prelude.{◌==◌, ◌&&◌, cond, option_map, slice_get}
 use Rattle.std.specs.Option.{option_and_then, option_map_or, option_or}

@@ -75,7 +75,7 @@ module _ {K : Type 0} (content : K → List ℕ) (held : Rows K) (are : AreRows 
         let told = none-needed held spec g 0 held.column_indexes (sym free) c found.0 found.1 (ap (needs spec) zero-plus ∙ wanted) in
         ap is_none (lend-at content held are spec g inside c found.0 found.1 ∙ ap (λ (b : Bool). cond b (Some (refusal.Absent c g)) None) told)
 
--- an aggregate has the specification that is told
+-- what the specification that a reader returns says of the aggregate
 pub no-aggregate : (found : Option Registered) → None ≡ option_map (λ (r : Registered). r.spec) found → found ≡ None
 no-aggregate None is = refl
 no-aggregate (Some r) is = absurd (none-some r.spec is)

@@ -55,7 +55,7 @@ module _ {K : Type 0} (r : Rows K) (spec : Spec) (g : ℕ) where
   pub none-left : (k : ℕ) → length r.column_indexes ≤ k → left k ≡ None
   none-left k past = ap (λ (column_indexes : List ColumnIndex). first_of (needed_from r spec g k column_indexes)) (drop_all k r.column_indexes past)
 
--- a row group has a place, as the rows tell it
+-- a row group has a place, by what the rows return
 pub begun-at : {K : Type 0} (g : ℕ) (rows held : Rows K) → rows ≡ held → (size len : ℕ) → rows.size ≡ size → length rows.alive ≡ len → g * size < len → g * held.size < length held.alive
 begun-at g rows held same size len group all begun = subst (λ (r : Rows _). g * r.size < length r.alive) same (subst (λ (n : ℕ). g * n < length rows.alive) (sym group) (subst (λ (n : ℕ). g * size < n) (sym all) begun))
 

@@ -23,7 +23,7 @@ module _ {A : Type 0} where
   some-both None P Q has also = absurd has
   some-both (Some x) P Q has also = (x, refl, has, also)
 
-  -- what a call answered that is not refused
+  -- what a call returned that is not refused
   pub found-unless : {B : Type 0} (r : Result B Refusal) (o : Option A) (value : B → A) (P : A → Type 0) → refusal_in r ≡ None → IfOk r (λ x. o ≡ Some (value x)) → ((x : A) → o ≡ Some x → P x) → IsSomeAnd o P
   found-unless (Ok x) o value P free is holds = subst (λ y. IsSomeAnd y P) (sym is) (holds (value x) is)
   found-unless (Err refusal) o value P free is holds = cc
@@ -48,7 +48,7 @@ module _ {X K : Type 0} (meaning : List ℕ → List X) (content : K → List �
   pub list-local : (o : ℕ) (list : List X) → list_in m.memory o ≡ Some list → list_of meaning content m o ≡ Some list
   list-local o list is = rw is refl
 
-  -- an object that may be written has its list in local memory: a lending of it tells that
+  -- an object that may be written has its list in local memory: that it can be lent shows it
   pub list-held : {B : Type 0} (o : ℕ) (r : Result B Refusal) (value : B → List X) → write_refusal m o ≡ None → refusal_in r ≡ lend_refusal m o → IfOk r (λ x. list_in m.memory o ≡ Some (value x))
       → (size : ℕ) → IsSomeAnd (list_of meaning content m o) (λ list. length list ≡ size) → IsSomeAnd (list_in m.memory o) (λ list. length list ≡ size)
   list-held o r value free refused lent size long =

@@ -169,6 +169,7 @@ impl<T: Elem> FarVector<T> {
         ensures list { IsSomeAnd (list_of T.meaning S.content objects.now result.object) (λ list. length list ≡ self.now.size) }
         ensures shaped { IsShaped self.now }
     {
+        // For the proof: gives that an object with a list is in use.
         let _ = objects.number();
         Position {
             place: i,

@@ -191,6 +191,7 @@ impl<S: FarTickets> Rows<S> {
         ensures refused { refusal_in result ≡ first_of (absent_at self.now at (place / self.now.size) (column_index.Text text) ∷ []) }
     {
         let column = &self.texts[text];
+        // For the proof: gives `HasGroups` of the column.
         let _len = column.len();
         column.text(&self.text_objects, place)
     }
@@ -222,6 +223,7 @@ fn texts_are_here<S: FarTickets>(
     requires { IsTextColumn (lists_of S.content objects.now) column.now }
     ensures { refusal_in result ≡ first_of (option_map_or (absent objects.now) (slice_get column.now.objects group) (false, Refusal.StaleJob) ∷ []) }
 {
+    // For the proof: gives that an object with a list is in use.
     let _number = objects.number();
     if let Some(o) = column.object(group as usize) {
         objects.here(o)?;

@@ -114,6 +114,7 @@ impl<T: Elem> FarVector<T> {
         ensures refused { IfErr result (λ e. (first_of (no_space objects.old (length objects.old.records) self.old.size ∷ []) ≡ Some e) ⊎ ((first_of (no_space objects.old (length objects.old.records) self.old.size ∷ []) ≡ None) × (e ≡ Refusal.NoMemory))) }
         ensures err { OnErr result ((self.new ≡ self.old) × (objects.new ≡ objects.old)) }
     {
+        // For the proof: gives what holds of all objects (`AreTracked`).
         let _ = objects.number();
         if !objects.fits(self.size) {
             return Err(Refusal::RegionFull);

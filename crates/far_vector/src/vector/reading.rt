@@ -100,6 +100,7 @@ impl<T: Elem> FarVector<T> {
         requires within { end ≤ length self.now.objects }
         ensures { refusal_in result ≡ first_absent objects.now (slice_range self.now.objects first end) }
     {
+        // For the proof: gives that an object with a list is in use.
         let _ = objects.number();
         for o in &self.objects[first..end] {
             objects.here(*o)?;

@@ -177,6 +177,7 @@ impl<T: Elem> FarVector<T> {
         ensures list { IsSomeAnd (list_in objects.now.memory result) (λ list. length list ≡ self.now.size) }
     {
         let at = self.position(objects, i);
+        // For the proof: gives that the object has its list in local memory.
         let _ = objects.lend(at.object);
         at.object
     }
