@@ -11,7 +11,7 @@ use Rattle.far_types.specs.Effects.{count_in}
 use Rattle.far_types.specs.Pairs.{Pair, PairsFit}
 use Rattle.far_types.proofs.Grouping.{own_key, if_any, get-grouped, values_of-cons}
 use Rattle.far_types.proofs.LineLaws.{int_sum-low, int_sum-high}
-use Rattle.far_groups.specs.Live.{CanTake}
+use Rattle.far_groups.specs.Live.{CanRetract}
 
 abbrev ValuesFit : List ℤ → Type 0
 ValuesFit values = AllByRecursion (FitsSigned w64) values
@@ -48,8 +48,8 @@ own p ps =
     get-grouped count_sum (p ∷ ps) p.0
     ∙ ap (λ vs. if_any vs (count_sum vs)) (values_of-cons p.0 p ps ∙ ap (λ b. cond b (p.1 ∷ values_of p.0 ps) (values_of p.0 ps)) (own_key p.0))
 
-pub can_take : (p : Pair) (ps : List Pair) → PairsFit ps → CanTake p.1 (fin.get (totals (p ∷ ps)) p.0)
-can_take p ps h =
+pub can_retract : (p : Pair) (ps : List Pair) → PairsFit ps → CanRetract p.1 (fin.get (totals (p ∷ ps)) p.0)
+can_retract p ps h =
     let vs = values_of p.0 ps in
     let fits = values_of-fit p.0 ps h in
-    subst (CanTake p.1) (sym (own p ps)) (omega arith, (low (length vs) (int_sum vs) p.1 (int_sum-low vs fits), high (length vs) (int_sum vs) p.1 (int_sum-high vs fits)))
+    subst (CanRetract p.1) (sym (own p ps)) (omega arith, (low (length vs) (int_sum vs) p.1 (int_sum-low vs fits), high (length vs) (int_sum vs) p.1 (int_sum-high vs fits)))

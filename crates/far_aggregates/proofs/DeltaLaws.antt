@@ -11,7 +11,7 @@ use Rattle.far_types.proofs.TotalLaws.{totals-cons, without_pair-totals}
 use Rattle.far_extrema.specs.Live.{group_at}
 use Rattle.far_extrema.specs.MinMaxes.{put_min_max}
 use Rattle.far_extrema.proofs.GoneLaws.{observed-undo}
-use Rattle.far_groups.specs.Live.{CanTake}
+use Rattle.far_groups.specs.Live.{CanRetract}
 use Rattle.far_aggregates.specs.declared.aggregate.Aggregate.{Aggregate}
 use Rattle.far_aggregates.specs.declared.aggregate.Accumulator.{Accumulator}
 use Rattle.far_aggregates.specs.declared.aggregate.Accumulator.TheVariants as accumulator
@@ -21,7 +21,7 @@ use Rattle.far_aggregates.specs.Pairs.{Gives, change_of, AccumulatorFolds, Folds
 use Rattle.far_aggregates.specs.Deltas.{delta_of, row_delta, delta_in, accumulator_more, added, accumulator_undo, undo, AccumulatorMayAdd, AccumulatorMayUndo, MayUndo, EachMayUndo, AccumulatorFits, Fits, EachFits}
 use Rattle.far_aggregates.specs.Reserve.{AccumulatorIsReserved, IsReserved, AreReserved}
 use Rattle.far_aggregates.specs.Until.{zip_until, zip_all}
-use Rattle.far_aggregates.proofs.CountLaws.{few_under, can_take}
+use Rattle.far_aggregates.proofs.CountLaws.{few_under, can_retract}
 use Rattle.far_aggregates.proofs.ListLaws.{set-again, set-own, length-written, length-zip_all, get-take}
 use Rattle.far_aggregates.proofs.UntilLaws.{zip_until-take, zip_until-below, zip_until-undo, zip_until-all}
 
@@ -55,7 +55,7 @@ observed-undone g gs p o l h =
     ∙ set-own gs g fin.empty
 
 kept-may_undo : (g : ℕ) (k : Accumulator) (c : Delta) → AccumulatorFits g k c → AccumulatorMayUndo g (accumulator_more g k c.pair) c.pair
-kept-may_undo g (accumulator.Totals live) c h = subst (λ m. CanTake c.pair.1 (fin.get m c.pair.0)) (totals-cons c.pair h.0 ∙ ap (λ m. with_pair m c.pair) (sym h.1)) (can_take c.pair h.0 h.2)
+kept-may_undo g (accumulator.Totals live) c h = subst (λ m. CanRetract c.pair.1 (fin.get m c.pair.0)) (totals-cons c.pair h.0 ∙ ap (λ m. with_pair m c.pair) (sym h.1)) (can_retract c.pair h.0 h.2)
 kept-may_undo g (accumulator.Extrema live) c h =
     let same = length-written live.groups g (with_observed (group_at live.groups g) c.pair) in
     let reserved = h.0 in

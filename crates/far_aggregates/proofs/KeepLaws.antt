@@ -21,7 +21,7 @@ use Rattle.far_aggregates.specs.Deltas.{delta_of, row_delta, added}
 use Rattle.far_aggregates.specs.Retract.{retracted, MayRetract}
 use Rattle.far_aggregates.specs.Reserve.{IsReserved}
 use Rattle.far_aggregates.proofs.ScannedLaws.{totals-more, totals-swap, others, built-separate, built-changed, built-appended, scanned_pair-fits, cons-fits, others-fits}
-use Rattle.far_aggregates.proofs.CountLaws.{can_take}
+use Rattle.far_aggregates.proofs.CountLaws.{can_retract}
 use Rattle.far_aggregates.proofs.ExtremaLaws.{observed-more, observed-swap, rest, rest-separate, rest-changed, gone-leaves, gone-observed, groups_observed, groups_left, observed-is, left-is, observed-length, kept-built, kept-pending}
 use Rattle.far_aggregates.proofs.GroupLaws.{in_group-changed, in_group-appended, in_group-last, in_group-there, get-in_group, nth}
 use Rattle.far_aggregates.proofs.PairLaws.{extrema-joined}
@@ -142,7 +142,7 @@ module _ (size : ℕ) (f : Place → Place) (ps : List Place) (i : ℕ) (x y : P
 
   may_retract-totals : (spec : Spec) (registration : ℕ) (pending : List Bool) (live : groups.Live) (o : Change) (qs : List Pair) → live.totals ≡ totals (cons_option o qs) → PairsFit qs → MayRetract (i / size) (in_group size (i / size) (changed_at f i ps)) (entry spec registration pending (accumulator.Totals live)) o
   may_retract-totals spec registration pending live None qs h fit = tt
-  may_retract-totals spec registration pending live (Some p) qs h fit = subst (λ t. groups.CanTake p.1 (fin.get t p.0)) (sym h) (can_take p qs fit)
+  may_retract-totals spec registration pending live (Some p) qs h fit = subst (λ t. groups.CanRetract p.1 (fin.get t p.0)) (sym h) (can_retract p qs fit)
 
   may_retract-extrema : (spec : Spec) (registration : ℕ) (pending : List Bool) (live : min_maxes.Live) (o : Change) (qs : List Pair) → group_at live.groups (i / size) ≡ extrema (cons_option o qs) → extrema (group_pairs spec size (i / size) (changed_at f i ps)) ≡ extrema qs → MayRetract (i / size) (in_group size (i / size) (changed_at f i ps)) (entry spec registration pending (accumulator.Extrema live)) o
   may_retract-extrema spec registration pending live None qs h new = tt

@@ -6,7 +6,7 @@ use Rattle.far_types.specs.Effects.{count_in, with_pair, without_pair, with_obse
 use Rattle.far_types.specs.Pairs.{Pair}
 use Rattle.far_extrema.specs.Live.{group_at}
 use Rattle.far_extrema.specs.MinMaxes.{put_min_max}
-use Rattle.far_groups.specs.Live.{CanTake}
+use Rattle.far_groups.specs.Live.{CanRetract}
 use Rattle.far_aggregates.specs.declared.aggregate.Accumulator.{Accumulator}
 use Rattle.far_aggregates.specs.declared.aggregate.Accumulator.TheVariants as accumulator
 use Rattle.far_aggregates.specs.declared.deltas.Delta.{Delta}
@@ -61,7 +61,7 @@ AccumulatorMayAdd g (accumulator.Extrema live) pair = g < length live.groups
 
 -- a delta may be undone: its pair is there
 abbrev pub AccumulatorMayUndo : ℕ → Accumulator → Pair → Type 0
-AccumulatorMayUndo g (accumulator.Totals live) pair = CanTake pair.1 (fin.get live.totals pair.0)
+AccumulatorMayUndo g (accumulator.Totals live) pair = CanRetract pair.1 (fin.get live.totals pair.0)
 AccumulatorMayUndo g (accumulator.Extrema live) pair = (g < length live.groups) × (fin.get (group_at live.groups g) pair.0 ≢ None)
 
 -- the delta of an entry may be undone

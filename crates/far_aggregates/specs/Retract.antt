@@ -8,7 +8,7 @@ use Rattle.far_types.specs.Pairs.{Pair}
 use Rattle.far_types.specs.Table.{Place}
 use Rattle.far_extrema.specs.Live.{group_at}
 use Rattle.far_extrema.specs.MinMaxes.{put_min_max}
-use Rattle.far_groups.specs.Live.{CanTake}
+use Rattle.far_groups.specs.Live.{CanRetract}
 use Rattle.far_aggregates.specs.declared.aggregate.Accumulator.{Accumulator}
 use Rattle.far_aggregates.specs.declared.aggregate.Accumulator.TheVariants as accumulator
 use Rattle.far_aggregates.specs.Accumulators.{RegistryEntry, Change, pairs_here}
@@ -24,10 +24,10 @@ retracted g here None change = None
 retracted g here (Some a) None = Some a
 retracted g here (Some a) (Some pair) = Some (record a { accumulator = accumulator_less a.spec g here a.accumulator pair })
 
--- a pair may be retracted. Totals have it (`CanTake`). In extrema the min-max under its key is that of the rows that are left, widened
+-- a pair may be retracted. Totals have it (`CanRetract`). In extrema the min-max under its key is that of the rows that are left, widened
 -- by its value
 abbrev pub AccumulatorMayRetract : Spec → ℕ → List Place → Accumulator → Pair → Type 0
-AccumulatorMayRetract spec g here (accumulator.Totals live) pair = CanTake pair.1 (fin.get live.totals pair.0)
+AccumulatorMayRetract spec g here (accumulator.Totals live) pair = CanRetract pair.1 (fin.get live.totals pair.0)
 AccumulatorMayRetract spec g here (accumulator.Extrema live) pair = fin.get (group_at live.groups g) pair.0 ≡ Some (widened pair.1 (fin.get (extrema (pairs_here spec here)) pair.0))
 
 -- the pair of an entry may be retracted

@@ -40,5 +40,5 @@ AccumulatorMayScan spec g here (accumulator.Totals live) = (live.left ≡ 0 → 
 AccumulatorMayScan spec g here (accumulator.Extrema live) = (live.left ≡ 0 → ⊥) × (group_at live.groups g ≡ fin.empty)
 
 -- what is kept is that of some places, which are few, and those of the row group are these
-abbrev pub EntryMayBuild : ℕ → ℕ → List Place → RegistryEntry → Type 0
-EntryMayBuild size g here entry = (places : List Place) × (here ≡ in_group size g places) × (length places ≤ 2 ^ 24) × KeepsEntry size places entry
+abbrev pub EntryMayScan : ℕ → ℕ → List Place → RegistryEntry → Type 0
+EntryMayScan size g here entry = (places : List Place) × (here ≡ in_group size g places) × (length places ≤ 2 ^ 24) × KeepsEntry size places entry

@@ -21,7 +21,7 @@ use super::readings::{first_pending, plain};
 use super::registrations::{aggregate_at, forget, free_number, register};
 use super::reserve::reserve_all;
 use super::retract::{needs_rows, retract_all, retract_totals};
-use super::scans::build_at;
+use super::scans::scan_at;
 use super::spare_keys::SpareKeys;
 use super::spare_lists::SpareLists;
 use far_reciprocal::Reciprocal;
@@ -223,7 +223,7 @@ impl Aggregates {
 
     /// Scans the rows of a row group into the aggregate of a number in which it is pending. Refused with `NoMemory` (1) alone.
     /// A refusal changes no answer.
-    pub fn build_at<G: LendGroup>(
+    pub fn scan_at<G: LendGroup>(
         &mut self,
         alloc: Global,
         a: u32,
@@ -240,7 +240,7 @@ impl Aggregates {
         ensures unchanged { OnErr result (registered_of self.new ≡ registered_of self.old) }
         ensures memory { IfErr result (λ e. e ≡ Refusal.NoMemory) }
     {
-        build_at(alloc, &mut self.registry, a, group, size, number)
+        scan_at(alloc, &mut self.registry, a, group, size, number)
     }
 
     /// Applies the deltas of a row that is to be appended at a place, the first that is not there yet. Once the rows have it,

@@ -8,7 +8,7 @@ ghost use Rattle.far_groups.specs.Live.{CanJoin};
 ghost use Rattle.far_offload.specs.Partials.{partial_of};
 ghost use Rattle.far_aggregates.specs.Accumulators.{KeepsEntry, Keeps, fold_of, pairs_here, registered_in, registered_of};
 ghost use Rattle.far_aggregates.specs.Lending.{IsServed, EntryIsServed};
-ghost use Rattle.far_aggregates.specs.Scans.{scanned_entry, has_pending, IsScanned, IsSame, AccumulatorMayScan, EntryMayBuild};
+ghost use Rattle.far_aggregates.specs.Scans.{scanned_entry, has_pending, IsScanned, IsSame, AccumulatorMayScan, EntryMayScan};
 ghost use Rattle.far_aggregates.specs.Aggregates.{joined};
 ghost use Rattle.far_aggregates.specs.Recounting.{AccumulatorMayMerge, IsMerged};
 
@@ -121,7 +121,7 @@ fn scan<G: LendGroup>(
 
 /// Scans the rows of a row group into an aggregate in which it is pending. Refused with `NoMemory` (1) alone. A refusal does
 /// not change its answer.
-fn build_in<G: LendGroup>(
+fn scan_in<G: LendGroup>(
     alloc: Global,
     entry: &mut Option<Aggregate>,
     group: &G,
@@ -131,7 +131,7 @@ fn build_in<G: LendGroup>(
     requires size { 0 < size }
     requires pending { has_pending number entry.old ≡ true }
     requires served { EntryIsServed (G.has group.now) (registered_in entry.old) }
-    requires may { EntryMayBuild size number (G.places group.now) entry.old }
+    requires may { EntryMayScan size number (G.places group.now) entry.old }
     ensures registered { OnOk result (registered_in entry.new ≡ scanned_entry number (registered_in entry.old)) }
     ensures kept { (places : List Place) → G.places group.now ≡ in_group size number places → KeepsEntry size places entry.old → KeepsEntry size places entry.new }
     ensures unchanged { OnErr result (registered_in entry.new ≡ registered_in entry.old) }
@@ -152,7 +152,7 @@ fn build_in<G: LendGroup>(
 
 /// Scans the rows of a row group into the aggregate of a number. Refused with `NoMemory` (1) alone. A refusal does not change
 /// its answer.
-pub fn build_at<G: LendGroup>(
+pub fn scan_at<G: LendGroup>(
     alloc: Global,
     registry: &mut Vec<Option<Aggregate>>,
     a: u32,
@@ -163,12 +163,12 @@ pub fn build_at<G: LendGroup>(
     requires size { 0 < size }
     requires pending { has_pending number (joined (slice_get registry.old.items a)) ≡ true }
     requires served { EntryIsServed (G.has group.now) (registered_in (joined (slice_get registry.old.items a))) }
-    requires may { EntryMayBuild size number (G.places group.now) (joined (slice_get registry.old.items a)) }
+    requires may { EntryMayScan size number (G.places group.now) (joined (slice_get registry.old.items a)) }
     ensures registered { OnOk result (registered_of registry.new.items ≡ slice_set (registered_of registry.old.items) a (scanned_entry number (registered_in (joined (slice_get registry.old.items a))))) }
     ensures kept { (places : List Place) → G.places group.now ≡ in_group size number places → Keeps size places registry.old.items → Keeps size places registry.new.items }
     ensures unchanged { OnErr result (registered_of registry.new.items ≡ registered_of registry.old.items) }
     ensures memory { IfErr result (λ e. e ≡ Refusal.NoMemory) }
 {
-    build_in(alloc, &mut registry[a as usize], group, size, number)?;
+    scan_in(alloc, &mut registry[a as usize], group, size, number)?;
     Ok(())
 }

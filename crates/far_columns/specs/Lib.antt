@@ -1,3 +1,3 @@
 pub mod Numbers
 pub mod NumbersTogether
-pub mod NumbersBack
+pub mod NumbersUndo

@@ -14,7 +14,7 @@ use Rattle.far_types.specs.Effects.{merge_two, joined_totals, add_count_sums, co
 use Rattle.far_types.proofs.Grouping.{same_key, get-joined}
 use Rattle.far_types.proofs.ByKeyMaps.{Entries, with_more, with_all, with_all-joined, joined-empty, merge_two_none, moved_out, absent, HaveDistinctKeys, take_distinct, get_inserted, insert_back, insert_again}
 use Rattle.far_groups.specs.Live.{CanJoin}
-use Rattle.far_groups.specs.CountSums.{totals_of, IsCountSum, AreCountSums, with_count_sum, LeavesCountSum, without_less, without_count_sum, CanTakeAll, without_all}
+use Rattle.far_groups.specs.CountSums.{totals_of, IsCountSum, AreCountSums, with_count_sum, LeavesCountSum, without_less, without_count_sum, CanRetractAll, without_all}
 
 -- the entries of another map can be added one after another
 abbrev pub CanAddAll : Totals → Entries (ℕ × ℤ) → Type 0
@@ -57,7 +57,7 @@ leaves t None h = (omega arith, (omega (arith, ints), omega (arith, ints)))
 leaves t (Some x) h = (omega arith, (omega (arith, ints), omega (arith, ints)))
 
 -- all that were joined can be taken one after another, and then what was there before is left
-pub all_undone : (m : Totals) (es : Entries (ℕ × ℤ)) → HaveDistinctKeys es → AreCountSums m → CanTakeAll (joined_totals m (totals_of es)) es × (without_all (joined_totals m (totals_of es)) es ≡ m)
+pub all_undone : (m : Totals) (es : Entries (ℕ × ℤ)) → HaveDistinctKeys es → AreCountSums m → CanRetractAll (joined_totals m (totals_of es)) es × (without_all (joined_totals m (totals_of es)) es ≡ m)
 all_undone m [] h all = (tt, joined-empty add_count_sums m)
 all_undone m (e ∷ es) h all =
     let before = joined_totals m (totals_of es) in
@@ -67,7 +67,7 @@ all_undone m (e ∷ es) h all =
     let last : joined_totals m (totals_of (e ∷ es)) ≡ with_count_sum before e.0 e.1 = moved_out add_count_sums m (totals_of es) e.0 e.1 none in
     let taken : without_count_sum (joined_totals m (totals_of (e ∷ es))) e.0 e.1 ≡ before = ap (λ x. without_count_sum x e.0 e.1) last ∙ with_undone before e.0 e.1 own in
     let can : LeavesCountSum e.1 (fin.get (joined_totals m (totals_of (e ∷ es))) e.0) = subst (LeavesCountSum e.1) (sym (ap (λ x. fin.get x e.0) last ∙ get_inserted before e.0 (with_more add_count_sums e.1 (fin.get before e.0)))) (leaves e.1 (fin.get before e.0) own) in
-    ((can, subst (λ x. CanTakeAll x es) (sym taken) (all_undone m es h.1 all).0), ap (λ x. without_all x es) taken ∙ (all_undone m es h.1 all).1)
+    ((can, subst (λ x. CanRetractAll x es) (sym taken) (all_undone m es h.1 all).0), ap (λ x. without_all x es) taken ∙ (all_undone m es h.1 all).1)
 
 rest_count_sums : (n : Totals) (k : Option Key) (t : ℕ × ℤ) → fin.get n k ≡ None → AreCountSums (fin.insert n k t) → AreCountSums n
 rest_count_sums n k t none all q =
@@ -109,9 +109,9 @@ pub take_whole : (n : ℕ) (es : Entries (ℕ × ℤ)) → drop n es ≡ [] → 
 take_whole n es none = sym (append-nil (take n es)) ∙ ap (λ rest. take n es ++ rest) (sym none) ∙ take-append-drop n es
 
 -- what was added of some entries can be taken again, and then what was there before is left
-pub undone : (m now : Totals) (n : ℕ) (es : Entries (ℕ × ℤ)) → HaveDistinctKeys es → AreCountSums m → now ≡ with_all add_count_sums m (take n es) → CanTakeAll now (take n es) × (without_all now (take n es) ≡ m)
+pub undone : (m now : Totals) (n : ℕ) (es : Entries (ℕ × ℤ)) → HaveDistinctKeys es → AreCountSums m → now ≡ with_all add_count_sums m (take n es) → CanRetractAll now (take n es) × (without_all now (take n es) ≡ m)
 undone m now n es distinct all is =
     let first = take_distinct n es distinct in
     let joined = is ∙ with_all-joined add_count_sums m (take n es) first in
     let taken = all_undone m (take n es) first all in
-    (subst (λ x. CanTakeAll x (take n es)) (sym joined) taken.0, ap (λ x. without_all x (take n es)) joined ∙ taken.1)
+    (subst (λ x. CanRetractAll x (take n es)) (sym joined) taken.0, ap (λ x. without_all x (take n es)) joined ∙ taken.1)

@@ -16,7 +16,7 @@ use Rattle.far_types.proofs.TotalLaws.{totals-cons}
 use Rattle.far_types.proofs.ByKeyMaps.{get_inserted}
 use Rattle.far_types.proofs.LineLaws.{int_sum-low, int_sum-high}
 use Rattle.far_groups.specs.CountSums.{IsSumOf, IsCountSum}
-use Rattle.far_groups.specs.Live.{CanTake, CanJoin}
+use Rattle.far_groups.specs.Live.{CanRetract, CanJoin}
 
 get-with_pair : (p : Pair) (ps : List Pair) (k : Option Key) → fin.get (totals (p ∷ ps)) k ≡ cond (eq_by_cmp line_cmp k p.0) (Some (added p.1 (fin.get (totals ps) p.0))) (fin.get (totals ps) k)
 get-with_pair p ps k = ap (λ m. fin.get m k) (totals-cons p ps) ∙ fin.get-insert line_total (totals ps) p.0 (added p.1 (fin.get (totals ps) p.0)) k
@@ -60,14 +60,14 @@ sums_fit (p ∷ ps) h k =
     subst SumFits (sym (get-with_pair p ps k))
     (either SumFits (eq_by_cmp line_cmp k p.0) (Some (added p.1 (fin.get (totals ps) p.0))) (fin.get (totals ps) k) (sum-added p.1 (fin.get (totals ps) p.0) h.0 (sums_fit ps h.1 p.0)) (sums_fit ps h.1 k))
 
-leaves : (v : ℤ) (o : Option (ℕ × ℤ)) → SumFits o → CanTake v (Some (added v o))
+leaves : (v : ℤ) (o : Option (ℕ × ℤ)) → SumFits o → CanRetract v (Some (added v o))
 leaves v None h = (omega arith, (omega (arith, ints), omega (arith, ints)))
 leaves v (Some t) h = (omega arith, (omega (arith, ints), omega (arith, ints)))
 
 -- a pair that is in can be taken
-pub can_take : (p : Pair) (ps : List Pair) → PairsFit (p ∷ ps) → CanTake p.1 (fin.get (totals (p ∷ ps)) p.0)
-can_take p ps h =
-    subst (CanTake p.1) (sym (ap (λ m. fin.get m p.0) (totals-cons p ps) ∙ get_inserted (totals ps) p.0 (added p.1 (fin.get (totals ps) p.0)))) (leaves p.1 (fin.get (totals ps) p.0) (sums_fit ps h.1 p.0))
+pub can_retract : (p : Pair) (ps : List Pair) → PairsFit (p ∷ ps) → CanRetract p.1 (fin.get (totals (p ∷ ps)) p.0)
+can_retract p ps h =
+    subst (CanRetract p.1) (sym (ap (λ m. fin.get m p.0) (totals-cons p ps) ∙ get_inserted (totals ps) p.0 (added p.1 (fin.get (totals ps) p.0)))) (leaves p.1 (fin.get (totals ps) p.0) (sums_fit ps h.1 p.0))
 
 -- those of at most 2^26 pairs can be joined
 pub can_join : (ps qs : List Pair) → length ps + length qs ≤ 2 ^ 26 → CanJoin (totals ps) (totals qs)

@@ -41,9 +41,9 @@ abbrev pub without_count_sum : Totals → Option Key → ℕ × ℤ → Totals
 without_count_sum totals key less = without_less totals key less (fin.get totals key)
 
 -- the entries of another map can be taken one after another
-abbrev pub CanTakeAll : Totals → List (Option Key × (ℕ × ℤ)) → Type 0
-CanTakeAll totals [] = Unit {0}
-CanTakeAll totals (entry ∷ entries) = LeavesCountSum entry.1 (fin.get totals entry.0) × CanTakeAll (without_count_sum totals entry.0 entry.1) entries
+abbrev pub CanRetractAll : Totals → List (Option Key × (ℕ × ℤ)) → Type 0
+CanRetractAll totals [] = Unit {0}
+CanRetractAll totals (entry ∷ entries) = LeavesCountSum entry.1 (fin.get totals entry.0) × CanRetractAll (without_count_sum totals entry.0 entry.1) entries
 
 -- the totals once they are taken
 abbrev pub without_all : Totals → List (Option Key × (ℕ × ℤ)) → Totals

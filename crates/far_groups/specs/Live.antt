@@ -18,9 +18,9 @@ abbrev pub coded_live : Coded Live
 coded_live = code_by (ℕ × Totals) (coded× coded_ℕ coded_totals) (λ live. (live.left, live.totals)) (λ p. record { left = p.0; totals = p.1 }) (λ _. refl)
 
 -- a value can be taken from a count and a sum if the sum that is left is one that the pairs left can have
-abbrev pub CanTake : ℤ → Option (ℕ × ℤ) → Type 0
-CanTake value None = ⊥
-CanTake value (Some count_sum) = (1 ≤ count_sum.0) × IsSumOf (count_sum.0 - 1) (count_sum.1 -ℤ value)
+abbrev pub CanRetract : ℤ → Option (ℕ × ℤ) → Type 0
+CanRetract value None = ⊥
+CanRetract value (Some count_sum) = (1 ≤ count_sum.0) × IsSumOf (count_sum.0 - 1) (count_sum.1 -ℤ value)
 
 -- two totals can be joined if each key then has at most 2^26 pairs
 abbrev pub CanJoin : Totals → Totals → Type 0

@@ -6,7 +6,7 @@ ghost use Rattle.far_types.specs.declared.key.Key.{Key};
 ghost use Rattle.far_types.specs.Keys.{line_cmp};
 ghost use Rattle.far_types.specs.Effects.{add_count_sums, count_in, joined_totals};
 ghost use Rattle.far_groups.specs.Live.{CanJoin};
-ghost use Rattle.far_groups.specs.CountSums.{totals_of, IsCountSum, AreCountSums, with_count_sum, LeavesCountSum, without_count_sum, CanTakeAll, without_all};
+ghost use Rattle.far_groups.specs.CountSums.{totals_of, IsCountSum, AreCountSums, with_count_sum, LeavesCountSum, without_count_sum, CanRetractAll, without_all};
 
 use far_types::{Key, Refusal, clone_key};
 use std::alloc::Global;
@@ -128,9 +128,9 @@ pub fn take(count_sums: &mut CountSums, key: &Option<Key>, less: CountSum)
 }
 
 /// Subtracts the first `count` entries of another map from these. Allocates nothing.
-fn take_first(count_sums: &mut CountSums, other: &CountSums, count: usize)
+fn retract_first(count_sums: &mut CountSums, other: &CountSums, count: usize)
     requires valid_sums { AreCountSums (totals_of count_sums.old.entries) }
-    requires there { CanTakeAll (totals_of count_sums.old.entries) (take count other.now.entries) }
+    requires there { CanRetractAll (totals_of count_sums.old.entries) (take count other.now.entries) }
     ensures { totals_of count_sums.new.entries ≡ without_all (totals_of count_sums.old.entries) (take count other.now.entries) }
 {
     let mut left = count;
@@ -158,7 +158,7 @@ pub fn join(count_sums: &mut CountSums, other: &CountSums) -> Result<(), Refusal
         match add_under(count_sums, key, *count_sum) {
             Ok(()) => done += 1,
             Err(refusal) => {
-                take_first(count_sums, other, done);
+                retract_first(count_sums, other, done);
                 return Err(refusal);
             }
         }

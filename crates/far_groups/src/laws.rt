@@ -7,7 +7,7 @@ ghost use Rattle.far_types.specs.declared.key.Key.{Key};
 ghost use Rattle.far_types.specs.Pairs.{Pair, PairsFit};
 ghost use Rattle.far_types.specs.Answers.{totals, count_sum};
 ghost use Rattle.far_types.specs.Effects.{count_in};
-ghost use Rattle.far_groups.specs.Live.{CanTake, CanJoin};
+ghost use Rattle.far_groups.specs.Live.{CanRetract, CanJoin};
 ghost use Rattle.far_groups.specs.CountSums.{IsCountSum};
 
 /// If the totals are those of some pairs, whose values are numbers of 64 bits:
@@ -15,7 +15,7 @@ ghost use Rattle.far_groups.specs.CountSums.{IsCountSum};
 /// - No more values stand under a key than there are pairs.
 /// - The totals of at most 2^26 pairs can be joined.
 pub fn pairs_meet_the_conditions()
-    ensures takeable { (pair : Pair) → (pairs : List Pair) → PairsFit (pair ∷ pairs) → CanTake pair.1 (fin.get (totals (pair ∷ pairs)) pair.0) }
+    ensures retractable { (pair : Pair) → (pairs : List Pair) → PairsFit (pair ∷ pairs) → CanRetract pair.1 (fin.get (totals (pair ∷ pairs)) pair.0) }
     ensures counted { (pairs : List Pair) → (key : Option Key) → count_in (fin.get (totals pairs) key) ≤ length pairs }
     ensures joinable { (some : List Pair) → (others : List Pair) → length some + length others ≤ 2 ^ 26 → CanJoin (totals some) (totals others) }
 {}

@@ -49,7 +49,7 @@ impl LiveTotals {
     ghost use Rattle.far_types.specs.Answers.{total_lines, totals};
     ghost use Rattle.far_types.specs.Pairs.{PairsFit};
     ghost use Rattle.far_types.specs.Effects.{count_in, with_pair, without_pair, joined_totals};
-    ghost use Rattle.far_groups.specs.Live.{CanTake, CanJoin};
+    ghost use Rattle.far_groups.specs.Live.{CanRetract, CanJoin};
     ghost use Rattle.far_groups.specs.CountSums.{IsCountSum};
 
     /// Makes totals without rows, with `left` row groups pending. Allocates nothing.
@@ -111,7 +111,7 @@ impl LiveTotals {
     /// Removes a folded row, one of those that are in. If no row is left under its key, removes the key too. Allocates nothing.
     #[inline(always)]
     pub fn take(&mut self, key: &Option<Key>, value: i64)
-        requires { CanTake value (fin.get self.old.totals key.now) }
+        requires { CanRetract value (fin.get self.old.totals key.now) }
         ensures { self.new ≡ record self.old { totals = without_pair self.old.totals (key.now, value) } }
     {
         take(&mut self.count_sums, key, count_sum_of(value));

@@ -5,7 +5,7 @@ ghost use Rattle.std.specs.Ordering.{int_cmp};
 ghost use Rattle.std.specs.FinMap as fin;
 ghost use Rattle.far_types.specs.Effects.{count_in, joined_totals};
 ghost use Rattle.far_groups.specs.Live.{CanJoin};
-ghost use Rattle.far_groups.specs.CountSums.{IsCountSum, AreCountSums, with_count_sum, LeavesCountSum, without_count_sum, CanTakeAll, without_all};
+ghost use Rattle.far_groups.specs.CountSums.{IsCountSum, AreCountSums, with_count_sum, LeavesCountSum, without_count_sum, CanRetractAll, without_all};
 ghost use Rattle.far_groups.specs.Numbers.{number_key, numbered, by_number, number_line, number_lines};
 
 use super::count_sums::{CountSum, CountSums, merge_two, subtract};
@@ -75,9 +75,9 @@ pub fn take(numbers: &mut Numbers, number: &i64, less: CountSum)
 }
 
 /// Subtracts the first `count` entries of another map from these. Allocates nothing.
-fn take_first(numbers: &mut Numbers, other: &Numbers, count: usize)
+fn retract_first(numbers: &mut Numbers, other: &Numbers, count: usize)
     requires valid_sums { AreCountSums (by_number numbers.old.entries) }
-    requires there { CanTakeAll (by_number numbers.old.entries) (take count (numbered other.now.entries)) }
+    requires there { CanRetractAll (by_number numbers.old.entries) (take count (numbered other.now.entries)) }
     ensures { by_number numbers.new.entries ≡ without_all (by_number numbers.old.entries) (take count (numbered other.now.entries)) }
 {
     let mut left = count;
@@ -105,7 +105,7 @@ pub fn join(numbers: &mut Numbers, other: &Numbers) -> Result<(), Refusal>
         match add(numbers, number, *count_sum) {
             Ok(()) => done += 1,
             Err(refusal) => {
-                take_first(numbers, other, done);
+                retract_first(numbers, other, done);
                 return Err(refusal);
             }
         }

@@ -6,7 +6,7 @@ ghost use Rattle.far_scopes.specs.Refusing.{refusal_in};
 ghost use Rattle.far_vector.specs.Effects.{after_unpush};
 ghost use Rattle.far_columns.specs.Numbers.{number_lists, numbers_in};
 ghost use Rattle.far_columns.specs.NumbersTogether.{AreNumberColumns, all_begin, all_pushed, all_numbers_with, KeepsNumbers, all_pushed_in, push_numbers_refusal};
-ghost use Rattle.far_columns.specs.NumbersBack.{AreBegunLast, after_uncreate_all};
+ghost use Rattle.far_columns.specs.NumbersUndo.{AreBegunLast, after_uncreate_all};
 
 mod checking;
 mod filling;

@@ -135,7 +135,7 @@ impl<S: FarTickets> LiveTable<S> {
         let _len = self.rows.len();
         let size = self.rows.limits().group;
         an_aggregate_is_served_by_the_columns_of_its_schema();
-        self.aggregates.build_at(
+        self.aggregates.scan_at(
             self.alloc,
             build.aggregate,
             &FarGroup::new(held, carried),

@@ -86,7 +86,7 @@ impl<S: FarTickets> LiveTable<S> {
         let size = self.rows.limits().group;
         an_aggregate_is_served_by_the_columns_of_its_schema();
         self.aggregates
-            .build_at(self.alloc, a, &self.rows.group(group), size, group)
+            .scan_at(self.alloc, a, &self.rows.group(group), size, group)
     }
 
     /// Returns the answer of the aggregate of a number over the rows as they are, whichever objects are away.

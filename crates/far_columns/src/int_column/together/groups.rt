@@ -7,7 +7,7 @@ ghost use Rattle.far_vector.specs.Vectors.{AreVectors};
 ghost use Rattle.far_vector.specs.Effects.{is_full, after_unpush};
 ghost use Rattle.far_columns.specs.Numbers.{number_lists, numbers_in};
 ghost use Rattle.far_columns.specs.NumbersTogether.{all_pushed, all_numbers_with, KeepsNumbers, all_pushed_in};
-ghost use Rattle.far_columns.specs.NumbersBack.{KeepsBelow, AreBegunFrom, AreBegunLast, after_uncreate_all};
+ghost use Rattle.far_columns.specs.NumbersUndo.{KeepsBelow, AreBegunFrom, AreBegunLast, after_uncreate_all};
 
 use crate::int_column::IntColumn;
 use far_scopes::Objects;

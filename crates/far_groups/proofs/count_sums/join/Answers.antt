@@ -32,15 +32,15 @@ loop-key-preserved c =
           ∙ ap (with_all add_count_sums start) (sym more.0);
     }
 
-pub take_first-requires-clause-there : goal.take_first-requires-clause-there
-take_first-requires-clause-there c =
+pub retract_first-requires-clause-there : goal.retract_first-requires-clause-there
+retract_first-requires-clause-there c =
     let distinct = sorted_distinct c.args.other.now.entries c.into_iter-key-iterator.ensures.into_iter_gives.5 in
     (undone (totals_of c.args.count_sums.now.entries) (totals_of c.add_under.new.count_sums.entries) c.loop-key.done c.args.other.now.entries distinct c.requires.valid_sums (ap totals_of c.in-Err.ensures.err ∙ c.loop-key.invariant.joined)).0
 
 pub returns-in-Err-clause-err : goal.returns-in-Err-clause-err
 returns-in-Err-clause-err c =
     let distinct = sorted_distinct c.args.other.now.entries c.into_iter-key-iterator.ensures.into_iter_gives.5 in
-    c.take_first.ensures ∙ (undone (totals_of c.args.count_sums.now.entries) (totals_of c.add_under.new.count_sums.entries) c.loop-key.done c.args.other.now.entries distinct c.requires.valid_sums (ap totals_of c.in-Err.ensures.err ∙ c.loop-key.invariant.joined)).1
+    c.retract_first.ensures ∙ (undone (totals_of c.args.count_sums.now.entries) (totals_of c.add_under.new.count_sums.entries) c.loop-key.done c.args.other.now.entries distinct c.requires.valid_sums (ap totals_of c.in-Err.ensures.err ∙ c.loop-key.invariant.joined)).1
 
 pub returns-in-Err-clause-valid_sums : goal.returns-in-Err-clause-valid_sums
 returns-in-Err-clause-valid_sums c = subst AreCountSums (sym (returns-in-Err-clause-err c)) c.requires.valid_sums

@@ -36,8 +36,8 @@ loop-number-preserved c =
           ∙ ap (with_all add_count_sums start) (sym more.0);
     }
 
-pub take_first-requires-clause-there : goal.take_first-requires-clause-there
-take_first-requires-clause-there c =
+pub retract_first-requires-clause-there : goal.retract_first-requires-clause-there
+retract_first-requires-clause-there c =
     let others = c.args.other.now.entries in
     let distinct = sorted_distinct (numbered others) (ascend others c.into_iter-number-iterator.ensures.into_iter_gives.5) in
     (undone (by_number c.args.numbers.now.entries) (by_number c.add.new.numbers.entries) c.loop-number.done (numbered others) distinct c.requires.valid_sums (ap by_number c.in-Err.ensures.err ∙ c.loop-number.invariant.joined)).0
@@ -46,7 +46,7 @@ pub returns-in-Err-clause-err : goal.returns-in-Err-clause-err
 returns-in-Err-clause-err c =
     let others = c.args.other.now.entries in
     let distinct = sorted_distinct (numbered others) (ascend others c.into_iter-number-iterator.ensures.into_iter_gives.5) in
-    c.take_first.ensures ∙ (undone (by_number c.args.numbers.now.entries) (by_number c.add.new.numbers.entries) c.loop-number.done (numbered others) distinct c.requires.valid_sums (ap by_number c.in-Err.ensures.err ∙ c.loop-number.invariant.joined)).1
+    c.retract_first.ensures ∙ (undone (by_number c.args.numbers.now.entries) (by_number c.add.new.numbers.entries) c.loop-number.done (numbered others) distinct c.requires.valid_sums (ap by_number c.in-Err.ensures.err ∙ c.loop-number.invariant.joined)).1
 
 pub returns-in-Err-clause-valid_sums : goal.returns-in-Err-clause-valid_sums
 returns-in-Err-clause-valid_sums c = subst AreCountSums (sym (returns-in-Err-clause-err c)) c.requires.valid_sums

@@ -1,6 +1,6 @@
 use Rattle.std.proofs.Common.{◌≡◌, sym, subst}
 use Rattle.std.specs.Prelude.{AllPairs}
-use Rattle.far_columns.proofs.NumbersBack.{same_length-back}
+use Rattle.far_columns.proofs.NumbersUndo.{same_length-back}
 use Rattle.far_columns.proofs.int_column.together.unpush_numbers.Goals as goal
 
 pub returns-clause-are : goal.returns-clause-are

@@ -11,8 +11,8 @@ use Rattle.far_table.proofs.LiveScanning.{scanned-checked}
 use Rattle.far_table.proofs.LiveTaking.{places-here}
 use Rattle.far_table.proofs.live_table.LiveTable.merge.Goals as goal
 
-pub build_at-requires-clause-kept : goal.build_at-requires-clause-kept
-build_at-requires-clause-kept g c =
+pub scan_at-requires-clause-kept : goal.scan_at-requires-clause-kept
+scan_at-requires-clause-kept g c =
     let content = g.S.FarTickets.content in
     let t = c.self.inside.rows in
     let group = ap (λ (b : Build g.row.S-Ticket.Denot). b.group) (c.build.view_is ∙ c.carried.view_is) in
@@ -42,6 +42,6 @@ invariant_of-self g c =
     ∙ ap (λ (limits : Limits). in_group limits.group c.build.inside.group t.places) (sym same) in
     record {
       registrations_few = c.self.invariant.registrations_few;
-      kept = subst (λ (limits : Limits). Keeps limits.group t.places c.build_at.new.self) same (c.build_at.ensures.kept t.places here (subst (λ (limits : Limits). Keeps limits.group t.places registry) (sym same) c.self.invariant.kept));
-      checked = scanned-checked t.schema (registered_of registry) (registered_of c.build_at.new.self) c.build.inside.aggregate c.build.inside.group c.build_at.result c.build_at.ensures.registered c.build_at.ensures.unchanged c.self.invariant.checked;
+      kept = subst (λ (limits : Limits). Keeps limits.group t.places c.scan_at.new.self) same (c.scan_at.ensures.kept t.places here (subst (λ (limits : Limits). Keeps limits.group t.places registry) (sym same) c.self.invariant.kept));
+      checked = scanned-checked t.schema (registered_of registry) (registered_of c.scan_at.new.self) c.build.inside.aggregate c.build.inside.group c.scan_at.result c.scan_at.ensures.registered c.scan_at.ensures.unchanged c.self.invariant.checked;
     }

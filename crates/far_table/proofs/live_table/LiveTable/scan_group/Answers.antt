@@ -16,8 +16,8 @@ use Rattle.far_table.proofs.Needed.{begun-at}
 use Rattle.far_table.proofs.Places.{length-places}
 use Rattle.far_table.proofs.live_table.LiveTable.scan_group.Goals as goal
 
-pub build_at-requires-clause-served : goal.build_at-requires-clause-served
-build_at-requires-clause-served g c =
+pub scan_at-requires-clause-served : goal.scan_at-requires-clause-served
+scan_at-requires-clause-served g c =
     let content = g.S.FarTickets.content in
     let t = c.self.inside.rows in
     let registry = c.self.inside.aggregates in
@@ -34,8 +34,8 @@ build_at-requires-clause-served g c =
     subst (λ (group : GroupRows g.row.S-Ticket.Denot). EntryIsServed (has_column group) (aggregate_in registry c.args.a)) (sym c.group.ensures)
     (subst (EntryIsServed (has_column lent)) (sym found.is) (subst (IsServed (has_column lent)) (sym found.same) served))
 
-pub build_at-requires-clause-kept : goal.build_at-requires-clause-kept
-build_at-requires-clause-kept g c =
+pub scan_at-requires-clause-kept : goal.scan_at-requires-clause-kept
+scan_at-requires-clause-kept g c =
     let content = g.S.FarTickets.content in
     let t = c.self.inside.rows in
     let here =
@@ -59,6 +59,6 @@ invariant_of-self g c =
     ∙ ap (λ (limits : Limits). in_group limits.group c.args.group t.places) (sym same) in
     record {
       registrations_few = c.self.invariant.registrations_few;
-      kept = subst (λ (limits : Limits). Keeps limits.group t.places c.build_at.new.self) same (c.build_at.ensures.kept t.places here (subst (λ (limits : Limits). Keeps limits.group t.places registry) (sym same) c.self.invariant.kept));
-      checked = scanned-checked t.schema (registered_of registry) (registered_of c.build_at.new.self) c.args.a c.args.group c.build_at.result c.build_at.ensures.registered c.build_at.ensures.unchanged c.self.invariant.checked;
+      kept = subst (λ (limits : Limits). Keeps limits.group t.places c.scan_at.new.self) same (c.scan_at.ensures.kept t.places here (subst (λ (limits : Limits). Keeps limits.group t.places registry) (sym same) c.self.invariant.kept));
+      checked = scanned-checked t.schema (registered_of registry) (registered_of c.scan_at.new.self) c.args.a c.args.group c.scan_at.result c.scan_at.ensures.registered c.scan_at.ensures.unchanged c.self.invariant.checked;
     }

@@ -1,8 +1,8 @@
 use Rattle.std.proofs.Common.{subst}
 use Rattle.far_vector.specs.Vectors.{AreVectors}
 use Rattle.far_columns.specs.Numbers.{number_lists}
-use Rattle.far_columns.specs.NumbersBack.{AreBegunLast}
-use Rattle.far_columns.proofs.NumbersBack.{all_disjoint-tail, first-stays, all_disjoint-back, numbers-back, keeps-back, rest-last, first-last}
+use Rattle.far_columns.specs.NumbersUndo.{AreBegunLast}
+use Rattle.far_columns.proofs.NumbersUndo.{all_disjoint-tail, first-stays, all_disjoint-back, numbers-back, keeps-back, rest-last, first-last}
 use Rattle.far_columns.proofs.int_column.together.groups.+unbegin_groups.Goals as goal
 
 pub unbegin_groups-requires-clause-all_disjoint : goal.unbegin_groups-requires-clause-all_disjoint

@@ -2,13 +2,13 @@ use Rattle.std.proofs.Common.{◌≡◌, true, sym, ap, ◌∙◌, subst, arith,
 use Rattle.far_types.specs.Table.{is_pending}
 use Rattle.far_aggregates.specs.Accumulators.{RegistryEntry, KeepsEntry, registered_in}
 use Rattle.far_aggregates.specs.Lending.{EntryIsServed}
-use Rattle.far_aggregates.specs.Scans.{has_pending, IsScanned, AccumulatorMayScan, EntryMayBuild}
+use Rattle.far_aggregates.specs.Scans.{has_pending, IsScanned, AccumulatorMayScan, EntryMayScan}
 use Rattle.far_aggregates.proofs.ScanLaws.{group-length, may_scan, entry-scanned, entry-same}
-use Rattle.far_aggregates.proofs.scans.build_in.Goals as goal
+use Rattle.far_aggregates.proofs.scans.scan_in.Goals as goal
 
 pub scan-requires-clause-few : goal.scan-requires-clause-few
 scan-requires-clause-few g c =
-    let m = subst (EntryMayBuild c.args.size c.args.number (g.G.LendGroup.places c.args.group.now)) c.in-Some.is c.requires.may in
+    let m = subst (EntryMayScan c.args.size c.args.number (g.G.LendGroup.places c.args.group.now)) c.in-Some.is c.requires.may in
     let same : length (g.G.LendGroup.places c.args.group.now) ≡ _ = ap length m.1 in
     let few = group-length c.args.size c.args.number m.0 in
     let most = m.2 in
@@ -19,13 +19,13 @@ scan-requires-clause-served g c = subst (λ (s : RegistryEntry). EntryIsServed (
 
 pub scan-requires-clause-fold : goal.scan-requires-clause-fold
 scan-requires-clause-fold g c =
-    let m = subst (EntryMayBuild c.args.size c.args.number (g.G.LendGroup.places c.args.group.now)) c.in-Some.is c.requires.may in
+    let m = subst (EntryMayScan c.args.size c.args.number (g.G.LendGroup.places c.args.group.now)) c.in-Some.is c.requires.may in
     m.3.0
 
 pub scan-requires-clause-may_scan : goal.scan-requires-clause-may_scan
 scan-requires-clause-may_scan g c =
     let a = c.in-Some.aggregate in
-    let m = subst (EntryMayBuild c.args.size c.args.number (g.G.LendGroup.places c.args.group.now)) c.in-Some.is c.requires.may in
+    let m = subst (EntryMayScan c.args.size c.args.number (g.G.LendGroup.places c.args.group.now)) c.in-Some.is c.requires.may in
     let there : is_pending a.pending c.args.number ≡ true = ap (has_pending c.args.number) (sym c.in-Some.is) ∙ c.requires.pending in
     subst (λ here. AccumulatorMayScan a.spec c.args.number here a.accumulator) (sym m.1) (may_scan c.args.size m.0 a a.accumulator c.args.number there m.2 m.3.1)
 

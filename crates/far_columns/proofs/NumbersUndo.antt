@@ -15,7 +15,7 @@ use Rattle.far_vector.specs.Vector.{Vector, IsShaped, IsVector, AreDisjoint, IsU
 use Rattle.far_vector.specs.Vectors.{AreVectors, ChangesVector}
 use Rattle.far_vector.specs.Effects.{is_full, after_push, pushed_in, after_unpush}
 use Rattle.far_columns.specs.NumbersTogether.{NumberLists, NumberColumns, KeepsNumbers}
-use Rattle.far_columns.specs.NumbersBack.{KeepsBelow, IsBegun, AreBegunFrom, AreBegunLast, after_uncreate_all}
+use Rattle.far_columns.specs.NumbersUndo.{KeepsBelow, IsBegun, AreBegunFrom, AreBegunLast, after_uncreate_all}
 use Rattle.far_columns.proofs.NumbersTogether.{pairs-head, pairs-tail, disjoint-turned}
 use Rattle.far_columns.proofs.NumbersBegun.{one-more, alone, last}
 

@@ -6,19 +6,19 @@ use Rattle.far_aggregates.specs.Aggregates.{joined}
 use Rattle.far_aggregates.proofs.RegisterLaws.{registered-set, registered-like}
 use Rattle.far_aggregates.proofs.ScanLaws.{has-below}
 use Rattle.far_extrema.proofs.ReserveLaws.{err_any}
-use Rattle.far_aggregates.proofs.scans.build_at.Goals as goal
+use Rattle.far_aggregates.proofs.scans.scan_at.Goals as goal
 
 pub returns-clause-registered : goal.returns-clause-registered
 returns-clause-registered g c =
     let registry = c.args.registry.now.items in
     let l : c.args.a < length registry = has-below registry c.args.number c.args.a c.requires.pending in
     let here = slice_get_read registry _ c.args.a c.index_mut.result.now refl l c.index_mut.ensures.value in
-    registered-set registry c.args.a c.build_in.new.entry l
-    ∙ ap (slice_set (registered_of registry) c.args.a) (c.in_ok-build_in.ensures.registered ∙ ap (λ s. scanned_entry c.args.number (registered_in s)) (ap joined (sym here)))
+    registered-set registry c.args.a c.scan_in.new.entry l
+    ∙ ap (slice_set (registered_of registry) c.args.a) (c.in_ok-scan_in.ensures.registered ∙ ap (λ s. scanned_entry c.args.number (registered_in s)) (ap joined (sym here)))
 
-pub returns-in_err-build_in-clause-unchanged : goal.returns-in_err-build_in-clause-unchanged
-returns-in_err-build_in-clause-unchanged g c =
+pub returns-in_err-scan_in-clause-unchanged : goal.returns-in_err-scan_in-clause-unchanged
+returns-in_err-scan_in-clause-unchanged g c =
     let registry = c.args.registry.now.items in
     let l : c.args.a < length registry = has-below registry c.args.number c.args.a c.requires.pending in
     let here = slice_get_read registry _ c.args.a c.index_mut.result.now refl l c.index_mut.ensures.value in
-    err_any c.from_residual.result (registered-like registry c.args.a c.index_mut.result.now c.build_in.new.entry here c.in_err-build_in.ensures.unchanged)
+    err_any c.from_residual.result (registered-like registry c.args.a c.index_mut.result.now c.scan_in.new.entry here c.in_err-scan_in.ensures.unchanged)
