@@ -16,24 +16,24 @@ use Rattle.far_script.proofs.StopLaws.{coming, spent-rest, starts}
 use Rattle.far_threads.specs.declared.outcome.Outcome.{Outcome}
 use Rattle.far_threads.specs.Runs.{IsOutcome}
 use Rattle.far_scripts.specs.Scripts.{Begins}
-use Rattle.far_shell.specs.Sessions.{CutOutcome, IsAnswered, IsThreads, TellsOutcome, gauges_text, line_of, outcome_text}
+use Rattle.far_shell.specs.Sessions.{CutOutcome, IsAnswered, IsThreads, IsOutcomeText, gauges_text, line_of, outcome_text}
 use Rattle.far_shell.proofs.BreakLaws.{Breaking}
 use Rattle.far_commands.proofs.RowLaws.{drop-past}
 use Rattle.far_scripts.proofs.ScriptLaws.{begins-then, either}
 
 -- a gauge line more
-pub gauges-more : (readings : List Reading) (i : ℕ) (told : Reading) (page after whole : List ℕ) → i < length readings → after ≡ page ++ line_of i (get_or readings i told)
+pub gauges-more : (readings : List Reading) (i : ℕ) (reading : Reading) (page after whole : List ℕ) → i < length readings → after ≡ page ++ line_of i (get_or readings i reading)
     → page ++ gauges_text i (drop i readings) ≡ whole → after ++ gauges_text (i + 1) (drop (i + 1) readings) ≡ whole
-gauges-more readings i told page after whole low grown e =
-    rw grown (append_assoc page (line_of i (get_or readings i told)) (gauges_text (i + 1) (drop (i + 1) readings))
-    ∙ sym (ap (λ (rest : List Reading). page ++ gauges_text i rest) (drop_more readings i told low)) ∙ e)
+gauges-more readings i reading page after whole low grown e =
+    rw grown (append_assoc page (line_of i (get_or readings i reading)) (gauges_text (i + 1) (drop (i + 1) readings))
+    ∙ sym (ap (λ (rest : List Reading). page ++ gauges_text i rest) (drop_more readings i reading low)) ∙ e)
 
 -- none is left
 pub gauges-end : (readings : List Reading) (i : ℕ) (page whole : List ℕ) → length readings ≤ i → page ++ gauges_text i (drop i readings) ≡ whole → page ≡ whole
 gauges-end readings i page whole past e = sym (append-nil page) ∙ sym (ap (λ (rest : List Reading). page ++ gauges_text i rest) (drop-past readings i past)) ∙ e
 
 -- the printed outcome of sessions is the one that is due
-pub outcome-of : (sessions edits : ℕ) (o : Outcome) (page : List ℕ) → IsOutcome sessions edits o → page ≡ outcome_text o → TellsOutcome sessions edits page
+pub outcome-of : (sessions edits : ℕ) (o : Outcome) (page : List ℕ) → IsOutcome sessions edits o → page ≡ outcome_text o → IsOutcomeText sessions edits page
 outcome-of sessions edits o page is said = said ∙ (λ i. gauges_text 0 (is.gauges i) ++ answer_text (is.total i))
 
 -- sessions that were stopped, and nothing is written
@@ -47,27 +47,27 @@ stopped-unwritten why P (inl memory) = rw memory (λ e. absurd (cc e))
 stopped-unwritten why P (inr turns) = rw turns (λ e. absurd (cc e))
 
 -- a write failed
-pub cut-unwritten : (may_fail : Bool) (old new : Option (List ℕ)) (sessions edits : ℕ) (text page left : List ℕ) → IsTrue may_fail → TellsOutcome sessions edits text → page ≡ text → Prints old page [] new left
+pub cut-unwritten : (may_fail : Bool) (old new : Option (List ℕ)) (sessions edits : ℕ) (text page left : List ℕ) → IsTrue may_fail → IsOutcomeText sessions edits text → page ≡ text → Prints old page [] new left
     → (sent : List ℕ) × CutOutcome may_fail fault.Output sessions edits sent × Appends old new sent
-cut-unwritten may_fail old new sessions edits text page left cause told is p =
-    (p.0, (cause, left, subst (λ (z : List ℕ). TellsOutcome sessions edits z) (sym is ∙ sym (append-nil page) ∙ p.2) told), p.1)
+cut-unwritten may_fail old new sessions edits text page left cause printed is p =
+    (p.0, (cause, left, subst (λ (z : List ℕ). IsOutcomeText sessions edits z) (sym is ∙ sym (append-nil page) ∙ p.2) printed), p.1)
 
 -- nothing comes behind, in other words
 pub answered-then : {S K : Type 0} (tickets : Tickets S K) (bytes text : List ℕ) (P Q : Type 0) → (P → Q) → IsAnswered tickets bytes P text → IsAnswered tickets bytes Q text
 answered-then tickets bytes text P Q f a =
-    either (λ s. (s.0, f s.1)) (λ (t : IsThreads bytes P text). record { sessions = t.sessions; edits = t.edits; asks = (t.asks.0, begins-then bytes t.asks.0 P Q f t.asks.1, t.asks.2); told = t.told }) a
+    either (λ s. (s.0, f s.1)) (λ (t : IsThreads bytes P text). record { sessions = t.sessions; edits = t.edits; asks = (t.asks.0, begins-then bytes t.asks.0 P Q f t.asks.1, t.asks.2); printed = t.printed }) a
 
 module _ {R : Type 0} (read : Ghosts R) {S K : Type 0} (tickets : Tickets S K) where
   -- a script begins with sessions, and they ended
   pub sessions-whole : (old mid : Input R read) (u w : Option (List ℕ)) (held l left first line text : List ℕ) (sessions edits : ℕ) → held ≡ []
-      → Reads read old first mid → Begins first (IsSpent read mid) line → start_in line ≡ Some (Threads sessions edits) → Prints u held [] w l → left ≡ l ++ text → TellsOutcome sessions edits text
+      → Reads read old first mid → Begins first (IsSpent read mid) line → start_in line ≡ Some (Threads sessions edits) → Prints u held [] w l → left ≡ l ++ text → IsOutcomeText sessions edits text
       → (bytes : List ℕ) × (said : List ℕ) × Reads read old bytes mid × Prints u [] said w left × IsAnswered tickets bytes (IsSpent read mid) said
-  sessions-whole old mid u w held l left first line text sessions edits empty p b asks q e told = (
+  sessions-whole old mid u w held l left first line text sessions edits empty p b asks q e printed = (
     first,
     text,
     p,
     subst (λ (z : List ℕ). Prints u z text w left) empty (prints-nothing-then u w w held l text left q (prints w l text left e)),
-    inr (record { sessions = sessions; edits = edits; asks = (line, b, asks); told = told }),
+    inr (record { sessions = sessions; edits = edits; asks = (line, b, asks); printed = printed }),
   )
 
   -- or they were stopped

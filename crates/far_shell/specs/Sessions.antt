@@ -31,8 +31,8 @@ gauge_lines sessions edits = gauges_text 0 (replicate sessions (all_of edits))
 
 -- a text is the outcome of so many sessions with so many edits each: their gauge lines, and the answer over the rows of all of them,
 -- `count N sum N`. N is the number of sessions times that of edits
-abbrev pub TellsOutcome : ℕ → ℕ → List ℕ → Type 0
-TellsOutcome sessions edits text = text ≡ gauge_lines sessions edits ++ answer_text (total_of (sessions * edits))
+abbrev pub IsOutcomeText : ℕ → ℕ → List ℕ → Type 0
+IsOutcomeText sessions edits text = text ≡ gauge_lines sessions edits ++ answer_text (total_of (sessions * edits))
 
 -- the fault that ends a script whose sessions are stopped
 abbrev pub fault_of : Stop → ShellFault
@@ -44,7 +44,7 @@ fault_of stop.Turns = fault.Turns
 abbrev pub CutOutcome : Bool → ShellFault → ℕ → ℕ → List ℕ → Type 0
 CutOutcome may_fail fault.BadStart sessions edits sent = ⊥
 CutOutcome may_fail fault.Input sessions edits sent = ⊥
-CutOutcome may_fail fault.Output sessions edits sent = IsTrue may_fail × ((lost : List ℕ) × TellsOutcome sessions edits (sent ++ lost))
+CutOutcome may_fail fault.Output sessions edits sent = IsTrue may_fail × ((lost : List ℕ) × IsOutcomeText sessions edits (sent ++ lost))
 CutOutcome may_fail fault.Memory sessions edits sent = sent ≡ []
 CutOutcome may_fail fault.Turns sessions edits sent = sent ≡ []
 
@@ -57,7 +57,7 @@ pub record IsThreads (bytes : List ℕ) (spent : Type 0) (text : List ℕ) : Typ
   pub sessions : ℕ
   pub edits : ℕ
   pub asks : AsksSessions bytes spent sessions edits
-  pub told : TellsOutcome sessions edits text
+  pub printed : IsOutcomeText sessions edits text
 
 module _ {S K : Type 0} (tickets : Tickets S K) where
   -- a text is the reply to a script: these bytes are all of it, or its first command asks for sessions

@@ -1,7 +1,7 @@
 // Sessions on threads, and their printed outcome.
 ghost use Rattle.std.specs.Prelude.{◌≡◌, ◌⊎◌, ◌≤◌, ℕ, List, ◌++◌, IfErr, OnOk, OnErr};
 ghost use Rattle.std.specs.Io.KnownBytes.{Appends};
-ghost use Rattle.far_shell.specs.Sessions.{CutOutcome, TellsOutcome, fault_of, gauges_text, line_of, outcome_text};
+ghost use Rattle.far_shell.specs.Sessions.{CutOutcome, IsOutcomeText, fault_of, gauges_text, line_of, outcome_text};
 
 use far_history::Reading;
 use far_script::print::{answer, gauge};
@@ -60,7 +60,7 @@ pub fn print_sessions<T: AllocGlobal + Sync + Threads + Wait, W: Sink>(
 ) -> Result<(), ShellFault>
     requires sessions { (1 ≤ sessions) × (sessions ≤ 4) }
     requires edits { (1 ≤ edits) × (edits ≤ 1000) }
-    ensures ok { OnOk result ((text : List ℕ) × TellsOutcome sessions edits text × (output.new.page ≡ output.old.page ++ text)) }
+    ensures ok { OnOk result ((text : List ℕ) × IsOutcomeText sessions edits text × (output.new.page ≡ output.old.page ++ text)) }
     ensures err { OnErr result (output.new.page ≡ output.old.page) }
     ensures fault { IfErr result (λ fault. (fault ≡ ShellFault.Memory) ⊎ (fault ≡ ShellFault.Turns)) }
 {
@@ -92,7 +92,7 @@ pub fn run_threads<T: AllocGlobal + Sync + Threads + Wait, W: Sink>(
 ) -> Result<(), ShellFault>
     requires sessions { (1 ≤ sessions) × (sessions ≤ 4) }
     requires edits { (1 ≤ edits) × (edits ≤ 1000) }
-    ensures ok { OnOk result ((text : List ℕ) × TellsOutcome sessions edits text × Appends (W.contents writer.old) (W.contents writer.new) text) }
+    ensures ok { OnOk result ((text : List ℕ) × IsOutcomeText sessions edits text × Appends (W.contents writer.old) (W.contents writer.new) text) }
     ensures err { IfErr result (λ fault. (sent : List ℕ) × CutOutcome W.may_fail fault sessions edits sent × Appends (W.contents writer.old) (W.contents writer.new) sent) }
 {
     let mut output = Output::new(rt.alloc());
