@@ -50,7 +50,7 @@ stopped-unwritten why P (inr turns) = rw turns (λ e. absurd (cc e))
 pub cut-unwritten : (may_fail : Bool) (old new : Option (List ℕ)) (sessions edits : ℕ) (text page left : List ℕ) → IsTrue may_fail → IsOutcomeText sessions edits text → page ≡ text → Prints old page [] new left
     → (sent : List ℕ) × CutOutcome may_fail fault.Output sessions edits sent × Appends old new sent
 cut-unwritten may_fail old new sessions edits text page left cause printed is p =
-    (p.0, (cause, left, subst (λ (z : List ℕ). IsOutcomeText sessions edits z) (sym is ∙ sym (append-nil page) ∙ p.2) printed), p.1)
+    (p.0, (cause, (left, subst (λ (z : List ℕ). IsOutcomeText sessions edits z) (sym is ∙ sym (append-nil page) ∙ p.2) printed)), p.1)
 
 -- nothing comes behind, in other words
 pub answered-then : {S K : Type 0} (tickets : Tickets S K) (bytes text : List ℕ) (P Q : Type 0) → (P → Q) → IsAnswered tickets bytes P text → IsAnswered tickets bytes Q text
