@@ -1,4 +1,5 @@
-//! The player of scripts: calls on a world, each with what it answers. A call that finds no memory is made again.
+//! The player of scripts: calls on a world, each with what it answers. A call that finds no memory is made again, or its script is played
+//! again.
 ghost use Rattle.far_rows.specs.Jobs.{AreAt};
 
 use crate::answers::{Due, is_reply, is_row};
@@ -171,7 +172,8 @@ pub fn first_wrong<S: FarStore, R: Threads + Sync>(
     Ok(None)
 }
 
-/// Whether a call answers this, the second time if the first finds no memory.
+/// Whether a call answers this, the second time if the first finds no memory. A recount is not made again: the first may have met a fault
+/// of the store and not told it, if there was no memory for what its threads found.
 pub fn is_answered<S: FarStore, R: Threads + Sync>(
     rt: &R,
     alloc: Global,
@@ -180,13 +182,19 @@ pub fn is_answered<S: FarStore, R: Threads + Sync>(
     due: Due<'_>,
 ) -> Result<bool, Refusal> {
     match is_answered_once(rt, alloc, world, call, due) {
-        Err(Refusal::NoMemory) => is_answered_once(rt, alloc, world, call, due),
+        Err(Refusal::NoMemory) if !is_recount(call) => is_answered_once(
+            rt, alloc, world, call, due,
+        ),
         answered => answered,
     }
 }
 
-// Whether a call answers this. Nothing can be said if it finds no memory.
-fn is_answered_once<S: FarStore, R: Threads + Sync>(
+fn is_recount(call: Call) -> bool {
+    matches!(call, Call::Recount(_, _))
+}
+
+/// Whether a call answers this. Nothing can be said if it finds no memory.
+pub fn is_answered_once<S: FarStore, R: Threads + Sync>(
     rt: &R,
     alloc: Global,
     world: &mut World<S>,

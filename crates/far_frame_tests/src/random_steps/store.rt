@@ -26,6 +26,11 @@ impl Store {
         }
     }
 
+    /// Whether a later content that is read is the one that fails.
+    pub fn fails_later(&self) -> bool {
+        self.gets < self.plan.failing_get
+    }
+
     /// A content is put under the next number, or why it is not.
     pub fn put(&mut self) -> Option<Refusal> {
         self.puts = self.puts.wrapping_add(1);
