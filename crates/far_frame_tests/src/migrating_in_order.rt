@@ -126,17 +126,30 @@ fn log_store<'a, R: Wait + Sync>(
     }
 }
 
+/// Plays the script over two logs, each with its list of lengths.
+///
+/// For the proof: the stores, their runtime and their lengths have one lifetime, a parameter of this function.
+fn play_measured<'a, R: Threads + Wait + Sync>(
+    rt: &'a R,
+    alloc: Global,
+    before: &'a AtomicU64,
+    lengths: &'a AtomicU64,
+) -> Result<Option<usize>, Refusal> {
+    let first = with_next(Ok(Vec::new(alloc)), log_store(rt, alloc, before));
+    let stores = with_next(first, log_store(rt, alloc, lengths));
+    play_over(rt, alloc, stores, &SCRIPT)
+}
+
 /// Returns the lengths of the contents that a world puts into its second log, in order; 0 if a call does not return what it should.
 fn lengths_once<R: Threads + Wait + Sync>(rt: &R, alloc: Global) -> Result<u64, Refusal> {
     let (before, lengths) = (AtomicU64::new(0), AtomicU64::new(0));
-    let first = with_next(Ok(Vec::new(alloc)), log_store(rt, alloc, &before));
-    let stores = with_next(first, log_store(rt, alloc, &lengths));
-    match play_over(rt, alloc, stores, &SCRIPT) {
+    match play_measured(rt, alloc, &before, &lengths) {
         Ok(None) => Ok(lengths.load(Ordering::SeqCst)),
         Ok(Some(_)) => Ok(0),
         Err(refusal) => Err(refusal),
     }
 }
+
 /// The same, a second time if memory runs out.
 fn lengths<R: Threads + Wait + Sync>(rt: &R, alloc: Global) -> Result<u64, Refusal> {
     match lengths_once(rt, alloc) {

@@ -5,7 +5,7 @@ use crate::call::Value::{Int, Missing};
 use crate::opening::{NUMBERS, SOUND, with_next};
 use crate::script::{Calls, Script, play_over};
 use far_byte_log::ByteLog;
-use far_store::EngineStore;
+use far_store::{EngineStore, FarStore, Meter};
 use far_types::Refusal;
 use std::alloc::Global;
 use std::sync::Wait;
@@ -61,13 +61,28 @@ static SCRIPT: Script = Script {
     then: &[],
 };
 
+/// Returns the store, once it has put something of no bytes. So it has memory for its first keys. A put that found none for its key would
+/// have taken its bytes of the log, and the call that is made again would take them once more.
+fn with_keys<S: FarStore>(alloc: Global, made: Result<S, Refusal>) -> Result<S, Refusal> {
+    match made {
+        Ok(store) => match store.put(alloc, &mut Meter::new(), &[]).err() {
+            None => Ok(store),
+            Some(refusal) => {
+                drop(store);
+                Err(refusal)
+            }
+        },
+        Err(refusal) => Err(refusal),
+    }
+}
+
 /// Returns the store over a log.
 fn log_store<'a, R: Wait + Sync>(
     rt: &'a R,
     alloc: Global,
 ) -> Result<EngineStore<ByteLog, &'a R>, Refusal> {
     match ByteLog::new(alloc, CAPACITY) {
-        Ok(log) => EngineStore::new(rt, alloc, log, SOUND.capacity),
+        Ok(log) => with_keys(alloc, EngineStore::new(rt, alloc, log, SOUND.capacity)),
         Err(_) => Err(Refusal::NoMemory),
     }
 }

@@ -1,4 +1,4 @@
-//! The player of scripts: calls on a world, each with its reply. A call that runs out of memory is made again.
+//! The player of scripts: calls on a world, each with its reply. A call that runs out of memory is made again, or its script is played again.
 ghost use Rattle.far_rows.specs.Jobs.{AreAt};
 
 use crate::answers::{Due, is_reply, is_row};
@@ -171,7 +171,8 @@ pub fn first_wrong<S: FarStore, R: Threads + Sync>(
     Ok(None)
 }
 
-/// Returns whether a call returns this. It is made a second time if memory runs out.
+/// Returns whether a call returns this. It is made a second time if memory runs out. A recount is not: the first may have met a fault of
+/// the store and not counted it, if there was no memory for what its threads found.
 pub fn is_answered<S: FarStore, R: Threads + Sync>(
     rt: &R,
     alloc: Global,
@@ -180,13 +181,19 @@ pub fn is_answered<S: FarStore, R: Threads + Sync>(
     due: Due<'_>,
 ) -> Result<bool, Refusal> {
     match is_answered_once(rt, alloc, world, call, due) {
-        Err(Refusal::NoMemory) => is_answered_once(rt, alloc, world, call, due),
+        Err(Refusal::NoMemory) if !is_recount(call) => is_answered_once(
+            rt, alloc, world, call, due,
+        ),
         answered => answered,
     }
 }
 
-// Returns whether a call returns this. Nothing can be said if memory runs out.
-fn is_answered_once<S: FarStore, R: Threads + Sync>(
+fn is_recount(call: Call) -> bool {
+    matches!(call, Call::Recount(_, _))
+}
+
+/// Returns whether a call returns this. Nothing can be said if memory runs out.
+pub fn is_answered_once<S: FarStore, R: Threads + Sync>(
     rt: &R,
     alloc: Global,
     world: &mut World<S>,

@@ -16,11 +16,7 @@ use std::sync::{RwLock, RwLockReadGuard, Wait};
 ///
 /// ```
 /// match shared.scope(rt, stripe) {
-///     Ok(scope) => {
-///         let seen = first_row(&scope.view(), signals, times);
-///         drop(scope);
-///         seen
-///     }
+///     Ok(scope) => first_row(&scope.view(), signals, times),
 ///     Err(refusal) => Err(refusal),
 /// }
 /// ```

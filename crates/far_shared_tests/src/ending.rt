@@ -143,14 +143,18 @@ fn due_of<P>(played: &[Played<P>], end: End) -> [Left; 4] {
     }
 }
 
-// Checks that all roles came out. Refused as the first role that did not.
+// Checks that all roles came out. Refused as the first session is whose role did not; with `NoMemory` if one ran out of memory, since others
+// may have waited for it in vain.
 fn all_came_out<P>(played: &[Played<P>]) -> Result<(), Refusal> {
+    let mut came_out = Ok(());
     for one in played {
         if let Err(refusal) = one.left {
-            return Err(refusal);
+            if came_out.is_ok() || refusal == Refusal::NoMemory {
+                came_out = Err(refusal);
+            }
         }
     }
-    Ok(())
+    came_out
 }
 
 // Returns the sessions that played.
@@ -174,7 +178,7 @@ fn parted<P: Drop>(mut sessions: Vec<P>, left: [Left; 4]) -> Result<Finale<P>, R
     }
 }
 
-// Returns what comes at the end of a scene. Refused as the first session is whose role did not come out.
+// Returns what comes at the end of a scene. Refused as `all_came_out` is.
 pub fn finale_of<P: Drop>(
     alloc: Global,
     played: Vec<Played<P>>,

@@ -1,5 +1,5 @@
 // Calls that are made one after another, each with the reply that is due.
-use crate::scenes::{Line, Replied, Step};
+use crate::scenes::{Line, Replied, Reply, Step};
 use far_types::Refusal;
 
 // Returns the reply to a call. If the call ran out of memory, it is made a second time.
@@ -12,13 +12,33 @@ fn answer_at_last<M, F: Fn(&mut M, Step) -> Replied>(call: &F, me: &mut M, step:
     }
 }
 
-// Returns whether calls get the replies that are due, one after another.
-pub fn play_lines<M, F: Fn(&mut M, Step) -> Replied>(call: &F, me: &mut M, lines: &[Line]) -> bool
+// Whether a report counts more works as refused than is due. It does if one ran out of memory, and does not say why.
+fn refuses_more(reply: Replied, due: Replied) -> bool {
+    match (reply, due) {
+        (Ok(Reply::Worked(_, refused)), Ok(Reply::Worked(_, due))) => refused > due,
+        _ => false,
+    }
+}
+
+// Returns whether calls get the replies that are due, one after another. Refused with `NoMemory` if a report counts more works as refused
+// than is due: then the scene is played a second time.
+pub fn play_lines<M, F: Fn(&mut M, Step) -> Replied>(
+    call: &F,
+    me: &mut M,
+    lines: &[Line],
+) -> Result<bool, Refusal>
     requires { F.IsAlwaysCallable call.now }
 {
     let mut all = true;
+    let mut more = false;
     for line in lines {
-        all &= answer_at_last(call, me, line.0) == line.1;
+        let reply = answer_at_last(call, me, line.0);
+        all &= reply == line.1;
+        more |= refuses_more(reply, line.1);
     }
-    all
+    if more {
+        Err(Refusal::NoMemory)
+    } else {
+        Ok(all)
+    }
 }

@@ -51,11 +51,7 @@ pub fn look<N: PlanTag, B: TableTag, S: FarTickets, R: Wait>(
     times: Option<u64>,
 ) -> Replied {
     match shared.scope(rt, stripe) {
-        Ok(scope) => {
-            let seen = first_row(&scope.view(), signals, times);
-            drop(scope);
-            seen
-        }
+        Ok(scope) => first_row(&scope.view(), signals, times),
         Err(refusal) => Err(refusal),
     }
 }

@@ -64,7 +64,7 @@ fn play_as<
         requires { S.store_id store.now ≡ B.store }
     { serve(rt, alloc, shared, store, signals, me, step) };
     match role_of(&stage.scene, number) {
-        Role::Plays(lines) => left_if(Ok(play_lines(&call, me, lines))),
+        Role::Plays(lines) => left_if(play_lines(&call, me, lines)),
         Role::Does(duty) => do_duty(alloc, &call, me, signals, number, duty),
     }
 }

@@ -17,11 +17,19 @@ static PLANS: &[Case] = &[
     (Fold::Totals, None, 65, Err(Refusal::OutOfRange)),
 ];
 
+// Returns what a plan comes to, the second time if the first runs out of memory.
+fn plan_answer(alloc: Global, case: &Case) -> Result<(), Refusal> {
+    match why_no_plan(alloc, case.0, case.1, case.2) {
+        Err(Refusal::NoMemory) => why_no_plan(alloc, case.0, case.1, case.2),
+        answer => answer,
+    }
+}
+
 // Returns how many of these plans, from the first on, get their reply.
 fn answered(alloc: Global, cases: &[Case]) -> usize {
     let mut right = 0usize;
     for case in cases {
-        if why_no_plan(alloc, case.0, case.1, case.2) != case.3 {
+        if plan_answer(alloc, case) != case.3 {
             return right;
         }
         right = right.wrapping_add(1);

@@ -26,6 +26,11 @@ impl Store {
         }
     }
 
+    /// Returns whether a later content that is read is the one that fails.
+    pub fn fails_later(&self) -> bool {
+        self.gets < self.plan.failing_get
+    }
+
     /// Puts a content under the next number, or returns why not.
     pub fn put(&mut self) -> Option<Refusal> {
         self.puts = self.puts.wrapping_add(1);
