@@ -173,12 +173,14 @@ pub fn form_with_next(spare: Vec<u8>, form: &[u8], text: &Option<Text>) -> Resul
     ensures length { IfOk result (λ new. length new.items ≡ texts_length (texts_meaning form.now ++ text.now ∷ [])) }
     ensures memory { IfErr result (λ e. e ≡ Refusal.NoMemory) }
 {
-    let parts = form_parts(form);
     let size = length_with_next(form, text);
     if form[0] == 1 && text.is_some() {
+        // Here a compiler knows that there is no mask.
+        let parts = form_parts(form);
         return form_behind(spare, parts, text, size);
     }
-    form_around(spare, parts, parts.ends.len(), text, size)
+    let old = form_parts(form);
+    form_around(spare, old, old.ends.len(), text, size)
 }
 
 /// Makes the far form of one text, in the memory of a list that is needed no more. Refused with `NoMemory` (1) alone.

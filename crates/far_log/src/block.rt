@@ -11,6 +11,7 @@ pub struct Block<T> {
 
 impl<T: Copy + Drop> Block<T> {
     /// Writes a list at index `at`. Fills a gap in front of it with the list's first element. Allocates nothing.
+    #[inline(always)]
     pub fn write_at(&mut self, at: usize, list: &[T])
         requires some { 0 < length list.now }
         requires enough { at + length list.now ≤ vec_capacity self.old.items }

@@ -30,12 +30,13 @@ fn chunk_capacity(chunk: usize) -> usize
 
 // Returns where the element with an index lies.
 fn place_of(index: usize) -> Place
-    requires { index ≤ 2 ^ 32 }
+    requires { index < 2 ^ 32 }
     ensures place { IsPlaceOf index result.chunk result.at }
     ensures few { result.chunk ≤ 26 }
 {
-    // In front of chunk k lie 64 * 2^k - 64 elements, so the highest bit of the sum gives the chunk.
-    let sum = index + FIRST;
+    // In front of chunk k lie 64 * 2^k - 64 elements, so the highest bit of the sum gives the chunk. The index is a number of 32 bits, so a
+    // compiler knows that the sum is not 0, and need not ask.
+    let sum = index as u32 as usize + FIRST;
     let chunk = sum.ilog2() as usize - FIRST_LEVEL;
     Place {
         chunk,
@@ -45,7 +46,7 @@ fn place_of(index: usize) -> Place
 
 /// Returns the number of the chunk in which the element with an index lies.
 pub fn chunk_of(index: usize) -> usize
-    requires { index ≤ 2 ^ 32 }
+    requires { index < 2 ^ 32 }
     ensures from { start_at 64 result ≤ index }
     ensures to { index < start_at 64 result + capacity_at 64 result }
     ensures few { result ≤ 26 }
@@ -68,6 +69,7 @@ pub fn start_of(chunk: usize) -> usize
 }
 
 // Makes a chunk, unless it is there. If it is refused, the chunks are as before.
+#[inline(always)]
 fn make_chunk<T: Drop>(chunks: &mut Vec<Vec<T>>, chunk: usize) -> Result<(), Refusal>
     requires few { chunk ≤ 26 }
     requires kept { AreChunks 64 chunks.old.items }
@@ -162,6 +164,7 @@ impl<T: Copy + Drop> ChunkedVec<T> {
     }
 
     /// Appends a value, and moves none. Refused with `NoMemory` (1) alone, if a chunk cannot be allocated. Then the list is as before.
+    #[inline(always)]
     pub fn push(&mut self, value: T) -> Result<(), Refusal>
         requires few { length self.old < 2 ^ 32 }
         ensures pushed { OnOk result (self.new ≡ self.old ++ value ∷ []) }

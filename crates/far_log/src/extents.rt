@@ -59,7 +59,9 @@ fn chunk_at(table: &ChunkedVec<PartEntry>, offset: u32) -> usize
     0
 }
 
-// Searches for the number of the extent that begins at an offset; some number if none does.
+// Searches for the number of the extent that begins at an offset; some number if none does. It is not inlined, so that `number_at` stays
+// short.
+#[inline(never)]
 fn number_among(table: &ChunkedVec<PartEntry>, offset: u32) -> usize
     requires some { 0 < length table.now }
     requires adjacent { AreAdjacent 0 (extents_of table.now) }
@@ -70,6 +72,7 @@ fn number_among(table: &ChunkedVec<PartEntry>, offset: u32) -> usize
 }
 
 /// Returns the number of the extent that begins at an offset; some number if none does.
+#[inline(always)]
 pub fn number_at(table: &ChunkedVec<PartEntry>, offset: u32) -> usize
     requires some { 0 < length table.now }
     requires adjacent { AreAdjacent 0 (extents_of table.now) }

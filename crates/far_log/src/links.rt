@@ -46,6 +46,7 @@ fn set_before(table: &mut ChunkedVec<PartEntry>, number: usize, before: u32)
 
 /// Appends a live extent and links it with the last one, which is live if there is one. Refused with `NoMemory` (1) alone. Then the table
 /// is as before.
+#[inline(always)]
 pub fn push_linked(table: &mut ChunkedVec<PartEntry>, extent: Extent) -> Result<(), Refusal>
     requires linked { AreLinked 0 0 0 (extents_of table.old) (links_of table.old) }
     requires ends { EndsLive (extents_of table.old) }

@@ -181,6 +181,7 @@ impl<T: Copy + Drop> Region<T> {
     }
 
     /// Drops the part at a location, and moves no other. Allocates nothing.
+    #[inline(always)]
     pub fn drop_at(&mut self, at: At)
         requires { IsSome (part_of self.old at) }
         ensures state { self.new ≡ with_segment self.old at.segment (without_part (segment_of self.old at.segment) at.offset) }
@@ -198,6 +199,9 @@ impl<T: Copy + Drop> Region<T> {
     /// It allocates nothing for elements. If it is refused, nothing is changed. Refused with:
     /// - `RegionFull` (17) exactly if `fits` is false;
     /// - else `NoMemory` (1) alone, if the table of parts cannot grow.
+    ///
+    /// It is inlined, since a location that is returned through memory costs more than the search for it.
+    #[inline(always)]
     pub fn place(&mut self, items: &[T]) -> Result<At, Refusal>
         requires some { 0 < length items.now }
         ensures placed { IfOk result (λ at. IsPlaced self.old self.new at items.now) }

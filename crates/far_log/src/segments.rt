@@ -131,6 +131,7 @@ impl<T: Copy + Drop> Segments<T> {
 
     /// Places a list behind the last part of a segment. Returns where it begins. Refused with `NoMemory` (1) alone, if the table of parts
     /// cannot grow. It allocates nothing for elements.
+    #[inline(always)]
     pub fn place(&mut self, number: usize, items: &[T]) -> Result<u32, Refusal>
         requires there { number < length self.old }
         requires some { 0 < length items.now }
@@ -168,6 +169,7 @@ impl<T: Copy + Drop> Segments<T> {
     }
 
     /// Drops the part at a location. Moves no elements.
+    #[inline(always)]
     pub fn drop_at(&mut self, at: At)
         requires { IsSome (part_of self.old at) }
         ensures { self.new ≡ with_segment self.old at.segment (without_part (segment_of self.old at.segment) at.offset) }

@@ -61,6 +61,10 @@ impl Skip {
     pub fn after_search(self, found: Skip, len: usize) -> Skip
         ensures { (result ≡ self) ⊎ (result ≡ found) }
     {
+        // Mostly the first segment that was tried has the space. Then `found` is what was skipped before.
+        if found.first == self.first && self.len <= len {
+            return self;
+        }
         let passed = found.first.saturating_sub(self.for_list(len).next);
         let is_far = passed > NEAR;
         let is_no_worse = found.len <= self.len
@@ -79,6 +83,10 @@ impl Skip {
         requires { self.first ≤ self.next }
         ensures { IsSpaced self result number space }
     {
+        // Mostly it is the segment that is tried first, and has space left.
+        if number == self.first && space >= self.len {
+            return self;
+        }
         let (first, next) = if space < self.len {
             let is_first = number == self.first;
             (if is_first { self.next } else { self.first }, self.next)

@@ -89,6 +89,7 @@ impl<T: Copy + Drop> Stacks<T> {
     }
 
     /// Pushes a list onto a stack. Allocates nothing.
+    #[inline(always)]
     pub fn push_slice(&mut self, number: usize, list: &[T])
         requires there { number < length self.old.stacks }
         requires some { 0 < length list.now }

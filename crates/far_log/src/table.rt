@@ -37,6 +37,7 @@ impl Table {
 
     /// Adds a part of `len` elements behind the last. Returns where it begins. Refused with `NoMemory` (1) alone, if the table cannot grow.
     /// Then it is as before.
+    #[inline(always)]
     pub fn push(&mut self, offset: usize, len: usize) -> Result<u32, Refusal>
         requires linked { AreLinked 0 0 0 (extents_of self.old.entries) (links_of self.old.entries) }
         requires ends { EndsLive (extents_of self.old.entries) }

@@ -1,9 +1,10 @@
 -- What is known if a call is not refused.
-use Rattle.std.proofs.Common.{◌≡◌, ℕ, ◌<◌, Bool, true, false, [], ◌∷◌, nat_lt, None, refl}
+use Rattle.std.proofs.Common.{◌≡◌, ℕ, ◌<◌, Bool, true, false, [], ◌∷◌, nat_lt, None, refl, ap}
 use Rattle.std.specs.Prelude.{not}
-use Rattle.std.proofs.lemmas.Bool.{ltb-true}
+use Rattle.std.proofs.lemmas.Bool.{ltb-true, true_from_ne_false}
 use Rattle.far_types.specs.declared.refusal.Refusal.{Refusal}
 use Rattle.far_types.specs.FirstOf.{first_of}
+use Rattle.far_log.specs.RegionState.{fits_in}
 use Rattle.far_scopes.specs.Movement.{Movement, is_local, version_of}
 use Rattle.far_scopes.specs.Refusing.{absent, no_space, written_out, write_refusal, lend_refusal, replace_refusal}
 
@@ -22,6 +23,9 @@ none-three false true c r s t is = cc
 none-three false false true r s t is = cc
 none-three false false false r s t is = (refl, refl)
 
+pub none-between : (a b c : Bool) (r s t : Refusal) → first_of ((a, r) ∷ (c, t) ∷ []) ≡ None → b ≡ false → first_of ((a, r) ∷ (b, s) ∷ (c, t) ∷ []) ≡ None
+none-between a b c r s t free is = rw is free
+
 pub two-none : (a b : Bool) (r s : Refusal) → a ≡ false → b ≡ false → first_of ((a, r) ∷ (b, s) ∷ []) ≡ None
 two-none a b r s e f = rw (e, f) refl
 
@@ -38,6 +42,10 @@ module _ {X K : Type 0} (m : Movement X K) (o : ℕ) where
 
   pub left-written : write_refusal m o ≡ None → version_of m o < m.max_writes
   left-written free = ltb-true (version_of m o) m.max_writes (not-not (nat_lt (version_of m o) m.max_writes) (none-two (not (is_local m o)) (written_out m o).0 (absent m o).1 (written_out m o).1 free).1)
+
+  -- another list that fits
+  pub free-placed : (n : ℕ) → write_refusal m o ≡ None → (fits_in m.memory.state n ≡ false → ⊥) → replace_refusal m o n ≡ None
+  free-placed n free fits = none-between (absent m o).0 (no_space m o n).0 (written_out m o).0 (absent m o).1 (no_space m o n).1 (written_out m o).1 free (ap not (true_from_ne_false (fits_in m.memory.state n) fits))
 
 module _ {X K : Type 0} (m : Movement X K) (o n : ℕ) (free : replace_refusal m o n ≡ None) where
   pub free-parts : (not (is_local m o) ≡ false) × (not (nat_lt (version_of m o) m.max_writes) ≡ false)

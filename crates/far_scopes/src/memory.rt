@@ -153,6 +153,7 @@ impl<T: Elem> LocalMemory<T> {
 
     /// Gives object `o`, which is local, another list: places the new one before it drops the old one. If it is refused, nothing is
     /// changed.
+    #[inline(always)]
     pub fn replace(&mut self, o: usize, items: &[T]) -> Result<(), Refusal>
         requires some { 0 < length items.now }
         requires local { IsSome (place_of self.old.words o) }

@@ -63,13 +63,23 @@ impl Recency {
         self.cache.pop(&o);
     }
 
-    /// Moves an object that is in the order to the front. Allocates nothing.
+    /// Moves an object that is in the order to the front. Allocates nothing. It is inlined, since mostly nothing moves.
+    #[inline(always)]
     pub fn touch(&mut self, o: u32)
         ensures { self.new ≡ used self.old o }
     {
         if !self.is_first(o) {
-            self.cache.promote(&o);
+            self.promote(o);
         }
+    }
+
+    // Moves an object that is in the order to the front, wherever it is there. It is not inlined, so that a call of `touch` saves no
+    // registers for it.
+    #[inline(never)]
+    fn promote(&mut self, o: u32)
+        ensures { self.new ≡ used self.old o }
+    {
+        self.cache.promote(&o);
     }
 
     // Returns whether an object was used last. Then another use leaves the order as it is. Most objects that are used again were used last.

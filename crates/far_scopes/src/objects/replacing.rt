@@ -35,11 +35,28 @@ impl<T: Elem, S: FarTickets> Objects<T, S> {
         ensures refused { IfErr result (λ e. (replace_refusal self.old o (length items.now) ≡ Some e) ⊎ ((replace_refusal self.old o (length items.now) ≡ None) × (e ≡ Refusal.NoMemory))) }
         ensures err { OnErr result (self.new ≡ self.old) }
     {
-        self.may_replace(o, items.len())?;
+        self.may_write_if_placed(o, items.len())?;
         self.memory.replace(o as usize, items)?;
         self.records[o as usize].len = items.len();
         self.mark(o);
         Ok(())
+    }
+
+    // Checks what `may_replace` checks, but for the space if the object may be written: placing the list searches for it anyway.
+    fn may_write_if_placed(&self, o: u32, len: usize) -> Result<(), Refusal>
+        requires { o < length self.now.records }
+        ensures free { OnOk result (write_refusal self.now o ≡ None) }
+        ensures refused { IfErr result (λ e. replace_refusal self.now o len ≡ Some e) }
+    {
+        self.here(o)?;
+        if self.records[o as usize].version < self.max_writes {
+            return Ok(());
+        }
+        if self.memory.fits(len) {
+            Err(Refusal::EditsUsedUp)
+        } else {
+            Err(Refusal::RegionFull)
+        }
     }
 
     /// Checks that an object may get another list, of `len` elements. Allocates nothing.

@@ -68,6 +68,7 @@ impl TextColumn {
     /// Returns how many bytes the form of the next place's row group has once the place has this text. Allocates nothing.
     ///
     /// Refused with `Absent` (16) exactly if the row group is begun and its object is away.
+    #[inline(always)]
     pub fn form_length_with_next<S: FarTickets>(
         &self,
         objects: &Objects<u8, S>,

@@ -47,7 +47,8 @@ impl TextColumn {
     }
 
     // Returns the form of the next place's row group once the place has this text. It is made in the memory of a form that is
-    // no longer needed.
+    // no longer needed. It is inlined, so that a form is passed through memory by one call and not by two.
+    #[inline(always)]
     pub(crate) fn form_pushed<S: FarTickets>(
         &self,
         spare: Vec<u8>,

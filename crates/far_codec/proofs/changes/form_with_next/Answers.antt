@@ -45,22 +45,22 @@ returns-then-is_some-clause-length c =
 
 pub form_around-requires-clause-space : goal.form_around-requires-clause-space
 form_around-requires-clause-space c =
-    let p = c.form_parts-parts.result in
+    let p = c.form_parts-old.result in
     let texts = texts_meaning c.args.form.now in
-    let known = tells p.mask.now p.ends.now p.body.now texts c.form_parts-parts.ensures.parts c.form_parts-parts.ensures.same in
-    let changed = with_is_next _ texts (length p.ends.now) c.args.text.now c.form_parts-parts.ensures.same known.count in
+    let known = tells p.mask.now p.ends.now p.body.now texts c.form_parts-old.ensures.parts c.form_parts-old.ensures.same in
+    let changed = with_is_next _ texts (length p.ends.now) c.args.text.now c.form_parts-old.ensures.same known.count in
     omega (arith, ap texts_length changed, c.requires.space)
 
 pub returns-clause-texts : goal.returns-clause-texts
 returns-clause-texts c =
-    let p = c.form_parts-parts.result in
+    let p = c.form_parts-old.result in
     let texts = texts_meaning c.args.form.now in
-    let known = tells p.mask.now p.ends.now p.body.now texts c.form_parts-parts.ensures.parts c.form_parts-parts.ensures.same in
-    rw (sym (with_is_next _ texts (length p.ends.now) c.args.text.now c.form_parts-parts.ensures.same known.count)) c.form_around.ensures.texts
+    let known = tells p.mask.now p.ends.now p.body.now texts c.form_parts-old.ensures.parts c.form_parts-old.ensures.same in
+    rw (sym (with_is_next _ texts (length p.ends.now) c.args.text.now c.form_parts-old.ensures.same known.count)) c.form_around.ensures.texts
 
 pub returns-clause-length : goal.returns-clause-length
 returns-clause-length c =
-    let p = c.form_parts-parts.result in
+    let p = c.form_parts-old.result in
     let texts = texts_meaning c.args.form.now in
-    let known = tells p.mask.now p.ends.now p.body.now texts c.form_parts-parts.ensures.parts c.form_parts-parts.ensures.same in
-    rw (sym (with_is_next _ texts (length p.ends.now) c.args.text.now c.form_parts-parts.ensures.same known.count)) c.form_around.ensures.length
+    let known = tells p.mask.now p.ends.now p.body.now texts c.form_parts-old.ensures.parts c.form_parts-old.ensures.same in
+    rw (sym (with_is_next _ texts (length p.ends.now) c.args.text.now c.form_parts-old.ensures.same known.count)) c.form_around.ensures.length

@@ -5,6 +5,9 @@ use Rattle.far_log.proofs.ChunkedVecs.{chunk-is, has-size, kept-reused, shown-re
 use Rattle.far_log.proofs.chunked_vec.ChunkedVec.push.Goals as goal
 use Rattle.far_log.proofs.chunked_vec.ChunkedVec.push.Goals.{then-at-len, else-at-len}
 
+pub place_of-chunk-requires : goal.place_of-chunk-requires
+place_of-chunk-requires g c = omega (arith, c.requires, length-shown c.self.inside.chunks.items c.self.inside.len c.self.invariant, ap length c.self.view_is)
+
 pub make_chunk-requires-clause-next : goal.make_chunk-requires-clause-next
 make_chunk-requires-clause-next g c = next-chunk c.self.inside.chunks.items c.self.inside.len _ _ c.self.invariant.chunks c.self.invariant.within c.place_of-chunk.ensures.place
 
