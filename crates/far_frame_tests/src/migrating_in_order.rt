@@ -115,11 +115,11 @@ static SCRIPT: Script = Script {
 };
 
 /// Returns a store over a new log, which notes how long its contents are.
-fn log_store<'a, R: Wait + Sync>(
-    rt: &'a R,
+fn log_store<'a, R: Wait + Sync + Drop + Copy>(
+    rt: R,
     alloc: Global,
     lengths: &'a AtomicU64,
-) -> Result<EngineStore<Measured<'a, ByteLog>, &'a R>, Refusal> {
+) -> Result<EngineStore<Measured<'a, ByteLog>, R>, Refusal> {
     match ByteLog::new(alloc, 200) {
         Ok(engine) => EngineStore::new(rt, alloc, Measured { engine, lengths }, SOUND.capacity),
         Err(_) => Err(Refusal::NoMemory),
@@ -128,22 +128,23 @@ fn log_store<'a, R: Wait + Sync>(
 
 /// Plays the script over two logs, each with its list of lengths.
 ///
-/// For the proof: the stores, their runtime and their lengths have one lifetime, a parameter of this function.
-fn play_measured<'a, R: Threads + Wait + Sync>(
-    rt: &'a R,
+/// For the proof: the stores know what they wait by as a type parameter, so their type has the lifetime of the lengths alone.
+fn play_measured<'a, T: Threads + Sync, R: Wait + Sync + Drop + Copy>(
+    rt: &T,
+    waits: R,
     alloc: Global,
     before: &'a AtomicU64,
     lengths: &'a AtomicU64,
 ) -> Result<Option<usize>, Refusal> {
-    let first = with_next(Ok(Vec::new(alloc)), log_store(rt, alloc, before));
-    let stores = with_next(first, log_store(rt, alloc, lengths));
+    let first = with_next(Ok(Vec::new(alloc)), log_store(waits, alloc, before));
+    let stores = with_next(first, log_store(waits, alloc, lengths));
     play_over(rt, alloc, stores, &SCRIPT)
 }
 
 /// Returns the lengths of the contents that a world puts into its second log, in order; 0 if a call does not return what it should.
 fn lengths_once<R: Threads + Wait + Sync>(rt: &R, alloc: Global) -> Result<u64, Refusal> {
     let (before, lengths) = (AtomicU64::new(0), AtomicU64::new(0));
-    match play_measured(rt, alloc, &before, &lengths) {
+    match play_measured(rt, rt, alloc, &before, &lengths) {
         Ok(None) => Ok(lengths.load(Ordering::SeqCst)),
         Ok(Some(_)) => Ok(0),
         Err(refusal) => Err(refusal),
