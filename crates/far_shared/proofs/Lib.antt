@@ -3,6 +3,7 @@ mod AskLaws
 mod ColumnLaws
 pub mod CrossingLaws
 mod EditLaws
+mod FourLaws
 mod LeftLaws
 mod MergeLaws
 mod NumberLaws

@@ -1,6 +1,8 @@
--- What becomes of four results.
-use Rattle.std.proofs.Common.{◌≡◌, Result, IfOk, subst}
-use Rattle.std.specs.Prelude.{IsOkAnd}
+-- What becomes of several results.
+use Rattle.std.proofs.Common.{◌≡◌, Result, IfOk, IfErr, IsOk, OnOk, subst, sym}
+use Rattle.std.proofs.lemmas.Result.{IfErr-weaker, IfErr-at_err}
+use Rattle.std.specs.Prelude.{IsErrOf, IsOkAnd}
+use mathlib.Core.Bool.{true≢false}
 use Rattle.std.specs.declared.result.Result.TheVariants.{Ok, Err}
 
 -- what holds of a result holds of the part of the whole that it became
@@ -26,3 +28,13 @@ made-of (Err e) (Err f) made holds follows = tt
 pub of-ok : {T E : Type 0} (P : T → Type 0) (r : Result T E) (x : T) → IsOkAnd r (λ y. y ≡ x) → IfOk r P → P x
 of-ok P (Ok y) x same holds = subst P same holds
 of-ok P (Err e) x same holds = absurd same
+
+-- what holds of a value once the work on it was done holds of what was kept
+pub kept-done : {T U E F : Type 0} (P : T → Type 0) (value : T) (kept : Result T E) (done : Result U F) → IfOk kept (λ x. (x ≡ value) × IsOk done) → OnOk done (P value) → IfOk kept P
+kept-done P value (Ok x) (Ok u) same holds = subst P (sym same.0) holds
+kept-done P value (Ok x) (Err f) same holds = absurd (true≢false (sym same.1))
+kept-done P value (Err e) done same holds = tt
+
+-- why the work was not done is why nothing was kept
+pub why-done : {T U E : Type 0} (Q : E → Type 0) (kept : Result T E) (done : Result U E) → IfErr kept (IsErrOf done) → IfErr done Q → IfErr kept Q
+why-done Q kept done same holds = IfErr-weaker kept (IsErrOf done) Q (λ e is. IfErr-at_err Q is holds) same

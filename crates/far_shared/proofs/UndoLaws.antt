@@ -11,7 +11,6 @@ use Rattle.far_aggregates.specs.Aggregates.{free_from, joined}
 use Rattle.far_table.specs.Watching.{lowest_free, registered_at, registered_now, unwatch_refusal, with_aggregate}
 use Rattle.far_frame.specs.Effects.{Accepts, Refuses}
 use Rattle.far_frame.specs.State.{State}
-use Rattle.far_frame.specs.declared.step.Reply.{Reply}
 use Rattle.far_frame.specs.declared.step.Reply.TheVariants as reply
 use Rattle.far_frame.specs.declared.step.Step.TheVariants as step
 use Rattle.far_history.specs.Histories.{Planned}

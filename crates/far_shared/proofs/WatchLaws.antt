@@ -9,7 +9,6 @@ use Rattle.far_types.specs.Bounds.{spec_refusal}
 use Rattle.far_rows.specs.Jobs.{AreAt}
 use Rattle.far_frame.specs.Effects.{Accepts, Refuses}
 use Rattle.far_frame.specs.State.{State, empty_state}
-use Rattle.far_frame.specs.declared.step.Reply.{Reply}
 use Rattle.far_frame.specs.declared.step.Reply.TheVariants as reply
 use Rattle.far_frame.specs.declared.step.Step.TheVariants as step
 use Rattle.far_history.specs.Histories.{Planned, IsLegal}
@@ -59,14 +58,23 @@ module _ {K : Type 0} (content : K → List ℕ) (old new : State K) where
     either-allowed schema spec (Ok a) same free = subst (λ kinds. spec_refusal kinds spec ≡ None) (same ∙ is.schema) free
     either-allowed schema spec (Err e) same free = tt
 
-  module _ (p q : Planned) (is : IsPlan p) (same : p ≡ q) (n : ℕ) (schema : List Kind) (kinds : schema ≡ p.schema) (fresh : old ≡ empty_state schema p.limits n) (spec : Spec) (gauge : spec ≡ p.gauge) where
+  module _ (p q : Planned) (is : IsPlan p) (same : p ≡ q) (n : ℕ) (fresh : old ≡ empty_state q.schema q.limits n) (spec : Spec) (gauge : spec ≡ p.gauge) where
     as-empty : old ≡ empty_state p.schema p.limits n
-    as-empty = fresh ∙ ap (λ (l : List Kind). empty_state l p.limits n) kinds
+    as-empty = fresh ∙ ap (λ (r : Planned). empty_state r.schema r.limits n) (sym same)
 
     -- an empty table, once its gauge is registered
-    pub opened-empty : (is_of : K → List ℕ → Type 0) (given : Reply) → ((id : List ℕ) → AreAt is_of id old.rows) → Accepts content old (step.Watch spec) given new → IsEmpty is_of q n new
-    opened-empty is_of given here h = subst (λ (r : Planned). IsEmpty is_of r n new) same (empty-watched content old new p is n as-empty spec gauge is_of given here h)
+    pub gauge-watched : (is_of : K → List ℕ → Type 0) (r : Result ℕ Refusal) → ((id : List ℕ) → AreAt is_of id old.rows) → IfOk r (λ a. Accepts content old (step.Watch spec) (reply.Aggregate a) new) → OnOk r (IsEmpty is_of q n new)
+    gauge-watched is_of (Ok a) here done = subst (λ (r : Planned). IsEmpty is_of r n new) same (empty-watched content old new p is n as-empty spec gauge is_of (reply.Aggregate a) here done)
+    gauge-watched is_of (Err e) here done = tt
 
     -- that is refused for lack of memory alone
-    pub opened-refused : (given : Refusal) → Refuses old (step.Watch spec) given new → given ≡ refusal.NoMemory
-    opened-refused given h = empty-refused content old new p is n as-empty spec gauge given h
+    pub gauge-refused : (r : Result ℕ Refusal) → IfErr r (λ e. Refuses old (step.Watch spec) e new) → IfErr r (λ e. e ≡ refusal.NoMemory)
+    gauge-refused (Ok a) refused = tt
+    gauge-refused (Err e) refused = empty-refused content old new p is n as-empty spec gauge e refused
+
+-- what is opened for a plan
+pub opened-for : {K : Type 0} (p q : Planned) (n : ℕ) (schema : List Kind) (s : State K) → p ≡ q → schema ≡ p.schema → s ≡ empty_state schema p.limits n → s ≡ empty_state q.schema q.limits n
+opened-for p q n schema s same kinds fresh =
+    fresh
+    ∙ ap (λ (l : List Kind). empty_state l p.limits n) kinds
+    ∙ ap (λ (r : Planned). empty_state r.schema r.limits n) same

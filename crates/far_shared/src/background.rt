@@ -25,10 +25,10 @@ fn serve<N: PlanTag, B: TableTag, S: FarStore, R: Wait>(
 {
     let mut meter = Meter::new();
     match work {
-        Work::Evacuate(stripe) => {
-            shared.evacuate_once(rt, *stripe, store, &mut meter)?;
-            Ok(())
-        }
+        Work::Evacuate(stripe) => match shared.evacuate_once(rt, *stripe, store, &mut meter) {
+            Ok(_) => Ok(()),
+            Err(refusal) => Err(refusal),
+        },
         Work::Fetch(stripe, name) => shared.fetch(
             rt,
             *stripe,
@@ -37,10 +37,10 @@ fn serve<N: PlanTag, B: TableTag, S: FarStore, R: Wait>(
             store,
             &mut meter,
         ),
-        Work::Build(stripe) => {
-            shared.build_once(rt, *stripe, store, &mut meter)?;
-            Ok(())
-        }
+        Work::Build(stripe) => match shared.build_once(rt, *stripe, store, &mut meter) {
+            Ok(_) => Ok(()),
+            Err(refusal) => Err(refusal),
+        },
     }
 }
 

@@ -35,6 +35,9 @@ fn end<N: PlanTag, B: TableTag, R: Wait>(
     keepers.two.known();
     keepers.three.known();
     settle(rt, &cells, &mut keepers, sessions);
+    // For the proof: calls drop them, since a function that drops them itself is long to prove.
+    drop(keepers);
+    drop(cells);
 }
 
 impl<N: PlanTag, B: TableTag, S: FarTickets, const I: usize> Stripe<N, B, S, I> {

@@ -1,5 +1,5 @@
 // The answer of an aggregate of four tables.
-ghost use Rattle.std.specs.Prelude.{◌≡◌, ◌+◌, ◌≤◌, ◌^◌, ◌++◌, ◌↔◌, List, Some, IsTrue, IfOk, IfErr, IfSome, IfNone, OnOk};
+ghost use Rattle.std.specs.Prelude.{◌≡◌, ◌⊎◌, ◌+◌, ◌≤◌, ◌^◌, ◌++◌, ◌↔◌, List, Some, IsTrue, IfOk, IfErr, IfSome, IfNone, IsErrOf, IsOk, OnOk};
 ghost use Rattle.far_types.specs.declared.cell.Cell.{Cell};
 ghost use Rattle.far_types.specs.declared.spec.Fold.TheVariants as fold;
 ghost use Rattle.far_types.specs.Answers.{answer_over};
@@ -8,6 +8,7 @@ ghost use Rattle.far_table.specs.Watching.{aggregate_at};
 ghost use Rattle.far_shared.specs.Fours.{AreLike, AreAlike, pending_in, pending_in_all, all_rows, spec_at, IsOf, AnyRefusal, FourRefusal};
 
 use crate::merging::{merge_extrema, merge_totals};
+use crate::opening::Four;
 use far_frame::Frame;
 use far_store::FarTickets;
 use far_types::{Answer, ExtremaLines, Fold, Refusal, Schema, Spec, TotalLines};
@@ -82,6 +83,55 @@ fn sum_of(one: u32, two: u32, three: u32, four: u32) -> Option<u32>
         return None;
     }
     Some(sum as u32)
+}
+
+/// Refused if any of these row groups is left:
+///
+/// - with `Building` (15), if their sum is a number of 32 bits. It says how many.
+/// - with `NoMemory` (1), if it is not.
+fn none_left(one: u32, two: u32, three: u32, four: u32) -> Result<(), Refusal>
+    ensures ok { OnOk result (one + two + three + four ≡ 0) }
+    ensures refused { IfErr result (AnyRefusal (one + two + three + four)) }
+{
+    let Some(left) = sum_of(one, two, three, four) else {
+        return Err(Refusal::NoMemory);
+    };
+    if left != 0 {
+        return Err(Refusal::Building(left));
+    }
+    Ok(())
+}
+
+/// Returns all four if they are built. Refused as the building was; else with `NoMemory` (1) if one is missing.
+///
+/// It takes values of any type. For the proof: answers that live where a function may return are long to prove, and here they
+/// cost nothing.
+fn all_built<T: Drop>(
+    built: Result<(), Refusal>,
+    zero: Option<T>,
+    one: Option<T>,
+    two: Option<T>,
+    three: Option<T>,
+) -> Result<Four<T>, Refusal>
+    ensures zero { IfOk result (λ four. zero ≡ Some four.zero) }
+    ensures one { IfOk result (λ four. one ≡ Some four.one) }
+    ensures two { IfOk result (λ four. two ≡ Some four.two) }
+    ensures three { IfOk result (λ four. three ≡ Some four.three) }
+    ensures built { OnOk result (IsOk built) }
+    ensures refused { IfErr result (λ e. IsErrOf built e ⊎ (IsOk built × (e ≡ Refusal.NoMemory))) }
+{
+    match built {
+        Ok(()) => match (zero, one, two, three) {
+            (Some(zero), Some(one), Some(two), Some(three)) => Ok(Four {
+                zero,
+                one,
+                two,
+                three,
+            }),
+            _ => Err(Refusal::NoMemory),
+        },
+        Err(refusal) => Err(refusal),
+    }
 }
 
 /// Returns the lines of an answer of totals.
@@ -168,17 +218,10 @@ fn answer_alike<S: FarTickets>(
     let (left_two, answer_two) = asked(two, spec, a);
     let (left_three, answer_three) = asked(three, spec, a);
     let (left_four, answer_four) = asked(four, spec, a);
-    let Some(left) = sum_of(left_one, left_two, left_three, left_four) else {
-        return Err(Refusal::NoMemory);
-    };
-    if left != 0 {
-        return Err(Refusal::Building(left));
-    }
-    match (answer_one, answer_two, answer_three, answer_four) {
-        (Some(one), Some(two), Some(three), Some(four)) => {
-            merge(alloc, spec, one, two, three, four)
-        }
-        _ => Err(Refusal::NoMemory),
+    let built = none_left(left_one, left_two, left_three, left_four);
+    match all_built(built, answer_one, answer_two, answer_three, answer_four) {
+        Ok(all) => merge(alloc, spec, all.zero, all.one, all.two, all.three),
+        Err(refusal) => Err(refusal),
     }
 }
 

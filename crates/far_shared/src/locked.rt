@@ -1,5 +1,5 @@
 // Work in the background, under the lock of one stripe. A carry holds no lock.
-ghost use Rattle.std.specs.Prelude.{◌≡◌, ◌+◌, ◌<◌, ◌≤◌, ◌^◌, [], ◌∷◌, None, length, IfOk, IfErr, IfSome, IsErrOf, OnOk};
+ghost use Rattle.std.specs.Prelude.{◌≡◌, ◌+◌, ◌<◌, ◌≤◌, ◌^◌, [], ◌∷◌, None, length, IfOk, IfSome, OnOk};
 ghost use Rattle.far_store.specs.Faults.{RefusedBy, faults_in};
 ghost use Rattle.far_frame.specs.Jobs.{IsJobAt, kind_of};
 ghost use Rattle.far_shared.specs.Works.{IsJobOf, IsBuildOf, IsBuildingAt, begin_refusals, begun_kind, columns_for, end_refusals, job_refusals, stripe_of};
@@ -73,22 +73,13 @@ fn scan_under<N: PlanTag, B: TableTag, S: FarTickets, const I: usize, R: Wait>(
     lock.write(rt).scan(aggregate, group)
 }
 
-/// Ends a job that was carried, or returns why it was not.
+/// Returns why a job came back, and drops the job.
 ///
-/// It takes a job of any type. For the proof: taking a job out of a result costs the proof of a function minutes, and here it
-/// costs none.
-fn once_carried<J: Drop, F: FnOnce(J) -> Result<(), Refusal> + Drop>(
-    carried: Result<J, (Refusal, J)>,
-    finish: F,
-) -> Result<(), Refusal>
-    requires { IfOk carried (λ job. F.pre finish job) }
-    ensures ended { IfOk carried (λ job. F.post finish job result) }
-    ensures refused { IfErr carried (λ back. IsErrOf result back.0) }
+/// It takes a job of any type. For the proof: a function that drops a job itself is long to prove, and here it costs nothing.
+fn refusal_of<J: Drop>(back: (Refusal, J)) -> Refusal
+    ensures { result ≡ back.0 }
 {
-    match carried {
-        Ok(job) => finish(job),
-        Err((refusal, _)) => Err(refusal),
-    }
+    back.0
 }
 
 /// Carries a job under no lock, and ends it.
@@ -108,15 +99,15 @@ fn complete_under<N: PlanTag, B: TableTag, S: FarStore, const I: usize, R: Wait>
     ensures faults { meter.new ≡ meter.old + faults_in result }
     ensures refused { RefusedBy (job_refusals (kind_of job)) result }
 {
-    once_carried(
-        job.carry(alloc, store, meter),
-        |carried: Job<S>| -> Result<(), Refusal>
-            requires own { stripe ≡ I }
-            requires store { S.store_id store.now ≡ B.store }
-            requires here { IsJobAt S.is_of B.store carried }
-            ensures { RefusedBy (end_refusals (kind_of carried)) result }
-        { finish_under(rt, lock, stripe, store, &carried) },
-    )
+    match job.carry(alloc, store, meter) {
+        Ok(carried) => {
+            let ended = finish_under(rt, lock, stripe, store, &carried);
+            // For the proof: a call drops the job, for the same reason.
+            drop(carried);
+            ended
+        }
+        Err(back) => Err(refusal_of(back)),
+    }
 }
 
 /// Sends the coldest object of a stripe away, and returns which; `None` if there is none that may go.

@@ -1,5 +1,7 @@
 // How a shared table begins.
-ghost use Rattle.std.specs.Prelude.{◌≡◌, ◌⊎◌, [], length, IfOk, IfErr, IsErr, IsErrOf, IsOk, IsOkAnd, OnErr};
+ghost use Rattle.std.specs.Prelude.{◌≡◌, ◌⊎◌, ℕ, List, [], length, IfOk, IfErr, IsErr, IsErrOf, IsOk, IsOkAnd, OnErr, OnOk};
+ghost use Rattle.far_rows.specs.Jobs.{AreAt};
+ghost use Rattle.far_frame.specs.State.{empty_state};
 ghost use Rattle.far_sessions.specs.Known.{newcomers};
 ghost use Rattle.far_shared.specs.Opening.{AreNamed, IsEmpty};
 
@@ -64,21 +66,27 @@ fn all_four<T: Drop>(
     })
 }
 
-/// Returns what `make` makes of two values. Refused as the first was; else with `NoMemory` (1) if the second found no memory.
+/// Two values of any types.
+#[derive(Drop)]
+struct Together<A, B> {
+    one: A,
+    other: B,
+}
+
+/// Returns both values. Refused as the first was; else with `NoMemory` (1) if the second found no memory.
 ///
 /// It takes values of any type, for the same reason as `all_four`.
-fn both<A: Drop, B: Drop, T, F: FnOnce(A, B) -> T + Drop>(
+fn both<A: Drop, B: Drop>(
     one: Result<A, Refusal>,
     other: Result<B, AllocError>,
-    make: F,
-) -> Result<T, Refusal>
-    requires { IfOk one (λ x. IfOk other (λ y. F.pre make x y)) }
-    ensures made { IfOk result (λ made. IsOkAnd one (λ x. IsOkAnd other (λ y. F.post make x y made))) }
+) -> Result<Together<A, B>, Refusal>
+    ensures one { IfOk result (λ both. IsOkAnd one (λ x. x ≡ both.one)) }
+    ensures other { IfOk result (λ both. IsOkAnd other (λ y. y ≡ both.other)) }
     ensures memory { IfErr one (λ e. e ≡ Refusal.NoMemory) → IfErr result (λ e. e ≡ Refusal.NoMemory) }
     ensures refused { IfErr result (λ e. IsErrOf one e ⊎ (IsOk one × IsErr other × (e ≡ Refusal.NoMemory))) }
 {
     match (one, other) {
-        (Ok(one), Ok(other)) => Ok(make(one, other)),
+        (Ok(one), Ok(other)) => Ok(Together { one, other }),
         (Err(refusal), _) => Err(refusal),
         (_, Err(_)) => Err(Refusal::NoMemory),
     }
@@ -94,6 +102,19 @@ fn with_other<A: Drop, B: Drop>(one: A, other: Result<B, AllocError>) -> Result<
     match other {
         Ok(other) => Ok((one, other)),
         Err(_) => Err(Refusal::NoMemory),
+    }
+}
+
+/// Returns the value if the work on it was done. Refused as the work was; the value is then dropped.
+///
+/// It takes a value of any type, for the same reason as `all_four`.
+fn once_done<T: Drop, U: Drop>(value: T, done: Result<U, Refusal>) -> Result<T, Refusal>
+    ensures ok { IfOk result (λ kept. (kept ≡ value) × IsOk done) }
+    ensures refused { IfErr result (IsErrOf done) }
+{
+    match done {
+        Ok(_) => Ok(value),
+        Err(refusal) => Err(refusal),
     }
 }
 
@@ -124,14 +145,34 @@ impl<N: PlanTag, S: FarTickets> Model for Made<N, S> {
     ghost invariant = { λ m. (m.sessions ≡ N.plan.sessions) × (m.columns ≡ length N.plan.schema) × IsEmpty S.is_of N.plan 0 m.frames.zero × IsEmpty S.is_of N.plan 1 m.frames.one × IsEmpty S.is_of N.plan 2 m.frames.two × IsEmpty S.is_of N.plan 3 m.frames.three };
 }
 
+/// Registers the gauge of a plan in an empty table. Refused with `NoMemory` (1) alone.
+fn watch_gauge<S: FarTickets>(
+    frame: &mut Frame<S>,
+    plan: &Plan,
+    number: u32,
+) -> Result<u32, Refusal>
+    requires fresh { frame.old ≡ empty_state plan.now.schema plan.now.limits number }
+    requires here { (id : List ℕ) → AreAt S.is_of id frame.old.rows }
+    ensures ok { OnOk result (IsEmpty S.is_of plan.now number frame.new) }
+    ensures memory { IfErr result (λ e. e ≡ Refusal.NoMemory) }
+{
+    // For the proof: which table it is.
+    let _number = number;
+    frame.watch(plan.gauge.clone()?)
+}
+
 /// Opens an empty table of this number, whose aggregate 0 is the gauge. Refused with `NoMemory` (1) alone.
 fn open_frame<S: FarTickets>(alloc: Global, plan: &Plan, number: u32) -> Result<Frame<S>, Refusal>
     ensures ok { IfOk result (IsEmpty S.is_of plan.now number) }
     ensures memory { IfErr result (λ e. e ≡ Refusal.NoMemory) }
 {
-    let mut frame = Frame::<S>::open(alloc, plan.schema.clone()?, plan.limits, number)?;
-    frame.watch(plan.gauge.clone()?)?;
-    Ok(frame)
+    match Frame::<S>::open(alloc, plan.schema.clone()?, plan.limits, number) {
+        Ok(mut frame) => {
+            let watched = watch_gauge(&mut frame, plan, number);
+            once_done(frame, watched)
+        }
+        Err(refusal) => Err(refusal),
+    }
 }
 
 /// Opens four such tables. Refused with `NoMemory` (1) alone.
@@ -160,25 +201,18 @@ impl Plan {
     {
         let count = self.sessions;
         let columns = self.schema.len() as u64;
-        both(
+        match both(
             open_frames(alloc, &self),
             far_sessions::Made::<N>::make(alloc),
-            |frames: Four<Frame<S>>, cells: far_sessions::Made<N>| -> Made<N, S>
-                requires count { count ≡ N.plan.sessions }
-                requires columns { columns ≡ length N.plan.schema }
-                requires zero { IsEmpty S.is_of N.plan 0 frames.zero }
-                requires one { IsEmpty S.is_of N.plan 1 frames.one }
-                requires two { IsEmpty S.is_of N.plan 2 frames.two }
-                requires three { IsEmpty S.is_of N.plan 3 frames.three }
-            {
-                Made {
-                    sessions: count,
-                    columns,
-                    cells,
-                    frames,
-                }
-            },
-        )
+        ) {
+            Ok(both) => Ok(Made {
+                sessions: count,
+                columns,
+                cells: both.other,
+                frames: both.one,
+            }),
+            Err(refusal) => Err(refusal),
+        }
     }
 }
 

@@ -111,7 +111,11 @@ impl<N: PlanTag, B: TableTag, S: FarTickets> Shared<N, B, S> {
             1 => apply_under(rt, &self.one, cells.one(), &mut me.one, edit),
             2 => apply_under(rt, &self.two, cells.two(), &mut me.two, edit),
             3 => apply_under(rt, &self.three, cells.three(), &mut me.three, edit),
-            _ => Err(Refusal::OutOfRange),
+            _ => {
+                // For the proof: a call drops the edit, since a function that drops it itself is long to prove.
+                drop(edit);
+                Err(Refusal::OutOfRange)
+            }
         }
     }
 }

@@ -1,18 +1,21 @@
-use Rattle.std.proofs.lemmas.Result.{err_from_is_err_and}
+use Rattle.std.proofs.Common.{◌≡◌}
 use Rattle.far_history.specs.Histories.{Planned}
-use Rattle.far_shared.proofs.WatchLaws.{opened-empty, opened-refused}
+use Rattle.far_types.specs.declared.refusal.Refusal.TheVariants as refusal
+use Rattle.far_shared.specs.Opening.{IsEmpty}
+use Rattle.far_shared.proofs.OpenLaws.{kept-done, why-done}
+use Rattle.far_shared.proofs.WatchLaws.{opened-for}
 use Rattle.far_shared.proofs.opening.open_frame.Goals as goal
 
-pub returns-in_err-watch-clause-memory : goal.returns-in_err-watch-clause-memory
-returns-in_err-watch-clause-memory g c =
+pub watch_gauge-watched-requires-clause-fresh : goal.watch_gauge-watched-requires-clause-fresh
+watch_gauge-watched-requires-clause-fresh g c κs within =
     let s = c.plan.inside in
     let p : Planned = record { schema = s.schema; limits = s.limits; gauge = s.gauge; sessions = s.sessions } in
-    let memory = opened-refused g.S.FarTickets.content _ _ p _ c.plan.invariant c.plan.view_is _ _ c.in_ok-clone.ensures.equal c.in_ok-frame.ensures.ok _ c.in_ok-clone-2.ensures.equal _ c.in_err-watch.ensures.err in
-    let given = err_from_is_err_and c.from_residual-in_err-watch.result c.from_residual-in_err-watch.ensures.1 in
-    rw (given.1, given.2) memory
+    opened-for p _ _ _ _ c.plan.view_is c.in_ok-clone.ensures.equal c.in-Ok.ensures.ok
 
-pub returns-clause-ok : goal.returns-clause-ok
-returns-clause-ok g c =
-    let s = c.plan.inside in
-    let p : Planned = record { schema = s.schema; limits = s.limits; gauge = s.gauge; sessions = s.sessions } in
-    opened-empty g.S.FarTickets.content _ _ p _ c.plan.invariant c.plan.view_is _ _ c.in_ok-clone.ensures.equal c.in_ok-frame.ensures.ok _ c.in_ok-clone-2.ensures.equal g.S.FarTickets.is_of _ c.in_ok-frame.ensures.here c.in_ok-watch.ensures.ok
+pub returns-in-Ok-clause-ok : goal.returns-in-Ok-clause-ok
+returns-in-Ok-clause-ok g c =
+    kept-done (IsEmpty g.S.FarTickets.is_of c.args.plan.now c.args.number) _ c.once_done.result c.watch_gauge-watched.result c.once_done.ensures.ok c.watch_gauge-watched.ensures.ok
+
+pub returns-in-Ok-clause-memory : goal.returns-in-Ok-clause-memory
+returns-in-Ok-clause-memory g c =
+    why-done (λ e. e ≡ refusal.NoMemory) c.once_done.result c.watch_gauge-watched.result c.once_done.ensures.refused c.watch_gauge-watched.ensures.memory
