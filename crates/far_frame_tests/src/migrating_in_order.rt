@@ -3,10 +3,11 @@
 use crate::answers::Due;
 use crate::call::Call;
 use crate::call::Value::{Int, Missing, Text};
-use crate::opening::{Opening, SMALL_GROUPS, SOUND, with_next};
-use crate::script::{Calls, Script, Turn, play_over};
+use crate::opening::{SMALL_GROUPS, SOUND, store, world};
+use crate::script::{Calls, first_wrong};
 use far_byte_log::ByteLog;
-use far_store::{Engine, EngineStore, Failure};
+use far_frame::World;
+use far_store::{Engine, EngineStore, Failure, FarStore};
 use far_types::{Kind, Refusal};
 use std::alloc::Global;
 use std::sync::Wait;
@@ -99,54 +100,86 @@ const ALL_AWAY: Calls = &[
 /// three bytes and six, and of the second, five bytes and eight. A row group of numbers is as long as it can be.
 const IN_ORDER: u64 = 22_22_23_23_17_20_15_18;
 
-/// They go on with another store.
-static SCRIPT: Script = Script {
-    name: "contents go into another store in order",
-    opening: Opening {
-        kinds: &[Kind::Text, Kind::Int, Kind::Text, Kind::Int],
-        ..SMALL_GROUPS
-    },
-    plans: &[SOUND, SOUND],
-    calls: ALL_AWAY,
-    then: &[Turn {
-        refused: None,
-        calls: &[],
-    }],
-};
-
-/// Returns a store over a new log, which notes how long its contents are.
-fn log_store<'a, R: Wait + Sync + Drop + Copy>(
-    rt: R,
-    alloc: Global,
-    lengths: &'a AtomicU64,
-) -> Result<EngineStore<Measured<'a, ByteLog>, R>, Refusal> {
-    match ByteLog::new(alloc, 200) {
-        Ok(engine) => EngineStore::new(rt, alloc, Measured { engine, lengths }, SOUND.capacity),
-        Err(_) => Err(Refusal::NoMemory),
+/// Moves a world to another store.
+fn moved<S: FarStore, N: FarStore>(world: World<S>, store: N) -> Result<(), Refusal> {
+    if world.faults() > 0 {
+        drop(world);
+        return Err(Refusal::FarFault);
+    }
+    match world.migrate(store) {
+        Ok(world) => {
+            drop(world);
+            Ok(())
+        }
+        Err((refusal, world)) => {
+            drop(world);
+            Err(refusal)
+        }
     }
 }
 
-/// Plays the script over two logs, each with its list of lengths.
-///
-/// For the proof: the stores know what they wait by as a type parameter, so their type has the lifetime of the lengths alone.
-fn play_measured<'a, T: Threads + Sync, R: Wait + Sync + Drop + Copy>(
-    rt: &T,
-    waits: R,
+/// Returns whether all objects of a world go away, as they should, and then to another store.
+fn are_moved<S: FarStore, N: FarStore, R: Threads + Sync>(
+    rt: &R,
     alloc: Global,
-    before: &'a AtomicU64,
-    lengths: &'a AtomicU64,
-) -> Result<Option<usize>, Refusal> {
-    let first = with_next(Ok(Vec::new(alloc)), log_store(waits, alloc, before));
-    let stores = with_next(first, log_store(waits, alloc, lengths));
-    play_over(rt, alloc, stores, &SCRIPT)
+    mut world: World<S>,
+    store: N,
+) -> Result<bool, Refusal> {
+    match first_wrong(rt, alloc, &mut world, ALL_AWAY) {
+        Ok(None) => moved(world, store).and(Ok(true)),
+        Ok(Some(_)) => {
+            drop(world);
+            Ok(false)
+        }
+        Err(refusal) => {
+            drop(world);
+            Err(refusal)
+        }
+    }
 }
 
-/// Returns the lengths of the contents that a world puts into its second log, in order; 0 if a call does not return what it should.
+/// The same of a new world over one store, if both stores were made.
+fn are_moved_between<S: FarStore, N: FarStore, R: Threads + Sync>(
+    rt: &R,
+    alloc: Global,
+    from: Result<S, Refusal>,
+    to: Result<N, Refusal>,
+) -> Result<bool, Refusal> {
+    let kinds = [Kind::Text, Kind::Int, Kind::Text, Kind::Int];
+    match to {
+        Ok(to) => match world(alloc, &kinds, SMALL_GROUPS.limits, from) {
+            Ok(world) => are_moved(rt, alloc, world, to),
+            Err(refusal) => Err(refusal),
+        },
+        Err(refusal) => Err(refusal),
+    }
+}
+
+/// The same into a log.
+fn are_moved_into<R: Threads + Wait + Sync>(
+    rt: &R,
+    alloc: Global,
+    log: ByteLog,
+    lengths: &AtomicU64,
+) -> Result<bool, Refusal> {
+    let engine = Measured {
+        engine: log,
+        lengths,
+    };
+    let to = EngineStore::new(rt, alloc, engine, SOUND.capacity);
+    are_moved_between(rt, alloc, store(rt, alloc, SOUND), to)
+}
+
+/// Returns the lengths of the contents that a world puts into a new log, in order; 0 if a call does not return what it should.
 fn lengths_once<R: Threads + Wait + Sync>(rt: &R, alloc: Global) -> Result<u64, Refusal> {
-    let (before, lengths) = (AtomicU64::new(0), AtomicU64::new(0));
-    match play_measured(rt, rt, alloc, &before, &lengths) {
-        Ok(None) => Ok(lengths.load(Ordering::SeqCst)),
-        Ok(Some(_)) => Ok(0),
+    let lengths = AtomicU64::new(0);
+    let moved = match ByteLog::new(alloc, 200) {
+        Ok(log) => are_moved_into(rt, alloc, log, &lengths),
+        Err(_) => Err(Refusal::NoMemory),
+    };
+    match moved {
+        Ok(true) => Ok(lengths.load(Ordering::SeqCst)),
+        Ok(false) => Ok(0),
         Err(refusal) => Err(refusal),
     }
 }
