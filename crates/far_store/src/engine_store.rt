@@ -152,6 +152,9 @@ impl<E: Engine, R: Sync + Drop + Wait> FarStore for EngineStore<E, R> {
         if self.keys.count() as u64 >= self.capacity {
             return Err(Refusal::FarFull);
         }
+        // Space for the key comes first, so that a put that finds no memory for it has written nothing. Only another put that
+        // comes between may take this space.
+        self.keys.reserve(1)?;
         let key = match self.engine.write(alloc, bytes) {
             Ok(key) => key,
             Err(failure) => return Err(counted(meter, failure)),
