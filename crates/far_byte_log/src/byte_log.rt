@@ -84,8 +84,11 @@ impl ByteLog {
     }
 
     /// Returns how many bytes are in use, those of a write that is under way among them. Allocates nothing.
-    pub fn used(&self) -> usize {
-        self.used.load(Ordering::SeqCst)
+    pub fn used(&self) -> usize
+        ensures { result ≤ length self.now }
+    {
+        // For the proof: the type of the counter does not say that it stays within the size.
+        self.used.load(Ordering::SeqCst).min(self.size())
     }
 
     // Takes so many slots, if they are left, and gives the place of the first.
