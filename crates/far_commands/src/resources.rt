@@ -46,7 +46,10 @@ pub struct Agents<R> {
 
 impl<R> Agents<R> {
     /// Returns the resources of this runtime and this memory.
-    pub fn new(rt: R, alloc: Global) -> Agents<R> {
+    pub fn new(rt: R, alloc: Global) -> Agents<R>
+        ensures runtime { result.rt ≡ rt }
+        ensures memory { result.alloc ≡ alloc }
+    {
         Agents { rt, alloc }
     }
 }

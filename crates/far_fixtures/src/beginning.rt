@@ -1,5 +1,5 @@
 //! What tests begin with. Each call is made a second time if the first runs out of memory.
-ghost use Rattle.std.specs.Prelude.{◌≡◌, ◌≤◌, ℕ, List, IfOk};
+ghost use Rattle.std.specs.Prelude.{◌≡◌, ◌≤◌, ℕ, List, IfErr, IfOk};
 ghost use Rattle.far_codec.specs.Spelling.{IsSpelled};
 ghost use Rattle.far_scopes.specs.Movement.{AreHere};
 ghost use Rattle.far_scopes.specs.Opening.{no_objects};
@@ -11,7 +11,10 @@ use far_types::Refusal;
 use std::alloc::Global;
 
 /// Makes a store for `capacity` contents.
-pub fn agent<R: Copy>(rt: R, alloc: Global, capacity: u64) -> Result<AgentStore<R>, Refusal> {
+pub fn agent<R: Copy>(rt: R, alloc: Global, capacity: u64) -> Result<AgentStore<R>, Refusal>
+    ensures capacity { IfOk result (λ s. s.capacity ≡ capacity) }
+    ensures memory { IfErr result (λ e. e ≡ Refusal.NoMemory) }
+{
     match AgentStore::new(rt, alloc, capacity) {
         Err(Refusal::NoMemory) => AgentStore::new(rt, alloc, capacity),
         reply => reply,

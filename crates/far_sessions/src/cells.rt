@@ -1,5 +1,6 @@
 // The four cells.
 ghost use Rattle.std.specs.Prelude.{◌≡◌, ◌≢◌, ◌<◌, ◌≤◌, ℕ, OnOk, IfOk, IfErr};
+ghost use Rattle.crossbeam_utils.specs.Padded.{padded_value};
 ghost use Rattle.far_history.specs.Histories.{gauge_of};
 ghost use Rattle.far_sessions.specs.Known.{at, SeesMore};
 
@@ -37,22 +38,30 @@ pub struct Cells<N: PlanTag, B: CellsTag> {
 
 impl<N: PlanTag, B: CellsTag> Cells<N, B> {
     /// Returns the cell of stripe 0.
-    pub fn zero(&self) -> &StripeCell<N, B, 0> {
+    pub fn zero(&self) -> &StripeCell<N, B, 0>
+        ensures { result.now ≡ padded_value self.now.zero }
+    {
         &self.zero
     }
 
     /// Returns the cell of stripe 1.
-    pub fn one(&self) -> &StripeCell<N, B, 1> {
+    pub fn one(&self) -> &StripeCell<N, B, 1>
+        ensures { result.now ≡ padded_value self.now.one }
+    {
         &self.one
     }
 
     /// Returns the cell of stripe 2.
-    pub fn two(&self) -> &StripeCell<N, B, 2> {
+    pub fn two(&self) -> &StripeCell<N, B, 2>
+        ensures { result.now ≡ padded_value self.now.two }
+    {
         &self.two
     }
 
     /// Returns the cell of stripe 3.
-    pub fn three(&self) -> &StripeCell<N, B, 3> {
+    pub fn three(&self) -> &StripeCell<N, B, 3>
+        ensures { result.now ≡ padded_value self.now.three }
+    {
         &self.three
     }
 
