@@ -81,7 +81,9 @@ fn apply_under<N: PlanTag, B: TableTag, S: FarTickets, const I: usize, R: Wait>(
 
 impl<N: PlanTag, B: TableTag, S: FarTickets> Shared<N, B, S> {
     /// Returns the four cells. Takes no stripe's lock.
-    pub fn cells(&self) -> &Cells<N, B> {
+    pub fn cells(&self) -> &Cells<N, B>
+        ensures { result.now ≡ self.now.cells }
+    {
         &self.cells
     }
 
