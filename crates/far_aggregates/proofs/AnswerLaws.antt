@@ -23,7 +23,7 @@ use Rattle.far_extrema.specs.Live.{all_groups}
 use Rattle.far_aggregates.specs.declared.aggregate.Aggregate.{Aggregate}
 use Rattle.far_aggregates.specs.declared.aggregate.Accumulator.{Accumulator}
 use Rattle.far_aggregates.specs.declared.aggregate.Accumulator.TheVariants as accumulator
-use Rattle.far_aggregates.specs.Accumulators.{group_pairs, fold_of, pending_in, accumulator_answer, IsKept, KeepsEntry}
+use Rattle.far_aggregates.specs.Accumulators.{group_pairs, fold_of, pending_in, accumulator_answer, IsUpToDate, KeepsEntry}
 use Rattle.far_aggregates.proofs.ScannedLaws.{none_left, built-all}
 use Rattle.far_aggregates.proofs.ListLaws.{index-replicate}
 
@@ -82,7 +82,7 @@ module _ (spec : Spec) (size : ℕ) (ps : List Place) where
             let many = le-mul_of_pos_right m p in
             omega arith
 
-answers : (f : Fold) (size : ℕ) (places : List Place) (a : Aggregate) (k : Accumulator) → 0 < size → fold_of k ≡ f → IsKept size places a k → left a.pending ≡ 0 → accumulator_answer a.spec.key k ≡ answer_of f a.spec.key (pairs_of a.spec (rows_of places))
+answers : (f : Fold) (size : ℕ) (places : List Place) (a : Aggregate) (k : Accumulator) → 0 < size → fold_of k ≡ f → IsUpToDate size places a k → left a.pending ≡ 0 → accumulator_answer a.spec.key k ≡ answer_of f a.spec.key (pairs_of a.spec (rows_of places))
 answers f size places a (accumulator.Totals live) pos e h z =
     ap (λ m. answer.Totals (or_zero a.spec.key (total_lines m))) (h.0 ∙ ap totals (built-all a.spec size a.pending 0 places z ∙ sym (pairs_of-rows a.spec places)))
     ∙ ap (λ x. answer_of x a.spec.key (pairs_of a.spec (rows_of places))) e
@@ -93,7 +93,7 @@ answers f size places a (accumulator.Extrema live) pos e h z =
 pub answers-now : (size : ℕ) (places : List Place) (a : Aggregate) → 0 < size → KeepsEntry size places (Some a) → left a.pending ≡ 0 → accumulator_answer a.spec.key a.accumulator ≡ answer_over a.spec (rows_of places)
 answers-now size places a pos h z = answers a.spec.fold size places a a.accumulator pos h.0 h.1 z
 
-kept-left : (size : ℕ) (places : List Place) (a : Aggregate) (k : Accumulator) → IsKept size places a k → pending_in k ≡ left a.pending
+kept-left : (size : ℕ) (places : List Place) (a : Aggregate) (k : Accumulator) → IsUpToDate size places a k → pending_in k ≡ left a.pending
 kept-left size places a (accumulator.Totals live) h = h.1
 kept-left size places a (accumulator.Extrema live) h = h.1
 

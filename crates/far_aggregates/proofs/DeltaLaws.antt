@@ -17,8 +17,8 @@ use Rattle.far_aggregates.specs.declared.aggregate.Accumulator.{Accumulator}
 use Rattle.far_aggregates.specs.declared.aggregate.Accumulator.TheVariants as accumulator
 use Rattle.far_aggregates.specs.declared.deltas.Delta.{Delta}
 use Rattle.far_aggregates.specs.Accumulators.{RegistryEntry, Change}
-use Rattle.far_aggregates.specs.Pairs.{Gives, change_of, AccumulatorFolds, Folds, EachFolds}
-use Rattle.far_aggregates.specs.Deltas.{delta_of, row_delta, delta_in, accumulator_more, added, accumulator_undo, undo, AccumulatorMayAdd, AccumulatorMayUndo, MayUndo, EachMayUndo, AccumulatorFits, Fits, EachFits}
+use Rattle.far_aggregates.specs.Pairs.{ChangeBySpec, change_of, AccumulatorFolds, Folds, EachFolds}
+use Rattle.far_aggregates.specs.Deltas.{delta_of, row_delta, delta_in, accumulator_more, with_delta, accumulator_undo, undo, AccumulatorMayAdd, AccumulatorMayUndo, MayUndo, EachMayUndo, AccumulatorFits, FitsEntry, EachFits}
 use Rattle.far_aggregates.specs.Reserve.{AccumulatorIsReserved, IsReserved, AreReserved}
 use Rattle.far_aggregates.specs.Until.{zip_until, zip_all}
 use Rattle.far_aggregates.proofs.CountLaws.{few_under, can_retract}
@@ -68,12 +68,12 @@ kept-undo : (g : ℕ) (k : Accumulator) (c : Delta) → AccumulatorFits g k c �
 kept-undo g (accumulator.Totals live) c h = ap (λ t. accumulator.Totals (record { left = live.left; totals = t })) (undone live.totals c.pair h.0 h.1)
 kept-undo g (accumulator.Extrema live) c h = ap (λ gs. accumulator.Extrema (record live { groups = gs })) (observed-undone g live.groups c.pair c.previous h.0 h.1)
 
-fits-may_undo : (g : ℕ) (s : RegistryEntry) (c : Option Delta) → Fits g s c → MayUndo g (added g s c) c
+fits-may_undo : (g : ℕ) (s : RegistryEntry) (c : Option Delta) → FitsEntry g s c → MayUndo g (with_delta g s c) c
 fits-may_undo g None c h = tt
 fits-may_undo g (Some a) None h = tt
 fits-may_undo g (Some a) (Some c) h = kept-may_undo g a.accumulator c h
 
-pub fits-undo : (g : ℕ) (s : RegistryEntry) (c : Option Delta) → Fits g s c → undo g (added g s c) c ≡ s
+pub fits-undo : (g : ℕ) (s : RegistryEntry) (c : Option Delta) → FitsEntry g s c → undo g (with_delta g s c) c ≡ s
 fits-undo g None c h = refl
 fits-undo g (Some a) None h = refl
 fits-undo g (Some a) (Some c) h = ap (λ k. Some (record a { accumulator = k })) (kept-undo g a.accumulator c h)
@@ -81,7 +81,7 @@ fits-undo g (Some a) (Some c) h = ap (λ k. Some (record a { accumulator = k }))
 same_some : {A : Type 0} (x y : A) → Some x ≡ Some y → x ≡ y
 same_some x y e = cc
 
-entry_below : (g n k : ℕ) (registry : List RegistryEntry) (deltas : List (Option Delta)) (s : RegistryEntry) → slice_get (zip_until (added g) n registry deltas) k ≡ Some s → (t : RegistryEntry) × (slice_get registry k ≡ Some t)
+entry_below : (g n k : ℕ) (registry : List RegistryEntry) (deltas : List (Option Delta)) (s : RegistryEntry) → slice_get (zip_until (with_delta g) n registry deltas) k ≡ Some s → (t : RegistryEntry) × (slice_get registry k ≡ Some t)
 entry_below g zero k registry deltas s h = (s, h)
 entry_below g (suc n) k [] deltas s h = (s, h)
 entry_below g (suc n) k (t ∷ registry) [] s h = (s, h)
@@ -89,36 +89,36 @@ entry_below g (suc n) zero (t ∷ registry) (c ∷ deltas) s h = (t, refl)
 entry_below g (suc n) (suc k) (t ∷ registry) (c ∷ deltas) s h = entry_below g n k registry deltas s h
 
 -- below n each delta that was applied may be undone
-pub until-may_undo : (g n : ℕ) (registry : List RegistryEntry) (deltas : List (Option Delta)) → EachFits g registry deltas → EachMayUndo g n (zip_until (added g) n registry deltas) deltas
+pub until-may_undo : (g n : ℕ) (registry : List RegistryEntry) (deltas : List (Option Delta)) → EachFits g registry deltas → EachMayUndo g n (zip_until (with_delta g) n registry deltas) deltas
 until-may_undo g n registry deltas h k s c l here there =
     let was : (t : RegistryEntry) × (slice_get registry k ≡ Some t) = entry_below g n k registry deltas s here in
-    let is : s ≡ added g was.0 c = same_some _ _ (sym here ∙ zip_until-below (added g) n k registry deltas was.0 c l was.1 there) in
+    let is : s ≡ with_delta g was.0 c = same_some _ _ (sym here ∙ zip_until-below (with_delta g) n k registry deltas was.0 c l was.1 there) in
     subst (λ t. MayUndo g t c) (sym is) (fits-may_undo g was.0 c (h k was.0 c was.1 there))
 
 -- and so may each that was added to all
-all-may_undo : (g : ℕ) (registry : List RegistryEntry) (deltas : List (Option Delta)) → EachFits g registry deltas → EachMayUndo g (length (zip_all (added g) registry deltas)) (zip_all (added g) registry deltas) deltas
+all-may_undo : (g : ℕ) (registry : List RegistryEntry) (deltas : List (Option Delta)) → EachFits g registry deltas → EachMayUndo g (length (zip_all (with_delta g) registry deltas)) (zip_all (with_delta g) registry deltas) deltas
 all-may_undo g registry deltas fits =
-    let n = length (zip_all (added g) registry deltas) in
-    subst (λ l. EachMayUndo g n l deltas) (zip_until-all (added g) n registry deltas (omega (arith, length-zip_all (added g) registry deltas))) (until-may_undo g n registry deltas fits)
+    let n = length (zip_all (with_delta g) registry deltas) in
+    subst (λ l. EachMayUndo g n l deltas) (zip_until-all (with_delta g) n registry deltas (omega (arith, length-zip_all (with_delta g) registry deltas))) (until-may_undo g n registry deltas fits)
 
-all-undo : (g : ℕ) (registry : List RegistryEntry) (deltas : List (Option Delta)) → EachFits g registry deltas → zip_all (undo g) (zip_all (added g) registry deltas) deltas ≡ registry
+all-undo : (g : ℕ) (registry : List RegistryEntry) (deltas : List (Option Delta)) → EachFits g registry deltas → zip_all (undo g) (zip_all (with_delta g) registry deltas) deltas ≡ registry
 all-undo g registry deltas fits =
     let n = length registry in
-    sym (zip_until-all (undo g) n (zip_all (added g) registry deltas) deltas (omega (arith, length-zip_all (added g) registry deltas)))
-    ∙ ap (λ l. zip_until (undo g) n l deltas) (sym (zip_until-all (added g) n registry deltas (omega arith)))
-    ∙ zip_until-undo (added g) (undo g) n registry deltas (λ k s d h i. fits-undo g s d (fits k s d h i))
+    sym (zip_until-all (undo g) n (zip_all (with_delta g) registry deltas) deltas (omega (arith, length-zip_all (with_delta g) registry deltas)))
+    ∙ ap (λ l. zip_until (undo g) n l deltas) (sym (zip_until-all (with_delta g) n registry deltas (omega arith)))
+    ∙ zip_until-undo (with_delta g) (undo g) n registry deltas (λ k s d h i. fits-undo g s d (fits k s d h i))
 
 -- a delta has the pair that a row gives, or there is none
-pub delta-given : (size i : ℕ) (o : Gives) (s : RegistryEntry) (p : Pair) → change_of size i o s ≡ Some p → row_delta size i o s ≡ delta_in (i / size) s p
+pub delta-given : (size i : ℕ) (o : ChangeBySpec) (s : RegistryEntry) (p : Pair) → change_of size i o s ≡ Some p → row_delta size i o s ≡ delta_in (i / size) s p
 delta-given size i o None p h = cc
 delta-given size i o (Some a) p h = ap (option_map (delta_of (i / size) a.accumulator)) h
 
-pub delta-none : (size i : ℕ) (o : Gives) (s : RegistryEntry) → change_of size i o s ≡ None → row_delta size i o s ≡ None
+pub delta-none : (size i : ℕ) (o : ChangeBySpec) (s : RegistryEntry) → change_of size i o s ≡ None → row_delta size i o s ≡ None
 delta-none size i o None h = refl
 delta-none size i o (Some a) h = ap (option_map (delta_of (i / size) a.accumulator)) h
 
 -- and nothing changes nothing
-pub added-none : (g : ℕ) (s : RegistryEntry) → added g s None ≡ s
+pub added-none : (g : ℕ) (s : RegistryEntry) → with_delta g s None ≡ s
 added-none g None = refl
 added-none g (Some a) = refl
 
@@ -128,21 +128,21 @@ pair-fits g (accumulator.Totals live) p f r = f
 pair-fits g (accumulator.Extrema live) p f r = (r, refl)
 
 -- the delta of a place fits the accumulator, if totals are few and extrema are reserved
-kept-fits : (g : ℕ) (a : Aggregate) (k : Accumulator) (o : Change) → AccumulatorFolds k → AccumulatorIsReserved g k → Fits g (Some (record a { accumulator = k })) (option_map (delta_of g k) o)
+kept-fits : (g : ℕ) (a : Aggregate) (k : Accumulator) (o : Change) → AccumulatorFolds k → AccumulatorIsReserved g k → FitsEntry g (Some (record a { accumulator = k })) (option_map (delta_of g k) o)
 kept-fits g a k None f r = tt
 kept-fits g a (accumulator.Totals live) (Some p) f r = f
 kept-fits g a (accumulator.Extrema live) (Some p) f r = (r, refl)
 
-pub entry-fits : (size i : ℕ) (o : Gives) (s : RegistryEntry) → Folds s → IsReserved (i / size) s → Fits (i / size) s (row_delta size i o s)
+pub entry-fits : (size i : ℕ) (o : ChangeBySpec) (s : RegistryEntry) → Folds s → IsReserved (i / size) s → FitsEntry (i / size) s (row_delta size i o s)
 entry-fits size i o None f r = tt
 entry-fits size i o (Some a) f r = kept-fits (i / size) a a.accumulator (change_of size i o (Some a)) f r
 
-pub each-fits : (size i : ℕ) (o : Gives) (registry : List RegistryEntry) → EachFolds registry → AreReserved (i / size) registry → EachFits (i / size) registry (map (row_delta size i o) registry)
+pub each-fits : (size i : ℕ) (o : ChangeBySpec) (registry : List RegistryEntry) → EachFolds registry → AreReserved (i / size) registry → EachFits (i / size) registry (map (row_delta size i o) registry)
 each-fits size i o [] f r k s c here there = cc
 each-fits size i o (t ∷ registry) f r zero s c here there =
     let a : t ≡ s = cc in
     let b : row_delta size i o t ≡ c = cc in
-    subst (λ u. Fits (i / size) u c) a (subst (Fits (i / size) t) b (entry-fits size i o t (f 0 t refl) r.0))
+    subst (λ u. FitsEntry (i / size) u c) a (subst (FitsEntry (i / size) t) b (entry-fits size i o t (f 0 t refl) r.0))
 each-fits size i o (t ∷ registry) f r (suc k) s c here there = each-fits size i o registry (λ j. f (suc j)) r.1 k s c here there
 
 -- of the deltas no more than the first are looked at
@@ -150,12 +150,12 @@ may_undo-alike : (g n : ℕ) (registry : List RegistryEntry) (deltas more : List
 may_undo-alike g n registry deltas more e h k s c l here there = h k s c l here (sym (get-take n k deltas l) ∙ ap (λ (cs : List (Option Delta)). slice_get cs k) (sym e) ∙ get-take n k more l ∙ there)
 
 -- deltas are applied one after the other: those of the first n are listed
-module _ (size i : ℕ) (o : Gives) (registry : List RegistryEntry) (folds : EachFolds registry) (reserved : AreReserved (i / size) registry) (n : ℕ) (within : n < length registry) (deltas : List (Option Delta)) (is : deltas ≡ map (row_delta size i o) (take n registry)) where
+module _ (size i : ℕ) (o : ChangeBySpec) (registry : List RegistryEntry) (folds : EachFolds registry) (reserved : AreReserved (i / size) registry) (n : ℕ) (within : n < length registry) (deltas : List (Option Delta)) (is : deltas ≡ map (row_delta size i o) (take n registry)) where
   abbrev all : List (Option Delta)
   all = map (row_delta size i o) registry
 
   abbrev mid : List RegistryEntry
-  mid = zip_until (added (i / size)) n registry all
+  mid = zip_until (with_delta (i / size)) n registry all
 
   pub next-many : length deltas ≡ n
   next-many = ap length is ∙ length-map (take n registry) (row_delta size i o) ∙ length-take-le n registry (omega arith)
@@ -173,10 +173,10 @@ module _ (size i : ℕ) (o : Gives) (registry : List RegistryEntry) (folds : Eac
       sym (zip_until-take (undo (i / size)) n mid deltas)
       ∙ ap (zip_until (undo (i / size)) n mid) alike
       ∙ zip_until-take (undo (i / size)) n mid all
-      ∙ zip_until-undo (added (i / size)) (undo (i / size)) n registry all (λ k s d h j. fits-undo (i / size) s d (each-fits size i o registry folds reserved k s d h j))
+      ∙ zip_until-undo (with_delta (i / size)) (undo (i / size)) n registry all (λ k s d h j. fits-undo (i / size) s d (each-fits size i o registry folds reserved k s d h j))
 
 -- the deltas of a place can all be undone, and then all aggregates are as they were
-module _ (size i : ℕ) (o : Gives) (registry mid : List RegistryEntry) (deltas : List (Option Delta)) (is : deltas ≡ map (row_delta size i o) registry) (applied : mid ≡ zip_all (added (i / size)) registry deltas) (folds : EachFolds registry) (reserved : AreReserved (i / size) registry) where
+module _ (size i : ℕ) (o : ChangeBySpec) (registry mid : List RegistryEntry) (deltas : List (Option Delta)) (is : deltas ≡ map (row_delta size i o) registry) (applied : mid ≡ zip_all (with_delta (i / size)) registry deltas) (folds : EachFolds registry) (reserved : AreReserved (i / size) registry) where
   deltas-fit : EachFits (i / size) registry deltas
   deltas-fit = subst (EachFits (i / size) registry) (sym is) (each-fits size i o registry folds reserved)
 

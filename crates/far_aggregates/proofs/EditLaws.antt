@@ -10,7 +10,7 @@ use Rattle.far_aggregates.specs.declared.aggregate.Accumulator.TheVariants as ac
 use Rattle.far_aggregates.specs.declared.deltas.Delta.{Delta}
 use Rattle.far_aggregates.specs.Accumulators.{RegistryEntry, Change, PlacesFit, scanned_pairs, KeepsEntry, Keeps, registered_in}
 use Rattle.far_aggregates.specs.Pairs.{place_gives, change_of, Folds, EachFolds}
-use Rattle.far_aggregates.specs.Deltas.{delta_of, row_delta, added, undo}
+use Rattle.far_aggregates.specs.Deltas.{delta_of, row_delta, with_delta, undo}
 use Rattle.far_aggregates.specs.Retract.{retracted, MayRetract, EachMayRetract}
 use Rattle.far_aggregates.specs.Reserve.{AreReserved}
 use Rattle.far_aggregates.specs.Until.{zip_all}
@@ -37,7 +37,7 @@ each-folds size ps (t ∷ registry) fit few h (suc k) s e = each-folds size ps r
 
 -- what an edit leaves of a registry entry as the table shows it
 
-added-registered : (g : ℕ) (s : RegistryEntry) (c : Option Delta) → registered_in (added g s c) ≡ registered_in s
+added-registered : (g : ℕ) (s : RegistryEntry) (c : Option Delta) → registered_in (with_delta g s c) ≡ registered_in s
 added-registered g None c = refl
 added-registered g (Some a) None = refl
 added-registered g (Some a) (Some c) = refl
@@ -52,8 +52,8 @@ retracted-registered g here None c = refl
 retracted-registered g here (Some a) None = refl
 retracted-registered g here (Some a) (Some p) = refl
 
-pub all-added_registered : (g : ℕ) (registry : List RegistryEntry) (cs : List (Option Delta)) → map registered_in (zip_all (added g) registry cs) ≡ map registered_in registry
-all-added_registered g registry cs = map-zip_all (added g) registered_in (added-registered g) registry cs
+pub all-added_registered : (g : ℕ) (registry : List RegistryEntry) (cs : List (Option Delta)) → map registered_in (zip_all (with_delta g) registry cs) ≡ map registered_in registry
+all-added_registered g registry cs = map-zip_all (with_delta g) registered_in (added-registered g) registry cs
 
 pub all-undo_registered : (g : ℕ) (registry : List RegistryEntry) (cs : List (Option Delta)) → map registered_in (zip_all (undo g) registry cs) ≡ map registered_in registry
 all-undo_registered g registry cs = map-zip_all (undo g) registered_in (undo-registered g) registry cs
@@ -67,50 +67,50 @@ delta_none : (g : ℕ) (k : Accumulator) (b : Bool) → let none : Change = None
 delta_none g k true = refl
 delta_none g k false = refl
 
-pub removed-adds : (size i : ℕ) (x : Place) (s : RegistryEntry) → added (i / size) s (row_delta size i (place_gives (removed x)) s) ≡ s
+pub removed-adds : (size i : ℕ) (x : Place) (s : RegistryEntry) → with_delta (i / size) s (row_delta size i (place_gives (removed x)) s) ≡ s
 removed-adds size i x None = refl
-removed-adds size i x (Some a) = ap (added (i / size) (Some a)) (delta_none (i / size) a.accumulator (is_pending a.pending (i / size)))
+removed-adds size i x (Some a) = ap (with_delta (i / size) (Some a)) (delta_none (i / size) a.accumulator (is_pending a.pending (i / size)))
 
-pub removed-adds_all : (size i : ℕ) (x : Place) (registry : List RegistryEntry) → zip_all (added (i / size)) registry (map (row_delta size i (place_gives (removed x))) registry) ≡ registry
+pub removed-adds_all : (size i : ℕ) (x : Place) (registry : List RegistryEntry) → zip_all (with_delta (i / size)) registry (map (row_delta size i (place_gives (removed x))) registry) ≡ registry
 removed-adds_all size i x [] = refl
 removed-adds_all size i x (s ∷ registry) = λ k. removed-adds size i x s k ∷ removed-adds_all size i x registry k
 
 -- all entries of the registry
 
 Keeps-insert : (size : ℕ) (ps : List Place) (p : Place) (registry : List RegistryEntry) → 0 < size → Keeps size ps registry → AreReserved (length ps / size) registry
-    → Keeps size (ps ++ p ∷ []) (zip_all (added (length ps / size)) registry (map (row_delta size (length ps) (place_gives p)) registry))
+    → Keeps size (ps ++ p ∷ []) (zip_all (with_delta (length ps / size)) registry (map (row_delta size (length ps) (place_gives p)) registry))
 Keeps-insert size ps p [] positive h reserved = tt
 Keeps-insert size ps p (s ∷ registry) positive h reserved = (entry-insert size ps p s positive h.0 reserved.0, Keeps-insert size ps p registry positive h.1 reserved.1)
 
 module _ (size : ℕ) (f : Place → Place) (ps : List Place) (i : ℕ) (x y : Place) (positive : 0 < size) (here : slice_get ps i ≡ Some x) (there : slice_get (changed_at f i ps) i ≡ Some y) where
   Keeps-set : (registry : List RegistryEntry) → Keeps size ps registry → AreReserved (i / size) registry
-      → Keeps size (changed_at f i ps) (zip_all (retracted (i / size) (in_group size (i / size) (changed_at f i ps))) (zip_all (added (i / size)) registry (map (row_delta size i (place_gives y)) registry)) (map (change_of size i (place_gives x)) registry))
+      → Keeps size (changed_at f i ps) (zip_all (retracted (i / size) (in_group size (i / size) (changed_at f i ps))) (zip_all (with_delta (i / size)) registry (map (row_delta size i (place_gives y)) registry)) (map (change_of size i (place_gives x)) registry))
   Keeps-set [] h reserved = tt
   Keeps-set (s ∷ registry) h reserved = (entry-set size f ps i x y positive here there s h.0 reserved.0, Keeps-set registry h.1 reserved.1)
 
   each-may_retract : PlacesFit ps → RowFits y.cells → (registry : List RegistryEntry) → Keeps size ps registry → AreReserved (i / size) registry
-      → EachMayRetract (i / size) (in_group size (i / size) (changed_at f i ps)) (zip_all (added (i / size)) registry (map (row_delta size i (place_gives y)) registry)) (map (change_of size i (place_gives x)) registry)
+      → EachMayRetract (i / size) (in_group size (i / size) (changed_at f i ps)) (zip_all (with_delta (i / size)) registry (map (row_delta size i (place_gives y)) registry)) (map (change_of size i (place_gives x)) registry)
   each-may_retract fit row [] h reserved k s c p q = cc
   each-may_retract fit row (t ∷ registry) h reserved zero s c p q =
-      let a : added (i / size) t (row_delta size i (place_gives y) t) ≡ s = cc in
+      let a : with_delta (i / size) t (row_delta size i (place_gives y) t) ≡ s = cc in
       let b : change_of size i (place_gives x) t ≡ c = cc in
       subst (λ u. MayRetract (i / size) (in_group size (i / size) (changed_at f i ps)) u c) a
-      (subst (MayRetract (i / size) (in_group size (i / size) (changed_at f i ps)) (added (i / size) t (row_delta size i (place_gives y) t))) b (entry-may_retract size f ps i x y positive here there fit row t h.0 reserved.0))
+      (subst (MayRetract (i / size) (in_group size (i / size) (changed_at f i ps)) (with_delta (i / size) t (row_delta size i (place_gives y) t))) b (entry-may_retract size f ps i x y positive here there fit row t h.0 reserved.0))
   each-may_retract fit row (t ∷ registry) h reserved (suc k) s c p q = each-may_retract fit row registry h.1 reserved.1 k s c p q
 
 -- what is kept after an insert
 pub after_insert : (size place : ℕ) (ps new : List Place) (p : Place) (registry after : List RegistryEntry) → place ≡ length ps → new ≡ ps ++ p ∷ [] → 0 < size → Keeps size ps registry → AreReserved (place / size) registry
-    → after ≡ zip_all (added (place / size)) registry (map (row_delta size place (place_gives p)) registry)
+    → after ≡ zip_all (with_delta (place / size)) registry (map (row_delta size place (place_gives p)) registry)
     → Keeps size new after
 after_insert size place ps new p registry after at is positive kept reserved h =
-    subst (Keeps size new) (sym (h ∙ ap (λ n. zip_all (added (n / size)) registry (map (row_delta size n (place_gives p)) registry)) at))
-    (subst (λ l. Keeps size l (zip_all (added (length ps / size)) registry (map (row_delta size (length ps) (place_gives p)) registry))) (sym is)
+    subst (Keeps size new) (sym (h ∙ ap (λ n. zip_all (with_delta (n / size)) registry (map (row_delta size n (place_gives p)) registry)) at))
+    (subst (λ l. Keeps size l (zip_all (with_delta (length ps / size)) registry (map (row_delta size (length ps) (place_gives p)) registry))) (sym is)
     (Keeps-insert size ps p registry positive kept (subst (λ n. AreReserved (n / size) registry) at reserved)))
 
 -- a place x becomes y: the deltas, the pairs to retract, and what is kept then
 module _ (size : ℕ) (f : Place → Place) (ps new : List Place) (i : ℕ) (x y : Place) (registry mid : List RegistryEntry) (to_retract : List Change) (positive : 0 < size) (is : new ≡ changed_at f i ps)
     (here : Some x ≡ slice_get ps i) (there : Some y ≡ option_map f (slice_get ps i))
-    (went : to_retract ≡ map (change_of size i (place_gives x)) registry) (applied : mid ≡ zip_all (added (i / size)) registry (map (row_delta size i (place_gives y)) registry))
+    (went : to_retract ≡ map (change_of size i (place_gives x)) registry) (applied : mid ≡ zip_all (with_delta (i / size)) registry (map (row_delta size i (place_gives y)) registry))
     (kept : Keeps size ps registry) (reserved : AreReserved (i / size) registry) where
   becomes : slice_get (changed_at f i ps) i ≡ Some y
   becomes = get-changed f i ps ∙ sym there

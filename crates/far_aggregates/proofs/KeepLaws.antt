@@ -17,7 +17,7 @@ use Rattle.far_aggregates.specs.declared.aggregate.Accumulator.{Accumulator}
 use Rattle.far_aggregates.specs.declared.aggregate.Accumulator.TheVariants as accumulator
 use Rattle.far_aggregates.specs.Accumulators.{RegistryEntry, Change, PlacesFit, scanned_pair, scanned_pairs, pairs_here, group_pairs, scanned_group, KeepsEntry}
 use Rattle.far_aggregates.specs.Pairs.{place_gives, change_of, with_change, without_change, with_observed_change}
-use Rattle.far_aggregates.specs.Deltas.{delta_of, row_delta, added}
+use Rattle.far_aggregates.specs.Deltas.{delta_of, row_delta, with_delta}
 use Rattle.far_aggregates.specs.Retract.{retracted, MayRetract}
 use Rattle.far_aggregates.specs.Reserve.{IsReserved}
 use Rattle.far_aggregates.proofs.ScannedLaws.{totals-more, totals-swap, others, built-separate, built-changed, built-appended, scanned_pair-fits, cons-fits, others-fits}
@@ -30,19 +30,19 @@ abbrev pub entry : Spec → ℕ → List Bool → Accumulator → RegistryEntry
 entry spec registration pending k = Some (record { spec = spec; registration = registration; pending = pending; accumulator = k })
 
 module _ (spec : Spec) (registration : ℕ) (pending : List Bool) (g : ℕ) where
-  added-is : (live : groups.Live) (o : Change) → added g (entry spec registration pending (accumulator.Totals live)) (option_map (delta_of g (accumulator.Totals live)) o) ≡ entry spec registration pending (accumulator.Totals (record { left = live.left; totals = with_change live.totals o }))
+  added-is : (live : groups.TotalsState) (o : Change) → with_delta g (entry spec registration pending (accumulator.Totals live)) (option_map (delta_of g (accumulator.Totals live)) o) ≡ entry spec registration pending (accumulator.Totals (record { left = live.left; totals = with_change live.totals o }))
   added-is live None = refl
   added-is live (Some pair) = refl
 
-  added-observed : (live : min_maxes.Live) (o : Change) → added g (entry spec registration pending (accumulator.Extrema live)) (option_map (delta_of g (accumulator.Extrema live)) o) ≡ entry spec registration pending (accumulator.Extrema (record live { groups = groups_observed g live.groups o }))
+  added-observed : (live : min_maxes.ExtremaState) (o : Change) → with_delta g (entry spec registration pending (accumulator.Extrema live)) (option_map (delta_of g (accumulator.Extrema live)) o) ≡ entry spec registration pending (accumulator.Extrema (record live { groups = groups_observed g live.groups o }))
   added-observed live None = refl
   added-observed live (Some pair) = refl
 
-  retracted-is : (here : List Place) (live : groups.Live) (o : Change) → retracted g here (entry spec registration pending (accumulator.Totals live)) o ≡ entry spec registration pending (accumulator.Totals (record { left = live.left; totals = without_change live.totals o }))
+  retracted-is : (here : List Place) (live : groups.TotalsState) (o : Change) → retracted g here (entry spec registration pending (accumulator.Totals live)) o ≡ entry spec registration pending (accumulator.Totals (record { left = live.left; totals = without_change live.totals o }))
   retracted-is here live None = refl
   retracted-is here live (Some pair) = refl
 
-  retracted-left : (here : List Place) (live : min_maxes.Live) (o : Change) → retracted g here (entry spec registration pending (accumulator.Extrema live)) o ≡ entry spec registration pending (accumulator.Extrema (record live { groups = groups_left g live.groups o (extrema (pairs_here spec here)) }))
+  retracted-left : (here : List Place) (live : min_maxes.ExtremaState) (o : Change) → retracted g here (entry spec registration pending (accumulator.Extrema live)) o ≡ entry spec registration pending (accumulator.Extrema (record live { groups = groups_left g live.groups o (extrema (pairs_here spec here)) }))
   retracted-left here live None = refl
   retracted-left here live (Some pair) = refl
 
@@ -60,8 +60,8 @@ module _ (size : ℕ) (spec : Spec) (registration : ℕ) (pending : List Bool) (
       ∙ ap extrema (filter_map-append (place_pair spec) mine (p ∷ []))
       ∙ extrema-joined (filter_map (place_pair spec) mine) (place_pair spec p)
 
-  insert-extrema : (live : min_maxes.Live) (b : Bool) → is_pending pending (length ps / size) ≡ b → KeepsEntry size ps (entry spec registration pending (accumulator.Extrema live)) → length ps / size < length live.groups
-      → KeepsEntry size (ps ++ p ∷ []) (added (length ps / size) (entry spec registration pending (accumulator.Extrema live)) (option_map (delta_of (length ps / size) (accumulator.Extrema live)) (cond b None (place_pair spec p))))
+  insert-extrema : (live : min_maxes.ExtremaState) (b : Bool) → is_pending pending (length ps / size) ≡ b → KeepsEntry size ps (entry spec registration pending (accumulator.Extrema live)) → length ps / size < length live.groups
+      → KeepsEntry size (ps ++ p ∷ []) (with_delta (length ps / size) (entry spec registration pending (accumulator.Extrema live)) (option_map (delta_of (length ps / size) (accumulator.Extrema live)) (cond b None (place_pair spec p))))
   insert-extrema live true is h reserved = (h.0, (kept-pending spec size pending (length ps / size) ps (ps ++ p ∷ []) (λ k n. in_group-appended size k ps p positive n) live.groups is h.1.0, h.1.1))
   insert-extrema live false is h reserved =
       let g = length ps / size in
@@ -72,14 +72,14 @@ module _ (size : ℕ) (spec : Spec) (registration : ℕ) (pending : List Bool) (
       (h.0, (kept-built spec size pending g ps (ps ++ p ∷ []) (λ k n. in_group-appended size k ps p positive n) live.groups (groups_observed g live.groups o) is h.1.0 (w.0 ∙ new, w.1), h.1.1))
 
   insert-kept : (k : Accumulator) → KeepsEntry size ps (entry spec registration pending k) → IsReserved (length ps / size) (entry spec registration pending k)
-      → KeepsEntry size (ps ++ p ∷ []) (added (length ps / size) (entry spec registration pending k) (row_delta size (length ps) (place_gives p) (entry spec registration pending k)))
+      → KeepsEntry size (ps ++ p ∷ []) (with_delta (length ps / size) (entry spec registration pending k) (row_delta size (length ps) (place_gives p) (entry spec registration pending k)))
   insert-kept (accumulator.Totals live) h reserved =
       let o = scanned_pair spec size pending (length ps) p in
       subst (KeepsEntry size (ps ++ p ∷ [])) (sym (added-is spec registration pending (length ps / size) live o)) (h.0, (ap (λ m. with_change m o) h.1.0 ∙ built-appended spec size pending ps p, h.1.1))
   insert-kept (accumulator.Extrema live) h reserved = insert-extrema live (is_pending pending (length ps / size)) refl h reserved
 
 pub entry-insert : (size : ℕ) (ps : List Place) (p : Place) (s : RegistryEntry) → 0 < size → KeepsEntry size ps s → IsReserved (length ps / size) s
-    → KeepsEntry size (ps ++ p ∷ []) (added (length ps / size) s (row_delta size (length ps) (place_gives p) s))
+    → KeepsEntry size (ps ++ p ∷ []) (with_delta (length ps / size) s (row_delta size (length ps) (place_gives p) s))
 entry-insert size ps p None positive h reserved = tt
 entry-insert size ps p (Some a) positive h reserved = insert-kept size a.spec a.registration a.pending ps p positive a.accumulator h reserved
 
@@ -108,8 +108,8 @@ module _ (size : ℕ) (f : Place → Place) (ps : List Place) (i : ℕ) (x y : P
       ∙ sym (observed-more (place_pair spec y) (cons_option (place_pair spec x) (elsewhere spec)))
       ∙ observed-swap (place_pair spec y) (place_pair spec x) (elsewhere spec)
 
-  set-extrema : (spec : Spec) (registration : ℕ) (pending : List Bool) (live : min_maxes.Live) (b : Bool) → is_pending pending (i / size) ≡ b → KeepsEntry size ps (entry spec registration pending (accumulator.Extrema live)) → i / size < length live.groups
-      → KeepsEntry size (changed_at f i ps) (retracted (i / size) (in_group size (i / size) (changed_at f i ps)) (added (i / size) (entry spec registration pending (accumulator.Extrema live)) (option_map (delta_of (i / size) (accumulator.Extrema live)) (cond b None (place_pair spec y)))) (cond b None (place_pair spec x)))
+  set-extrema : (spec : Spec) (registration : ℕ) (pending : List Bool) (live : min_maxes.ExtremaState) (b : Bool) → is_pending pending (i / size) ≡ b → KeepsEntry size ps (entry spec registration pending (accumulator.Extrema live)) → i / size < length live.groups
+      → KeepsEntry size (changed_at f i ps) (retracted (i / size) (in_group size (i / size) (changed_at f i ps)) (with_delta (i / size) (entry spec registration pending (accumulator.Extrema live)) (option_map (delta_of (i / size) (accumulator.Extrema live)) (cond b None (place_pair spec y)))) (cond b None (place_pair spec x)))
   set-extrema spec registration pending live true is h reserved = (h.0, (kept-pending spec size pending (i / size) ps (changed_at f i ps) (λ k n. in_group-changed size k f i ps positive n) live.groups is h.1.0, h.1.1))
   set-extrema spec registration pending live false is h reserved =
       let g = i / size in
@@ -125,31 +125,31 @@ module _ (size : ℕ) (f : Place → Place) (ps : List Place) (i : ℕ) (x y : P
       (h.0, (kept-built spec size pending g ps (changed_at f i ps) (λ k n. in_group-changed size k f i ps positive n) live.groups (groups_left g mid went new) is h.1.0 (two.0 ∙ left, λ k n. two.1 k n ∙ one.1 k n), h.1.1))
 
   set-kept : (spec : Spec) (registration : ℕ) (pending : List Bool) (k : Accumulator) → KeepsEntry size ps (entry spec registration pending k) → IsReserved (i / size) (entry spec registration pending k)
-      → KeepsEntry size (changed_at f i ps) (retracted (i / size) (in_group size (i / size) (changed_at f i ps)) (added (i / size) (entry spec registration pending k) (row_delta size i (place_gives y) (entry spec registration pending k))) (change_of size i (place_gives x) (entry spec registration pending k)))
+      → KeepsEntry size (changed_at f i ps) (retracted (i / size) (in_group size (i / size) (changed_at f i ps)) (with_delta (i / size) (entry spec registration pending k) (row_delta size i (place_gives y) (entry spec registration pending k))) (change_of size i (place_gives x) (entry spec registration pending k)))
   set-kept spec registration pending (accumulator.Totals live) h reserved =
       let delta = scanned_pair spec size pending i y in
       let went = scanned_pair spec size pending i x in
-      let mid : groups.Live = record { left = live.left; totals = with_change live.totals delta } in
+      let mid : groups.TotalsState = record { left = live.left; totals = with_change live.totals delta } in
       subst (KeepsEntry size (changed_at f i ps)) (sym (ap (λ s. retracted (i / size) (in_group size (i / size) (changed_at f i ps)) s went) (added-is spec registration pending (i / size) live delta) ∙ retracted-is spec registration pending (i / size) (in_group size (i / size) (changed_at f i ps)) mid went))
       (h.0, (ap (λ m. without_change (with_change m delta) went) h.1.0 ∙ built-changed spec size pending f ps i x y here there, h.1.1))
   set-kept spec registration pending (accumulator.Extrema live) h reserved = set-extrema spec registration pending live (is_pending pending (i / size)) refl h reserved
 
-  pub entry-set : (s : RegistryEntry) → KeepsEntry size ps s → IsReserved (i / size) s → KeepsEntry size (changed_at f i ps) (retracted (i / size) (in_group size (i / size) (changed_at f i ps)) (added (i / size) s (row_delta size i (place_gives y) s)) (change_of size i (place_gives x) s))
+  pub entry-set : (s : RegistryEntry) → KeepsEntry size ps s → IsReserved (i / size) s → KeepsEntry size (changed_at f i ps) (retracted (i / size) (in_group size (i / size) (changed_at f i ps)) (with_delta (i / size) s (row_delta size i (place_gives y) s)) (change_of size i (place_gives x) s))
   entry-set None h reserved = tt
   entry-set (Some a) h reserved = set-kept a.spec a.registration a.pending a.accumulator h reserved
 
   -- the old pair may be retracted
 
-  may_retract-totals : (spec : Spec) (registration : ℕ) (pending : List Bool) (live : groups.Live) (o : Change) (qs : List Pair) → live.totals ≡ totals (cons_option o qs) → PairsFit qs → MayRetract (i / size) (in_group size (i / size) (changed_at f i ps)) (entry spec registration pending (accumulator.Totals live)) o
+  may_retract-totals : (spec : Spec) (registration : ℕ) (pending : List Bool) (live : groups.TotalsState) (o : Change) (qs : List Pair) → live.totals ≡ totals (cons_option o qs) → PairsFit qs → MayRetract (i / size) (in_group size (i / size) (changed_at f i ps)) (entry spec registration pending (accumulator.Totals live)) o
   may_retract-totals spec registration pending live None qs h fit = tt
   may_retract-totals spec registration pending live (Some p) qs h fit = subst (λ t. groups.CanRetract p.1 (fin.get t p.0)) (sym h) (can_retract p qs fit)
 
-  may_retract-extrema : (spec : Spec) (registration : ℕ) (pending : List Bool) (live : min_maxes.Live) (o : Change) (qs : List Pair) → group_at live.groups (i / size) ≡ extrema (cons_option o qs) → extrema (group_pairs spec size (i / size) (changed_at f i ps)) ≡ extrema qs → MayRetract (i / size) (in_group size (i / size) (changed_at f i ps)) (entry spec registration pending (accumulator.Extrema live)) o
+  may_retract-extrema : (spec : Spec) (registration : ℕ) (pending : List Bool) (live : min_maxes.ExtremaState) (o : Change) (qs : List Pair) → group_at live.groups (i / size) ≡ extrema (cons_option o qs) → extrema (group_pairs spec size (i / size) (changed_at f i ps)) ≡ extrema qs → MayRetract (i / size) (in_group size (i / size) (changed_at f i ps)) (entry spec registration pending (accumulator.Extrema live)) o
   may_retract-extrema spec registration pending live None qs h new = tt
   may_retract-extrema spec registration pending live (Some p) qs h new = gone-observed p qs (group_at live.groups (i / size)) (extrema (group_pairs spec size (i / size) (changed_at f i ps))) h new
 
-  set-may_retract-extrema : (spec : Spec) (registration : ℕ) (pending : List Bool) (live : min_maxes.Live) (b : Bool) → is_pending pending (i / size) ≡ b → KeepsEntry size ps (entry spec registration pending (accumulator.Extrema live)) → i / size < length live.groups
-      → MayRetract (i / size) (in_group size (i / size) (changed_at f i ps)) (added (i / size) (entry spec registration pending (accumulator.Extrema live)) (option_map (delta_of (i / size) (accumulator.Extrema live)) (cond b None (place_pair spec y)))) (cond b None (place_pair spec x))
+  set-may_retract-extrema : (spec : Spec) (registration : ℕ) (pending : List Bool) (live : min_maxes.ExtremaState) (b : Bool) → is_pending pending (i / size) ≡ b → KeepsEntry size ps (entry spec registration pending (accumulator.Extrema live)) → i / size < length live.groups
+      → MayRetract (i / size) (in_group size (i / size) (changed_at f i ps)) (with_delta (i / size) (entry spec registration pending (accumulator.Extrema live)) (option_map (delta_of (i / size) (accumulator.Extrema live)) (cond b None (place_pair spec y)))) (cond b None (place_pair spec x))
   set-may_retract-extrema spec registration pending live true is h reserved = tt
   set-may_retract-extrema spec registration pending live false is h reserved =
       let g = i / size in
@@ -161,7 +161,7 @@ module _ (size : ℕ) (f : Place → Place) (ps : List Place) (i : ℕ) (x y : P
 
   module _ (fit : PlacesFit ps) (row : RowFits y.cells) where
     set-may_retract : (spec : Spec) (registration : ℕ) (pending : List Bool) (k : Accumulator) → KeepsEntry size ps (entry spec registration pending k) → IsReserved (i / size) (entry spec registration pending k)
-        → MayRetract (i / size) (in_group size (i / size) (changed_at f i ps)) (added (i / size) (entry spec registration pending k) (row_delta size i (place_gives y) (entry spec registration pending k))) (change_of size i (place_gives x) (entry spec registration pending k))
+        → MayRetract (i / size) (in_group size (i / size) (changed_at f i ps)) (with_delta (i / size) (entry spec registration pending k) (row_delta size i (place_gives y) (entry spec registration pending k))) (change_of size i (place_gives x) (entry spec registration pending k))
     set-may_retract spec registration pending (accumulator.Totals live) h reserved =
         let delta = scanned_pair spec size pending i y in
         let went = scanned_pair spec size pending i x in
@@ -173,6 +173,6 @@ module _ (size : ℕ) (f : Place → Place) (ps : List Place) (i : ℕ) (x y : P
         (cons-fits delta r (scanned_pair-fits spec size pending i y row) (others-fits spec size pending 0 ps i fit)))
     set-may_retract spec registration pending (accumulator.Extrema live) h reserved = set-may_retract-extrema spec registration pending live (is_pending pending (i / size)) refl h reserved
 
-    pub entry-may_retract : (s : RegistryEntry) → KeepsEntry size ps s → IsReserved (i / size) s → MayRetract (i / size) (in_group size (i / size) (changed_at f i ps)) (added (i / size) s (row_delta size i (place_gives y) s)) (change_of size i (place_gives x) s)
+    pub entry-may_retract : (s : RegistryEntry) → KeepsEntry size ps s → IsReserved (i / size) s → MayRetract (i / size) (in_group size (i / size) (changed_at f i ps)) (with_delta (i / size) s (row_delta size i (place_gives y) s)) (change_of size i (place_gives x) s)
     entry-may_retract None h reserved = tt
     entry-may_retract (Some a) h reserved = set-may_retract a.spec a.registration a.pending a.accumulator h reserved

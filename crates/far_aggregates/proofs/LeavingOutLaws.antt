@@ -17,8 +17,8 @@ use Rattle.far_aggregates.specs.declared.aggregate.Accumulator.TheVariants as ac
 use Rattle.far_aggregates.specs.declared.deltas.Delta.{Delta}
 use Rattle.far_aggregates.specs.declared.pending.Pending.{Pending}
 use Rattle.far_aggregates.specs.Accumulators.{RegistryEntry, Change, pairs_here, Keeps}
-use Rattle.far_aggregates.specs.Pairs.{Gives, change_of}
-use Rattle.far_aggregates.specs.Deltas.{delta_of, row_delta, accumulator_more, added}
+use Rattle.far_aggregates.specs.Pairs.{ChangeBySpec, change_of}
+use Rattle.far_aggregates.specs.Deltas.{delta_of, row_delta, accumulator_more, with_delta}
 use Rattle.far_aggregates.specs.Retract.{accumulator_less, retracted, AccumulatorMayRetract, MayRetract, EachMayRetract}
 use Rattle.far_aggregates.specs.Pending.{all_retracted, RetractsAll}
 use Rattle.far_aggregates.specs.Reserve.{AccumulatorIsReserved, IsReserved, AreReserved}
@@ -53,8 +53,8 @@ module _ (g : ℕ) (here : List Place) where
       ap (λ (hs : List Extrema). accumulator.Extrema (record live { groups = hs })) (sym (left-within g gs pair.0 pair.1 (fin.get (extrema (pairs_here spec here)) pair.0) wide may found s.3 s.4))
 
   -- of one registry entry, which has a delta or none
-  needless-entry : (a : Aggregate) (o c : Change) → AccumulatorIsReserved g a.accumulator → NeedNotRetract (option_map (delta_of g a.accumulator) o) c → MayRetract g here (added g (Some a) (option_map (delta_of g a.accumulator) o)) c
-      → retracted g here (added g (Some a) (option_map (delta_of g a.accumulator) o)) c ≡ added g (Some a) (option_map (delta_of g a.accumulator) o)
+  needless-entry : (a : Aggregate) (o c : Change) → AccumulatorIsReserved g a.accumulator → NeedNotRetract (option_map (delta_of g a.accumulator) o) c → MayRetract g here (with_delta g (Some a) (option_map (delta_of g a.accumulator) o)) c
+      → retracted g here (with_delta g (Some a) (option_map (delta_of g a.accumulator) o)) c ≡ with_delta g (Some a) (option_map (delta_of g a.accumulator) o)
   needless-entry a None c reserved s may = absurd s
   needless-entry a (Some p) None reserved s may = absurd s
   needless-entry a (Some p) (Some pair) reserved s may = ap (λ (k : Accumulator). Some (record a { accumulator = k })) (needless-kept a.spec a.accumulator p pair reserved s may)
@@ -71,23 +71,23 @@ module _ (g : ℕ) (here : List Place) where
   left-may s delta c d (inl same) may = subst (MayRetract g here s) (sym same) may
   left-may s delta c d (inr out) may = subst (MayRetract g here s) (sym out.0) (nothing-may s)
 
-module _ (size i : ℕ) (gives : Gives) (here : List Place) where
-  needless : (t : RegistryEntry) (c : Change) → IsReserved (i / size) t → NeedNotRetract (row_delta size i gives t) c → MayRetract (i / size) here (added (i / size) t (row_delta size i gives t)) c
-      → retracted (i / size) here (added (i / size) t (row_delta size i gives t)) c ≡ added (i / size) t (row_delta size i gives t)
+module _ (size i : ℕ) (gives : ChangeBySpec) (here : List Place) where
+  needless : (t : RegistryEntry) (c : Change) → IsReserved (i / size) t → NeedNotRetract (row_delta size i gives t) c → MayRetract (i / size) here (with_delta (i / size) t (row_delta size i gives t)) c
+      → retracted (i / size) here (with_delta (i / size) t (row_delta size i gives t)) c ≡ with_delta (i / size) t (row_delta size i gives t)
   needless None c reserved s may = refl
   needless (Some a) c reserved s may = needless-entry (i / size) here a (change_of size i gives (Some a)) c reserved s may
 
-  left-retracted : (t : RegistryEntry) (c d : Change) → IsReserved (i / size) t → IsLeftOut (row_delta size i gives t) c d → MayRetract (i / size) here (added (i / size) t (row_delta size i gives t)) c
-      → retracted (i / size) here (added (i / size) t (row_delta size i gives t)) d ≡ retracted (i / size) here (added (i / size) t (row_delta size i gives t)) c
-  left-retracted t c d reserved (inl same) may = ap (retracted (i / size) here (added (i / size) t (row_delta size i gives t))) same
+  left-retracted : (t : RegistryEntry) (c d : Change) → IsReserved (i / size) t → IsLeftOut (row_delta size i gives t) c d → MayRetract (i / size) here (with_delta (i / size) t (row_delta size i gives t)) c
+      → retracted (i / size) here (with_delta (i / size) t (row_delta size i gives t)) d ≡ retracted (i / size) here (with_delta (i / size) t (row_delta size i gives t)) c
+  left-retracted t c d reserved (inl same) may = ap (retracted (i / size) here (with_delta (i / size) t (row_delta size i gives t))) same
   left-retracted t c d reserved (inr out) may =
-      ap (retracted (i / size) here (added (i / size) t (row_delta size i gives t))) out.0
-      ∙ nothing-retracted (i / size) here (added (i / size) t (row_delta size i gives t))
+      ap (retracted (i / size) here (with_delta (i / size) t (row_delta size i gives t))) out.0
+      ∙ nothing-retracted (i / size) here (with_delta (i / size) t (row_delta size i gives t))
       ∙ sym (needless t c reserved out.1 may)
 
   all-left_retracted : (registry : List RegistryEntry) (cs ds : List Change) → length ds ≡ length cs → AreReserved (i / size) registry → EachLeftOut (map (row_delta size i gives) registry) cs ds
-      → EachMayRetract (i / size) here (zip_all (added (i / size)) registry (map (row_delta size i gives) registry)) cs
-      → zip_all (retracted (i / size) here) (zip_all (added (i / size)) registry (map (row_delta size i gives) registry)) ds ≡ zip_all (retracted (i / size) here) (zip_all (added (i / size)) registry (map (row_delta size i gives) registry)) cs
+      → EachMayRetract (i / size) here (zip_all (with_delta (i / size)) registry (map (row_delta size i gives) registry)) cs
+      → zip_all (retracted (i / size) here) (zip_all (with_delta (i / size)) registry (map (row_delta size i gives) registry)) ds ≡ zip_all (retracted (i / size) here) (zip_all (with_delta (i / size)) registry (map (row_delta size i gives) registry)) cs
   all-left_retracted [] cs ds many reserved out may = refl
   all-left_retracted (t ∷ registry) [] [] many reserved out may = refl
   all-left_retracted (t ∷ registry) [] (d ∷ ds) many reserved out may = absurd (omega arith)
@@ -114,8 +114,8 @@ each-left_may g here deltas registry cs ds many as_many out may k s d at is =
     left-may g here s delta.0 c.0 d (out k delta.0 c.0 d delta.1 c.1 is) (may k s c.0 at c.1)
 
 -- so the pairs may be retracted without them, and then what is kept is the same
-pub left_out-retracts : (size place : ℕ) (gives : Gives) (places : List Place) (mid new : List RegistryEntry) (deltas : List (Option Delta)) (old left : Pending) → AreReserved (place / size) mid
-    → old.group ≡ place / size → left.group ≡ place / size → deltas ≡ map (row_delta size place gives) mid → new ≡ zip_all (added (place / size)) mid (map (row_delta size place gives) mid)
+pub left_out-retracts : (size place : ℕ) (gives : ChangeBySpec) (places : List Place) (mid new : List RegistryEntry) (deltas : List (Option Delta)) (old left : Pending) → AreReserved (place / size) mid
+    → old.group ≡ place / size → left.group ≡ place / size → deltas ≡ map (row_delta size place gives) mid → new ≡ zip_all (with_delta (place / size)) mid (map (row_delta size place gives) mid)
     → length left.to_retract.items ≡ length old.to_retract.items → length old.to_retract.items ≡ length mid → length left.to_retract.items ≤ length new → EachLeftOut deltas old.to_retract.items left.to_retract.items
     → RetractsAll size (place / size) places new old → RetractsAll size (place / size) places new left
 left_out-retracts size place gives places mid new deltas old left reserved at there delta applied many as_many within out retracts =
@@ -124,7 +124,7 @@ left_out-retracts size place gives places mid new deltas old left reserved at th
     let may : EachMayRetract g here new old.to_retract.items = subst (λ n. EachMayRetract n here new old.to_retract.items) at retracts.may.may in
     let few : length deltas ≡ length mid = ap length delta ∙ length-map mid (row_delta size place gives) in
     let outs : EachLeftOut (map (row_delta size place gives) mid) old.to_retract.items left.to_retract.items = subst (λ l. EachLeftOut l old.to_retract.items left.to_retract.items) delta out in
-    let mays : EachMayRetract g here (zip_all (added g) mid (map (row_delta size place gives) mid)) old.to_retract.items = subst (λ l. EachMayRetract g here l old.to_retract.items) applied may in
+    let mays : EachMayRetract g here (zip_all (with_delta g) mid (map (row_delta size place gives) mid)) old.to_retract.items = subst (λ l. EachMayRetract g here l old.to_retract.items) applied may in
     let same : zip_all (retracted g here) new left.to_retract.items ≡ zip_all (retracted g here) new old.to_retract.items =
     ap (λ l. zip_all (retracted g here) l left.to_retract.items) applied ∙ all-left_retracted size place gives here mid old.to_retract.items left.to_retract.items many reserved outs mays ∙ ap (λ l. zip_all (retracted g here) l old.to_retract.items) (sym applied) in
     let to_retract : all_retracted here new left ≡ all_retracted here new old = ap (λ n. zip_all (retracted n here) new left.to_retract.items) there ∙ same ∙ ap (λ n. zip_all (retracted n here) new old.to_retract.items) (sym at) in

@@ -3,21 +3,21 @@ use Rattle.std.proofs.Common.{◌≡◌, ℕ, zero, suc, ◌+◌, ◌-◌, ◌<�
 use Rattle.std.specs.Prelude.{IsSome, IfNone}
 use Rattle.far_types.specs.Table.{Place, Registered}
 use Rattle.far_aggregates.specs.Accumulators.{RegistryEntry, registered_in, registered_of, KeepsEntry, Keeps}
-use Rattle.far_aggregates.specs.Aggregates.{joined, free_from, aggregate_in, is_pending_in}
+use Rattle.far_aggregates.specs.Aggregates.{flattened, free_from, aggregate_in, is_pending_in}
 use Rattle.far_aggregates.specs.Scans.{has_pending}
 
 abbrev no_aggregate : Option Registered
 no_aggregate = None
 
-none_behind : (n a : ℕ) → joined (slice_get (replicate n no_aggregate) a) ≡ None
+none_behind : (n a : ℕ) → flattened (slice_get (replicate n no_aggregate) a) ≡ None
 none_behind zero a = refl
 none_behind (suc n) zero = refl
 none_behind (suc n) (suc a) = none_behind n a
 
 -- a number has what its registry entry has
-pub entry-at : (registry : List RegistryEntry) (a : ℕ) → aggregate_in registry a ≡ registered_in (joined (slice_get registry a))
+pub entry-at : (registry : List RegistryEntry) (a : ℕ) → aggregate_in registry a ≡ registered_in (flattened (slice_get registry a))
 entry-at registry a = on registry (32 - length registry) a where
-  on : (ss : List RegistryEntry) (n k : ℕ) → joined (slice_get (map registered_in ss ++ replicate n None) k) ≡ registered_in (joined (slice_get ss k))
+  on : (ss : List RegistryEntry) (n k : ℕ) → flattened (slice_get (map registered_in ss ++ replicate n None) k) ≡ registered_in (flattened (slice_get ss k))
   on [] n k = none_behind n k
   on (None ∷ ss) n zero = refl
   on (Some v ∷ ss) n zero = refl
@@ -27,16 +27,16 @@ left-in : (s : RegistryEntry) (g : ℕ) → is_pending_in (registered_in s) g �
 left-in None g = refl
 left-in (Some a) g = refl
 
-pub left-at : (registry : List RegistryEntry) (a g : ℕ) → is_pending_in (aggregate_in registry a) g ≡ has_pending g (joined (slice_get registry a))
-left-at registry a g = ap (λ o. is_pending_in o g) (entry-at registry a) ∙ left-in (joined (slice_get registry a)) g
+pub left-at : (registry : List RegistryEntry) (a g : ℕ) → is_pending_in (aggregate_in registry a) g ≡ has_pending g (flattened (slice_get registry a))
+left-at registry a g = ap (λ o. is_pending_in o g) (entry-at registry a) ∙ left-in (flattened (slice_get registry a)) g
 
-pub keeps-at : (size : ℕ) (places : List Place) (registry : List RegistryEntry) (a : ℕ) → Keeps size places registry → KeepsEntry size places (joined (slice_get registry a))
+pub keeps-at : (size : ℕ) (places : List Place) (registry : List RegistryEntry) (a : ℕ) → Keeps size places registry → KeepsEntry size places (flattened (slice_get registry a))
 keeps-at size places [] a h = tt
 keeps-at size places (None ∷ registry) zero h = tt
 keeps-at size places (Some v ∷ registry) zero h = h.0
 keeps-at size places (s ∷ registry) (suc a) h = keeps-at size places registry a h.1
 
-below : (registry : List RegistryEntry) (a : ℕ) → IsSome (registered_in (joined (slice_get registry a))) → a < length registry
+below : (registry : List RegistryEntry) (a : ℕ) → IsSome (registered_in (flattened (slice_get registry a))) → a < length registry
 below [] a h = cc
 below (s ∷ registry) zero h = omega arith
 below (s ∷ registry) (suc a) h = let l = below registry a h in omega arith

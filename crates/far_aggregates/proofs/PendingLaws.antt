@@ -13,9 +13,9 @@ use Rattle.far_aggregates.specs.declared.pending.Pending.{Pending}
 use Rattle.far_aggregates.specs.Accumulators.{RegistryEntry, PlacesFit, Keeps, registered_in, registered_of}
 use Rattle.far_aggregates.specs.Changed.{with_cell_at}
 use Rattle.far_aggregates.specs.Pairs.{row_gives, place_gives, alive_with, change_of}
-use Rattle.far_aggregates.specs.Deltas.{row_delta, added, undo, EachMayUndo}
+use Rattle.far_aggregates.specs.Deltas.{row_delta, with_delta, undo, EachMayUndo}
 use Rattle.far_aggregates.specs.Retract.{retracted, EachMayRetract}
-use Rattle.far_aggregates.specs.Pending.{AreKept, KeepsAsBefore, IsAliveAt, UndoesAll, RetractsAll}
+use Rattle.far_aggregates.specs.Pending.{AreUpToDate, KeepsAsBefore, IsAliveAt, UndoesAll, RetractsAll}
 use Rattle.far_aggregates.specs.Reserve.{AreReserved}
 use Rattle.far_aggregates.specs.Until.{zip_all}
 use Rattle.far_aggregates.proofs.EditLaws.{after_insert, set_may_retract, after_set, removed-adds_all}
@@ -62,11 +62,11 @@ fit-removed (suc i) (p ∷ ps) h = (h.0, fit-removed i ps h.1)
 
 -- an insert
 pub insert-applied : (size place : ℕ) (cells : Cells) (old mid new : List RegistryEntry) → 0 < size → AreReserved (place / size) mid → KeepsAsBefore old mid
-    → new ≡ zip_all (added (place / size)) mid (map (row_delta size place (row_gives cells)) mid)
+    → new ≡ zip_all (with_delta (place / size)) mid (map (row_delta size place (row_gives cells)) mid)
     → (places : List Place) (row : List Cell) → length places ≡ place → cells ≡ cells_of row → Keeps size places old → Keeps size (places ++ alive_with row ∷ []) new
 insert-applied size place cells old mid new positive reserved before is places row count same kept =
     after_insert size place places (places ++ alive_with row ∷ []) (alive_with row) mid new (sym count) refl positive (before size places kept) reserved
-    (is ∙ ap (λ f. zip_all (added (place / size)) mid (map (row_delta size place (row_gives f)) mid)) same)
+    (is ∙ ap (λ f. zip_all (with_delta (place / size)) mid (map (row_delta size place (row_gives f)) mid)) same)
 
 -- the deltas can be undone
 pub retracts-undo : (g : ℕ) (old mid new : List RegistryEntry) (pending : Pending) → KeepsAsBefore old mid → pending.group ≡ g → length pending.applied.items ≡ length new
@@ -89,14 +89,14 @@ nothing-retracts-undo registry pending empty none = record {
 -- the pairs can be retracted if a place x becomes f x
 retracts-on : (size place : ℕ) (f : Place → Place) (x : Place) (old mid new : List RegistryEntry) (pending : Pending) (places : List Place) → 0 < size → AreReserved (place / size) mid → KeepsAsBefore old mid
     → pending.group ≡ place / size → pending.to_retract.items ≡ map (change_of size place (place_gives x)) mid
-    → new ≡ zip_all (added (place / size)) mid (map (row_delta size place (place_gives (f x))) mid)
-    → slice_get places place ≡ Some x → AreKept size places old → PlacesFit (changed_at f place places)
+    → new ≡ zip_all (with_delta (place / size)) mid (map (row_delta size place (place_gives (f x))) mid)
+    → slice_get places place ≡ Some x → AreUpToDate size places old → PlacesFit (changed_at f place places)
     → RetractsAll size (place / size) (changed_at f place places) new pending
 retracts-on size place f x old mid new pending places positive reserved before at went applied here kept fit =
     let after = changed_at f place places in
     let there : Some (f x) ≡ option_map f (slice_get places place) = sym (ap (option_map f) here) in
     let many : length pending.to_retract.items ≡ length mid = ap length went ∙ length-map mid (change_of size place (place_gives x)) in
-    let more : length new ≡ length mid = ap length applied ∙ length-zip_all (added (place / size)) mid (map (row_delta size place (place_gives (f x))) mid) in
+    let more : length new ≡ length mid = ap length applied ∙ length-zip_all (with_delta (place / size)) mid (map (row_delta size place (place_gives (f x))) mid) in
     record {
       at = at;
       may = record {
@@ -112,19 +112,19 @@ retracts-on size place f x old mid new pending places positive reserved before a
 -- a set
 pub set-retracts : (size place column : ℕ) (cell : Cell) (cells : Cells) (old mid new : List RegistryEntry) (pending : Pending) → 0 < size → IsSome (cells column) → AreReserved (place / size) mid → KeepsAsBefore old mid
     → pending.group ≡ place / size → pending.to_retract.items ≡ map (change_of size place (row_gives cells)) mid
-    → new ≡ zip_all (added (place / size)) mid (map (row_delta size place (row_gives (with_cell_at column cell cells))) mid)
-    → (places : List Place) → IsAliveAt cells place places → AreKept size places old → PlacesFit (changed_at (with_cell column cell) place places)
+    → new ≡ zip_all (with_delta (place / size)) mid (map (row_delta size place (row_gives (with_cell_at column cell cells))) mid)
+    → (places : List Place) → IsAliveAt cells place places → AreUpToDate size places old → PlacesFit (changed_at (with_cell column cell) place places)
     → RetractsAll size (place / size) (changed_at (with_cell column cell) place places) new pending
 set-retracts size place column cell cells old mid new pending positive has reserved before at went applied places there kept fit =
     retracts-on size place (with_cell column cell) (alive_with there.0) old mid new pending places positive reserved before at
     (went ∙ ap (λ (f : Cells). map (change_of size place (row_gives f)) mid) there.1)
-    (applied ∙ ap (λ (f : Cells). zip_all (added (place / size)) mid (map (row_delta size place (row_gives f)) mid)) (ap (with_cell_at column cell) there.1 ∙ changed-cells there.0 column cell (subst (λ (f : Cells). IsSome (f column)) there.1 has)))
+    (applied ∙ ap (λ (f : Cells). zip_all (with_delta (place / size)) mid (map (row_delta size place (row_gives f)) mid)) (ap (with_cell_at column cell) there.1 ∙ changed-cells there.0 column cell (subst (λ (f : Cells). IsSome (f column)) there.1 has)))
     there.2 kept fit
 
 -- a removal
 pub remove-retracts : (size place : ℕ) (cells : Cells) (old mid : List RegistryEntry) (pending : Pending) → 0 < size → AreReserved (place / size) mid → KeepsAsBefore old mid
     → pending.group ≡ place / size → pending.to_retract.items ≡ map (change_of size place (row_gives cells)) mid
-    → (places : List Place) → IsAliveAt cells place places → AreKept size places old
+    → (places : List Place) → IsAliveAt cells place places → AreUpToDate size places old
     → RetractsAll size (place / size) (changed_at removed place places) mid pending
 remove-retracts size place cells old mid pending positive reserved before at went places there kept =
     retracts-on size place removed (alive_with there.0) old mid mid pending places positive reserved before at

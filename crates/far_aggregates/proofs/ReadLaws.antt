@@ -16,7 +16,7 @@ use Rattle.far_types.proofs.PlaceLaws.{pairs_of-rows}
 use Rattle.far_groups.specs.Live as groups
 use Rattle.far_aggregates.specs.declared.aggregate.Aggregate.{Aggregate}
 use Rattle.far_aggregates.specs.declared.aggregate.Accumulator.TheVariants as accumulator
-use Rattle.far_aggregates.specs.Accumulators.{Change, registered_in, fold_of, IsKept, KeepsEntry}
+use Rattle.far_aggregates.specs.Accumulators.{Change, registered_in, fold_of, IsUpToDate, KeepsEntry}
 use Rattle.far_aggregates.specs.Readings.{is_totals, all_values, plain_in}
 use Rattle.far_aggregates.proofs.ScannedLaws.{built-all}
 
@@ -69,10 +69,10 @@ no_key (Some c) h = cc
 all_three : (f : Fold) (key : Option ℕ) (n : ℕ) (x : ℕ × ℤ) → fold.Totals ≡ f → is_none key ≡ true → n ≡ 0 → Some x ≡ cond (is_totals f && is_none key && n == 0) (Some x) None
 all_three f key n x e k z = rw (← e, k, z) refl
 
-pub plain-now : (size : ℕ) (ps : List Place) (a : Aggregate) (live : groups.Live) → a.accumulator ≡ accumulator.Totals live → KeepsEntry size ps (Some a) → is_none a.spec.key ≡ true → live.left ≡ 0
+pub plain-now : (size : ℕ) (ps : List Place) (a : Aggregate) (live : groups.TotalsState) → a.accumulator ≡ accumulator.Totals live → KeepsEntry size ps (Some a) → is_none a.spec.key ≡ true → live.left ≡ 0
     → Some (unwrap_or (fin.get live.totals None) (0, pos 0)) ≡ plain_in ps (registered_in (Some a))
 plain-now size ps a live is h k z =
-    let here = subst (λ x. (fold_of x ≡ a.spec.fold) × IsKept size ps a x) is h in
+    let here = subst (λ x. (fold_of x ≡ a.spec.fold) × IsUpToDate size ps a x) is h in
     let none : left a.pending ≡ 0 = sym here.1.1 ∙ z in
     ap (λ t. Some (unwrap_or (fin.get t None) (0, pos 0))) (here.1.0 ∙ ap totals (built-all a.spec size a.pending 0 ps none))
     ∙ ap Some (plain-values a.spec ps (no_key a.spec.key k))

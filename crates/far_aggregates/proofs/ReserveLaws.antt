@@ -7,7 +7,7 @@ use Rattle.far_types.specs.Table.{Place}
 use Rattle.far_aggregates.specs.declared.aggregate.Aggregate.{Aggregate}
 use Rattle.far_aggregates.specs.declared.aggregate.Accumulator.{Accumulator}
 use Rattle.far_aggregates.specs.declared.aggregate.Accumulator.TheVariants as accumulator
-use Rattle.far_aggregates.specs.Accumulators.{RegistryEntry, registered_in, fold_of, IsKept, KeepsEntry}
+use Rattle.far_aggregates.specs.Accumulators.{RegistryEntry, registered_in, fold_of, IsUpToDate, KeepsEntry}
 use Rattle.far_aggregates.specs.Reserve.{accumulator_reserved, reserved, AccumulatorIsReserved, IsReserved}
 use Rattle.far_aggregates.proofs.ListLaws.{index-replicate}
 
@@ -31,11 +31,11 @@ reserved-fold : (g : ℕ) (k : Accumulator) → fold_of (accumulator_reserved g 
 reserved-fold g (accumulator.Totals live) = refl
 reserved-fold g (accumulator.Extrema live) = refl
 
-reserved-kept : (g size : ℕ) (ps : List Place) (a : Aggregate) (k : Accumulator) → IsKept size ps a k → IsKept size ps a (accumulator_reserved g k)
+reserved-kept : (g size : ℕ) (ps : List Place) (a : Aggregate) (k : Accumulator) → IsUpToDate size ps a k → IsUpToDate size ps a (accumulator_reserved g k)
 reserved-kept g size ps a (accumulator.Totals live) h = h
 reserved-kept g size ps a (accumulator.Extrema live) h = (λ i. index-replicate live.groups (g + 1 - length live.groups) i fin.empty ∙ h.0 i, h.1)
 
-pub same-kept : (size : ℕ) (ps : List Place) (a b : Aggregate) (k : Accumulator) → a.spec ≡ b.spec → a.pending ≡ b.pending → IsKept size ps a k → IsKept size ps b k
+pub same-kept : (size : ℕ) (ps : List Place) (a b : Aggregate) (k : Accumulator) → a.spec ≡ b.spec → a.pending ≡ b.pending → IsUpToDate size ps a k → IsUpToDate size ps b k
 same-kept size ps a b (accumulator.Totals live) e f h = rw (← e, ← f) h
 same-kept size ps a b (accumulator.Extrema live) e f h = rw (← e, ← f) h
 

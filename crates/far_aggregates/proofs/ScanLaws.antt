@@ -28,10 +28,10 @@ use Rattle.far_groups.proofs.PairLaws.{can_join}
 use Rattle.far_aggregates.specs.declared.aggregate.Aggregate.{Aggregate}
 use Rattle.far_aggregates.specs.declared.aggregate.Accumulator.{Accumulator}
 use Rattle.far_aggregates.specs.declared.aggregate.Accumulator.TheVariants as accumulator
-use Rattle.far_aggregates.specs.Accumulators.{RegistryEntry, Change, scanned_pairs, pairs_here, group_pairs, scanned_group, fold_of, IsKept, KeepsEntry}
+use Rattle.far_aggregates.specs.Accumulators.{RegistryEntry, Change, scanned_pairs, pairs_here, group_pairs, scanned_group, fold_of, IsUpToDate, KeepsEntry}
 use Rattle.far_aggregates.proofs.ReserveLaws.{same-kept}
 use Rattle.far_aggregates.specs.Scans.{has_pending, IsScanned, IsSame, AccumulatorMayScan}
-use Rattle.far_aggregates.specs.Aggregates.{joined}
+use Rattle.far_aggregates.specs.Aggregates.{flattened}
 use Rattle.far_aggregates.specs.Pairs.{with_change}
 use Rattle.far_aggregates.proofs.ScannedLaws.{length-built}
 use Rattle.far_aggregates.proofs.ListLaws.{index-replicate}
@@ -161,8 +161,8 @@ module _ (spec : Spec) (size : ℕ) (pending : List Bool) (g : ℕ) (there : is_
   left-some h = let e = left-cleared pending g there in absurd (omega arith)
 
 -- an aggregate after a row group was scanned
-pub kept-scanned : (size : ℕ) (ps : List Place) (a : Aggregate) (k k' : Accumulator) (g : ℕ) → is_pending a.pending g ≡ true → 0 < size → IsKept size ps a k → IsScanned a.spec g (in_group size g ps) k k' → IsKept size ps (record a { pending = slice_set a.pending g false }) k'
-kept-scanned size ps a (accumulator.Totals live) k' g there pos h s = subst (IsKept size ps (record a { pending = slice_set a.pending g false })) (sym s) (
+pub kept-scanned : (size : ℕ) (ps : List Place) (a : Aggregate) (k k' : Accumulator) (g : ℕ) → is_pending a.pending g ≡ true → 0 < size → IsUpToDate size ps a k → IsScanned a.spec g (in_group size g ps) k k' → IsUpToDate size ps (record a { pending = slice_set a.pending g false }) k'
+kept-scanned size ps a (accumulator.Totals live) k' g there pos h s = subst (IsUpToDate size ps (record a { pending = slice_set a.pending g false })) (sym s) (
   ap (λ m. joined_totals m (totals (group_pairs a.spec size g ps))) h.0 ∙ totals-scanned a.spec size a.pending g there ps pos,
   ap (λ n. n - 1) h.1 ∙ left-scanned a.spec size a.pending g there,
 )
@@ -178,8 +178,8 @@ fold-scanned spec size g ps (accumulator.Extrema live) (accumulator.Totals new) 
 fold-scanned spec size g ps (accumulator.Extrema live) (accumulator.Extrema new) s = refl
 
 -- and if it was not
-same-in : (size : ℕ) (ps : List Place) (a : Aggregate) (k k' : Accumulator) → IsSame k k' → IsKept size ps a k → IsKept size ps a k'
-same-in size ps a (accumulator.Totals live) k' s h = subst (IsKept size ps a) (sym s) h
+same-in : (size : ℕ) (ps : List Place) (a : Aggregate) (k k' : Accumulator) → IsSame k k' → IsUpToDate size ps a k → IsUpToDate size ps a k'
+same-in size ps a (accumulator.Totals live) k' s h = subst (IsUpToDate size ps a) (sym s) h
 same-in size ps a (accumulator.Extrema live) (accumulator.Totals new) s h = absurd s
 same-in size ps a (accumulator.Extrema live) (accumulator.Extrema new) s h = (λ i. ap (λ gs. slice_index_or gs i fin.empty) s.1 ∙ h.0 i, s.0 ∙ h.1)
 
@@ -204,7 +204,7 @@ group-few spec size g ps =
     let b = group-length size g ps in
     omega arith
 
-pub may_scan : (size : ℕ) (ps : List Place) (a : Aggregate) (k : Accumulator) (g : ℕ) → is_pending a.pending g ≡ true → length ps ≤ 2 ^ 24 → IsKept size ps a k → AccumulatorMayScan a.spec g (in_group size g ps) k
+pub may_scan : (size : ℕ) (ps : List Place) (a : Aggregate) (k : Accumulator) (g : ℕ) → is_pending a.pending g ≡ true → length ps ≤ 2 ^ 24 → IsUpToDate size ps a k → AccumulatorMayScan a.spec g (in_group size g ps) k
 may_scan size ps a (accumulator.Totals live) g there few h = (
   (λ e. left-some a.spec size a.pending g there (sym h.1 ∙ e)),
   subst (λ m. CanJoin m (totals (group_pairs a.spec size g ps))) (sym h.0)
@@ -223,7 +223,7 @@ entry-scanned size ps a g flags k there pos h e s =
     subst (λ u. KeepsEntry size ps (Some (record a { pending = u; accumulator = k }))) (sym e)
     (fold-scanned a.spec size g ps a.accumulator k s ∙ h.0, same-kept size ps (record a { pending = slice_set a.pending g false }) (record a { pending = slice_set a.pending g false; accumulator = k }) k refl refl (kept-scanned size ps a a.accumulator k g there pos h.1 s))
 
-pub has-below : (registry : List RegistryEntry) (g a : ℕ) → has_pending g (joined (slice_get registry a)) ≡ true → a < length registry
+pub has-below : (registry : List RegistryEntry) (g a : ℕ) → has_pending g (flattened (slice_get registry a)) ≡ true → a < length registry
 has-below [] g a h = cc
 has-below (s ∷ registry) g zero h = omega arith
 has-below (s ∷ registry) g (suc a) h = let l = has-below registry g a h in omega arith
@@ -233,8 +233,8 @@ has-below (s ∷ registry) g (suc a) h = let l = has-below registry g a h in ome
 pub pairs-lent : (spec : Spec) (here : List Place) (columns : Columns) (flags : List Bool) → AreAtHand spec columns here → flags ≡ map (λ (place : Place). place.alive) here → pairs_over spec columns flags ≡ pairs_here spec here
 pairs-lent spec here columns flags h is = ap (pairs_over spec columns) is ∙ at-hand spec columns here h
 
-totals-of : (f : Fold) (live : groups.Live) (pairs : List Pair) → partial.Totals live ≡ partial_of f pairs → live.totals ≡ totals pairs
-totals-of fold.Totals live pairs h = let e : live ≡ record { left = 0; totals = totals pairs } = cc in ap (λ (l : groups.Live). l.totals) e
+totals-of : (f : Fold) (live : groups.TotalsState) (pairs : List Pair) → partial.Totals live ≡ partial_of f pairs → live.totals ≡ totals pairs
+totals-of fold.Totals live pairs h = let e : live ≡ record { left = 0; totals = totals pairs } = cc in ap (λ (l : groups.TotalsState). l.totals) e
 totals-of fold.Extrema live pairs h = cc
 
 extrema-of : (f : Fold) (observed : Extrema) (pairs : List Pair) → partial.Extrema observed ≡ partial_of f pairs → observed ≡ extrema pairs
@@ -242,7 +242,7 @@ extrema-of fold.Totals observed pairs h = cc
 extrema-of fold.Extrema observed pairs h = cc
 
 module _ (spec : Spec) (here : List Place) (columns : Columns) (flags : List Bool) (at_hand : AreAtHand spec columns here) (is : flags ≡ map (λ (place : Place). place.alive) here) (done : PartialDone) (folded : done ≡ partial_of spec.fold (pairs_over spec columns flags)) where
-  pub totals-lent : (live : groups.Live) → done ≡ partial.Totals live → live.totals ≡ totals (pairs_here spec here)
+  pub totals-lent : (live : groups.TotalsState) → done ≡ partial.Totals live → live.totals ≡ totals (pairs_here spec here)
   totals-lent live h = totals-of spec.fold live (pairs_over spec columns flags) (sym h ∙ folded) ∙ ap totals (pairs-lent spec here columns flags at_hand is)
 
   pub extrema-lent : (observed : Extrema) → done ≡ partial.Extrema observed → observed ≡ extrema (pairs_here spec here)

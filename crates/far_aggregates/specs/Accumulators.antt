@@ -79,14 +79,14 @@ KeepsNothing count (accumulator.Totals live) = (live.left ≡ count) × (live.to
 KeepsNothing count (accumulator.Extrema live) = (live.left ≡ count) × (live.groups ≡ [])
 
 -- an accumulator is what computing from scratch over the scanned row groups would give
-abbrev pub IsKept : ℕ → List Place → Aggregate → Accumulator → Type 0
-IsKept size places a (accumulator.Totals live) = (live.totals ≡ totals (scanned_pairs a.spec size a.pending 0 places)) × (live.left ≡ left a.pending)
-IsKept size places a (accumulator.Extrema live) = ((g : ℕ) → group_at live.groups g ≡ scanned_group a.spec size a.pending places g) × (live.left ≡ left a.pending)
+abbrev pub IsUpToDate : ℕ → List Place → Aggregate → Accumulator → Type 0
+IsUpToDate size places a (accumulator.Totals live) = (live.totals ≡ totals (scanned_pairs a.spec size a.pending 0 places)) × (live.left ≡ left a.pending)
+IsUpToDate size places a (accumulator.Extrema live) = ((g : ℕ) → group_at live.groups g ≡ scanned_group a.spec size a.pending places g) × (live.left ≡ left a.pending)
 
 -- the accumulator of a registry entry is of its fold, and is what computing from scratch would give
 abbrev pub KeepsEntry : ℕ → List Place → RegistryEntry → Type 0
 KeepsEntry size places None = Unit {0}
-KeepsEntry size places (Some a) = (fold_of a.accumulator ≡ a.spec.fold) × IsKept size places a a.accumulator
+KeepsEntry size places (Some a) = (fold_of a.accumulator ≡ a.spec.fold) × IsUpToDate size places a a.accumulator
 
 -- so is the accumulator of each registry entry
 abbrev pub Keeps : ℕ → List Place → List RegistryEntry → Type 0

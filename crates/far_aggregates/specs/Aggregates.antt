@@ -9,9 +9,9 @@ use Rattle.far_types.specs.Table.{Place, Registered, rows_of, is_pending, left}
 use Rattle.far_aggregates.specs.Accumulators.{RegistryEntry, registered_of}
 
 -- an optional option as one option
-abbrev pub joined : {A : Type 0} → Option (Option A) → Option A
-joined None = None
-joined (Some inner) = inner
+abbrev pub flattened : {A : Type 0} → Option (Option A) → Option A
+flattened None = None
+flattened (Some inner) = inner
 
 -- the lowest number, from one on, under which none is registered
 abbrev pub free_from : ℕ → List (Option Registered) → Option ℕ
@@ -21,7 +21,7 @@ free_from a (Some aggregate ∷ rest) = free_from (a + 1) rest
 
 -- the aggregate of a number
 abbrev pub aggregate_in : List RegistryEntry → ℕ → Option Registered
-aggregate_in registry a = joined (slice_get (registered_of registry) a)
+aggregate_in registry a = flattened (slice_get (registered_of registry) a)
 
 -- whether a row group is pending in an aggregate
 abbrev pub is_pending_in : Option Registered → ℕ → Bool

@@ -11,7 +11,7 @@ use Rattle.far_aggregates.specs.declared.aggregate.Accumulator.{Accumulator}
 use Rattle.far_aggregates.specs.declared.aggregate.Accumulator.TheVariants as accumulator
 use Rattle.far_aggregates.specs.declared.deltas.Delta.{Delta}
 use Rattle.far_aggregates.specs.Accumulators.{RegistryEntry}
-use Rattle.far_aggregates.specs.Pairs.{Gives, change_of, AccumulatorFolds}
+use Rattle.far_aggregates.specs.Pairs.{ChangeBySpec, change_of, AccumulatorFolds}
 
 -- the least and the greatest under a key of a row group, in extrema, before a delta
 abbrev pub previous_in : ℕ → Option Key → Accumulator → Option (ℤ × ℤ)
@@ -23,7 +23,7 @@ abbrev pub delta_of : ℕ → Accumulator → Pair → Delta
 delta_of g k pair = record { pair = pair; previous = previous_in g pair.0 k }
 
 -- the delta of a row of place i to a registry entry
-abbrev pub row_delta : ℕ → ℕ → Gives → RegistryEntry → Option Delta
+abbrev pub row_delta : ℕ → ℕ → ChangeBySpec → RegistryEntry → Option Delta
 row_delta size i gives None = None
 row_delta size i gives (Some a) = option_map (delta_of (i / size) a.accumulator) (change_of size i gives (Some a))
 
@@ -38,10 +38,10 @@ accumulator_more g (accumulator.Totals live) pair = accumulator.Totals (record l
 accumulator_more g (accumulator.Extrema live) pair = accumulator.Extrema (record live { groups = slice_set live.groups g (with_observed (group_at live.groups g) pair) })
 
 -- an entry of the registry with a delta applied, if both are there
-abbrev pub added : ℕ → RegistryEntry → Option Delta → RegistryEntry
-added g None delta = None
-added g (Some a) None = Some a
-added g (Some a) (Some delta) = Some (record a { accumulator = accumulator_more g a.accumulator delta.pair })
+abbrev pub with_delta : ℕ → RegistryEntry → Option Delta → RegistryEntry
+with_delta g None delta = None
+with_delta g (Some a) None = Some a
+with_delta g (Some a) (Some delta) = Some (record a { accumulator = accumulator_more g a.accumulator delta.pair })
 
 -- the last delta is undone
 abbrev pub accumulator_undo : ℕ → Accumulator → Delta → Accumulator
@@ -80,11 +80,11 @@ AccumulatorFits g (accumulator.Totals live) delta = AccumulatorFolds (accumulato
 AccumulatorFits g (accumulator.Extrema live) delta = (g < length live.groups) × (delta.previous ≡ fin.get (group_at live.groups g) delta.pair.0)
 
 -- the delta of an entry fits its accumulator
-abbrev pub Fits : ℕ → RegistryEntry → Option Delta → Type 0
-Fits g None delta = Unit {0}
-Fits g (Some a) None = Unit {0}
-Fits g (Some a) (Some delta) = AccumulatorFits g a.accumulator delta
+abbrev pub FitsEntry : ℕ → RegistryEntry → Option Delta → Type 0
+FitsEntry g None delta = Unit {0}
+FitsEntry g (Some a) None = Unit {0}
+FitsEntry g (Some a) (Some delta) = AccumulatorFits g a.accumulator delta
 
 -- each delta fits the accumulator of its entry
 abbrev pub EachFits : ℕ → List RegistryEntry → List (Option Delta) → Type 0
-EachFits g registry deltas = (k : ℕ) (s : RegistryEntry) (c : Option Delta) → slice_get registry k ≡ Some s → slice_get deltas k ≡ Some c → Fits g s c
+EachFits g registry deltas = (k : ℕ) (s : RegistryEntry) (c : Option Delta) → slice_get registry k ≡ Some s → slice_get deltas k ≡ Some c → FitsEntry g s c

@@ -12,15 +12,15 @@ use Rattle.far_aggregates.specs.declared.aggregate.Accumulator.TheVariants as ac
 use Rattle.far_aggregates.specs.Accumulators.{RegistryEntry, Change}
 
 -- what a row gives, by the specification of the aggregate
-abbrev pub Gives : Type 0
-Gives = Spec → Change
+abbrev pub ChangeBySpec : Type 0
+ChangeBySpec = Spec → Change
 
 -- what a row that is alive gives, by its cells
-abbrev pub row_gives : Cells → Gives
+abbrev pub row_gives : Cells → ChangeBySpec
 row_gives cells spec = pair_of spec cells
 
 -- what a place gives
-abbrev pub place_gives : Place → Gives
+abbrev pub place_gives : Place → ChangeBySpec
 place_gives place spec = place_pair spec place
 
 -- the place of a row that is alive
@@ -28,7 +28,7 @@ abbrev pub alive_with : List Cell → Place
 alive_with row = record { cells = row; alive = true }
 
 -- what a row of place i gives to a registry entry, unless its row group is pending there
-abbrev pub change_of : ℕ → ℕ → Gives → RegistryEntry → Change
+abbrev pub change_of : ℕ → ℕ → ChangeBySpec → RegistryEntry → Change
 change_of size i gives None = None
 change_of size i gives (Some a) = cond (is_pending a.pending (i / size)) None (gives a.spec)
 

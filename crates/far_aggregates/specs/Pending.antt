@@ -11,7 +11,7 @@ use Rattle.far_aggregates.specs.Retract.{retracted, EachMayRetract}
 use Rattle.far_aggregates.specs.Until.{zip_all}
 
 -- the aggregates are those of these places, which are few, and whose numbers fit 64 bits
-pub record AreKept (size : ℕ) (places : List Place) (registry : List RegistryEntry) : Type 0 where
+pub record AreUpToDate (size : ℕ) (places : List Place) (registry : List RegistryEntry) : Type 0 where
   pub kept : Keeps size places registry
   pub few : length places ≤ 2 ^ 24
   pub fit : PlacesFit places

@@ -61,8 +61,8 @@ pub struct Aggregates {
 impl Model for Aggregates {
     ghost use Rattle.std.specs.Prelude.{List, Option, length, ◌≤◌};
     ghost use Rattle.std.specs.Coded.{codes};
-    ghost use Rattle.far_groups.specs.Live.{coded_live as coded_totals_live};
-    ghost use Rattle.far_extrema.specs.Live.{coded_live as coded_extrema_live};
+    ghost use Rattle.far_groups.specs.Live.{coded_totals_state as coded_totals_live};
+    ghost use Rattle.far_extrema.specs.Live.{coded_extrema_state as coded_extrema_live};
     ghost use Rattle.far_aggregates.specs.Accumulators.{RegistryEntry};
 
     ghost Value = { List RegistryEntry };
@@ -81,7 +81,7 @@ impl Aggregates {
     ghost use Rattle.far_aggregates.specs.Lending.{EntryIsServed, AreServed};
     ghost use Rattle.far_aggregates.specs.Readings.{plain_in};
     ghost use Rattle.far_aggregates.specs.Scans.{scanned_entry};
-    ghost use Rattle.far_aggregates.specs.Pending.{AreKept, KeepsAsBefore, IsAliveAt, MayUndoAll, all_undone, UndoesAll, MayRetractAll, all_retracted, RetractsAll};
+    ghost use Rattle.far_aggregates.specs.Pending.{AreUpToDate, KeepsAsBefore, IsAliveAt, MayUndoAll, all_undone, UndoesAll, MayRetractAll, all_retracted, RetractsAll};
 
     /// Returns a registry without an aggregate. Allocates nothing.
     pub fn new(alloc: Global) -> Aggregates
@@ -234,7 +234,7 @@ impl Aggregates {
         requires size { 0 < size }
         requires pending { is_pending_in (aggregate_in self.old a) number ≡ true }
         requires served { EntryIsServed (G.has group.now) (aggregate_in self.old a) }
-        requires kept { (places : List Place) × (G.places group.now ≡ in_group size number places) × AreKept size places self.old }
+        requires kept { (places : List Place) × (G.places group.now ≡ in_group size number places) × AreUpToDate size places self.old }
         ensures registered { OnOk result (registered_of self.new ≡ slice_set (registered_of self.old) a (scanned_entry number (aggregate_in self.old a))) }
         ensures kept { (places : List Place) → G.places group.now ≡ in_group size number places → Keeps size places self.old → Keeps size places self.new }
         ensures unchanged { OnErr result (registered_of self.new ≡ registered_of self.old) }
@@ -259,7 +259,7 @@ impl Aggregates {
     ) -> Result<Pending, Refusal>
         requires size { 0 < size }
         requires few { place ≤ 2 ^ 24 }
-        requires kept { (places : List Place) × AreKept size places self.old }
+        requires kept { (places : List Place) × AreUpToDate size places self.old }
         ensures applied { OnOk result ((places : List Place) → (cells : List Cell) → length places ≡ place → R.cells row.now ≡ cells_of cells → Keeps size places self.old → Keeps size (places_after (edit.Insert cells) places) self.new) }
         ensures undo { IfOk result (UndoesAll self.old self.new) }
         ensures unchanged { OnErr result (KeepsAsBefore self.old self.new) }
@@ -307,8 +307,8 @@ impl Aggregates {
         requires size { 0 < size }
         requires few { place ≤ 2 ^ 24 }
         requires column { IsSome (R.cells row.now column) }
-        requires kept { (places : List Place) × AreKept size places self.old }
-        ensures retracts { IfOk result (λ pending. (places : List Place) → IsAliveAt (R.cells row.now) place places → AreKept size places self.old → PlacesFit (places_after (edit.Set place column (lent_cell cell.entry)) places) → RetractsAll size (place / size) (places_after (edit.Set place column (lent_cell cell.entry)) places) self.new pending) }
+        requires kept { (places : List Place) × AreUpToDate size places self.old }
+        ensures retracts { IfOk result (λ pending. (places : List Place) → IsAliveAt (R.cells row.now) place places → AreUpToDate size places self.old → PlacesFit (places_after (edit.Set place column (lent_cell cell.entry)) places) → RetractsAll size (place / size) (places_after (edit.Set place column (lent_cell cell.entry)) places) self.new pending) }
         ensures undo { IfOk result (UndoesAll self.old self.new) }
         ensures unchanged { OnErr result (KeepsAsBefore self.old self.new) }
         ensures registered { registered_of self.new ≡ registered_of self.old }
@@ -357,7 +357,7 @@ impl Aggregates {
     ) -> Result<Pending, Refusal>
         requires size { 0 < size }
         requires few { place ≤ 2 ^ 24 }
-        ensures retracts { IfOk result (λ pending. (places : List Place) → IsAliveAt (R.cells row.now) place places → AreKept size places self.old → RetractsAll size (place / size) (places_after (edit.Remove place) places) self.new pending) }
+        ensures retracts { IfOk result (λ pending. (places : List Place) → IsAliveAt (R.cells row.now) place places → AreUpToDate size places self.old → RetractsAll size (place / size) (places_after (edit.Remove place) places) self.new pending) }
         ensures unchanged { KeepsAsBefore self.old self.new }
         ensures registered { registered_of self.new ≡ registered_of self.old }
         ensures memory { IfErr result (λ e. e ≡ Refusal.NoMemory) }

@@ -3,14 +3,15 @@ ghost use Rattle.std.specs.Prelude.{◌≡◌, ◌/◌, ◌^◌, ◌<◌, ◌≤
 ghost use Rattle.far_types.specs.declared.key.Key.TheVariants as variants;
 ghost use Rattle.far_types.specs.Lent.{key_by};
 ghost use Rattle.far_aggregates.specs.Pairs.{Folds, EachFolds, row_gives};
-ghost use Rattle.far_aggregates.specs.Deltas.{previous_in, row_delta, delta_in, accumulator_more, added, undo, AccumulatorMayAdd, MayUndo, EachMayUndo};
+ghost use Rattle.far_aggregates.specs.Deltas.{previous_in, row_delta, delta_in, accumulator_more, with_delta, undo, AccumulatorMayAdd, MayUndo, EachMayUndo};
 ghost use Rattle.far_aggregates.specs.Reserve.{IsReserved, AreReserved};
 ghost use Rattle.far_aggregates.specs.Until.{zip_until, zip_all};
 
 use super::aggregate::{Accumulator, Aggregate};
-use super::pairs::{Pair, give};
+use super::pairs::give;
 use super::spare_keys::SpareKeys;
 use far_extrema::MinMax;
+use far_groups::Pair;
 use far_types::{Key, LendCells, PairRef, Refusal, number_key};
 
 /// A change to one aggregate: a pair that is added. For extrema it also holds the key's previous least and greatest value in
@@ -89,7 +90,7 @@ fn apply_under(
     requires folds { Folds entry.old }
     requires reserved { IsReserved group entry.old }
     requires place { vec_len deltas.old < vec_capacity deltas.old }
-    ensures ok { OnOk result (entry.new ≡ added group entry.old (delta_in group entry.old (key_by number, value))) }
+    ensures ok { OnOk result (entry.new ≡ with_delta group entry.old (delta_in group entry.old (key_by number, value))) }
     ensures deltas { OnOk result (deltas.new.items ≡ deltas.old.items ++ delta_in group entry.old (key_by number, value) ∷ []) }
     ensures capacity { vec_capacity deltas.new ≡ vec_capacity deltas.old }
     ensures err { OnErr result (entry.new ≡ entry.old) }
@@ -128,7 +129,7 @@ fn apply_under_text(
     requires folds { Folds entry.old }
     requires reserved { IsReserved group entry.old }
     requires place { vec_len deltas.old < vec_capacity deltas.old }
-    ensures ok { OnOk result (entry.new ≡ added group entry.old (delta_in group entry.old (Some (variants.Text text.now), value))) }
+    ensures ok { OnOk result (entry.new ≡ with_delta group entry.old (delta_in group entry.old (Some (variants.Text text.now), value))) }
     ensures deltas { OnOk result (deltas.new.items ≡ deltas.old.items ++ delta_in group entry.old (Some (variants.Text text.now), value) ∷ []) }
     ensures capacity { vec_capacity deltas.new ≡ vec_capacity deltas.old }
     ensures err { OnErr result (entry.new ≡ entry.old) }
@@ -167,7 +168,7 @@ fn apply_next<R: LendCells>(
     requires folds { Folds entry.old }
     requires reserved { IsReserved (place / size) entry.old }
     requires place { vec_len deltas.old < vec_capacity deltas.old }
-    ensures ok { OnOk result (entry.new ≡ added (place / size) entry.old (row_delta size place (row_gives (R.cells row.now)) entry.old)) }
+    ensures ok { OnOk result (entry.new ≡ with_delta (place / size) entry.old (row_delta size place (row_gives (R.cells row.now)) entry.old)) }
     ensures deltas { OnOk result (deltas.new.items ≡ deltas.old.items ++ row_delta size place (row_gives (R.cells row.now)) entry.old ∷ []) }
     ensures capacity { vec_capacity deltas.new ≡ vec_capacity deltas.old }
     ensures err { OnErr result (entry.new ≡ entry.old) }
@@ -207,7 +208,7 @@ pub fn apply_deltas<R: LendCells>(
     requires group { group ≡ place / size }
     requires folds { EachFolds registry.old }
     requires reserved { AreReserved (place / size) registry.old }
-    ensures ok { OnOk result (registry.new ≡ zip_all (added (place / size)) registry.old (map (row_delta size place (row_gives (R.cells row.now))) registry.old)) }
+    ensures ok { OnOk result (registry.new ≡ zip_all (with_delta (place / size)) registry.old (map (row_delta size place (row_gives (R.cells row.now))) registry.old)) }
     ensures deltas { IfOk result (λ deltas. deltas.items ≡ map (row_delta size place (row_gives (R.cells row.now))) registry.old) }
     ensures len { IfOk result (λ deltas. length deltas.items ≡ length registry.new) }
     ensures may_undo { IfOk result (λ deltas. EachMayUndo (place / size) (length registry.new) registry.new deltas.items) }

@@ -19,12 +19,12 @@ pub struct KnownExtrema {
 }
 
 impl Model for KnownExtrema {
-    ghost use Rattle.far_extrema.specs.Live.{Live, coded_live};
+    ghost use Rattle.far_extrema.specs.Live.{ExtremaState, coded_extrema_state};
     ghost use Rattle.far_aggregates.specs.Known.{AreKnown};
 
-    ghost Value = { Live };
+    ghost Value = { ExtremaState };
 
-    ghost coded = { coded_live };
+    ghost coded = { coded_extrema_state };
 
     ghost view = { λ known. known.live };
 

@@ -4,9 +4,9 @@ ghost use Rattle.far_types.specs.Effects.{widened};
 ghost use Rattle.far_aggregates.specs.LeavingOut.{NeedNotRetract, IsLeftOut, EachLeftOut};
 
 use super::deltas::Delta;
-use super::pairs::Pair;
 use super::spare_keys::SpareKeys;
 use far_extrema::{MinMax, is_strictly_within};
+use far_groups::Pair;
 use far_types::Key;
 
 /// Returns whether two keys are one.

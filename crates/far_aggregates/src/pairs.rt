@@ -5,10 +5,8 @@ ghost use Rattle.far_aggregates.specs.Pairs.{change_of, row_gives};
 
 use super::aggregate::Aggregate;
 use super::spare_keys::SpareKeys;
-use far_types::{Key, LendCells, PairRef, Refusal, number_key};
-
-/// A folded row: its key, none in an aggregate without key column, and its value.
-pub type Pair = (Option<Key>, i64);
+use far_groups::Pair;
+use far_types::{LendCells, PairRef, Refusal, number_key};
 
 /// Returns the pair that a row that is alive at a place gives to an aggregate, unless its row group is pending.
 #[inline(always)]

@@ -2,7 +2,7 @@
 ghost use Rattle.std.specs.Prelude.{◌≡◌, []};
 
 use super::deltas::Delta;
-use super::pairs::Pair;
+use far_groups::Pair;
 use std::alloc::Global;
 
 /// The deltas that an edit applied, and the pairs to retract once the rows are changed. If the rows refuse the edit, give this

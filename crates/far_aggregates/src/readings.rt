@@ -4,15 +4,15 @@ ghost use Rattle.far_types.specs.Table.{Place};
 ghost use Rattle.far_aggregates.specs.Accumulators.{KeepsEntry, registered_in};
 ghost use Rattle.far_aggregates.specs.Readings.{plain_in};
 ghost use Rattle.far_aggregates.specs.Scans.{has_pending};
-ghost use Rattle.far_aggregates.specs.Aggregates.{joined};
+ghost use Rattle.far_aggregates.specs.Aggregates.{flattened};
 
 use super::aggregate::{Accumulator, Aggregate};
 
 /// Returns the first row group that is pending, with the lowest number of an aggregate that lacks it.
 pub fn first_pending(registry: &[Option<Aggregate>]) -> Option<(u32, u32)>
     requires { length registry.now ≤ 32 }
-    ensures some { IfSome result (λ at. has_pending at.1 (joined (slice_get registry.now at.0)) ≡ true) }
-    ensures none { IfNone result ((a : ℕ) → (g : ℕ) → has_pending g (joined (slice_get registry.now a)) ≡ false) }
+    ensures some { IfSome result (λ at. has_pending at.1 (flattened (slice_get registry.now at.0)) ≡ true) }
+    ensures none { IfNone result ((a : ℕ) → (g : ℕ) → has_pending g (flattened (slice_get registry.now a)) ≡ false) }
 {
     for i in 0..registry.len() {
         if let Some(aggregate) = &registry[i] {

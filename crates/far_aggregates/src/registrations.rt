@@ -3,7 +3,7 @@ ghost use Rattle.std.specs.Prelude.{◌≡◌, ◌<◌, ◌≤◌, ◌+◌, ◌^
 ghost use Rattle.std.specs.Option.{option_copied};
 ghost use Rattle.far_types.specs.Table.{Place, groups, is_pending};
 ghost use Rattle.far_aggregates.specs.Accumulators.{Keeps, KeepsEntry, KeepsNothing, fold_of, registered_in, registered_of};
-ghost use Rattle.far_aggregates.specs.Aggregates.{free_from, joined};
+ghost use Rattle.far_aggregates.specs.Aggregates.{free_from, flattened};
 
 use super::aggregate::{Accumulator, Aggregate};
 use super::known::KnownExtrema;
@@ -32,7 +32,7 @@ pub fn free_number(registry: &[Option<Aggregate>]) -> Option<u32>
 
 /// Returns the aggregate of a number, if there is one.
 pub fn aggregate_at(registry: &[Option<Aggregate>], a: u32) -> Option<&Aggregate>
-    ensures { option_copied result ≡ joined (slice_get registry.now a) }
+    ensures { option_copied result ≡ flattened (slice_get registry.now a) }
 {
     match registry.get(a as usize) {
         Some(Some(aggregate)) => Some(aggregate),

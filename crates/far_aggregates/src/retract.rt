@@ -14,8 +14,8 @@ use super::aggregate::{Accumulator, Aggregate};
 use super::known::KnownExtrema;
 use super::lend_group::LendGroup;
 use super::needed::{has_no_test, needed_columns, untested_columns};
-use super::pairs::Pair;
 use far_extrema::{MinMax, RowsLeft};
+use far_groups::Pair;
 use far_offload::min_max_under;
 use far_types::{Key, Spec};
 

@@ -9,7 +9,7 @@ ghost use Rattle.far_offload.specs.Partials.{partial_of};
 ghost use Rattle.far_aggregates.specs.Accumulators.{KeepsEntry, Keeps, fold_of, pairs_here, registered_in, registered_of};
 ghost use Rattle.far_aggregates.specs.Lending.{IsServed, EntryIsServed};
 ghost use Rattle.far_aggregates.specs.Scans.{scanned_entry, has_pending, IsScanned, IsSame, AccumulatorMayScan, EntryMayScan};
-ghost use Rattle.far_aggregates.specs.Aggregates.{joined};
+ghost use Rattle.far_aggregates.specs.Aggregates.{flattened};
 ghost use Rattle.far_aggregates.specs.Recounting.{AccumulatorMayMerge, IsMerged};
 
 use super::aggregate::{Accumulator, Aggregate};
@@ -161,10 +161,10 @@ pub fn scan_at<G: LendGroup>(
     number: u32,
 ) -> Result<(), Refusal>
     requires size { 0 < size }
-    requires pending { has_pending number (joined (slice_get registry.old.items a)) ≡ true }
-    requires served { EntryIsServed (G.has group.now) (registered_in (joined (slice_get registry.old.items a))) }
-    requires may { EntryMayScan size number (G.places group.now) (joined (slice_get registry.old.items a)) }
-    ensures registered { OnOk result (registered_of registry.new.items ≡ slice_set (registered_of registry.old.items) a (scanned_entry number (registered_in (joined (slice_get registry.old.items a))))) }
+    requires pending { has_pending number (flattened (slice_get registry.old.items a)) ≡ true }
+    requires served { EntryIsServed (G.has group.now) (registered_in (flattened (slice_get registry.old.items a))) }
+    requires may { EntryMayScan size number (G.places group.now) (flattened (slice_get registry.old.items a)) }
+    ensures registered { OnOk result (registered_of registry.new.items ≡ slice_set (registered_of registry.old.items) a (scanned_entry number (registered_in (flattened (slice_get registry.old.items a))))) }
     ensures kept { (places : List Place) → G.places group.now ≡ in_group size number places → Keeps size places registry.old.items → Keeps size places registry.new.items }
     ensures unchanged { OnErr result (registered_of registry.new.items ≡ registered_of registry.old.items) }
     ensures memory { IfErr result (λ e. e ≡ Refusal.NoMemory) }

@@ -4,7 +4,7 @@ ghost use Rattle.far_types.specs.declared.key.Key.TheVariants as keys;
 ghost use Rattle.far_aggregates.specs.SpareKeys.{text_key};
 
 use super::deltas::Delta;
-use super::pairs::Pair;
+use far_groups::Pair;
 use far_types::{CellRef, Key, Refusal};
 use std::alloc::Global;
 

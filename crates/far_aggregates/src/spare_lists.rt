@@ -2,9 +2,9 @@
 ghost use Rattle.std.specs.Prelude.{◌≡◌, []};
 
 use super::deltas::Delta;
-use super::pairs::Pair;
 use super::pending::Pending;
 use super::spare_keys::SpareKeys;
+use far_groups::Pair;
 use std::alloc::Global;
 use std::mem;
 

@@ -2,7 +2,7 @@
 ghost use Rattle.std.specs.Prelude.{◌≡◌, ◌+◌, ◌<◌, ◌^◌, [], List, length, IfOk, OnOk};
 ghost use Rattle.far_types.specs.Table.{Place};
 ghost use Rattle.far_aggregates.specs.Accumulators.{Keeps};
-ghost use Rattle.far_aggregates.specs.Pending.{AreKept};
+ghost use Rattle.far_aggregates.specs.Pending.{AreUpToDate};
 
 use crate::cases::must_be;
 use far_aggregates::Aggregates;
@@ -50,8 +50,8 @@ fn append(
     place: usize,
 ) -> Result<(), Refusal>
     requires few { place < 2 ^ 24 }
-    requires kept { (places : List Place) × (length places ≡ place) × AreKept 4 places aggregates.old }
-    ensures { OnOk result ((places : List Place) × (length places ≡ place + 1) × AreKept 4 places aggregates.new) }
+    requires kept { (places : List Place) × (length places ≡ place) × AreUpToDate 4 places aggregates.old }
+    ensures { OnOk result ((places : List Place) × (length places ≡ place + 1) × AreUpToDate 4 places aggregates.new) }
 {
     let pending = aggregates.apply_deltas(alloc, sale, 4, place)?;
     aggregates.end(pending);

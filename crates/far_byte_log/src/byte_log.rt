@@ -34,7 +34,7 @@ impl Model for ByteLog {
 
 /// Where a write lies in a log, and what shows each of its bytes. What shows them has no bytes at run time.
 #[derive(Drop)]
-pub struct Extent {
+pub struct LogKey {
     offset: usize,
     written: Vec<Written<u8>>,
 }
@@ -142,7 +142,7 @@ fn nth<T>(list: &Vec<T>, n: usize) -> &T
 }
 
 impl Engine for ByteLog {
-    type Key = Extent;
+    type Key = LogKey;
 
     type Error = LogFull;
 
@@ -152,7 +152,7 @@ impl Engine for ByteLog {
 
     ghost is_of = { λ key id. (i : ℕ) → IfSome (slice_get key.written.items i) (λ token. slice_get id (key.offset + i) ≡ Some token.of) };
 
-    fn write(&self, alloc: Global, bytes: &[u8]) -> Result<Extent, Failure<LogFull>> {
+    fn write(&self, alloc: Global, bytes: &[u8]) -> Result<LogKey, Failure<LogFull>> {
         let mut written = Vec::with_capacity(alloc, bytes.len())?;
         let Some(offset) = self.take(bytes.len()) else {
             return Err(Failure::Engine(LogFull));
@@ -162,13 +162,13 @@ impl Engine for ByteLog {
         for (i, byte) in bytes.iter().enumerate() {
             written.push(self.write_at(offset + i, *byte)?)?;
         }
-        Ok(Extent { offset, written })
+        Ok(LogKey { offset, written })
     }
 
     fn read(
         &self,
         _alloc: Global,
-        key: &Extent,
+        key: &LogKey,
         buffer: &mut Vec<u8>,
     ) -> Result<(), Failure<LogFull>> {
         // For the proof: the place of a slot is a `usize`.

@@ -5,7 +5,7 @@ ghost use Rattle.far_codec.specs.FarForm.{number_bytes, ints_form};
 ghost use Rattle.far_codec.specs.PlainNumbers.{IsThere};
 
 use crate::numbers::plain_words;
-use crate::words::Word;
+use crate::words::EightBytes;
 use std::alloc::AllocError;
 
 /// Writes the words of a block into their places. Returns whether no number is missing. Stops at the first that is.

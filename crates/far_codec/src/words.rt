@@ -8,7 +8,7 @@ ghost use Rattle.far_codec.specs.Reading.{number_of};
 use std::alloc::AllocError;
 
 /// A value that is written as eight bytes.
-pub(crate) trait Word: Copy + Drop {
+pub(crate) trait EightBytes: Copy + Drop {
     /// The eight bytes.
     ghost written: { Self → List ℕ };
 
@@ -20,7 +20,7 @@ pub(crate) trait Word: Copy + Drop {
         ensures range { in_range self.now };
 }
 
-impl Word for i64 {
+impl EightBytes for i64 {
     ghost written = { λ number. number_bytes (Some number) };
 
     ghost in_range = { FitsSigned w64 };
@@ -31,7 +31,7 @@ impl Word for i64 {
     }
 }
 
-impl Word for Option<i64> {
+impl EightBytes for Option<i64> {
     ghost written = { number_bytes };
 
     ghost in_range = { λ number. IfSome number (FitsSigned w64) };
@@ -55,7 +55,7 @@ pub(crate) fn number_in(word: &[u8; 8]) -> i64
 }
 
 /// Writes the word of each element of a block into its place.
-fn write_words<T: Word>(words: &mut [[u8; 8]], block: &[T])
+fn write_words<T: EightBytes>(words: &mut [[u8; 8]], block: &[T])
     requires { length words.old ≡ length block.now }
     ensures words { words.new ≡ map T.written block.now }
     ensures range { AllByRecursion T.in_range block.now }
@@ -66,7 +66,7 @@ fn write_words<T: Word>(words: &mut [[u8; 8]], block: &[T])
 }
 
 /// Appends the words of a list. Writes them in blocks, so that a compiler makes wide moves of them.
-pub(crate) fn push_words<T: Word>(form: &mut Vec<u8>, list: &[T]) -> Result<(), AllocError>
+pub(crate) fn push_words<T: EightBytes>(form: &mut Vec<u8>, list: &[T]) -> Result<(), AllocError>
     ensures written { OnOk result (form.new.items ≡ form.old.items ++ flat_map T.written list.now) }
     ensures range { OnOk result (AllByRecursion T.in_range list.now) }
 {
@@ -85,7 +85,7 @@ pub(crate) fn push_words<T: Word>(form: &mut Vec<u8>, list: &[T]) -> Result<(), 
 }
 
 /// Returns whether the words are those of the list. Stops at the first difference.
-pub(crate) fn are_words<T: Word>(words: &[[u8; 8]], list: &[T]) -> bool
+pub(crate) fn are_words<T: EightBytes>(words: &[[u8; 8]], list: &[T]) -> bool
     ensures exact { IsTrue result ↔ (words.now ≡ map T.written list.now) }
     ensures range { IsTrue result → AllByRecursion T.in_range list.now }
 {

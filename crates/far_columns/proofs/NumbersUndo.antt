@@ -15,7 +15,7 @@ use Rattle.far_vector.specs.Vector.{Vector, IsShaped, IsVector, AreDisjoint, IsU
 use Rattle.far_vector.specs.Vectors.{AreVectors, ChangesVector}
 use Rattle.far_vector.specs.Effects.{is_full, after_push, pushed_in, after_unpush}
 use Rattle.far_columns.specs.NumbersTogether.{NumberLists, NumberColumns, KeepsNumbers}
-use Rattle.far_columns.specs.NumbersUndo.{KeepsBelow, IsBegun, AreBegunFrom, AreBegunLast, after_uncreate_all}
+use Rattle.far_columns.specs.NumbersUndo.{KeepsBelow, IsNewGroup, AreBegunFrom, AreBegunLast, after_uncreate_all}
 use Rattle.far_columns.proofs.NumbersTogether.{pairs-head, pairs-tail, disjoint-turned}
 use Rattle.far_columns.proofs.NumbersBegun.{one-more, alone, last}
 
@@ -85,7 +85,7 @@ module _ {K : Type 0} where
     pins-kept = ap (λ object_record. option_map_or (λ e. e.pins) object_record 0) (keeps.records p below)
 
     -- a row group that is begun stays so, if its object keeps its word and its record
-    pub begun-kept : (c : Vector (Option ℤ)) → IsBegun m p c → IsBegun mid p c
+    pub begun-kept : (c : Vector (Option ℤ)) → IsNewGroup m p c → IsNewGroup mid p c
     begun-kept c begun = record { alone = begun.alone; last = begun.last; local = local-kept ∙ begun.local; unpinned = pins-kept ∙ begun.unpinned }
 
   pub begun-count : (m : Movement (Option ℤ) K) (o : ℕ) (columns : NumberColumns) → AreBegunFrom m o columns → o + length columns ≡ length m.records
@@ -104,12 +104,12 @@ module _ {K : Type 0} where
     rest-last = begun-last m (length m.records - length (c ∷ rest) + 1) rest begun.1
 
     -- and once they are taken back the first is
-    pub first-last : (mid : Movement (Option ℤ) K) → mid ≡ after_uncreate_all (length rest) m → KeepsBelow (length mid.records) m mid → IsBegun mid (length mid.records - 1) c
+    pub first-last : (mid : Movement (Option ℤ) K) → mid ≡ after_uncreate_all (length rest) m → KeepsBelow (length mid.records) m mid → IsNewGroup mid (length mid.records - 1) c
     first-last mid is keeps =
         let all = begun-count m (length m.records - length (c ∷ rest)) (c ∷ rest) begun in
         let left : length mid.records ≡ length m.records - length rest = ap (λ w. length w.records) is ∙ length-uncreated (length rest) m in
         let number : length m.records - length (c ∷ rest) ≡ length mid.records - 1 = omega (arith, all, left) in
-        begun-kept (length mid.records) m mid keeps (length mid.records - 1) (omega (arith, all, left)) c (subst (λ o. IsBegun m o c) number begun.0)
+        begun-kept (length mid.records) m mid keeps (length mid.records - 1) (omega (arith, all, left)) c (subst (λ o. IsNewGroup m o c) number begun.0)
 
 -- the object of a row group that is begun
 pub object-begun : (c : Vector (Option ℤ)) (n : ℕ) → IsShaped c → is_full c ≡ true → object_at (after_push c n) c.len ≡ n
@@ -136,7 +136,7 @@ module _ {K : Type 0} (m mid new : Movement (Option ℤ) K) (c c' : Vector (Opti
   pub begun-all : (rest' : NumberColumns) → is_local mid (length m.records) ≡ true → pins_of mid (length m.records) ≡ 0 → AreBegunFrom new (length mid.records) rest' → AreBegunFrom new (length m.records) (c' ∷ rest')
   begun-all rest' local unpinned begun =
       let number : length mid.records - 1 ≡ length m.records = omega (arith, more) in
-      let first : IsBegun mid (length m.records) c' = record { alone = alone m mid c c' x full is written; last = last m mid c c' x full is written ∙ ap Some number; local = local; unpinned = unpinned } in
+      let first : IsNewGroup mid (length m.records) c' = record { alone = alone m mid c c' x full is written; last = last m mid c c' x full is written ∙ ap Some number; local = local; unpinned = unpinned } in
       (begun-kept (length mid.records) mid new keeps (length m.records) (omega (arith, more)) c' first, subst (λ o. AreBegunFrom new o rest') more begun)
 
   -- taking all back gives what was there

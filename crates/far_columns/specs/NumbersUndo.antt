@@ -12,18 +12,18 @@ module _ {K : Type 0} where
     pub records : (p : ℕ) → p < n → slice_get new.records p ≡ slice_get old.records p
 
   -- the last row group of a column has one number alone, and this is its object, which is local and has no pin
-  pub record IsBegun (m : Movement (Option ℤ) K) (o : ℕ) (c : Vector (Option ℤ)) : Type 0 where
+  pub record IsNewGroup (m : Movement (Option ℤ) K) (o : ℕ) (c : Vector (Option ℤ)) : Type 0 where
     pub alone : c.len ≡ (length c.objects - 1) * c.size + 1
     pub last : slice_get c.objects (length c.objects - 1) ≡ Some o
     pub local : is_local m o ≡ true
     pub unpinned : pins_of m o ≡ 0
 
-  -- the last row group of each column is begun (`IsBegun`); the objects are this one and those behind it, to the last of all
+  -- the last row group of each column is begun (`IsNewGroup`); the objects are this one and those behind it, to the last of all
   abbrev pub AreBegunFrom : Movement (Option ℤ) K → ℕ → NumberColumns → Type 0
   AreBegunFrom m o [] = o ≡ length m.records
-  AreBegunFrom m o (c ∷ columns) = IsBegun m o c × AreBegunFrom m (o + 1) columns
+  AreBegunFrom m o (c ∷ columns) = IsNewGroup m o c × AreBegunFrom m (o + 1) columns
 
-  -- the last row group of each column is begun (`IsBegun`), and the last objects of all are theirs, in the order of the columns
+  -- the last row group of each column is begun (`IsNewGroup`), and the last objects of all are theirs, in the order of the columns
   abbrev pub AreBegunLast : Movement (Option ℤ) K → NumberColumns → Type 0
   AreBegunLast m columns = AreBegunFrom m (length m.records - length columns) columns
 

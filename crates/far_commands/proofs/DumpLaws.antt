@@ -6,7 +6,7 @@ use Rattle.std.proofs.lemmas.List.{take_all}
 use Rattle.far_types.specs.declared.cell.Cell.{Cell}
 use Rattle.far_types.specs.declared.refusal.Refusal.{Refusal}
 use Rattle.far_types.specs.Table.{Place, rows_of}
-use Rattle.far_table.specs.State.{State}
+use Rattle.far_table.specs.State.{LiveState}
 use Rattle.far_frame.specs.Views.{away}
 use Rattle.far_script.specs.declared.fault.ShellFault.{ShellFault}
 use Rattle.far_script.specs.declared.fault.ShellFault.TheVariants as fault
@@ -130,7 +130,7 @@ module _ (u : Option (List ℕ)) (held front : List ℕ) (places : List Place) w
 pub cut-at-once : (answer : List ℕ → Type 0) (u : Option (List ℕ)) (held : List ℕ) → PrintsCut fault.Memory answer u held u held
 cut-at-once answer u held = ([], prints-none u held, inl refl)
 
-module _ {K : Type 0} (s : State K) where
+module _ {K : Type 0} (s : LiveState K) where
   -- an object is away
   pub listed-refusal : (why : Refusal) → Some why ≡ away s → listing_of s ≡ refusal_text why
   listed-refusal why is = ap (λ (found : Option Refusal). option_map_or refusal_text found (dump_text s.table)) (sym is)

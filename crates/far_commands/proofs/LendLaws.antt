@@ -10,7 +10,7 @@ use Rattle.far_vector.specs.Pieces.{pieces_of}
 use Rattle.far_frame.specs.declared.step.Reply.{Reply}
 use Rattle.far_frame.specs.declared.step.Reply.TheVariants as reply
 use Rattle.far_frame.specs.declared.step.Step.TheVariants as step
-use Rattle.far_frame.specs.Lending.{Gives, Piece, lent_part}
+use Rattle.far_frame.specs.Lending.{IsReplyOf, Piece, lent_part}
 use Rattle.far_frame.specs.Steps.{IsStep}
 use Rattle.far_frame.specs.Worlds.{World}
 use Rattle.far_commands.specs.Listings.{cell_text, field_in_record, row_line}
@@ -96,7 +96,7 @@ pub pieces-there : (all : List Piece) (first : Piece) (rest : List Piece) → al
 pieces-there all first rest e = rw e refl
 
 -- what is printed of a reply that gives pieces
-given-text : (of : Option Kind) (pieces : List Piece) (done : List ℕ) (given : Reply) → Gives of pieces given → reply_text done given ≡ pieces_text pieces
+given-text : (of : Option Kind) (pieces : List Piece) (done : List ℕ) (given : Reply) → IsReplyOf of pieces given → reply_text done given ≡ pieces_text pieces
 given-text of pieces done (reply.Ints copies) is = ap pieces_text is.1
 given-text of pieces done (reply.Texts copies) is = ap pieces_text is.1
 given-text of pieces done (reply.Place place) is = absurd is
@@ -109,7 +109,7 @@ given-text of pieces done (reply.Refused why) is = absurd is
 
 -- a part that was printed, and recorded as lent, is the reply of the step
 pub lends : {S K : Type 0} (tickets : Tickets S K) (old new : World K) (column from to : ℕ) (of : Option Kind) (text : List ℕ)
-    → (given : Reply) × Gives of (lent_part old.state.table column from to) given × IsStep tickets.content tickets.number_of old (step.Lend column from to) given new
+    → (given : Reply) × IsReplyOf of (lent_part old.state.table column from to) given × IsStep tickets.content tickets.number_of old (step.Lend column from to) given new
     → text ≡ pieces_text (lent_part old.state.table column from to) → Takes tickets old (step.Lend column from to) text new
 lends tickets old new column from to of text given printed =
     (given.0, given.2, printed ∙ sym (given-text of (lent_part old.state.table column from to) (done_text (step.Lend column from to)) given.0 given.1))

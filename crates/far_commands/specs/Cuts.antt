@@ -36,5 +36,5 @@ abbrev pub Fails : Type 0 → List Kind → List ℕ → List ℕ → Type 0
 Fails short kinds line behind = ¬ (IsUtf8 line) ⊎ FailsBy short (command_of kinds line) behind
 
 -- a line asks for a dump, and this is what is listed
-abbrev pub Lists : {K : Type 0} → At K → List ℕ → List ℕ → Type 0
-Lists at line text = (command_of at.world.state.table.schema line ≡ Some command.Dump) × (text ≡ listing_of (live at.world.state))
+abbrev pub IsListing : {K : Type 0} → At K → List ℕ → List ℕ → Type 0
+IsListing at line text = (command_of at.world.state.table.schema line ≡ Some command.Dump) × (text ≡ listing_of (live at.world.state))

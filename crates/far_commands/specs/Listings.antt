@@ -8,7 +8,7 @@ use Rattle.far_types.specs.declared.cell.Cell.TheVariants as cell
 use Rattle.far_types.specs.FirstOf.{first_of}
 use Rattle.far_types.specs.Table.{Table, Place, rows_of}
 use Rattle.far_rows.specs.Refusing.{absents}
-use Rattle.far_table.specs.State.{State}
+use Rattle.far_table.specs.State.{LiveState}
 use Rattle.far_frame.specs.Views.{away}
 use Rattle.far_script.specs.Fields.{missing_mark}
 use Rattle.far_script.specs.Printing.{numbered_text, record_text, refusal_text, texts_of}
@@ -32,7 +32,7 @@ abbrev pub is_live : ℕ → List Place → Bool
 is_live p places = option_map_or (λ place. place.alive) (slice_get places p) false
 
 -- a place is there, and each object of its row group is local
-abbrev pub IsHere : {K : Type 0} → State K → ℕ → Type 0
+abbrev pub IsHere : {K : Type 0} → LiveState K → ℕ → Type 0
 IsHere s place = (place < length s.table.places) × (first_of (absents s.rows (place / s.table.limits.group)) ≡ None)
 
 -- a row as the csv writer writes it
@@ -44,5 +44,5 @@ abbrev pub dump_text : Table → List ℕ
 dump_text table = numbered_text (codes "rows") (length (rows_of table.places)) ++ texts_of row_line (rows_of table.places)
 
 -- the reply to a dump: the refusal for an object of the rows that is away, if there is one, or else the live rows
-abbrev pub listing_of : {K : Type 0} → State K → List ℕ
+abbrev pub listing_of : {K : Type 0} → LiveState K → List ℕ
 listing_of s = option_map_or refusal_text (away s) (dump_text s.table)

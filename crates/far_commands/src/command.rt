@@ -82,7 +82,7 @@ fn scan(mut words: Words) -> Option<Command>
 {
     let aggregate = words.number()?;
     let group = words.last_number()?;
-    Some(Command::Step(Step::ScanGroup(aggregate, group)))
+    Some(Command::Step(Step::ScanGroup { aggregate, group }))
 }
 
 /// Reads `COLUMN FROM TO`.

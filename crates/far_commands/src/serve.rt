@@ -1,7 +1,7 @@
 // Serves lines as commands.
 ghost use Rattle.std.specs.Prelude.{◌≡◌, ℕ, List, ◌++◌, ◌+◌, ◌≤◌, ◌<◌, ◌^◌, true, false, codes, IfOk, IfErr, OnOk, OnErr, Some};
 ghost use Rattle.far_frame.specs.State.{live};
-ghost use Rattle.far_commands.specs.Cuts.{Fails, FailsBy, Lists, PrintsCut};
+ghost use Rattle.far_commands.specs.Cuts.{Fails, FailsBy, IsListing, PrintsCut};
 ghost use Rattle.far_script.specs.Faults.{IfInput};
 ghost use Rattle.far_script.specs.Flow.{Holds, IsShort, Prints, Reads, Stops, has_failed, bytes_in};
 ghost use Rattle.far_script.specs.Printing.{numbered_text};
@@ -198,7 +198,7 @@ pub fn answer_line<S: FarStore, A: Resources<S>, R: Source + Drop, W: Sink>(
     requires held { Holds R.Read input.old line }
     requires few { progress.old.number < 4294967295 }
     ensures ok { OnOk result ((rows : List ℕ) × (text : List ℕ) × Reads R.Read input.old rows input.new × Prints (W.contents writer.old) output.old.page text (W.contents writer.new) output.new.page × AnswersLine S.FarTickets progress.old (bytes_in R.Read input.old line) rows text progress.new) }
-    ensures err { IfErr result (λ fault. PrintsCut fault (λ said. Lists progress.old (bytes_in R.Read input.old line) said) (W.contents writer.old) output.old.page (W.contents writer.new) output.new.page) }
+    ensures err { IfErr result (λ fault. PrintsCut fault (λ said. IsListing progress.old (bytes_in R.Read input.old line) said) (W.contents writer.old) output.old.page (W.contents writer.new) output.new.page) }
     ensures stopped { IfErr result (λ fault. IfInput fault (Stops R.Read (λ behind rest. Fails (IsShort R.Read R.may_fail input.old input.new rest) progress.old.world.state.table.schema (bytes_in R.Read input.old line) behind) input.old input.new)) }
     ensures failed { IfErr result (λ fault. fault ≡ ShellFault.Output → has_failed output.new ≡ true) }
     ensures asked { input.new.source.reads ≤ input.old.source.reads }

@@ -15,17 +15,17 @@ use Rattle.far_evacuator.specs.Jobs.{Evacuation, Fetch}
 
 module _ {X K : Type 0} (spelling : List X → List ℕ) (m : Movement X K) (o : ℕ) where
   -- the form of object o: the spelling of its list if it is dirty, and its ticket if it is clean
-  abbrev pub IsForm : EvacForm K → Type 0
-  IsForm (Dirty bytes) = (dirty m o ≡ true) × (option_map spelling (list_in m.memory o) ≡ Some bytes)
-  IsForm (Clean ticket) = (dirty m o ≡ false) × (ticket_of m o ≡ Some ticket)
+  abbrev pub IsObjectForm : EvacForm K → Type 0
+  IsObjectForm (Dirty bytes) = (dirty m o ≡ true) × (option_map spelling (list_in m.memory o) ≡ Some bytes)
+  IsObjectForm (Clean ticket) = (dirty m o ≡ false) × (ticket_of m o ≡ Some ticket)
 
   -- an evacuation of object o, begun now
-  pub record IsBegun (job : Evacuation K) : Type 0 where
+  pub record IsBegunEvac (job : Evacuation K) : Type 0 where
     pub number : job.number ≡ m.number
     pub object : job.object ≡ o
     pub version : job.version ≡ version_of m o
     pub leavings : job.leavings ≡ leavings_of m o
-    pub form : IsForm job.form
+    pub form : IsObjectForm job.form
 
 module _ {X K : Type 0} (m : Movement X K) where
   -- if an object is named, its number is in use

@@ -1,7 +1,5 @@
 -- Jobs: what they rest on and what they hold.
-use Rattle.std.specs.Prelude.{◌≡◌, ℕ, List, Result}
-use Rattle.std.specs.declared.result.Result.TheVariants.{Ok, Err}
-use Rattle.far_types.specs.declared.refusal.Refusal.{Refusal}
+use Rattle.std.specs.Prelude.{◌≡◌, ℕ, List}
 use Rattle.far_evacuator.specs.declared.evacuation.EvacForm.{EvacForm}
 use Rattle.far_evacuator.specs.declared.evacuation.EvacForm.TheVariants.{Dirty, Clean}
 
@@ -50,8 +48,3 @@ module _ {K : Type 0} where
   abbrev pub IsFormOf : (K → List ℕ → Type 0) → List ℕ → EvacForm K → Type 0
   IsFormOf is_of id (Dirty bytes) = Unit {0}
   IsFormOf is_of id (Clean own) = is_of own id
-
--- the result of a call that returns its job if it is refused, without that job
-abbrev pub outcome : {A J : Type 0} → Result A (Refusal × J) → Result A Refusal
-outcome (Ok done) = Ok done
-outcome (Err refused) = Err refused.0

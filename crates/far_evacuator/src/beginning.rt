@@ -5,7 +5,7 @@ ghost use Rattle.far_scopes.specs.Memory.{list_in};
 ghost use Rattle.far_scopes.specs.Movement.{AreHere, AreTracked};
 ghost use Rattle.far_scopes.specs.Refusing.{refusal_in, lend_refusal};
 ghost use Rattle.far_evacuator.specs.Jobs.{IsFormOf};
-ghost use Rattle.far_evacuator.specs.Beginning.{IsWanted, taken, begin_refusal, IsBegun, IsFetch, fetch_refusal};
+ghost use Rattle.far_evacuator.specs.Beginning.{IsWanted, taken, begin_refusal, IsBegunEvac, IsFetch, fetch_refusal};
 
 use crate::evacuation::{EvacForm, EvacJob};
 use crate::far_form::FarForm;
@@ -53,7 +53,7 @@ pub fn begin_evac<T: Elem, S: FarTickets>(
     requires within { IsWanted objects.now want }
     requires here { AreHere S.is_of (S.store_id store.now) objects.now }
     requires spelled { IfSome (taken objects.now want) (λ o. IfSome (list_in objects.now.memory o) T.has_spelling) }
-    ensures begun { IfOk result (λ job. IsSomeAnd (taken objects.now want) (λ o. IsBegun T.spelling objects.now o job)) }
+    ensures begun { IfOk result (λ job. IsSomeAnd (taken objects.now want) (λ o. IsBegunEvac T.spelling objects.now o job)) }
     ensures here { IfOk result (λ job. IsFormOf S.is_of (S.store_id store.now) job.form) }
     ensures free { OnOk result (begin_refusal objects.now want ≡ None) }
     ensures refused { IfErr result (λ e. (begin_refusal objects.now want ≡ Some e) ⊎ ((begin_refusal objects.now want ≡ None) × (e ≡ Refusal.NoMemory))) }

@@ -1,8 +1,8 @@
 // Evacuations: jobs that send objects away.
 ghost use Rattle.std.specs.Prelude.{◌≡◌, ◌+◌, ◌<◌, ◌^◌, [], ◌∷◌, IfOk, IfErr, IsErr};
-ghost use Rattle.far_store.specs.Faults.{faults_in, RefusedBy};
+ghost use Rattle.far_store.specs.Faults.{faults_in, outcome, RefusedBy};
 ghost use Rattle.far_codec.specs.Spelling.{IsSpelled};
-ghost use Rattle.far_evacuator.specs.Jobs.{outcome, IsFormTicket, IsFormOf, IsSpelledForm, IsDirtyForm};
+ghost use Rattle.far_evacuator.specs.Jobs.{IsFormTicket, IsFormOf, IsSpelledForm, IsDirtyForm};
 
 use crate::far_form::FarForm;
 use far_codec::Elem;

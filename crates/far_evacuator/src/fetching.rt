@@ -1,7 +1,6 @@
 // Fetches: jobs that bring objects back.
 ghost use Rattle.std.specs.Prelude.{◌≡◌, ◌+◌, ◌<◌, ◌^◌, [], ◌∷◌, IfOk, IfErr};
-ghost use Rattle.far_store.specs.Faults.{faults_in, RefusedBy};
-ghost use Rattle.far_evacuator.specs.Jobs.{outcome};
+ghost use Rattle.far_store.specs.Faults.{faults_in, outcome, RefusedBy};
 
 use far_store::{FarRead, FarTickets, Meter};
 use far_types::Refusal;

@@ -14,7 +14,7 @@ use Rattle.far_types.proofs.Grouping.{same_key, own_key}
 use Rattle.far_types.proofs.ByKeyMaps.{get_at, HaveDistinctKeys}
 use Rattle.far_types.proofs.ByKeyMaps as map_in
 use Rattle.far_extrema.specs.Spreads.{MinMaxes, at, IsSet}
-use Rattle.far_extrema.specs.Holders.{Holding, Holders, min_max_in, min_max_at, reserved_in, reserved_at, AreReserved, IsPut, IsGroup, IsCleared, HaveSameMinMaxes, HaveSameReserved, KeepsReserved, IsReservedFor}
+use Rattle.far_extrema.specs.Holders.{Holding, Holders, min_max_in, min_max_at, reserved_in, reserved_at, AreReserved, IsPut, IsGroup, IsCleared, HaveSameMinMaxes, HaveSameReserved, KeepsReserved, AreReservedFor}
 use Rattle.far_extrema.proofs.SpreadLaws.{off, here}
 use Rattle.far_extrema.proofs.HolderLaws.{put-set}
 
@@ -201,7 +201,7 @@ reserved-next now next es e rest before kept own q there gone = elim (eq_by_cmp 
 ] refl
 
 -- none is in yet
-pub filled-none : (m : Holders) (g : ℕ) (es : KeyedMinMaxes) → HaveDistinctKeys es → IsReservedFor (map_in.by_key es) m → ((q : Option Key) → min_max_at m g q ≡ None) → IsFilling m m g es es
+pub filled-none : (m : Holders) (g : ℕ) (es : KeyedMinMaxes) → HaveDistinctKeys es → AreReservedFor (map_in.by_key es) m → ((q : Option Key) → min_max_at m g q ≡ None) → IsFilling m m g es es
 filled-none m g es distinct reserved new = record {
   distinct = distinct;
   reserved = λ q there. reserved q (λ none. there (sym (get_at es q) ∙ none));

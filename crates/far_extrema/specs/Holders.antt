@@ -95,8 +95,8 @@ abbrev pub KeepsReserved : Holders → Holders → Type 0
 KeepsReserved old new = (q : Option Key) → reserved_at old q ≢ None → reserved_at new q ≢ None
 
 -- each key of these extrema is reserved
-abbrev pub IsReservedFor : Extrema → Holders → Type 0
-IsReservedFor extrema holders = (q : Option Key) → fin.get extrema q ≢ None → reserved_at holders q ≢ None
+abbrev pub AreReservedFor : Extrema → Holders → Type 0
+AreReservedFor extrema holders = (q : Option Key) → fin.get extrema q ≢ None → reserved_at holders q ≢ None
 
 -- a row group is removed from an entry; the entry is kept if it has a row group left, or is reserved
 abbrev pub IsCleared : ℕ → Holding → Bool → Holding → Type 0

@@ -12,12 +12,12 @@ const BLOCK_SIZE: u32 = 16;
 
 /// The min-maxes of a key in the row groups of an aligned range. A row group in which the key does not occur has none.
 #[derive(Drop)]
-pub struct Block {
+pub struct MinMaxBlock {
     first: u32,
     elements: [Option<MinMax>; 16],
 }
 
-impl Model for Block {
+impl Model for MinMaxBlock {
     ghost use Rattle.std.specs.Prelude.{◌≡◌, ◌+◌, ◌<◌, ◌^◌, length};
     ghost use Rattle.far_extrema.specs.Blocks.{BlockState, present};
 
@@ -28,16 +28,16 @@ impl Model for Block {
     ghost invariant = { λ block. (block.first + 15 < 2 ^ 32) × (length block.elements ≡ 16) };
 }
 
-impl Block {
+impl MinMaxBlock {
     /// Makes the block whose range has a row group, with this min-max there and none elsewhere. Allocates nothing.
-    pub fn new(group: u32, min_max: Option<MinMax>) -> Block
+    pub fn new(group: u32, min_max: Option<MinMax>) -> MinMaxBlock
         ensures min_maxes { IsSet [] group min_max result.min_maxes }
         ensures first { result.first ≡ group - group % 16 }
     {
         let place = group % BLOCK_SIZE;
         let mut elements = [None; 16];
         elements[place as usize] = min_max;
-        Block {
+        MinMaxBlock {
             first: group - place,
             elements,
         }

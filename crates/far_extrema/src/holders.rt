@@ -8,7 +8,7 @@ ghost use Rattle.far_types.specs.declared.key.Key.{Key};
 ghost use Rattle.far_types.specs.Effects.{widened};
 ghost use Rattle.far_types.specs.Keys.{line_cmp};
 ghost use Rattle.far_extrema.specs.MinMaxes.{extrema_of};
-ghost use Rattle.far_extrema.specs.Holders.{holders_of, min_max_at, reserved_at, line_of, IsPut, IsTopped, HaveSameReserved, HaveSameMinMaxes, KeepsReserved, IsReservedFor, IsGroup, IsCleared};
+ghost use Rattle.far_extrema.specs.Holders.{holders_of, min_max_at, reserved_at, line_of, IsPut, IsTopped, HaveSameReserved, HaveSameMinMaxes, KeepsReserved, AreReservedFor, IsGroup, IsCleared};
 
 use super::holder::Holder;
 use super::min_maxes::{MinMax, MinMaxes};
@@ -142,7 +142,7 @@ pub fn reserve_all(
     min_maxes: &MinMaxes,
 ) -> Result<(), Refusal>
     ensures min_maxes { HaveSameMinMaxes (holders_of holders.old.entries) (holders_of holders.new.entries) }
-    ensures reserved { OnOk result (IsReservedFor (extrema_of min_maxes.now.entries) (holders_of holders.new.entries)) }
+    ensures reserved { OnOk result (AreReservedFor (extrema_of min_maxes.now.entries) (holders_of holders.new.entries)) }
     ensures memory { IfErr result (λ e. e ≡ Refusal.NoMemory) }
 {
     for (key, _) in min_maxes {
@@ -166,7 +166,7 @@ fn fill_in(holders: &mut Holders, group: u32, key: &Option<Key>, min_max: MinMax
 
 /// Sets the min-maxes of a row group in which no key occurs yet. Each of their keys must be reserved. Allocates nothing.
 pub fn fill_all(holders: &mut Holders, group: u32, min_maxes: &MinMaxes)
-    requires reserved { IsReservedFor (extrema_of min_maxes.now.entries) (holders_of holders.old.entries) }
+    requires reserved { AreReservedFor (extrema_of min_maxes.now.entries) (holders_of holders.old.entries) }
     requires new { (q : Option Key) → min_max_at (holders_of holders.old.entries) group q ≡ None }
     ensures { IsGroup (holders_of holders.old.entries) group (extrema_of min_maxes.now.entries) (holders_of holders.new.entries) }
 {

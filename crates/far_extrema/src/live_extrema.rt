@@ -40,12 +40,12 @@ pub struct LiveExtrema {
 }
 
 impl Model for LiveExtrema {
-    ghost use Rattle.far_extrema.specs.Live.{Live, coded_live};
+    ghost use Rattle.far_extrema.specs.Live.{ExtremaState, coded_extrema_state};
     ghost use Rattle.far_extrema.specs.Holders.{holders_of, groups_in, reserved_keys, AreReserved};
 
-    ghost Value = { Live };
+    ghost Value = { ExtremaState };
 
-    ghost coded = { coded_live };
+    ghost coded = { coded_extrema_state };
 
     ghost view = { λ live. record { left = live.left; groups = groups_in (holders_of live.holders.entries) live.reserved_groups; reserved = reserved_keys (holders_of live.holders.entries) } };
 

@@ -4,7 +4,7 @@ ghost use Rattle.std.specs.Option.{option_copied};
 ghost use Rattle.far_extrema.specs.Blocks.{present};
 ghost use Rattle.far_extrema.specs.Spreads.{at, IsTopOf, IsFrom, IsBelow, IsSet, AreSame};
 
-use super::block::{Block, either, range_of};
+use super::block::{MinMaxBlock, either, range_of};
 use super::min_maxes::MinMax;
 use far_types::Refusal;
 use std::alloc::Global;
@@ -28,7 +28,7 @@ pub struct Tournament {
 #[derive(Drop)]
 enum Node {
     One(u32, Option<MinMax>),
-    Few(Option<MinMax>, Box<Block>),
+    Few(Option<MinMax>, Box<MinMaxBlock>),
     Several(Option<MinMax>, Box<Branch>),
 }
 
@@ -57,7 +57,7 @@ impl Branch {
 /// A block and a branch that are not in use: the memory for one more row group, which takes one of them or none.
 #[derive(Drop)]
 pub struct Spare {
-    block: Box<Block>,
+    block: Box<MinMaxBlock>,
     branch: Box<Branch>,
 }
 
@@ -74,7 +74,7 @@ impl Spare {
             after: Tournament::new(0, (0, 0)),
         };
         Ok(Spare {
-            block: Box::new(alloc, Block::new(0, None))?,
+            block: Box::new(alloc, MinMaxBlock::new(0, None))?,
             branch: Box::new(alloc, branch)?,
         })
     }
@@ -85,11 +85,11 @@ impl Model for Tournament {
 
     ghost Value = { Spread };
 
-    ghost use Rattle.far_extrema.specs.Tournaments.{spread_of, IsKept};
+    ghost use Rattle.far_extrema.specs.Tournaments.{spread_of, IsTree};
 
     ghost view = { λ tournament. spread_of tournament.node };
 
-    ghost invariant = { λ tournament. IsKept tournament.node };
+    ghost invariant = { λ tournament. IsTree tournament.node };
 
     ghost size = { λ spread. spread.depth };
 
@@ -329,7 +329,7 @@ fn widened(
     requires last { group < holder - holder % 16 + 16 }
     ensures { IsSet (present holder (previous ∷ [])) group (Some min_max) result.min_maxes }
 {
-    let mut few = Block::new(holder, previous);
+    let mut few = MinMaxBlock::new(holder, previous);
     few.put(group, Some(min_max));
     let top = few.joined();
     let mut block = spare.block;

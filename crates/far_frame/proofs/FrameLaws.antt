@@ -5,7 +5,7 @@ use Rattle.far_types.specs.declared.edit.Edit.TheVariants as edit
 use Rattle.far_types.specs.declared.cell.Cell.{Cell}
 use Rattle.far_types.specs.declared.refusal.Refusal.{Refusal}
 use Rattle.far_table.specs.Live.{IsEdited}
-use Rattle.far_table.specs.State.{State as LiveState}
+use Rattle.far_table.specs.State.{LiveState}
 use Rattle.far_frame.specs.Effects.{Accepts, Refuses, WhyRefused}
 use Rattle.far_frame.specs.State.{State}
 use Rattle.far_frame.specs.declared.step.Step.{Step}

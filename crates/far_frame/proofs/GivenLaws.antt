@@ -21,7 +21,7 @@ use Rattle.far_frame.specs.declared.piece.IntPiece.{IntPiece}
 use Rattle.far_frame.specs.declared.piece.TextPiece.{TextPiece}
 use Rattle.far_frame.specs.declared.step.Reply.{Reply}
 use Rattle.far_frame.specs.declared.step.Reply.TheVariants as reply
-use Rattle.far_frame.specs.Lending.{Piece, Gives, flags_of, int_piece, ints_lent, lent_part, piece_of, text_piece}
+use Rattle.far_frame.specs.Lending.{Piece, IsReplyOf, flags_of, int_piece, ints_lent, lent_part, piece_of, text_piece}
 use Rattle.far_frame.proofs.LendingLaws.{cells-range, joined}
 
 abbrev heap : Global
@@ -128,14 +128,14 @@ module _ (table : Table) (some : 0 < table.limits.group) (column from to : ℕ) 
   each-lent (lent ∷ lents) = each-both (IsOf int_cell number_of number-again) (map int_cell lent.0) (flat_map (λ (piece : Piece). piece.cells) (map ints_lent lents)) (each-of int_cell number_of number-again (λ v. v) lent.0) (each-lent lents)
 
   pub ints-given : (lents : List (Numbers × List Bool)) → map ints_lent lents ≡ lent_part table column from to → slice_get table.schema column ≡ Some kind.Int
-      → (given : Reply) × Gives (slice_get table.schema column) (lent_part table column from to) given
+      → (given : Reply) × IsReplyOf (slice_get table.schema column) (lent_part table column from to) given
   ints-given lents same of =
       let cells = ap (flat_map (λ (piece : Piece). piece.cells)) same ∙ joined (λ piece. piece.cells) (λ place. cell_at column place.cells) column (λ places. refl) pieces in
       let made = copied int_cell number_of number-again int_piece copy-ints column pieces few (subst (Each (IsOf int_cell number_of number-again)) cells (each-lent lents)) in
       (reply.Ints (vec_of made.0 (omega (arith, made.2, count))), (of, made.1))
 
   pub texts-given : (lent : List (Option (List ℕ) × Bool)) → map (λ (it : Option (List ℕ) × Bool). text_cell it.0) lent ≡ part column from to table.places → slice_get table.schema column ≡ Some kind.Text
-      → (given : Reply) × Gives (slice_get table.schema column) (lent_part table column from to) given
+      → (given : Reply) × IsReplyOf (slice_get table.schema column) (lent_part table column from to) given
   texts-given lent same of =
       let cells = same ∙ cells-range column table.places from to ∙ ap (column_of column) (sym all) in
       let made = copied text_cell text_of text-again text_piece copy-texts column pieces few (subst (Each (IsOf text_cell text_of text-again)) cells (each-of text_cell text_of text-again (λ (it : Option (List ℕ) × Bool). it.0) lent)) in

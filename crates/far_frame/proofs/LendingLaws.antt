@@ -29,7 +29,7 @@ use Rattle.far_columns.specs.Numbers.{Numbers, with_flags}
 use Rattle.far_rows.specs.declared.column_index.ColumnIndex.{ColumnIndex}
 use Rattle.far_rows.specs.declared.column_index.ColumnIndex.TheVariants as column_index
 use Rattle.far_rows.specs.ColumnIndexes.{kind_of, column_in}
-use Rattle.far_rows.specs.Rows.{Rows, AreRows, all_numbers, all_texts, cells_of}
+use Rattle.far_rows.specs.Rows.{Rows, AreRows, all_numbers, all_texts, all_cells}
 use Rattle.far_rows.specs.Places.{places_in, row_at}
 use Rattle.far_rows.specs.Refusing.{no_column, no_range, no_row, of_numbers, absent_in, absent_at, ints_refusal, text_refusal, texts_refusal}
 use Rattle.far_rows.specs.Lending.{lent_ints, numbers_of}
@@ -39,12 +39,12 @@ use Rattle.far_rows.proofs.Places.{length-places, places-column, placed}
 use Rattle.far_frame.specs.declared.piece.TextPiece.{TextPiece}
 use Rattle.far_frame.specs.declared.step.Reply.{Reply}
 use Rattle.far_frame.specs.declared.step.Reply.TheVariants as reply
-use Rattle.far_table.specs.State.{State as LiveState}
+use Rattle.far_table.specs.State.{LiveState}
 use Rattle.far_table.specs.TableRows.{TableRows}
 use Rattle.far_types.specs.declared.limits.Limits.{Limits}
 use Rattle.far_frame.specs.State.{State}
 use Rattle.far_frame.specs.Effects.{Replies}
-use Rattle.far_frame.specs.Lending.{Piece, Gives, AreObserved, IsLent, piece_of, pieces_in, flags_of, ints_lent, texts_lent, text_piece, lent_part, lend_refusal}
+use Rattle.far_frame.specs.Lending.{Piece, IsReplyOf, AreObserved, IsLent, piece_of, pieces_in, flags_of, ints_lent, texts_lent, text_piece, lent_part, lend_refusal}
 
 -- a part of some places in a column
 module _ (c : ℕ) (places : List Place) (from to : ℕ) where
@@ -186,32 +186,32 @@ module _ {K : Type 0} (content : K → List ℕ) (r : Rows K) (are : AreRows con
   places = places_in content r
 
   place-flags : flags_of places ≡ r.alive
-  place-flags = placed-flags (row_at (cells_of content r)) 0 r.alive
+  place-flags = placed-flags (row_at (all_cells content r)) 0 r.alive
 
   range-within : (from to : ℕ) → (no_range r from to).0 ≡ false → (from ≤ to) × (to ≤ length places)
   range-within from to off =
       let both = neither (nat_lt to from) (nat_lt (length r.alive) to) off in
-      (not-below to from both.0, (let high = not-below (length r.alive) to both.1 in let long = length-places (cells_of content r) r.alive in omega (arith, high, long)))
+      (not-below to from both.0, (let high = not-below (length r.alive) to both.1 in let long = length-places (all_cells content r) r.alive in omega (arith, high, long)))
 
   module _ (column : ℕ) where
     -- the cells of a column are the places' of it
-    column-read : (cells : List Cell) → slice_get (cells_of content r) column ≡ Some cells → column_of column places ≡ cells
+    column-read : (cells : List Cell) → slice_get (all_cells content r) column ≡ Some cells → column_of column places ≡ cells
     column-read cells lies =
-        let within : column < length r.column_indexes = subst (λ (n : ℕ). column < n) (length-map r.column_indexes (column_in (all_numbers content r) (all_texts content r))) (slice_get_within (cells_of content r) column cells lies) in
-        places-column (cells_of content r) r.alive column (column-long content r are column within) ∙ get_or_from_slice_get (cells_of content r) column cells [] lies
+        let within : column < length r.column_indexes = subst (λ (n : ℕ). column < n) (length-map r.column_indexes (column_in (all_numbers content r) (all_texts content r))) (slice_get_within (all_cells content r) column cells lies) in
+        places-column (all_cells content r) r.alive column (column-long content r are column within) ∙ get_or_from_slice_get (all_cells content r) column cells [] lies
 
-    pub part-read : (from to : ℕ) (cells : List Cell) → option_map (λ (all : List Cell). slice_range all from to) (slice_get (cells_of content r) column) ≡ Some cells → cells ≡ part column from to places
-    part-read from to cells is = by (slice_get (cells_of content r) column) refl is where
-      by : (found : Option (List Cell)) → slice_get (cells_of content r) column ≡ found → option_map (λ (all : List Cell). slice_range all from to) found ≡ Some cells → cells ≡ part column from to places
+    pub part-read : (from to : ℕ) (cells : List Cell) → option_map (λ (all : List Cell). slice_range all from to) (slice_get (all_cells content r) column) ≡ Some cells → cells ≡ part column from to places
+    part-read from to cells is = by (slice_get (all_cells content r) column) refl is where
+      by : (found : Option (List Cell)) → slice_get (all_cells content r) column ≡ found → option_map (λ (all : List Cell). slice_range all from to) found ≡ Some cells → cells ≡ part column from to places
       by None lies is = absurd (none-some cells is)
       by (Some all) lies is = sym (same_Some (slice_range all from to) cells is) ∙ ap (λ l. slice_range l from to) (sym (column-read all lies))
 
-    pub cell-read : (place : ℕ) (one : Cell) → place < length r.alive → option_map (λ (all : List Cell). slice_index_or all place cell.Missing) (slice_get (cells_of content r) column) ≡ Some one → slice_get (column_of column places) place ≡ Some one
-    cell-read place one below is = by (slice_get (cells_of content r) column) refl is where
+    pub cell-read : (place : ℕ) (one : Cell) → place < length r.alive → option_map (λ (all : List Cell). slice_index_or all place cell.Missing) (slice_get (all_cells content r) column) ≡ Some one → slice_get (column_of column places) place ≡ Some one
+    cell-read place one below is = by (slice_get (all_cells content r) column) refl is where
       long : (all : List Cell) → column_of column places ≡ all → place < length all
-      long all same = (let wide = sym (ap length same) ∙ length-map places (λ (p : Place). cell_at column p.cells) ∙ length-places (cells_of content r) r.alive in omega (arith, wide, below))
+      long all same = (let wide = sym (ap length same) ∙ length-map places (λ (p : Place). cell_at column p.cells) ∙ length-places (all_cells content r) r.alive in omega (arith, wide, below))
 
-      by : (found : Option (List Cell)) → slice_get (cells_of content r) column ≡ found → option_map (λ (all : List Cell). slice_index_or all place cell.Missing) found ≡ Some one → slice_get (column_of column places) place ≡ Some one
+      by : (found : Option (List Cell)) → slice_get (all_cells content r) column ≡ found → option_map (λ (all : List Cell). slice_index_or all place cell.Missing) found ≡ Some one → slice_get (column_of column places) place ≡ Some one
       by None lies is = absurd (none-some one is)
       by (Some all) lies is =
           let same = column-read all lies in
@@ -273,7 +273,7 @@ module _ {K : Type 0} (r : Rows K) (column from to : ℕ) where
   pub lends-low : lend_refusal r column from to ≡ None → from ≤ to
   lends-low none = not-below to from (neither (nat_lt to from) (nat_lt (length r.alive) to) (first-off (no_range r from to) (map (absent_in r column) (overlapped_groups r.size from to)) (first-off (no_column r column) there none).1).0).0
 
-pieces-given : (of : Option Kind) (pieces : List Piece) (given : Reply) → Gives of pieces given → pieces_in given ≡ pieces
+pieces-given : (of : Option Kind) (pieces : List Piece) (given : Reply) → IsReplyOf of pieces given → pieces_in given ≡ pieces
 pieces-given of pieces (reply.Ints copies) is = is.1
 pieces-given of pieces (reply.Texts copies) is = is.1
 pieces-given of pieces (reply.Place place) is = absurd is
@@ -303,7 +303,7 @@ module _ (table : Table) (limits : AreLimits table.limits) (column from to : ℕ
       ∙ ap flags_of all ∙ sym (flags-range column table.places from to)
 
   -- what a lending gives, joined
-  module _ (given : Reply) (gives : Gives (slice_get table.schema column) (lent_part table column from to) given) where
+  module _ (given : Reply) (gives : IsReplyOf (slice_get table.schema column) (lent_part table column from to) given) where
     the-pieces : pieces_in given ≡ lent_part table column from to
     the-pieces = pieces-given (slice_get table.schema column) (lent_part table column from to) given gives
 
@@ -334,7 +334,7 @@ module _ {K : Type 0} (content : K → List ℕ) (held : Rows K) (table : Table)
   lent-ints from to (Ok lents) lent due = ap (map ints_lent) lent ∙ ints-part content held are.rows column from to (sym due) ∙ (λ i. map (piece_of column) (pieces_of (sym are.places i) (are.size i) from to))
   lent-ints from to (Err e) lent due = lent
 
-  pub lent-texts : (from to : ℕ) (r : Result (List (Option (List ℕ) × Bool)) Refusal) → IfOk r (λ lent. option_map (λ (cells : List Cell). slice_range cells from to) (slice_get (cells_of content held) column) ≡ Some (map (λ (t : Option (List ℕ) × Bool). text_cell t.0) lent))
+  pub lent-texts : (from to : ℕ) (r : Result (List (Option (List ℕ) × Bool)) Refusal) → IfOk r (λ lent. option_map (λ (cells : List Cell). slice_range cells from to) (slice_get (all_cells content held) column) ≡ Some (map (λ (t : Option (List ℕ) × Bool). text_cell t.0) lent))
       → IfOk r (λ lent. map (λ (cell : Option (List ℕ) × Bool). text_cell cell.0) lent ≡ part column from to table.places)
   lent-texts from to (Ok lent) cells = part-read content held are.rows column from to (map (λ (t : Option (List ℕ) × Bool). text_cell t.0) lent) cells ∙ ap (part column from to) (sym are.places)
   lent-texts from to (Err e) cells = cells
@@ -344,7 +344,7 @@ module _ {K : Type 0} (content : K → List ℕ) (held : Rows K) (table : Table)
   lent-flags from to (Ok lent) flags = flags ∙ flags-read content held are.rows column from to ∙ ap (λ (places : List Place). slice_range (flags_of places) from to) (sym are.places)
   lent-flags from to (Err e) flags = flags
 
-  pub lent-text : {X : Type 0} (text_of : X → Option (List ℕ)) (place : ℕ) (r : Result X Refusal) → IfOk r (λ text. option_map (λ (cells : List Cell). slice_index_or cells place cell.Missing) (slice_get (cells_of content held) column) ≡ Some (text_cell (text_of text)))
+  pub lent-text : {X : Type 0} (text_of : X → Option (List ℕ)) (place : ℕ) (r : Result X Refusal) → IfOk r (λ text. option_map (λ (cells : List Cell). slice_index_or cells place cell.Missing) (slice_get (all_cells content held) column) ≡ Some (text_cell (text_of text)))
       → refusal_in r ≡ text_refusal held column place → IfOk r (λ text. slice_get (column_of column table.places) place ≡ Some (text_cell (text_of text)))
   lent-text text_of place (Ok text) one due =
       let known = first-off (no_column held column) (of_numbers held column ∷ no_row held place ∷ absent_in held column (place / held.size) ∷ []) (sym due) in
@@ -366,7 +366,7 @@ pub copies-pushed : {X Y : Type 0} (shown : X → Y) (had new : List X) (x : X) 
 copies-pushed shown had new x more = ap (map shown) more ∙ map-append shown had (x ∷ [])
 
 -- what is copied is what a lending replies
-pub lent-reply : {K : Type 0} (column from to : ℕ) (old new : State K) (given : Reply) (refuses : Refusal → Type 0) → Gives (slice_get old.table.schema column) (lent_part old.table column from to) given → lend_refusal old.rows column from to ≡ None
+pub lent-reply : {K : Type 0} (column from to : ℕ) (old new : State K) (given : Reply) (refuses : Refusal → Type 0) → IsReplyOf (slice_get old.table.schema column) (lent_part old.table column from to) given → lend_refusal old.rows column from to ≡ None
     → AreObserved column (overlapped_groups old.rows.size from to) old new → Replies (λ served. IsLent column from to old served new) refuses given
 lent-reply column from to old new (reply.Ints copies) refuses gives due accesses = record { due = due; says = gives; used = accesses }
 lent-reply column from to old new (reply.Texts copies) refuses gives due accesses = record { due = due; says = gives; used = accesses }

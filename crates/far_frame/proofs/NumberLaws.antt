@@ -14,7 +14,7 @@ use Rattle.std.proofs.lemmas.Map.Lookups.{exact_unsigned}
 use Rattle.std.proofs.lemmas.Map.Views.{All-keys-insert_entry, All-map-remove_entry, Contains-keys_from_lookup, tells_apart}
 use Rattle.far_types.specs.declared.refusal.Refusal.{Refusal}
 use Rattle.far_types.specs.declared.refusal.Refusal.TheVariants as refusal
-use Rattle.far_aggregates.specs.Aggregates.{joined}
+use Rattle.far_aggregates.specs.Aggregates.{flattened}
 use Rattle.far_rows.specs.Jobs.{evac_refusal, fetch_refusal}
 use Rattle.far_table.specs.Offloading.{offload_refusal}
 use Rattle.far_table.specs.Watching.{aggregate_at}
@@ -106,7 +106,7 @@ module _ {X : Type 0} where
   found-holds : (P : ℕ → Type 0) (n : ℕ) (es : List (ℕ × X)) → All P (keys_of es) → IsSome (lookup (is_number n) es) → P n
   found-holds P n es all some = All-contains P (keys_of es) n all (Contains-keys_from_lookup (tells_apart exact_unsigned) n es some)
 
-some-joined : {A : Type 0} (found : Option (Option A)) → IsSome (joined found) → IsSome found
+some-joined : {A : Type 0} (found : Option (Option A)) → IsSome (flattened found) → IsSome found
 some-joined None h = h
 some-joined (Some inner) h = refl
 
@@ -290,7 +290,7 @@ module _ {K : Type 0} (content : K → List ℕ) (number_of : K → ℕ) where
   -- a step that names a spent number is stale
   named-none : (old : World K) (found : Option ℕ) → IsSomeAnd found (λ n. IsSpent n old) → IsSomeAnd found (λ n. job_at old.jobs n ≡ None)
   named-none old None h = absurd h
-  named-none old (Some n) h = ap joined h.gone
+  named-none old (Some n) h = ap flattened h.gone
 
   pub named-stale : (old : World K) (s : Step) → IsSomeAnd (job_of s) (λ n. IsSpent n old) → (given : Reply) (new : World K) → IsStep content number_of old s given new → given ≡ reply.Refused refusal.StaleJob
   named-stale old s is given new h = spent content number_of old s (named-none old (job_of s) is) given new h

@@ -19,7 +19,7 @@ use Rattle.far_rows.specs.declared.column_index.ColumnIndex.{ColumnIndex}
 use Rattle.far_rows.specs.declared.object.Object.{Object}
 use Rattle.far_rows.specs.Rows.{Rows, object_of}
 use Rattle.far_rows.specs.Moving.{object_at, object_in, object_refusal, after_touch}
-use Rattle.far_table.specs.State.{State as LiveState}
+use Rattle.far_table.specs.State.{LiveState}
 use Rattle.far_table.specs.Moving.{IsMoved, IsTouched}
 use Rattle.far_frame.specs.State.{State, live}
 use Rattle.far_frame.specs.Lending.{AreObserved, all_used, all_observed}

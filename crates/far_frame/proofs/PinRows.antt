@@ -28,9 +28,9 @@ use Rattle.far_rows.specs.Setting.{set_in, kind_in}
 use Rattle.far_rows.specs.Moving.{object_at, after_touch, after_pin, after_unpin}
 use Rattle.far_table.specs.Live.{Moves}
 use Rattle.far_table.specs.Moving.{IsCompactedOf}
-use Rattle.far_table.specs.State.{State as LiveState}
+use Rattle.far_table.specs.State.{LiveState}
 use Rattle.far_frame.specs.State.{State}
-use Rattle.far_frame.specs.declared.job.Work.TheVariants as work
+use Rattle.far_frame.specs.declared.job.JobPhase.TheVariants as work
 use Rattle.far_frame.specs.Lending.{all_used}
 use Rattle.far_frame.specs.Jobs.{WorkOf, Commits, Installs, Merges}
 use Rattle.far_frame.specs.Pins.{is_here}

@@ -12,7 +12,7 @@ use Rattle.far_rows.specs.Coldest.{pins_at}
 use Rattle.far_rows.specs.Opening.{empty_rows}
 use Rattle.far_rows.specs.Moving.{object_at}
 use Rattle.far_rows.specs.Jobs.{evac_refusal, fetch_refusal}
-use Rattle.far_table.specs.State.{State as LiveState}
+use Rattle.far_table.specs.State.{LiveState}
 use Rattle.far_table.specs.Offloading.{offload_refusal}
 use Rattle.far_table.specs.Watching.{aggregate_at}
 use Rattle.far_frame.specs.State.{State, live}

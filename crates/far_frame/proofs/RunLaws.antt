@@ -12,7 +12,7 @@ use Rattle.far_types.specs.Bounds.{AreLimits}
 use Rattle.far_types.specs.Table.{Place, Registered, Table, left, answer_now, rows_of, part}
 use Rattle.far_aggregates.specs.Aggregates.{Answers}
 use Rattle.far_table.specs.Recounting.{IsAnswerNow}
-use Rattle.far_table.specs.State.{State as LiveState}
+use Rattle.far_table.specs.State.{LiveState}
 use Rattle.far_frame.specs.State.{State, live}
 use Rattle.far_table.specs.Watching.{aggregate_at}
 use Rattle.far_frame.specs.declared.step.Step.{Step}
@@ -29,7 +29,7 @@ use Rattle.far_frame.proofs.LendingLaws.{given-cells, given-flags, lends-low}
 use Rattle.far_table.specs.Offloading.{Build, offload_refusal}
 use Rattle.far_table.specs.Watching.{scanned_at}
 use Rattle.far_frame.specs.Jobs.{JobRecord, WorkOf, IsEvacJob, IsFetchJob, IsOffloadJob, Commits, CommitRefusal, Installs, InstallRefusal, Merges, MergeRefusal}
-use Rattle.far_frame.specs.declared.job.Work.TheVariants as work
+use Rattle.far_frame.specs.declared.job.JobPhase.TheVariants as work
 use Rattle.far_frame.specs.Steps.{IsStep, IsRun}
 use Rattle.far_frame.specs.Waiting.{job_at}
 use Rattle.far_frame.specs.Worlds.{World, IsBegun, IsNotBegun, IsCarry, IsNoCarry, IsEnded, IsNotEnded}

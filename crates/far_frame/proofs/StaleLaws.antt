@@ -6,7 +6,7 @@ use Rattle.far_types.specs.declared.refusal.Refusal.TheVariants as refusal
 use Rattle.far_types.specs.Table.{Registered}
 use Rattle.far_table.specs.Offloading.{Build, HoldsStill, IsMergeable}
 use Rattle.far_table.specs.Watching.{aggregate_at}
-use Rattle.far_frame.specs.declared.job.Work.TheVariants as work
+use Rattle.far_frame.specs.declared.job.JobPhase.TheVariants as work
 use Rattle.far_frame.specs.declared.step.Reply.{Reply}
 use Rattle.far_frame.specs.declared.step.Reply.TheVariants as reply
 use Rattle.far_frame.specs.declared.step.Step.{Step}

@@ -1,7 +1,7 @@
 -- Values put under a key and taken back.
 use Rattle.std.proofs.Common.{◌≡◌, Bool, true, false, List, [], ◌∷◌, Option, None, Some, cond, refl, sym, ap}
 use Rattle.std.specs.Map.{lookup, set_value}
-use Rattle.far_aggregates.specs.Aggregates.{joined}
+use Rattle.far_aggregates.specs.Aggregates.{flattened}
 
 none-some : {A : Type 0} (x : A) → Some x ≡ None → ⊥
 none-some x h = cc
@@ -26,12 +26,12 @@ module _ {X A : Type 0} (t : X → Bool) where
   set-twice (e ∷ es) v w = twice-step e es v w (t e.0) refl (set-twice es v w)
 
 module _ {X A : Type 0} (t : X → Bool) where
-  same-step : (e : X × Option A) (es : List (X × Option A)) (w : Option A) (b : Bool) → (joined (lookup t es) ≡ w → set_value t es w ≡ es)
-      → joined (cond b (Some e.1) (lookup t es)) ≡ w → cond b ((e.0, w) ∷ es) (e ∷ set_value t es w) ≡ e ∷ es
+  same-step : (e : X × Option A) (es : List (X × Option A)) (w : Option A) (b : Bool) → (flattened (lookup t es) ≡ w → set_value t es w ≡ es)
+      → flattened (cond b (Some e.1) (lookup t es)) ≡ w → cond b ((e.0, w) ∷ es) (e ∷ set_value t es w) ≡ e ∷ es
   same-step e es w true rest h = λ i. (e.0, sym h i) ∷ es
   same-step e es w false rest h = ap (λ r. e ∷ r) (rest h)
 
   -- what stands there already
-  pub set-same : (es : List (X × Option A)) (w : Option A) → joined (lookup t es) ≡ w → set_value t es w ≡ es
+  pub set-same : (es : List (X × Option A)) (w : Option A) → flattened (lookup t es) ≡ w → set_value t es w ≡ es
   set-same [] w h = refl
   set-same (e ∷ es) w h = same-step e es w (t e.0) (set-same es w) h

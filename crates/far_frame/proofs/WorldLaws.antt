@@ -5,7 +5,7 @@ use Rattle.std.specs.declared.result.Result.TheVariants.{Ok, Err}
 use Rattle.std.specs.Map.{lookup}
 use Rattle.std.specs.Ordering.{nat_cmp}
 use Rattle.std.proofs.lemmas.Map.Views.{All-values-insert_entry, All-values-set_value, All-map-remove_entry, IfSome-lookup_from_All}
-use Rattle.far_aggregates.specs.Aggregates.{joined}
+use Rattle.far_aggregates.specs.Aggregates.{flattened}
 use Rattle.far_types.specs.declared.refusal.Refusal.{Refusal}
 use Rattle.far_types.specs.declared.refusal.Refusal.TheVariants as refusal
 use Rattle.far_types.specs.MayRefuse.{MayRefuse}
@@ -48,7 +48,7 @@ module _ {K : Type 0} (is_of : K → List ℕ → Type 0) (id : List ℕ) where
   abbrev IsHere : Option (JobRecord K) → Type 0
   IsHere job = IfSome job (IsJobAt is_of id)
 
-  here-in : (found : Option (Option (JobRecord K))) (job : JobRecord K) → IfSome found IsHere → joined found ≡ Some job → IsJobAt is_of id job
+  here-in : (found : Option (Option (JobRecord K))) (job : JobRecord K) → IfSome found IsHere → flattened found ≡ Some job → IsJobAt is_of id job
   here-in None job h k = absurd (none-is-some job k)
   here-in (Some None) job h k = absurd (none-is-some job k)
   here-in (Some (Some found)) job h k = subst (IsJobAt is_of id) (same-some found job k) h

@@ -16,12 +16,12 @@ use Rattle.far_frame.specs.State.{State, Alters, live}
 use Rattle.far_table.specs.Moving.{IsMoved, IsCommitted, IsInstalled}
 use Rattle.far_frame.specs.declared.job.JobKind.{JobKind}
 use Rattle.far_frame.specs.declared.job.JobKind.TheVariants as kind
-use Rattle.far_frame.specs.declared.job.Work.{Work}
-use Rattle.far_frame.specs.declared.job.Work.TheVariants as work
+use Rattle.far_frame.specs.declared.job.JobPhase.{JobPhase}
+use Rattle.far_frame.specs.declared.job.JobPhase.TheVariants as work
 
 -- the work of a job, by kind and phase
 abbrev pub WorkOf : Type 0 → Type 0
-WorkOf K = Work (ByKind (Evacuation K) (Evacuation K)) (ByKind (CarriedEvacuation K) (CarriedEvacuation K)) (ByKind (Fetch K) (Fetch K)) (ByKind (CarriedFetch K) (CarriedFetch K)) (Build K) (Build K)
+WorkOf K = JobPhase (ByKind (Evacuation K) (Evacuation K)) (ByKind (CarriedEvacuation K) (CarriedEvacuation K)) (ByKind (Fetch K) (Fetch K)) (ByKind (CarriedFetch K) (CarriedFetch K)) (Build K) (Build K)
 
 -- a job: the column and the row group of its object, if it moves one, and its work
 pub record JobRecord (K : Type 0) : Type 0 where
@@ -49,8 +49,8 @@ module _ {K : Type 0} where
   is_offload _ = false
 
   -- what a job does
-  abbrev pub kind_of : JobRecord K → JobKind
-  kind_of job = kind_of_work job.work
+  abbrev pub job_kind : JobRecord K → JobKind
+  job_kind job = kind_of_work job.work
 
   module _ (is_of : K → List ℕ → Type 0) (id : List ℕ) where
     -- what a work holds is of the store with this id

@@ -61,10 +61,10 @@ pieces_in (reply.Texts copies) = map text_piece copies.items
 pieces_in _ = []
 
 -- a reply gives these pieces of a column of this kind
-abbrev pub Gives : Option Kind → List Piece → Reply → Type 0
-Gives of pieces (reply.Ints copies) = (of ≡ Some kind.Int) × (map int_piece copies.items ≡ pieces)
-Gives of pieces (reply.Texts copies) = (of ≡ Some kind.Text) × (map text_piece copies.items ≡ pieces)
-Gives of pieces _ = ⊥
+abbrev pub IsReplyOf : Option Kind → List Piece → Reply → Type 0
+IsReplyOf of pieces (reply.Ints copies) = (of ≡ Some kind.Int) × (map int_piece copies.items ≡ pieces)
+IsReplyOf of pieces (reply.Texts copies) = (of ≡ Some kind.Text) × (map text_piece copies.items ≡ pieces)
+IsReplyOf of pieces _ = ⊥
 
 -- the access histories, once some row groups of a column were accessed, in order
 abbrev pub all_observed : List (List ℕ) → ℕ → List ℕ → List (List ℕ)
@@ -97,5 +97,5 @@ module _ {K : Type 0} where
   -- a part of a column is lent
   pub record IsLent (column from to : ℕ) (old : State K) (given : Reply) (new : State K) : Type 0 where
     pub due : lend_refusal old.rows column from to ≡ None
-    pub says : Gives (slice_get old.table.schema column) (lent_part old.table column from to) given
+    pub says : IsReplyOf (slice_get old.table.schema column) (lent_part old.table column from to) given
     pub used : AreObserved column (overlapped_groups old.rows.size from to) old new

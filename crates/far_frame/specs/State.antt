@@ -5,7 +5,7 @@ use Rattle.far_types.specs.declared.limits.Limits.{Limits}
 use Rattle.far_types.specs.Table.{Table, empty_table}
 use Rattle.far_rows.specs.Rows.{Rows}
 use Rattle.far_rows.specs.Opening.{empty_rows}
-use Rattle.far_table.specs.State.{State as LiveState}
+use Rattle.far_table.specs.State.{LiveState}
 
 -- all that a step on the table can see or change: the plain table, and the rows over the objects that hold its places. For each column
 -- there is its access history: its last 8 row groups, oldest first

@@ -5,7 +5,7 @@ use Rattle.far_types.specs.FirstOf.{first_of}
 use Rattle.far_types.specs.Table.{groups}
 use Rattle.far_rows.specs.Rows.{Rows}
 use Rattle.far_rows.specs.Refusing.{absents}
-use Rattle.far_table.specs.State.{State}
+use Rattle.far_table.specs.State.{LiveState}
 
 module _ {K : Type 0} where
   -- the objects of `count` row groups, from one on: which are away, by row group and there by column
@@ -14,5 +14,5 @@ module _ {K : Type 0} where
   absents_of r g (suc count) = absents r g ++ absents_of r (g + 1) count
 
   -- why not every place can be lent: the first object that is away, of the lowest row group and there of the lowest column
-  abbrev pub away : State K → Option Refusal
+  abbrev pub away : LiveState K → Option Refusal
   away s = first_of (absents_of s.rows 0 (groups s.table.limits.group (length s.table.places)))

@@ -8,7 +8,7 @@ use Rattle.std.specs.Map.{lookup, set_value, remove_entry, values_of}
 use Rattle.far_types.specs.declared.refusal.Refusal.{Refusal}
 use Rattle.far_types.specs.declared.refusal.Refusal.TheVariants as refusal
 use Rattle.far_types.specs.Refusals.{number_of as refusal_number}
-use Rattle.far_aggregates.specs.Aggregates.{joined}
+use Rattle.far_aggregates.specs.Aggregates.{flattened}
 use Rattle.far_frame.specs.Jobs.{JobRecord, IsJobAt, IsCarried}
 
 -- the jobs that are not spent, by number; a number has none only while its job is being carried
@@ -27,7 +27,7 @@ spends (Err given) = refusal_number given == 20
 module _ {K : Type 0} where
   -- the job of a number
   abbrev pub job_at : Waiting K → ℕ → Option (JobRecord K)
-  job_at waiting n = joined (lookup (is_number n) waiting)
+  job_at waiting n = flattened (lookup (is_number n) waiting)
 
   -- one job more
   abbrev pub one_more : Waiting K → ℕ → JobRecord K → Waiting K

@@ -1,8 +1,7 @@
 // Jobs that move objects, of every kind and in every phase.
 ghost use Rattle.std.specs.Prelude.{◌≡◌, ◌+◌, ◌<◌, ◌^◌, is_none, IfOk, IfErr};
-ghost use Rattle.far_store.specs.Faults.{faults_in};
-ghost use Rattle.far_evacuator.specs.Jobs.{outcome};
-ghost use Rattle.far_frame.specs.Jobs.{IsWorkAt, IsWorkCarried, WorkRefusal, IsJobAt, IsCarried, CarryRefusal, is_offload, kind_of};
+ghost use Rattle.far_store.specs.Faults.{faults_in, outcome};
+ghost use Rattle.far_frame.specs.Jobs.{IsWorkAt, IsWorkCarried, WorkRefusal, IsJobAt, IsCarried, CarryRefusal, is_offload, job_kind};
 
 use far_rows::{RowsCarried, RowsEvac, RowsFetch, RowsFetched};
 use far_store::{FarStore, FarTickets, Meter};
@@ -34,16 +33,16 @@ pub enum JobKind {
 ///
 /// ```
 /// match &job.work {
-///     Work::Offloaded(carried) => self.table.merge(store, carried),
-///     Work::Offload(_) => Err(Refusal::StaleJob),
-///     Work::Evac(_) => Err(Refusal::StaleJob),
-///     Work::Carried(_) => Err(Refusal::StaleJob),
-///     Work::Fetch(_) => Err(Refusal::StaleJob),
-///     Work::Fetched(_) => Err(Refusal::StaleJob),
+///     JobPhase::Offloaded(carried) => self.table.merge(store, carried),
+///     JobPhase::Offload(_) => Err(Refusal::StaleJob),
+///     JobPhase::Evac(_) => Err(Refusal::StaleJob),
+///     JobPhase::Carried(_) => Err(Refusal::StaleJob),
+///     JobPhase::Fetch(_) => Err(Refusal::StaleJob),
+///     JobPhase::Fetched(_) => Err(Refusal::StaleJob),
 /// }
 /// ```
 #[derive(Drop)]
-pub enum Work<E, C, F, D, B, M> {
+pub enum JobPhase<E, C, F, D, B, M> {
     /// A begun evacuation.
     Evac(E),
     /// An evacuation whose far form is in the store.
@@ -59,7 +58,7 @@ pub enum Work<E, C, F, D, B, M> {
 }
 
 /// The work of a job of a table.
-type JobWork<S> = Work<
+type JobWork<S> = JobPhase<
     RowsEvac<S>,
     RowsCarried<S>,
     RowsFetch<S>,
@@ -119,15 +118,15 @@ impl<S: FarTickets> Model for Job<S> {
 impl<S: FarTickets> Job<S> {
     /// Returns what the job does. Allocates nothing.
     pub fn kind(&self) -> JobKind
-        ensures { result ≡ kind_of self.now }
+        ensures { result ≡ job_kind self.now }
     {
         match &self.work {
-            Work::Evac(_) => JobKind::Evac,
-            Work::Carried(_) => JobKind::Evac,
-            Work::Fetch(_) => JobKind::Fetch,
-            Work::Fetched(_) => JobKind::Fetch,
-            Work::Offload(_) => JobKind::Offload,
-            Work::Offloaded(_) => JobKind::Offload,
+            JobPhase::Evac(_) => JobKind::Evac,
+            JobPhase::Carried(_) => JobKind::Evac,
+            JobPhase::Fetch(_) => JobKind::Fetch,
+            JobPhase::Fetched(_) => JobKind::Fetch,
+            JobPhase::Offload(_) => JobKind::Offload,
+            JobPhase::Offloaded(_) => JobKind::Offload,
         }
     }
 
@@ -191,20 +190,20 @@ fn carry_work<S: FarStore>(
     ensures refused { IfErr result (λ refused. WorkRefusal work refused.0) }
 {
     match work {
-        Work::Evac(evac) => match evac.carry(alloc, store, meter) {
-            Ok(carried) => Ok(Work::Carried(carried)),
-            Err((refusal, evac)) => Err((refusal, Work::Evac(evac))),
+        JobPhase::Evac(evac) => match evac.carry(alloc, store, meter) {
+            Ok(carried) => Ok(JobPhase::Carried(carried)),
+            Err((refusal, evac)) => Err((refusal, JobPhase::Evac(evac))),
         },
-        Work::Fetch(fetch) => match fetch.carry(alloc, store, meter) {
-            Ok(fetched) => Ok(Work::Fetched(fetched)),
-            Err((refusal, fetch)) => Err((refusal, Work::Fetch(fetch))),
+        JobPhase::Fetch(fetch) => match fetch.carry(alloc, store, meter) {
+            Ok(fetched) => Ok(JobPhase::Fetched(fetched)),
+            Err((refusal, fetch)) => Err((refusal, JobPhase::Fetch(fetch))),
         },
-        Work::Offload(build) => match build.carry(alloc, store, meter) {
-            Ok(carried) => Ok(Work::Offloaded(carried)),
-            Err((refusal, build)) => Err((refusal, Work::Offload(build))),
+        JobPhase::Offload(build) => match build.carry(alloc, store, meter) {
+            Ok(carried) => Ok(JobPhase::Offloaded(carried)),
+            Err((refusal, build)) => Err((refusal, JobPhase::Offload(build))),
         },
-        Work::Carried(carried) => Err((Refusal::StaleJob, Work::Carried(carried))),
-        Work::Fetched(fetched) => Err((Refusal::StaleJob, Work::Fetched(fetched))),
-        Work::Offloaded(carried) => Err((Refusal::StaleJob, Work::Offloaded(carried))),
+        JobPhase::Carried(carried) => Err((Refusal::StaleJob, JobPhase::Carried(carried))),
+        JobPhase::Fetched(fetched) => Err((Refusal::StaleJob, JobPhase::Fetched(fetched))),
+        JobPhase::Offloaded(carried) => Err((Refusal::StaleJob, JobPhase::Offloaded(carried))),
     }
 }

@@ -23,7 +23,7 @@ ghost use Rattle.far_table.specs.Edits.{edit_due};
 ghost use Rattle.far_table.specs.Offloading.{Build};
 ghost use Rattle.far_table.specs.Recounting.{IsAnswerNow};
 ghost use Rattle.far_table.specs.Watching.{aggregate_at, scanned_at};
-ghost use Rattle.far_frame.specs.declared.job.Work.TheVariants as work;
+ghost use Rattle.far_frame.specs.declared.job.JobPhase.TheVariants as work;
 ghost use Rattle.far_frame.specs.declared.step.Reply.{Reply};
 ghost use Rattle.far_frame.specs.declared.step.Reply.TheVariants as reply;
 ghost use Rattle.far_frame.specs.declared.step.Step.{Step};

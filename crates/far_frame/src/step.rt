@@ -25,8 +25,13 @@ pub enum Step {
     Watch(Spec),
     /// Forgets the aggregate of a number.
     Unwatch(u32),
-    /// Scans the rows of one row group, the second number, into the aggregate of the first.
-    ScanGroup(u32, u32),
+    /// Scans the rows of one row group into an aggregate.
+    ScanGroup {
+        /// The aggregate.
+        aggregate: u32,
+        /// The row group.
+        group: u32,
+    },
     /// Asks the aggregate of a number.
     Ask(u32),
     /// Copies the places `from` up to `to` of a column, and records the accesses.

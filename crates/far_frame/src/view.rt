@@ -36,9 +36,9 @@ pub struct View<'a, S: FarTickets> {
 }
 
 impl<'a, S: FarTickets> Model for View<'a, S> {
-    ghost use Rattle.far_table.specs.State.{State};
+    ghost use Rattle.far_table.specs.State.{LiveState};
 
-    ghost Value = { State S.Ticket };
+    ghost Value = { LiveState S.Ticket };
 
     ghost view = { λ v. v.table.now };
 }

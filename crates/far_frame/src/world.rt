@@ -2,7 +2,7 @@
 ghost use Rattle.std.specs.Prelude.{◌≡◌, ℕ, ◌+◌, ◌<◌, ◌≤◌, ◌^◌, [], length, slice_get, IfOk, IfErr, OnOk, OnErr, IsOk};
 ghost use Rattle.far_scopes.specs.Refusing.{refusal_in};
 ghost use Rattle.far_rows.specs.Jobs.{AreAt};
-ghost use Rattle.far_frame.specs.Lending.{Gives, lend_refusal, lent_part};
+ghost use Rattle.far_frame.specs.Lending.{IsReplyOf, lend_refusal, lent_part};
 ghost use Rattle.far_frame.specs.Steps.{IsStep, IsRun};
 ghost use Rattle.far_frame.specs.Worlds.{IsSpent};
 
@@ -123,7 +123,7 @@ impl<S: FarStore> World<S> {
     ///
     /// A refused call changes nothing.
     pub fn record_lending(&mut self, column: u32, from: u32, to: u32) -> Result<(), Refusal>
-        ensures ok { OnOk result ((given : Reply) × Gives (slice_get self.old.state.table.schema column) (lent_part self.old.state.table column from to) given × IsStep S.content S.number_of self.old (Step.Lend column from to) given self.new) }
+        ensures ok { OnOk result ((given : Reply) × IsReplyOf (slice_get self.old.state.table.schema column) (lent_part self.old.state.table column from to) given × IsStep S.content S.number_of self.old (Step.Lend column from to) given self.new) }
         ensures refused { refusal_in result ≡ lend_refusal self.old.state.rows column from to }
         ensures err { OnErr result (self.new ≡ self.old) }
         ensures faults { self.new.faults ≡ self.old.faults }
@@ -141,7 +141,9 @@ impl<S: FarStore> World<S> {
             Step::Edit(edit) => self.edit(edit),
             Step::Watch(spec) => serving::watch(&mut self.frame, spec),
             Step::Unwatch(a) => serving::unwatch(&mut self.frame, a),
-            Step::ScanGroup(a, group) => serving::scan_group(&mut self.frame, a, group),
+            Step::ScanGroup { aggregate, group } => {
+                serving::scan_group(&mut self.frame, aggregate, group)
+            }
             Step::Ask(a) => serving::ask(&self.frame, a),
             Step::Lend { column, from, to } => {
                 lending::lend(&mut self.frame, self.alloc, column, from, to)

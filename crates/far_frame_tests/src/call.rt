@@ -218,7 +218,7 @@ fn plain_step(call: Call) -> Step {
     match call {
         Call::Remove(place) => Step::Edit(Edit::Remove(place)),
         Call::Unwatch(a) => Step::Unwatch(a),
-        Call::Scan(a, group) => Step::ScanGroup(a, group),
+        Call::Scan(aggregate, group) => Step::ScanGroup { aggregate, group },
         Call::Ask(a) => Step::Ask(a),
         Call::Lend(column, from, to) => Step::Lend { column, from, to },
         Call::Pin(column, group) => Step::Pin { column, group },

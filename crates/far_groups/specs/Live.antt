@@ -9,13 +9,13 @@ use Rattle.far_types.specs.Effects.{count_in}
 use Rattle.far_groups.specs.CountSums.{IsSumOf}
 
 -- how many row groups are pending, and the totals of the pairs that are in
-pub record Live : Type 0 where
+pub record TotalsState : Type 0 where
   pub left : ℕ
   pub totals : Totals
 
 -- the code of live totals, which tells one value from another
-abbrev pub coded_live : Coded Live
-coded_live = code_by (ℕ × Totals) (coded× coded_ℕ coded_totals) (λ live. (live.left, live.totals)) (λ p. record { left = p.0; totals = p.1 }) (λ _. refl)
+abbrev pub coded_totals_state : Coded TotalsState
+coded_totals_state = code_by (ℕ × Totals) (coded× coded_ℕ coded_totals) (λ live. (live.left, live.totals)) (λ p. record { left = p.0; totals = p.1 }) (λ _. refl)
 
 -- a value can be taken from a count and a sum if the sum that is left is one that the pairs left can have
 abbrev pub CanRetract : ℤ → Option (ℕ × ℤ) → Type 0

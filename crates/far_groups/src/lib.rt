@@ -10,5 +10,6 @@ pub mod laws;
 pub mod live_totals;
 mod numbers;
 
+pub use count_sums::{CountSum, CountSums};
 pub use folds::Pair;
 pub use live_totals::LiveTotals;

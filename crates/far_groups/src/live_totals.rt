@@ -31,13 +31,13 @@ pub struct LiveTotals {
 }
 
 impl Model for LiveTotals {
-    ghost use Rattle.far_groups.specs.Live.{Live, coded_live};
+    ghost use Rattle.far_groups.specs.Live.{TotalsState, coded_totals_state};
     ghost use Rattle.far_groups.specs.CountSums.{AreCountSums};
     ghost use Rattle.far_groups.specs.ByKey.{totals_in};
 
-    ghost Value = { Live };
+    ghost Value = { TotalsState };
 
-    ghost coded = { coded_live };
+    ghost coded = { coded_totals_state };
 
     ghost view = { λ live. record { left = live.left; totals = totals_in live.count_sums } };
 

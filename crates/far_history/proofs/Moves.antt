@@ -6,17 +6,17 @@ use Rattle.far_types.specs.declared.edit.Edit.{Edit}
 use Rattle.far_types.specs.Edits.{edit_refusal}
 use Rattle.far_types.specs.Table.{empty_table}
 use Rattle.far_history.specs.Histories.{Planned, replay, by_session, AllBelow}
-use Rattle.far_history.specs.Rule.{entry, Reads, Fits, Kept, Looks, added, Adds}
-use Rattle.far_history.specs.Views.{keeper, joined, no_part, keeper_part, session_part, one_given, new_session}
+use Rattle.far_history.specs.Rule.{entry, IsReadingAfter, FitsPass, HoldsHistory, Looks, with_edit, Adds}
+use Rattle.far_history.specs.Views.{keeper, with_session_of, no_part, keeper_part, session_part, one_given, new_session}
 use Rattle.far_history.specs.declared.view.Entry.{Entry}
-use Rattle.far_history.specs.declared.view.View.{View}
+use Rattle.far_history.specs.declared.view.PassView.{PassView}
 use Rattle.far_history.proofs.Lists.{set_each, snoc_each, length_set, prefix_self, prefix_more, cond_eq, cond_ne}
 use Rattle.far_history.proofs.Histories.{legal-push, below-push, below-more, by_session-same, by_session-other, by_session-new}
 
 off : {A : Type 0} → false ≡ true → A
 off e = absurd (true≢false (sym e))
 
-pub begins : (p : Planned) (words : List ℕ) → Reads p words [] → Kept p words (keeper [] 0 ∷ [])
+pub begins : (p : Planned) (words : List ℕ) → IsReadingAfter p words [] → HoldsHistory p words (keeper [] 0 ∷ [])
 begins p words reads = record {
   keeper_at = 0;
   owner = λ _. 0;
@@ -25,15 +25,15 @@ begins p words reads = record {
   reads = reads;
   legal = tt;
   below = tt;
-  each = snoc_each (Fits 0 (λ _. 0) 0 []) [] (keeper [] 0) (λ j u lt e. absurd (omega arith)) (record { keeps = λ _. (refl, refl, refl); has_session = off });
+  each = snoc_each (FitsPass 0 (λ _. 0) 0 []) [] (keeper [] 0) (λ j u lt e. absurd (omega arith)) (record { keeps = λ _. (refl, refl, refl); has_session = off });
 }
 
-pub looks : (p : Planned) (by : ℕ) (v : View) → v.has_session ≡ true → Turns (Kept p) by v (λ x. x) (Looks p)
+pub looks : (p : Planned) (by : ℕ) (v : PassView) → v.has_session ≡ true → Turns (HoldsHistory p) by v (λ x. x) (Looks p)
 looks p by v has_session words views h at =
     let mine = h.each by v at in
     let s = mine.has_session has_session in
-    let w : View = record v { seen = h.log } in
-    let P : ℕ → View → Type 0 = Fits h.keeper_at h.owner h.given h.log in (
+    let w : PassView = record v { seen = h.log } in
+    let P : ℕ → PassView → Type 0 = FitsPass h.keeper_at h.owner h.given h.log in (
       w,
       record {
         keeper_at = h.keeper_at;
@@ -48,22 +48,22 @@ looks p by v has_session words views h at =
       (refl, s.2, (λ k. sym (mine.keeps k).1), h.legal, h.reads, s.3, (λ k. subst (λ n. AllBelow n h.log) (sym (mine.keeps k).2) h.below)),
     )
 
-pub adds : (p : Planned) (by : ℕ) (v : View) (e : Edit) (new : List ℕ) → v.keeps ≡ true → v.has_session ≡ true → Reads p new (v.all ++ entry v.by e ∷ []) → edit_refusal (replay p v.all) e ≡ None → Turns (Kept p) by v (λ _. new) (Adds e)
+pub adds : (p : Planned) (by : ℕ) (v : PassView) (e : Edit) (new : List ℕ) → v.keeps ≡ true → v.has_session ≡ true → IsReadingAfter p new (v.all ++ entry v.by e ∷ []) → edit_refusal (replay p v.all) e ≡ None → Turns (HoldsHistory p) by v (λ _. new) (Adds e)
 adds p by v e new keeps has_session reads may words views h at =
     let mine = h.each by v at in
     let k = mine.keeps keeps in
     let s = mine.has_session has_session in
-    let w : View = added v e in
+    let w : PassView = with_edit v e in
     let x : Entry = entry v.by e in
     let log : List Entry = h.log ++ x ∷ [] in
-    let P : ℕ → View → Type 0 = Fits h.keeper_at h.owner h.given log in (
+    let P : ℕ → PassView → Type 0 = FitsPass h.keeper_at h.owner h.given log in (
       w,
       record {
         keeper_at = h.keeper_at;
         owner = h.owner;
         given = h.given;
         log = log;
-        reads = subst (λ l. Reads p new (l ++ x ∷ [])) k.1 reads;
+        reads = subst (λ l. IsReadingAfter p new (l ++ x ∷ [])) k.1 reads;
         legal = legal-push (empty_table p.schema p.limits) h.log x h.legal (subst (λ l. edit_refusal (replay p l) e ≡ None) k.1 may);
         below = below-push h.given h.log x h.below s.1;
         each = set_each P views by w
@@ -80,14 +80,14 @@ adds p by v e new keeps has_session reads may words views h at =
     )
 
 -- the session of a pass gets a pass of its own
-pub splits : (p : Planned) (by : ℕ) (v : View) → Forks (Kept p) by v (keeper_part v) (session_part v)
+pub splits : (p : Planned) (by : ℕ) (v : PassView) → Forks (HoldsHistory p) by v (keeper_part v) (session_part v)
 splits p by v words views h at =
     let mine = h.each by v at in
     let n : ℕ = length views in
-    let left : View = keeper_part v in
-    let right : View = session_part v in
+    let left : PassView = keeper_part v in
+    let right : PassView = session_part v in
     let owner : ℕ → ℕ = λ m. cond (nat_eq (h.owner m) by) n (h.owner m) in
-    let P : ℕ → View → Type 0 = Fits h.keeper_at owner h.given h.log in record {
+    let P : ℕ → PassView → Type 0 = FitsPass h.keeper_at owner h.given h.log in record {
       keeper_at = h.keeper_at;
       owner = owner;
       given = h.given;
@@ -103,14 +103,14 @@ splits p by v words views h at =
     }
 
 -- a pass takes the session of another
-pub joins : (p : Planned) (by : ℕ) (v : View) (other : ℕ) (w : View) → Merges (Kept p) by v other w (joined v w) no_part
+pub joins : (p : Planned) (by : ℕ) (v : PassView) (other : ℕ) (w : PassView) → Merges (HoldsHistory p) by v other w (with_session_of v w) no_part
 joins p by v other w words views h at distinct there =
     let mine = h.each by v at in
-    let both : View = joined v w in
-    let theirs = set_each (λ j u. j ≡ other → Fits h.keeper_at h.owner h.given h.log j u) views by both (λ j u ne e' _. h.each j u e') (λ same. absurd (distinct (sym same))) other w there refl in
+    let both : PassView = with_session_of v w in
+    let theirs = set_each (λ j u. j ≡ other → FitsPass h.keeper_at h.owner h.given h.log j u) views by both (λ j u ne e' _. h.each j u e') (λ same. absurd (distinct (sym same))) other w there refl in
     let owner : ℕ → ℕ = λ m. cond (nat_eq (h.owner m) other) by (h.owner m) in
-    let P : ℕ → View → Type 0 = Fits h.keeper_at owner h.given h.log in
-    let Q : ℕ → View → Type 0 = λ j u. j ≢ other → P j u in record {
+    let P : ℕ → PassView → Type 0 = FitsPass h.keeper_at owner h.given h.log in
+    let Q : ℕ → PassView → Type 0 = λ j u. j ≢ other → P j u in record {
       keeper_at = h.keeper_at;
       owner = owner;
       given = h.given;
@@ -126,15 +126,15 @@ joins p by v other w words views h at distinct there =
     }
 
 -- the keeper gives a new session out
-pub gives : (p : Planned) (by : ℕ) (v : View) → v.keeps ≡ true → Forks (Kept p) by v (one_given v) (new_session v)
+pub gives : (p : Planned) (by : ℕ) (v : PassView) → v.keeps ≡ true → Forks (HoldsHistory p) by v (one_given v) (new_session v)
 gives p by v keeps words views h at =
     let mine = h.each by v at in
     let k = mine.keeps keeps in
     let n : ℕ = length views in
-    let left : View = one_given v in
-    let right : View = new_session v in
+    let left : PassView = one_given v in
+    let right : PassView = new_session v in
     let owner : ℕ → ℕ = λ m. cond (nat_eq m h.given) n (h.owner m) in
-    let P : ℕ → View → Type 0 = Fits h.keeper_at owner (h.given + 1) h.log in record {
+    let P : ℕ → PassView → Type 0 = FitsPass h.keeper_at owner (h.given + 1) h.log in record {
       keeper_at = h.keeper_at;
       owner = owner;
       given = h.given + 1;

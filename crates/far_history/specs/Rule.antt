@@ -7,43 +7,43 @@ use Rattle.far_types.specs.declared.edit.Edit.{Edit}
 use Rattle.far_history.specs.Histories.{Planned, IsLegal, AllBelow, by_session, gauge_of}
 use Rattle.far_history.specs.Readings.{reading_in}
 use Rattle.far_history.specs.declared.view.Entry.{Entry}
-use Rattle.far_history.specs.declared.view.View.{View}
+use Rattle.far_history.specs.declared.view.PassView.{PassView}
 
 -- an edit with its session's number
 abbrev pub entry : ℕ → Edit → Entry
 entry by edit = record { by = by; edit = edit }
 
 -- the words are the reading after a history
-abbrev pub Reads : Planned → List ℕ → List Entry → Type 0
-Reads p words log = reading_in words ≡ gauge_of p log
+abbrev pub IsReadingAfter : Planned → List ℕ → List Entry → Type 0
+IsReadingAfter p words log = reading_in words ≡ gauge_of p log
 
 -- what the rule says of one pass: `keeper_at` is the pass that keeps the history, and `owner` gives the pass of each session
-pub record Fits (keeper_at : ℕ) (owner : ℕ → ℕ) (given : ℕ) (log : List Entry) (at : ℕ) (v : View) : Type 0 where
+pub record FitsPass (keeper_at : ℕ) (owner : ℕ → ℕ) (given : ℕ) (log : List Entry) (at : ℕ) (v : PassView) : Type 0 where
   pub keeps : v.keeps ≡ true → (at ≡ keeper_at) × (v.all ≡ log) × (v.given ≡ given)
   pub has_session : v.has_session ≡ true → (at ≡ owner v.by) × (v.by < given) × IsPrefix v.seen log × (by_session v.by log ≡ v.mine)
 
 -- there is one legal history, and the words are the reading after it. One pass keeps it. Each session has seen a prefix of it, and knows
 -- which entries are its own
-pub record Kept (p : Planned) (words : List ℕ) (views : List View) : Type 0 where
+pub record HoldsHistory (p : Planned) (words : List ℕ) (views : List PassView) : Type 0 where
   pub keeper_at : ℕ
   pub owner : ℕ → ℕ
   pub given : ℕ
   pub log : List Entry
-  pub reads : Reads p words log
+  pub reads : IsReadingAfter p words log
   pub legal : IsLegal p log
   pub below : AllBelow given log
-  pub each : (at : ℕ) (v : View) → get_elem? views at ≡ some v → Fits keeper_at owner given log at v
+  pub each : (at : ℕ) (v : PassView) → get_elem? views at ≡ some v → FitsPass keeper_at owner given log at v
 
 -- a session sees the history so far, whose reading is the words
-abbrev pub Looks : Planned → View → List ℕ → List ℕ → View → Type 0
+abbrev pub Looks : Planned → PassView → List ℕ → List ℕ → PassView → Type 0
 Looks p v before after w =
     (w ≡ record v { seen = w.seen }) × IsPrefix v.seen w.seen × (v.keeps ≡ true → w.seen ≡ v.all)
-    × IsLegal p w.seen × Reads p before w.seen × (by_session v.by w.seen ≡ v.mine) × (v.keeps ≡ true → AllBelow v.given w.seen)
+    × IsLegal p w.seen × IsReadingAfter p before w.seen × (by_session v.by w.seen ≡ v.mine) × (v.keeps ≡ true → AllBelow v.given w.seen)
 
 -- a pass that keeps the history and has a session, once that session adds an edit
-abbrev pub added : View → Edit → View
-added v e = record { keeps = v.keeps; all = v.all ++ entry v.by e ∷ []; given = v.given; has_session = v.has_session; by = v.by; seen = v.all ++ entry v.by e ∷ []; mine = v.mine ++ entry v.by e ∷ [] }
+abbrev pub with_edit : PassView → Edit → PassView
+with_edit v e = record { keeps = v.keeps; all = v.all ++ entry v.by e ∷ []; given = v.given; has_session = v.has_session; by = v.by; seen = v.all ++ entry v.by e ∷ []; mine = v.mine ++ entry v.by e ∷ [] }
 
 -- an edit is added to the history
-abbrev pub Adds : Edit → View → List ℕ → List ℕ → View → Type 0
-Adds e v before after w = w ≡ added v e
+abbrev pub Adds : Edit → PassView → List ℕ → List ℕ → PassView → Type 0
+Adds e v before after w = w ≡ with_edit v e

@@ -3,7 +3,7 @@ use Rattle.std.specs.Prelude.{◌≡◌, ℕ, List, []}
 use Rattle.far_history.specs.Histories.{by_session}
 use Rattle.far_history.specs.Views.{keeper, session}
 use Rattle.far_history.specs.declared.view.Entry.{Entry}
-use Rattle.far_history.specs.declared.view.View.{View}
+use Rattle.far_history.specs.declared.view.PassView.{PassView}
 
 -- its number, the prefix of the history that it has seen, and its own entries in it
 pub record SessionState : Type 0 where
@@ -12,7 +12,7 @@ pub record SessionState : Type 0 where
   pub mine : List Entry
 
 -- the session's state in a view
-abbrev pub session_state : View → SessionState
+abbrev pub session_state : PassView → SessionState
 session_state v = record { by = v.by; seen = v.seen; mine = v.mine }
 
 -- a session that has seen nothing
@@ -20,13 +20,13 @@ abbrev pub newcomer : ℕ → SessionState
 newcomer n = record { by = n; seen = []; mine = [] }
 
 -- a pass with a session alone, whose entries in what it has seen are its own
-abbrev pub IsSession : View → Type 0
+abbrev pub IsSession : PassView → Type 0
 IsSession v = (v ≡ session v.by v.seen v.mine) × (by_session v.by v.seen ≡ v.mine)
 
 -- a pass that keeps a history, and has no session
-abbrev pub IsKeeper : View → Type 0
+abbrev pub IsKeeper : PassView → Type 0
 IsKeeper v = v ≡ keeper v.all v.given
 
 -- a pass that keeps the empty history, and has no session
-abbrev pub IsGiver : View → Type 0
+abbrev pub IsGiver : PassView → Type 0
 IsGiver v = v ≡ keeper [] v.given

@@ -1,5 +1,5 @@
 // The cell of a history, its passes, and the kinds of step.
-use crate::view::View;
+use crate::view::PassView;
 use atomic_table::{Join, Split};
 use crossbeam_utils::atomic::seq_cell;
 use crossbeam_utils::atomic::seq_cell::RuledSeqCell;
@@ -50,12 +50,12 @@ pub struct Law<N> {
     of: PhantomData<N>,
 }
 
-impl<N: PlanTag> Protocol<[u64; 4], View> for Law<N> {
+impl<N: PlanTag> Protocol<[u64; 4], PassView> for Law<N> {
     ghost use Rattle.std.specs.Prelude.{[]};
-    ghost use Rattle.far_history.specs.Rule.{Kept};
+    ghost use Rattle.far_history.specs.Rule.{HoldsHistory};
     ghost use Rattle.far_history.specs.Views.{keeper};
 
-    ghost holds = { Kept N.plan };
+    ghost holds = { HoldsHistory N.plan };
 
     ghost first = { keeper [] 0 };
 }
@@ -65,7 +65,7 @@ pub struct Look<N> {
     of: PhantomData<N>,
 }
 
-impl<N: PlanTag> Outcome<[u64; 4], View> for Look<N> {
+impl<N: PlanTag> Outcome<[u64; 4], PassView> for Look<N> {
     ghost use Rattle.far_history.specs.Rule.{Looks};
 
     ghost then = { Looks N.plan };
@@ -76,7 +76,7 @@ pub struct Add<E> {
     of: PhantomData<E>,
 }
 
-impl<E: EditTag> Outcome<[u64; 4], View> for Add<E> {
+impl<E: EditTag> Outcome<[u64; 4], PassView> for Add<E> {
     ghost use Rattle.far_history.specs.Rule.{Adds};
 
     ghost then = { Adds E.edit };
@@ -85,7 +85,7 @@ impl<E: EditTag> Outcome<[u64; 4], View> for Add<E> {
 /// A step that gives out a new session.
 pub struct Give;
 
-impl Split<View> for Give {
+impl Split<PassView> for Give {
     ghost use Rattle.far_history.specs.Views.{one_given, new_session};
 
     ghost left = { one_given };
@@ -96,7 +96,7 @@ impl Split<View> for Give {
 /// A step that splits the session off its pass.
 pub struct SplitSession;
 
-impl Split<View> for SplitSession {
+impl Split<PassView> for SplitSession {
     ghost use Rattle.far_history.specs.Views.{keeper_part, session_part};
 
     ghost left = { keeper_part };
@@ -107,16 +107,16 @@ impl Split<View> for SplitSession {
 /// A step that joins the session of one pass to the keeper's.
 pub struct JoinSession;
 
-impl Join<View> for JoinSession {
-    ghost use Rattle.far_history.specs.Views.{joined, no_part};
+impl Join<PassView> for JoinSession {
+    ghost use Rattle.far_history.specs.Views.{with_session_of, no_part};
 
-    ghost both = { joined };
+    ghost both = { with_session_of };
 
     ghost spent = { no_part };
 }
 
 /// The cell of a history: four words that are read and written in one step.
-pub type Cell<N> = RuledSeqCell<[u64; 4], View, Law<N>, 4>;
+pub type HistoryCell<N> = RuledSeqCell<[u64; 4], PassView, Law<N>, 4>;
 
 /// A pass of such a cell. It takes no bytes.
-pub type Pass = seq_cell::Pass<[u64; 4], View>;
+pub type Pass = seq_cell::Pass<[u64; 4], PassView>;

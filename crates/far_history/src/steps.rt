@@ -3,10 +3,10 @@ ghost use Rattle.std.specs.Prelude.{◌≡◌, [], true, None, IfOk};
 ghost use Rattle.crossbeam_utils.specs.Seq.{cell_view, IsSamePass};
 ghost use Rattle.far_types.specs.Edits.{edit_refusal};
 ghost use Rattle.far_history.specs.Histories.{replay};
-ghost use Rattle.far_history.specs.Rule.{Reads, Looks, added};
-ghost use Rattle.far_history.specs.Views.{keeper, joined, keeper_part, session_part, one_given, new_session};
+ghost use Rattle.far_history.specs.Rule.{IsReadingAfter, Looks, with_edit};
+ghost use Rattle.far_history.specs.Views.{keeper, with_session_of, keeper_part, session_part, one_given, new_session};
 
-use crate::law::{Add, Cell, EditTag, Give, JoinSession, Look, Pass, PlanTag, SplitSession};
+use crate::law::{Add, HistoryCell, EditTag, Give, JoinSession, Look, Pass, PlanTag, SplitSession};
 use far_types::Edit;
 use std::alloc::{AllocError, Global};
 use std::marker::Brand;
@@ -14,14 +14,14 @@ use std::snapshot::Snapshot;
 use std::sync::Wait;
 
 /// Makes the cell of an empty history, and the pass that keeps it. Fails only if out of memory.
-pub fn begin<N: PlanTag>(alloc: Global) -> Result<(Cell<N>, Pass), AllocError>
+pub fn begin<N: PlanTag>(alloc: Global) -> Result<(HistoryCell<N>, Pass), AllocError>
     ensures { IfOk result (λ made. (made.1.table_id ≡ made.0.table.shared.table_id) × (cell_view made.1 ≡ keeper [] 0)) }
 {
-    Cell::<N>::ruled(alloc, [0, 0, 0, 0])
+    HistoryCell::<N>::ruled(alloc, [0, 0, 0, 0])
 }
 
 /// Reads the four words in one step. The session of the pass has then seen the history so far.
-pub fn look<N: PlanTag, R: Wait>(rt: &R, cell: &Cell<N>, pass: &mut Pass) -> [u64; 4]
+pub fn look<N: PlanTag, R: Wait>(rt: &R, cell: &HistoryCell<N>, pass: &mut Pass) -> [u64; 4]
     requires cell { pass.old.table_id ≡ cell.now.table.shared.table_id }
     requires has_session { (cell_view pass.old).has_session ≡ true }
     ensures same { IsSamePass pass.old pass.new }
@@ -32,7 +32,7 @@ pub fn look<N: PlanTag, R: Wait>(rt: &R, cell: &Cell<N>, pass: &mut Pass) -> [u6
 
 fn add_named<N: PlanTag, E: EditTag, R: Wait>(
     rt: &R,
-    cell: &Cell<N>,
+    cell: &HistoryCell<N>,
     pass: &mut Pass,
     words: [u64; 4],
     edit: Snapshot<Edit>,
@@ -40,10 +40,10 @@ fn add_named<N: PlanTag, E: EditTag, R: Wait>(
     requires cell { pass.old.table_id ≡ cell.now.table.shared.table_id }
     requires named { edit.value ≡ E.edit }
     requires both { ((cell_view pass.old).keeps ≡ true) × ((cell_view pass.old).has_session ≡ true) }
-    requires reads { Reads N.plan words (added (cell_view pass.old) edit.value).all }
+    requires reads { IsReadingAfter N.plan words (with_edit (cell_view pass.old) edit.value).all }
     requires may { edit_refusal (replay N.plan (cell_view pass.old).all) edit.value ≡ None }
     ensures same { IsSamePass pass.old pass.new }
-    ensures adds { cell_view pass.new ≡ added (cell_view pass.old) edit.value }
+    ensures adds { cell_view pass.new ≡ with_edit (cell_view pass.old) edit.value }
 {
     cell.swap_as::<Add<E>, R>(rt, pass, words);
 }
@@ -51,23 +51,23 @@ fn add_named<N: PlanTag, E: EditTag, R: Wait>(
 /// Adds an edit to the history, by the session that is joined to the keeper's pass. Writes the four words in one step.
 pub fn add<N: PlanTag, R: Wait>(
     rt: &R,
-    cell: &Cell<N>,
+    cell: &HistoryCell<N>,
     pass: &mut Pass,
     words: [u64; 4],
     edit: Snapshot<Edit>,
 )
     requires cell { pass.old.table_id ≡ cell.now.table.shared.table_id }
     requires both { ((cell_view pass.old).keeps ≡ true) × ((cell_view pass.old).has_session ≡ true) }
-    requires reads { Reads N.plan words (added (cell_view pass.old) edit.value).all }
+    requires reads { IsReadingAfter N.plan words (with_edit (cell_view pass.old) edit.value).all }
     requires may { edit_refusal (replay N.plan (cell_view pass.old).all) edit.value ≡ None }
     ensures same { IsSamePass pass.old pass.new }
-    ensures adds { cell_view pass.new ≡ added (cell_view pass.old) edit.value }
+    ensures adds { cell_view pass.new ≡ with_edit (cell_view pass.old) edit.value }
 {
     add_named::<N, Brand, R>(rt, cell, pass, words, edit);
 }
 
 /// Splits the session of a pass off, into a pass of its own.
-pub fn split_session<N: PlanTag>(cell: &Cell<N>, pass: &mut Pass) -> Pass
+pub fn split_session<N: PlanTag>(cell: &HistoryCell<N>, pass: &mut Pass) -> Pass
     requires { pass.old.table_id ≡ cell.now.table.shared.table_id }
     ensures same { IsSamePass pass.old pass.new }
     ensures rest { cell_view pass.new ≡ keeper_part (cell_view pass.old) }
@@ -77,17 +77,17 @@ pub fn split_session<N: PlanTag>(cell: &Cell<N>, pass: &mut Pass) -> Pass
 }
 
 /// Joins a session to a pass.
-pub fn join_session<N: PlanTag>(cell: &Cell<N>, pass: &mut Pass, other: Pass)
+pub fn join_session<N: PlanTag>(cell: &HistoryCell<N>, pass: &mut Pass, other: Pass)
     requires cell { pass.old.table_id ≡ cell.now.table.shared.table_id }
     requires other { (other.table_id ≡ cell.now.table.shared.table_id) × (other.me.1 ≡ []) }
     ensures same { IsSamePass pass.old pass.new }
-    ensures joined { cell_view pass.new ≡ joined (cell_view pass.old) (cell_view other) }
+    ensures joined { cell_view pass.new ≡ with_session_of (cell_view pass.old) (cell_view other) }
 {
     cell.join_pass::<JoinSession>(pass, other)
 }
 
 /// Gives out a new session, by the pass that keeps the history.
-pub fn give<N: PlanTag>(cell: &Cell<N>, pass: &mut Pass) -> Pass
+pub fn give<N: PlanTag>(cell: &HistoryCell<N>, pass: &mut Pass) -> Pass
     requires cell { pass.old.table_id ≡ cell.now.table.shared.table_id }
     requires keeps { (cell_view pass.old).keeps ≡ true }
     ensures same { IsSamePass pass.old pass.new }

@@ -9,7 +9,7 @@ pub struct Entry {
 }
 
 /// What one pass knows: a pass may keep the history, have a session, or both.
-pub struct View {
+pub struct PassView {
     /// Whether the pass keeps the history.
     pub keeps: bool,
     /// The history, if the pass keeps it.

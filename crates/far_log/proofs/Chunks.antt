@@ -5,7 +5,7 @@ use Rattle.std.proofs.lemmas.List.{append_assoc, take_all, take-append-le}
 use Rattle.std.proofs.lemmas.Bool.{cases_lt}
 use Rattle.std.specs.Prelude.{vec_capacity, slice_get, slice_set}
 use Rattle.std.specs.declared.vec.Vec.{Vec}
-use Rattle.far_log.specs.Chunking.{capacity_at, start_at, joined, AreChunks, IsPlaceOf}
+use Rattle.far_log.specs.Chunking.{capacity_at, start_at, items_of, AreChunks, IsPlaceOf}
 
 -- a chunk has as much space as all those in front of it, and the first
 pub start-size : (size number : ℕ) → start_at size number + size ≡ capacity_at size number
@@ -123,52 +123,52 @@ module _ {X : Type 0} where
 
 module _ {X Z : Type 0} where
   -- the chunk in which an element lies is there
-  pub chunk-there : (size : ℕ) (cs : List (Vec X Z)) (number : ℕ) → AreChunks size cs → start_at size number < length (joined cs) → number < length cs
+  pub chunk-there : (size : ℕ) (cs : List (Vec X Z)) (number : ℕ) → AreChunks size cs → start_at size number < length (items_of cs) → number < length cs
   chunk-there size [] number h lt = absurd (omega arith)
   chunk-there size (c ∷ cs) zero h lt = omega arith
   chunk-there size (c ∷ []) (suc number) h lt = absurd (omega (arith, h.0, length-append c.items []))
   chunk-there size (c ∷ (d ∷ cs)) (suc number) h lt =
-      let later = chunk-there (size + size) (d ∷ cs) number h.1 (omega (arith, h.0, length-append c.items (joined (d ∷ cs)))) in
+      let later = chunk-there (size + size) (d ∷ cs) number h.1 (omega (arith, h.0, length-append c.items (items_of (d ∷ cs)))) in
       omega (arith, later)
 
   -- and the element lies in it
   pub in-chunk : (size : ℕ) (cs : List (Vec X Z)) (number at : ℕ) (c : Vec X Z) → AreChunks size cs → slice_get cs number ≡ Some c → at < capacity_at size number
-      → start_at size number + at < length (joined cs) → at < length c.items
+      → start_at size number + at < length (items_of cs) → at < length c.items
   in-chunk size [] number at c h e small lt = absurd (cc)
   in-chunk size (b ∷ []) zero at c h e small lt = let same : b ≡ c = cc in omega (arith, ap (λ (u : Vec X Z). length u.items) same, length-append b.items [])
   in-chunk size (b ∷ (d ∷ cs)) zero at c h e small lt = let same : b ≡ c = cc in omega (arith, ap (λ (u : Vec X Z). length u.items) same, h.0)
   in-chunk size (b ∷ []) (suc number) at c h e small lt = absurd (cc)
   in-chunk size (b ∷ (d ∷ cs)) (suc number) at c h e small lt =
-      in-chunk (size + size) (d ∷ cs) number at c h.1 e small (omega (arith, h.0, length-append b.items (joined (d ∷ cs))))
+      in-chunk (size + size) (d ∷ cs) number at c h.1 e small (omega (arith, h.0, length-append b.items (items_of (d ∷ cs))))
 
   -- no chunk ends behind all elements
-  pub ends-within : (size : ℕ) (cs : List (Vec X Z)) (number : ℕ) (c : Vec X Z) → AreChunks size cs → slice_get cs number ≡ Some c → start_at size number + length c.items ≤ length (joined cs)
+  pub ends-within : (size : ℕ) (cs : List (Vec X Z)) (number : ℕ) (c : Vec X Z) → AreChunks size cs → slice_get cs number ≡ Some c → start_at size number + length c.items ≤ length (items_of cs)
   ends-within size [] number c h e = absurd (cc)
-  ends-within size (b ∷ cs) zero c h e = let same : b ≡ c = cc in omega (arith, ap (λ (u : Vec X Z). length u.items) same, length-append b.items (joined cs))
+  ends-within size (b ∷ cs) zero c h e = let same : b ≡ c = cc in omega (arith, ap (λ (u : Vec X Z). length u.items) same, length-append b.items (items_of cs))
   ends-within size (b ∷ []) (suc number) c h e = absurd (cc)
   ends-within size (b ∷ (a ∷ cs)) (suc number) c h e =
       let later = ends-within (size + size) (a ∷ cs) number c h.1 e in
-      omega (arith, later, h.0, length-append b.items (joined (a ∷ cs)))
+      omega (arith, later, h.0, length-append b.items (items_of (a ∷ cs)))
 
   -- what is read there
   pub read-chunk : (size : ℕ) (cs : List (Vec X Z)) (number at : ℕ) (c : Vec X Z) → AreChunks size cs → slice_get cs number ≡ Some c → at < length c.items
-      → slice_get (joined cs) (start_at size number + at) ≡ slice_get c.items at
+      → slice_get (items_of cs) (start_at size number + at) ≡ slice_get c.items at
   read-chunk size [] number at c h e lt = absurd (cc)
-  read-chunk size (b ∷ cs) zero at c h e lt = let same : b ≡ c = cc in let first : 0 + at ≡ at = omega arith in rw (first, same) (get-front c.items (joined cs) at lt)
+  read-chunk size (b ∷ cs) zero at c h e lt = let same : b ≡ c = cc in let first : 0 + at ≡ at = omega arith in rw (first, same) (get-front c.items (items_of cs) at lt)
   read-chunk size (b ∷ []) (suc number) at c h e lt = absurd (cc)
   read-chunk size (b ∷ (d ∷ cs)) (suc number) at c h e lt =
       let disjoint : size + start_at (size + size) number + at ≡ size + (start_at (size + size) number + at) = omega arith in
-      rw disjoint (get-back b.items (joined (d ∷ cs)) size (start_at (size + size) number + at) h.0 ∙ read-chunk (size + size) (d ∷ cs) number at c h.1 e lt)
+      rw disjoint (get-back b.items (items_of (d ∷ cs)) size (start_at (size + size) number + at) h.0 ∙ read-chunk (size + size) (d ∷ cs) number at c h.1 e lt)
 
   -- what a write there does
   pub write-chunk : (size : ℕ) (cs : List (Vec X Z)) (number at : ℕ) (c d : Vec X Z) (x : X) → AreChunks size cs → slice_get cs number ≡ Some c → at < length c.items
-      → d.items ≡ slice_set c.items at x → joined (slice_set cs number d) ≡ slice_set (joined cs) (start_at size number + at) x
+      → d.items ≡ slice_set c.items at x → items_of (slice_set cs number d) ≡ slice_set (items_of cs) (start_at size number + at) x
   write-chunk size [] number at c d x h e lt is = absurd (cc)
-  write-chunk size (b ∷ cs) zero at c d x h e lt is = let same : b ≡ c = cc in let first : 0 + at ≡ at = omega arith in rw (first, same, is) (set-front c.items (joined cs) at x lt)
+  write-chunk size (b ∷ cs) zero at c d x h e lt is = let same : b ≡ c = cc in let first : 0 + at ≡ at = omega arith in rw (first, same, is) (set-front c.items (items_of cs) at x lt)
   write-chunk size (b ∷ []) (suc number) at c d x h e lt is = absurd (cc)
   write-chunk size (b ∷ (a ∷ cs)) (suc number) at c d x h e lt is =
       let disjoint : size + start_at (size + size) number + at ≡ size + (start_at (size + size) number + at) = omega arith in
-      rw disjoint (ap (λ zs. b.items ++ zs) (write-chunk (size + size) (a ∷ cs) number at c d x h.1 e lt is) ∙ set-back b.items (joined (a ∷ cs)) size (start_at (size + size) number + at) x h.0)
+      rw disjoint (ap (λ zs. b.items ++ zs) (write-chunk (size + size) (a ∷ cs) number at c d x h.1 e lt is) ∙ set-back b.items (items_of (a ∷ cs)) size (start_at (size + size) number + at) x h.0)
 
   -- the chunks once one is written
   pub chunks-set : (size : ℕ) (cs : List (Vec X Z)) (number : ℕ) (c d : Vec X Z) → AreChunks size cs → slice_get cs number ≡ Some c → length d.items ≡ length c.items → vec_capacity d ≡ vec_capacity c
@@ -185,14 +185,14 @@ module _ {X Z : Type 0} where
   chunks-set size (b ∷ (a ∷ cs)) (suc (suc number)) c d h e long capacity = (h.0, chunks-set (size + size) (a ∷ cs) (suc number) c d h.1 e long capacity)
 
   -- no more elements than space
-  pub within-size : (size : ℕ) (cs : List (Vec X Z)) → AreChunks size cs → length (joined cs) ≤ start_at size (length cs)
+  pub within-size : (size : ℕ) (cs : List (Vec X Z)) → AreChunks size cs → length (items_of cs) ≤ start_at size (length cs)
   within-size size [] h = omega arith
   within-size size (c ∷ []) h = omega (arith, h.0, length-append c.items [])
-  within-size size (c ∷ (d ∷ cs)) h = let later = within-size (size + size) (d ∷ cs) h.1 in omega (arith, later, h.0, length-append c.items (joined (d ∷ cs)))
+  within-size size (c ∷ (d ∷ cs)) h = let later = within-size (size + size) (d ∷ cs) h.1 in omega (arith, later, h.0, length-append c.items (items_of (d ∷ cs)))
 
   -- a chunk that is not full is the last
   pub last-chunk : (size : ℕ) (cs : List (Vec X Z)) (number : ℕ) (c : Vec X Z) → AreChunks size cs → slice_get cs number ≡ Some c → length c.items < capacity_at size number
-      → (length (joined cs) ≡ start_at size number + length c.items) × (capacity_at size number ≤ vec_capacity c)
+      → (length (items_of cs) ≡ start_at size number + length c.items) × (capacity_at size number ≤ vec_capacity c)
   last-chunk size [] number c h e less = absurd (cc)
   last-chunk size (b ∷ []) zero c h e less =
       let same : b ≡ c = cc in
@@ -201,11 +201,11 @@ module _ {X Z : Type 0} where
   last-chunk size (b ∷ []) (suc number) c h e less = absurd (cc)
   last-chunk size (b ∷ (a ∷ cs)) (suc number) c h e less =
       let later = last-chunk (size + size) (a ∷ cs) number c h.1 e less in
-      (omega (arith, later.0, h.0, length-append b.items (joined (a ∷ cs))), later.1)
+      (omega (arith, later.0, h.0, length-append b.items (items_of (a ∷ cs))), later.1)
 
   -- an element comes into the last chunk
   pub push-chunk : (size : ℕ) (cs : List (Vec X Z)) (number : ℕ) (c d : Vec X Z) (x : X) → AreChunks size cs → slice_get cs number ≡ Some c → length c.items < capacity_at size number
-      → d.items ≡ c.items ++ x ∷ [] → vec_capacity d ≡ vec_capacity c → AreChunks size (slice_set cs number d) × (joined (slice_set cs number d) ≡ joined cs ++ x ∷ [])
+      → d.items ≡ c.items ++ x ∷ [] → vec_capacity d ≡ vec_capacity c → AreChunks size (slice_set cs number d) × (items_of (slice_set cs number d) ≡ items_of cs ++ x ∷ [])
   push-chunk size [] number c d x h e less is capacity = absurd (cc)
   push-chunk size (b ∷ []) zero c d x h e less is capacity =
       let same : b ≡ c = cc in
@@ -214,36 +214,36 @@ module _ {X Z : Type 0} where
   push-chunk size (b ∷ []) (suc number) c d x h e less is capacity = absurd (cc)
   push-chunk size (b ∷ (a ∷ cs)) (suc zero) c d x h e less is capacity =
       let later = push-chunk (size + size) (a ∷ cs) zero c d x h.1 e less is capacity in
-      ((h.0, later.0), ap (λ xs. b.items ++ xs) later.1 ∙ sym (append_assoc b.items (joined (a ∷ cs)) (x ∷ [])))
+      ((h.0, later.0), ap (λ xs. b.items ++ xs) later.1 ∙ sym (append_assoc b.items (items_of (a ∷ cs)) (x ∷ [])))
   push-chunk size (b ∷ (a ∷ cs)) (suc (suc number)) c d x h e less is capacity =
       let later = push-chunk (size + size) (a ∷ cs) (suc number) c d x h.1 e less is capacity in
-      ((h.0, later.0), ap (λ xs. b.items ++ xs) later.1 ∙ sym (append_assoc b.items (joined (a ∷ cs)) (x ∷ [])))
+      ((h.0, later.0), ap (λ xs. b.items ++ xs) later.1 ∙ sym (append_assoc b.items (items_of (a ∷ cs)) (x ∷ [])))
 
   -- an empty chunk comes behind full ones
-  pub add-chunk : (size : ℕ) (cs : List (Vec X Z)) (c : Vec X Z) → AreChunks size cs → length (joined cs) ≡ start_at size (length cs) → c.items ≡ [] → capacity_at size (length cs) ≤ vec_capacity c
+  pub add-chunk : (size : ℕ) (cs : List (Vec X Z)) (c : Vec X Z) → AreChunks size cs → length (items_of cs) ≡ start_at size (length cs) → c.items ≡ [] → capacity_at size (length cs) ≤ vec_capacity c
       → AreChunks size (cs ++ c ∷ [])
   add-chunk size [] c h full none reserved = (omega (arith, ap length none), reserved)
   add-chunk size (b ∷ []) c h full none reserved = (omega (arith, full, length-append b.items []), (omega (arith, ap length none), reserved))
   add-chunk size (b ∷ (a ∷ cs)) c h full none reserved =
-      (h.0, add-chunk (size + size) (a ∷ cs) c h.1 (omega (arith, full, h.0, length-append b.items (joined (a ∷ cs)))) none reserved)
+      (h.0, add-chunk (size + size) (a ∷ cs) c h.1 (omega (arith, full, h.0, length-append b.items (items_of (a ∷ cs)))) none reserved)
 
-  pub joined-add : (cs : List (Vec X Z)) (c : Vec X Z) → c.items ≡ [] → joined (cs ++ c ∷ []) ≡ joined cs
+  pub joined-add : (cs : List (Vec X Z)) (c : Vec X Z) → c.items ≡ [] → items_of (cs ++ c ∷ []) ≡ items_of cs
   joined-add [] c none = rw none refl
   joined-add (b ∷ cs) c none = ap (λ xs. b.items ++ xs) (joined-add cs c none)
 
   -- the chunk in which the next element lies is there, or would be the next
-  pub next-chunk : (cs : List (Vec X Z)) (len number at : ℕ) → AreChunks 64 cs → len ≤ length (joined cs) → IsPlaceOf len number at → number ≤ length cs
+  pub next-chunk : (cs : List (Vec X Z)) (len number at : ℕ) → AreChunks 64 cs → len ≤ length (items_of cs) → IsPlaceOf len number at → number ≤ length cs
   next-chunk cs len number at h within place = elim (cases_lt (length cs) number) [
     | inl past ↦ absurd (omega (arith, start-later 64 (length cs) number past, start-size 64 (length cs), within-size 64 cs h, within, place.index_is))
     | inr there ↦ there
   ]
 
-  pub all-full : (cs : List (Vec X Z)) (len number at : ℕ) → AreChunks 64 cs → len ≤ length (joined cs) → IsPlaceOf len number at → number ≡ length cs → length (joined cs) ≡ start_at 64 (length cs)
+  pub all-full : (cs : List (Vec X Z)) (len number at : ℕ) → AreChunks 64 cs → len ≤ length (items_of cs) → IsPlaceOf len number at → number ≡ length cs → length (items_of cs) ≡ start_at 64 (length cs)
   all-full cs len number at h within place is = omega (arith, within-size 64 cs h, within, place.index_is, ap (start_at 64) is)
 
   -- the elements of the list that lie in one chunk
-  pub cut-chunk : (size len : ℕ) (cs : List (Vec X Z)) (number : ℕ) (c : Vec X Z) → AreChunks size cs → slice_get cs number ≡ Some c → len ≤ length (joined cs) → start_at size number ≤ len
-      → take (len - start_at size number) c.items ≡ take (capacity_at size number) (drop (start_at size number) (take len (joined cs)))
+  pub cut-chunk : (size len : ℕ) (cs : List (Vec X Z)) (number : ℕ) (c : Vec X Z) → AreChunks size cs → slice_get cs number ≡ Some c → len ≤ length (items_of cs) → start_at size number ≤ len
+      → take (len - start_at size number) c.items ≡ take (capacity_at size number) (drop (start_at size number) (take len (items_of cs)))
   cut-chunk size len [] number c h e within le = absurd (cc)
   cut-chunk size len (b ∷ []) zero c h e within le =
       let same : b ≡ c = cc in
@@ -255,11 +255,11 @@ module _ {X Z : Type 0} where
       let whole : len - 0 ≡ len = omega arith in
       let full : length c.items ≡ size = omega (arith, h.0, ap (λ (u : Vec X Z). length u.items) same) in
       rw (whole, same) (elim (cases_lt (length c.items) len) [
-        | inl past ↦ cut-front size len c.items (joined (a ∷ cs)) (omega (arith, full)) (inr (full, omega arith))
-        | inr short ↦ cut-front size len c.items (joined (a ∷ cs)) (omega (arith, full)) (inl short)
+        | inl past ↦ cut-front size len c.items (items_of (a ∷ cs)) (omega (arith, full)) (inr (full, omega arith))
+        | inr short ↦ cut-front size len c.items (items_of (a ∷ cs)) (omega (arith, full)) (inl short)
       ])
   cut-chunk size len (b ∷ []) (suc number) c h e within le = absurd (cc)
   cut-chunk size len (b ∷ (a ∷ cs)) (suc number) c h e within le =
-      let later = cut-chunk (size + size) (len - size) (a ∷ cs) number c h.1 e (omega (arith, within, h.0, length-append b.items (joined (a ∷ cs)))) (omega arith) in
+      let later = cut-chunk (size + size) (len - size) (a ∷ cs) number c h.1 e (omega (arith, within, h.0, length-append b.items (items_of (a ∷ cs)))) (omega arith) in
       let less : len - (size + start_at (size + size) number) ≡ len - size - start_at (size + size) number = omega arith in
-      rw (less, drop-back b.items (joined (a ∷ cs)) size (start_at (size + size) number) len h.0 le) later
+      rw (less, drop-back b.items (items_of (a ∷ cs)) size (start_at (size + size) number) len h.0 le) later

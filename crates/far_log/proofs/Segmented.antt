@@ -9,7 +9,7 @@ use Rattle.far_log.specs.declared.extents.Extent.{Extent}
 use Rattle.far_log.specs.declared.part_entry.PartEntry.{PartEntry}
 use Rattle.far_log.specs.declared.table.Table.{Table}
 use Rattle.far_log.specs.RegionState.{Part, SegmentState, RegionState, fill_of, space_in, used_in, used_of, capacity_of, segment_of, part_of, list_at, IsLayout}
-use Rattle.far_log.specs.Storage.{extents_of, links_of, parts_in, extents_end, AreAdjacent, IsStored, IsKept, segment_states, AreKept}
+use Rattle.far_log.specs.Storage.{extents_of, links_of, parts_in, extents_end, AreAdjacent, IsStored, IsSegmentStored, segment_states, AreSegmentsStored}
 use Rattle.far_log.proofs.StoredParts.{stored-fill, begin-le-end, count-le-end, layout-parts}
 use Rattle.far_log.proofs.Gathers.{some-list, list-is}
 use Rattle.far_log.proofs.ExtentOf.{some-extent, extent-within, IsExtentOf}
@@ -21,26 +21,26 @@ abbrev pub default_value : Table
 default_value = record { entries = []; used = 0 }
 
 module _ {X : Type 0} (size : ℕ) where
-  pub count-tables : (xss : List (List X)) (ts : List Table) → AreKept size xss ts → length xss ≡ length ts
+  pub count-tables : (xss : List (List X)) (ts : List Table) → AreSegmentsStored size xss ts → length xss ≡ length ts
   count-tables [] [] h = refl
   count-tables [] (t ∷ ts) h = absurd h
   count-tables (xs ∷ xss) [] h = absurd h
   count-tables (xs ∷ xss) (t ∷ ts) h = ap suc (count-tables xss ts h.1)
 
-  pub count-states : (xss : List (List X)) (ts : List Table) → AreKept size xss ts → length (segment_states size xss ts) ≡ length ts
+  pub count-states : (xss : List (List X)) (ts : List Table) → AreSegmentsStored size xss ts → length (segment_states size xss ts) ≡ length ts
   count-states [] [] h = refl
   count-states [] (t ∷ ts) h = absurd h
   count-states (xs ∷ xss) [] h = absurd h
   count-states (xs ∷ xss) (t ∷ ts) h = ap suc (count-states xss ts h.1)
 
-  kept-at : (xss : List (List X)) (ts : List Table) (k : ℕ) → AreKept size xss ts → k < length ts → IsKept (get_or xss k []) (get_or ts k default_value) size
+  kept-at : (xss : List (List X)) (ts : List Table) (k : ℕ) → AreSegmentsStored size xss ts → k < length ts → IsSegmentStored (get_or xss k []) (get_or ts k default_value) size
   kept-at [] [] k h lt = absurd (omega arith)
   kept-at [] (t ∷ ts) k h lt = absurd h
   kept-at (xs ∷ xss) [] k h lt = absurd h
   kept-at (xs ∷ xss) (t ∷ ts) zero h lt = h.0
   kept-at (xs ∷ xss) (t ∷ ts) (suc k) h lt = kept-at xss ts k h.1 (omega arith)
 
-  state-at : (xss : List (List X)) (ts : List Table) (k : ℕ) → AreKept size xss ts → k < length ts → segment_of (segment_states size xss ts) k ≡ shown (get_or xss k []) (extents_of (get_or ts k default_value).entries) size
+  state-at : (xss : List (List X)) (ts : List Table) (k : ℕ) → AreSegmentsStored size xss ts → k < length ts → segment_of (segment_states size xss ts) k ≡ shown (get_or xss k []) (extents_of (get_or ts k default_value).entries) size
   state-at [] [] k h lt = absurd (omega arith)
   state-at [] (t ∷ ts) k h lt = absurd h
   state-at (xs ∷ xss) [] k h lt = absurd h
@@ -55,7 +55,7 @@ module _ {X : Type 0} (size : ℕ) where
   states-set (ys ∷ xss) (u ∷ ts) zero xs t = refl
   states-set (ys ∷ xss) (u ∷ ts) (suc k) xs t = ap (λ rs. shown ys (extents_of u.entries) size ∷ rs) (states-set xss ts k xs t)
 
-  pub kept-set : (xss : List (List X)) (ts : List Table) (k : ℕ) (xs : List X) (t : Table) → AreKept size xss ts → IsKept xs t size → AreKept size (slice_set xss k xs) (slice_set ts k t)
+  pub kept-set : (xss : List (List X)) (ts : List Table) (k : ℕ) (xs : List X) (t : Table) → AreSegmentsStored size xss ts → IsSegmentStored xs t size → AreSegmentsStored size (slice_set xss k xs) (slice_set ts k t)
   kept-set [] [] k xs t h one = h
   kept-set [] (u ∷ ts) k xs t h one = absurd h
   kept-set (ys ∷ xss) [] k xs t h one = absurd h
@@ -70,7 +70,7 @@ module _ {X : Type 0} (size : ℕ) where
   states-set_stack (ys ∷ xss) (u ∷ ts) zero xs = refl
   states-set_stack (ys ∷ xss) (u ∷ ts) (suc k) xs = ap (λ rs. shown ys (extents_of u.entries) size ∷ rs) (states-set_stack xss ts k xs)
 
-  pub kept-set_stack : (xss : List (List X)) (ts : List Table) (k : ℕ) (xs : List X) → AreKept size xss ts → IsKept xs (get_or ts k default_value) size → AreKept size (slice_set xss k xs) ts
+  pub kept-set_stack : (xss : List (List X)) (ts : List Table) (k : ℕ) (xs : List X) → AreSegmentsStored size xss ts → IsSegmentStored xs (get_or ts k default_value) size → AreSegmentsStored size (slice_set xss k xs) ts
   kept-set_stack [] [] k xs h one = h
   kept-set_stack [] (u ∷ ts) k xs h one = absurd h
   kept-set_stack (ys ∷ xss) [] k xs h one = absurd h
@@ -78,14 +78,14 @@ module _ {X : Type 0} (size : ℕ) where
   kept-set_stack (ys ∷ xss) (u ∷ ts) (suc k) xs h one = (h.0, kept-set_stack xss ts k xs h.1 one)
 
   -- sums over all segments
-  pub used-states : (xss : List (List X)) (ts : List Table) → AreKept size xss ts → sum_by (λ t. t.used) ts ≡ used_of (segment_states size xss ts)
+  pub used-states : (xss : List (List X)) (ts : List Table) → AreSegmentsStored size xss ts → sum_by (λ t. t.used) ts ≡ used_of (segment_states size xss ts)
   used-states [] [] h = refl
   used-states [] (t ∷ ts) h = absurd h
   used-states (xs ∷ xss) [] h = absurd h
   used-states (xs ∷ xss) (t ∷ ts) h =
       omega (arith, h.0.stored.sum, used-states xss ts h.1, sum_by-cons (λ (u : Table). u.used) t ts, sum_by-cons (λ (s : SegmentState X). used_in s) (shown xs (extents_of t.entries) size) (segment_states size xss ts))
 
-  pub filled-states : (xss : List (List X)) (ts : List Table) → AreKept size xss ts → sum_by (λ xs. length xs) xss ≡ sum_by fill_of (segment_states size xss ts)
+  pub filled-states : (xss : List (List X)) (ts : List Table) → AreSegmentsStored size xss ts → sum_by (λ xs. length xs) xss ≡ sum_by fill_of (segment_states size xss ts)
   filled-states [] [] h = refl
   filled-states [] (t ∷ ts) h = absurd h
   filled-states (xs ∷ xss) [] h = absurd h
@@ -97,17 +97,17 @@ module _ {X : Type 0} (size : ℕ) where
   states-none zero = refl
   states-none (suc n) = ap (λ (rs : RegionState X). record { parts = []; size = size } ∷ rs) (states-none n)
 
-  pub kept-default_value : size < 2 ^ 32 → IsKept {X = X} [] default_value size
+  pub kept-default_value : size < 2 ^ 32 → IsSegmentStored {X = X} [] default_value size
   kept-default_value small = record { stored = record { adjacent = tt; end = refl; live = tt; sum = refl; enough = omega arith; small = small }; linked = tt }
 
   -- a segment of the region: its stack and its table
   pub record IsSegment (state : RegionState X) (number : ℕ) (xs : List X) (t : Table) : Type 0 where
-    pub kept : IsKept xs t size
+    pub kept : IsSegmentStored xs t size
     pub shows : segment_of state number ≡ shown xs (extents_of t.entries) size
     pub fill : fill_of (segment_of state number) ≡ length xs
     pub few : length t.entries < 2 ^ 32
 
-  segment-from : (state : RegionState X) (number : ℕ) (xs : List X) (t : Table) → IsKept xs t size → segment_of state number ≡ shown xs (extents_of t.entries) size → IsSegment state number xs t
+  segment-from : (state : RegionState X) (number : ℕ) (xs : List X) (t : Table) → IsSegmentStored xs t size → segment_of state number ≡ shown xs (extents_of t.entries) size → IsSegment state number xs t
   segment-from state number xs t h e = record {
     kept = h;
     shows = e;
@@ -115,18 +115,18 @@ module _ {X : Type 0} (size : ℕ) where
     few = omega (arith, count-le-end 0 (extents_of t.entries) h.stored.adjacent, length-map t.entries (λ (u : PartEntry). u.extent), h.stored.end, h.stored.enough, h.stored.small);
   }
 
-  pub segment-is : (xss : List (List X)) (ts : List Table) (state : RegionState X) (number : ℕ) → AreKept size xss ts → segment_states size xss ts ≡ state → number < length state → IsSegment state number (get_or xss number []) (get_or ts number default_value)
+  pub segment-is : (xss : List (List X)) (ts : List Table) (state : RegionState X) (number : ℕ) → AreSegmentsStored size xss ts → segment_states size xss ts ≡ state → number < length state → IsSegment state number (get_or xss number []) (get_or ts number default_value)
   segment-is xss ts state number h e lt =
       let there : number < length ts = omega (arith, lt, ap length e, count-states xss ts h) in
       segment-from state number (get_or xss number []) (get_or ts number default_value) (kept-at xss ts number h there) (ap (λ r. segment_of r number) (sym e) ∙ state-at xss ts number h there)
 
   -- the same, if the table was read
-  pub segment-with : (xss : List (List X)) (ts : List Table) (state : RegionState X) (number : ℕ) (t : Table) → AreKept size xss ts → segment_states size xss ts ≡ state → number < length state → t ≡ get_or ts number t → IsSegment state number (get_or xss number []) t
+  pub segment-with : (xss : List (List X)) (ts : List Table) (state : RegionState X) (number : ℕ) (t : Table) → AreSegmentsStored size xss ts → segment_states size xss ts ≡ state → number < length state → t ≡ get_or ts number t → IsSegment state number (get_or xss number []) t
   segment-with xss ts state number t h e lt read =
       let there : number < length ts = omega (arith, lt, ap length e, count-states xss ts h) in
       subst (IsSegment state number (get_or xss number [])) (sym (read ∙ get_or_default ts number t default_value there)) (segment-is xss ts state number h e lt)
 
-pub kept-none : (X : Type 0) (size n : ℕ) → size < 2 ^ 32 → AreKept {X = X} size (replicate n []) (replicate n default_value)
+pub kept-none : (X : Type 0) (size n : ℕ) → size < 2 ^ 32 → AreSegmentsStored {X = X} size (replicate n []) (replicate n default_value)
 kept-none X size zero small = tt
 kept-none X size (suc n) small = (kept-default_value size small, kept-none X size n small)
 

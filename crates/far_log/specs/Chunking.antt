@@ -20,9 +20,9 @@ pub record IsPlaceOf (index chunk at : ℕ) : Type 0 where
 
 module _ {X Z : Type 0} where
   -- the elements of chunks, one chunk behind the other
-  abbrev pub joined : List (Vec X Z) → List X
-  joined [] = []
-  joined (c ∷ cs) = c.items ++ joined cs
+  abbrev pub items_of : List (Vec X Z) → List X
+  items_of [] = []
+  items_of (c ∷ cs) = c.items ++ items_of cs
 
   -- each chunk but the last is full, and the last has its space reserved; the capacity of the first is `size`
   abbrev pub AreChunks : ℕ → List (Vec X Z) → Type 0
@@ -33,5 +33,5 @@ module _ {X Z : Type 0} where
   -- the first `len` elements of the chunks are the list; those behind them were cut off
   pub record IsChunked (cs : List (Vec X Z)) (len : ℕ) : Type 0 where
     pub chunks : AreChunks 64 cs
-    pub within : len ≤ length (joined cs)
+    pub within : len ≤ length (items_of cs)
     pub few : len ≤ 2 ^ 32

@@ -82,7 +82,7 @@ module _ {X : Type 0} where
     pub small : size < 2 ^ 32
 
   -- so it is kept, and the extents of the parts are linked
-  pub record IsKept (items : List X) (table : Table) (size : ℕ) : Type 0 where
+  pub record IsSegmentStored (items : List X) (table : Table) (size : ℕ) : Type 0 where
     pub stored : IsStored items (extents_of table.entries) table.used size
     pub linked : AreLinked 0 0 0 (extents_of table.entries) (links_of table.entries)
 
@@ -93,8 +93,8 @@ module _ {X : Type 0} where
   segment_states size (xs ∷ xss) (t ∷ ts) = record { parts = parts_in xs (extents_of t.entries); size = size } ∷ segment_states size xss ts
 
   -- each segment is kept so
-  abbrev pub AreKept : ℕ → List (List X) → List Table → Type 0
-  AreKept size [] [] = Unit {0}
-  AreKept size [] (t ∷ ts) = ⊥
-  AreKept size (xs ∷ xss) [] = ⊥
-  AreKept size (xs ∷ xss) (t ∷ ts) = IsKept xs t size × AreKept size xss ts
+  abbrev pub AreSegmentsStored : ℕ → List (List X) → List Table → Type 0
+  AreSegmentsStored size [] [] = Unit {0}
+  AreSegmentsStored size [] (t ∷ ts) = ⊥
+  AreSegmentsStored size (xs ∷ xss) [] = ⊥
+  AreSegmentsStored size (xs ∷ xss) (t ∷ ts) = IsSegmentStored xs t size × AreSegmentsStored size xss ts

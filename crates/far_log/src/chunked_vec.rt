@@ -1,6 +1,6 @@
 // A list in chunks whose sizes double.
 ghost use Rattle.std.specs.Prelude.{◌≡◌, ℕ, ◌+◌, ◌<◌, ◌≤◌, ◌^◌, List, [], ◌∷◌, ◌++◌, length, take, drop, vec_len, slice_get, slice_set, Some, OnOk, OnErr, IfErr};
-ghost use Rattle.far_log.specs.Chunking.{capacity_at, start_at, joined, AreChunks, IsPlaceOf};
+ghost use Rattle.far_log.specs.Chunking.{capacity_at, start_at, items_of, AreChunks, IsPlaceOf};
 
 use far_types::Refusal;
 use std::alloc::Global;
@@ -74,10 +74,10 @@ fn make_chunk<T: Drop>(chunks: &mut Vec<Vec<T>>, chunk: usize) -> Result<(), Ref
     requires few { chunk ≤ 26 }
     requires kept { AreChunks 64 chunks.old.items }
     requires next { chunk ≤ length chunks.old.items }
-    requires full { chunk ≡ length chunks.old.items → length (joined chunks.old.items) ≡ start_at 64 chunk }
+    requires full { chunk ≡ length chunks.old.items → length (items_of chunks.old.items) ≡ start_at 64 chunk }
     ensures there { OnOk result (chunk < length chunks.new.items) }
     ensures kept { AreChunks 64 chunks.new.items }
-    ensures same { joined chunks.new.items ≡ joined chunks.old.items }
+    ensures same { items_of chunks.new.items ≡ items_of chunks.old.items }
     ensures memory { IfErr result (λ e. e ≡ Refusal.NoMemory) }
 {
     if chunk == chunks.len() {
@@ -101,11 +101,11 @@ pub struct ChunkedVec<T> {
 
 impl<T> Model for ChunkedVec<T> {
     ghost use Rattle.std.specs.Prelude.{List, take};
-    ghost use Rattle.far_log.specs.Chunking.{joined, IsChunked};
+    ghost use Rattle.far_log.specs.Chunking.{items_of, IsChunked};
 
     ghost Value = { List T };
 
-    ghost view = { λ v. take v.len (joined v.chunks.items) };
+    ghost view = { λ v. take v.len (items_of v.chunks.items) };
 
     ghost invariant = { λ v. IsChunked v.chunks.items v.len };
 }

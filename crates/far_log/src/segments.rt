@@ -25,11 +25,11 @@ impl<T> Model for Segments<T> {
 
     ghost Value = { RegionState T };
 
-    ghost use Rattle.far_log.specs.Storage.{segment_states, AreKept};
+    ghost use Rattle.far_log.specs.Storage.{segment_states, AreSegmentsStored};
 
     ghost view = { λ s. segment_states s.stacks.size s.stacks.stacks s.tables.items };
 
-    ghost invariant = { λ s. AreKept s.stacks.size s.stacks.stacks s.tables.items };
+    ghost invariant = { λ s. AreSegmentsStored s.stacks.size s.stacks.stacks s.tables.items };
 }
 
 impl<T: Copy + Drop> Segments<T> {

@@ -1,9 +1,7 @@
 -- A job: what it is to compute, of which contents.
-use Rattle.std.specs.Prelude.{ℕ, List, map, Bool, Result}
-use Rattle.std.specs.declared.result.Result.TheVariants.{Ok, Err}
+use Rattle.std.specs.Prelude.{ℕ, List, map, Bool}
 use Rattle.std.specs.List.{All}
 use Rattle.far_types.specs.declared.spec.Spec.{Spec}
-use Rattle.far_types.specs.declared.refusal.Refusal.{Refusal}
 use Rattle.far_codec.specs.Lent.{IsForm}
 use Rattle.far_offload.specs.Columns.{Columns, cells_meant}
 
@@ -20,8 +18,3 @@ columns_under content tickets = map (λ ticket. (ticket.0, cells_meant (content 
 -- each content is a far form
 abbrev pub AreForms : {K : Type 0} → (K → List ℕ) → List (ℕ × K) → Type 0
 AreForms content tickets = All (λ ticket. IsForm (content ticket.1)) tickets
-
--- how a call came out that returns its job if it is refused
-abbrev pub outcome : {A J : Type 0} → Result A (Refusal × J) → Result A Refusal
-outcome (Ok done) = Ok done
-outcome (Err refused) = Err refused.0

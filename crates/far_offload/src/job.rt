@@ -1,7 +1,7 @@
 // The job that a remote agent carries.
 ghost use Rattle.std.specs.Prelude.{◌≡◌, ◌≤◌, ◌<◌, ◌+◌, ◌^◌, [], ◌∷◌, length, All, IfOk, IfErr};
-ghost use Rattle.far_store.specs.Faults.{faults_in, RefusedBy};
-ghost use Rattle.far_offload.specs.Jobs.{columns_under, AreForms, outcome};
+ghost use Rattle.far_store.specs.Faults.{faults_in, outcome, RefusedBy};
+ghost use Rattle.far_offload.specs.Jobs.{columns_under, AreForms};
 ghost use Rattle.far_offload.specs.Partials.{partial_of, pairs_over};
 
 use crate::content::{contents_under, lend_all};

@@ -13,13 +13,13 @@ use Rattle.far_texts.proofs.Groups.{texts-length}
 use Rattle.far_rows.specs.declared.column_index.ColumnIndex.{ColumnIndex}
 use Rattle.far_rows.specs.declared.column_index.ColumnIndex.TheVariants as column_index
 use Rattle.far_types.specs.Lent.{int_cell, text_cell}
-use Rattle.far_rows.specs.ColumnIndexes.{Values, IsWithin, cell_in, column_in, row_of}
-use Rattle.far_rows.specs.Rows.{Rows, AreRows, all_numbers, all_texts, cells_of}
+use Rattle.far_rows.specs.ColumnIndexes.{Values, IsColumnIn, cell_in, column_in, row_of}
+use Rattle.far_rows.specs.Rows.{Rows, AreRows, all_numbers, all_texts, all_cells}
 use Rattle.far_rows.proofs.Overfull.{found-at}
 use Rattle.far_rows.proofs.PlacesChanged.{AsLong}
 
 module _ {K : Type 0} (content : K → List ℕ) (r : Rows K) (are : AreRows content r) where
-  long-column_index : (s : ColumnIndex) → IsWithin (length r.numbers) (length r.texts) s → length (column_in (all_numbers content r) (all_texts content r) s) ≡ length r.alive
+  long-column_index : (s : ColumnIndex) → IsColumnIn (length r.numbers) (length r.texts) s → length (column_in (all_numbers content r) (all_texts content r) s) ≡ length r.alive
   long-column_index (column_index.Number i) inside =
       let found = found-at r.numbers i inside in
       let c : Vector (Option ℤ) = found.0 in
@@ -41,17 +41,17 @@ module _ {K : Type 0} (content : K → List ℕ) (r : Rows K) (are : AreRows con
       let read : get_or (all_texts content r) i [] ≡ texts_in lists c = get_or_from_slice_get (all_texts content r) i (texts_in lists c) [] (slice_get-map (texts_in lists) r.texts i ∙ ap (option_map (texts_in lists)) found.1) in
       length-map (get_or (all_texts content r) i []) text_cell ∙ ap length read ∙ texts-length lists c is has ∙ same_length.1
 
-  pub cells-long : AsLong (length r.alive) (cells_of content r)
+  pub cells-long : AsLong (length r.alive) (all_cells content r)
   cells-long = each r.column_indexes are.column_indexes.within where
-    each : (column_indexes : List ColumnIndex) → All (IsWithin (length r.numbers) (length r.texts)) column_indexes → AsLong (length r.alive) (map (column_in (all_numbers content r) (all_texts content r)) column_indexes)
+    each : (column_indexes : List ColumnIndex) → All (IsColumnIn (length r.numbers) (length r.texts)) column_indexes → AsLong (length r.alive) (map (column_in (all_numbers content r) (all_texts content r)) column_indexes)
     each [] within = All-nil (λ (cells : List Cell). length cells ≡ length r.alive)
     each (s ∷ column_indexes) within =
         All-cons (λ (cells : List Cell). length cells ≡ length r.alive) (column_in (all_numbers content r) (all_texts content r) s) (map (column_in (all_numbers content r) (all_texts content r)) column_indexes)
-        (long-column_index s (All-head (IsWithin (length r.numbers) (length r.texts)) s column_indexes within))
-        (each column_indexes (All-tail (IsWithin (length r.numbers) (length r.texts)) s column_indexes within))
+        (long-column_index s (All-head (IsColumnIn (length r.numbers) (length r.texts)) s column_indexes within))
+        (each column_indexes (All-tail (IsColumnIn (length r.numbers) (length r.texts)) s column_indexes within))
 
-  pub row-wide : (values : Values) → length (row_of r.column_indexes values) ≡ length (cells_of content r)
+  pub row-wide : (values : Values) → length (row_of r.column_indexes values) ≡ length (all_cells content r)
   row-wide values = length-map r.column_indexes (cell_in values) ∙ sym (length-map r.column_indexes (column_in (all_numbers content r) (all_texts content r)))
 
-  pub column-long : (c : ℕ) → c < length r.column_indexes → length (get_or (cells_of content r) c []) ≡ length r.alive
+  pub column-long : (c : ℕ) → c < length r.column_indexes → length (get_or (all_cells content r) c []) ≡ length r.alive
   column-long c within = cells-long c [] (subst (λ (n : ℕ). c < n) (sym (length-map r.column_indexes (column_in (all_numbers content r) (all_texts content r)))) within)

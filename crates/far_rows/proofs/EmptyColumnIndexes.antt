@@ -9,8 +9,8 @@ use Rattle.far_types.specs.declared.cell.Kind.{Kind}
 use Rattle.far_types.specs.declared.cell.Kind.TheVariants as kind
 use Rattle.far_rows.specs.declared.column_index.ColumnIndex.{ColumnIndex}
 use Rattle.far_rows.specs.declared.column_index.ColumnIndex.TheVariants as column_index
-use Rattle.far_rows.specs.ColumnIndexes.{AreColumnIndexes, IsWithin, column_indexes_from}
-use Rattle.far_rows.specs.Naming.{number_in, AreNumbered, ArePlaced}
+use Rattle.far_rows.specs.ColumnIndexes.{AreColumnIndexes, IsColumnIn, column_indexes_from}
+use Rattle.far_rows.specs.Naming.{number_by, AreNumbered, ArePlaced}
 use Rattle.far_rows.specs.Opening.{numbers_from, texts_from}
 
 -- it lies behind so many columns of numbers, or so many of texts
@@ -56,12 +56,12 @@ length-from a b (kind.Int ∷ kinds) = let rest = length-from (a + 1) b kinds in
 length-from a b (kind.Text ∷ kinds) = let rest = length-from a (b + 1) kinds in omega arith
 
 module _ (size limit : ℕ) where
-  within-from : (a b n p q : ℕ) (kinds : List Kind) → p ≡ a + length (numbers_from size n kinds) → q ≡ b + length (texts_from size limit n kinds) → All (IsWithin p q) (column_indexes_from a b kinds)
-  within-from a b n p q [] numbers texts = All-nil (IsWithin p q)
+  within-from : (a b n p q : ℕ) (kinds : List Kind) → p ≡ a + length (numbers_from size n kinds) → q ≡ b + length (texts_from size limit n kinds) → All (IsColumnIn p q) (column_indexes_from a b kinds)
+  within-from a b n p q [] numbers texts = All-nil (IsColumnIn p q)
   within-from a b n p q (kind.Int ∷ kinds) numbers texts =
-      All-cons (IsWithin p q) (column_index.Number a) (column_indexes_from (a + 1) b kinds) (omega arith) (within-from (a + 1) b (n + 1) p q kinds (omega arith) texts)
+      All-cons (IsColumnIn p q) (column_index.Number a) (column_indexes_from (a + 1) b kinds) (omega arith) (within-from (a + 1) b (n + 1) p q kinds (omega arith) texts)
   within-from a b n p q (kind.Text ∷ kinds) numbers texts =
-      All-cons (IsWithin p q) (column_index.Text b) (column_indexes_from a (b + 1) kinds) (omega arith) (within-from a (b + 1) (n + 1) p q kinds numbers (omega arith))
+      All-cons (IsColumnIn p q) (column_index.Text b) (column_indexes_from a (b + 1) kinds) (omega arith) (within-from a (b + 1) (n + 1) p q kinds numbers (omega arith))
 
   -- there are as many columns of numbers and of texts as kinds
   pub columns-count : (n : ℕ) (kinds : List Kind) → length (numbers_from size n kinds) + length (texts_from size limit n kinds) ≡ length kinds
@@ -86,28 +86,28 @@ module _ (size limit : ℕ) where
   text_columns n kinds = map (λ c. c.column) (texts_from size limit n kinds)
 
   -- each index behind columns of these numbers is that of the next column
-  numbered-from : (ns ts : List ℕ) (n : ℕ) (kinds : List Kind) (a b : ℕ) → a ≡ length ns → b ≡ length ts → (k : ℕ) (s : ColumnIndex) → slice_get (column_indexes_from a b kinds) k ≡ Some s → number_in (ns ++ number_columns n kinds) (ts ++ text_columns n kinds) s ≡ Some (n + k)
+  numbered-from : (ns ts : List ℕ) (n : ℕ) (kinds : List Kind) (a b : ℕ) → a ≡ length ns → b ≡ length ts → (k : ℕ) (s : ColumnIndex) → slice_get (column_indexes_from a b kinds) k ≡ Some s → number_by (ns ++ number_columns n kinds) (ts ++ text_columns n kinds) s ≡ Some (n + k)
   numbered-from ns ts n [] a b of_a of_b k s at = absurd (none-some s at)
   numbered-from ns ts n (kind.Int ∷ kinds) a b of_a of_b zero s at =
       let numbers = ns ++ number_columns n (kind.Int ∷ kinds) in
       let texts = ts ++ text_columns n (kind.Int ∷ kinds) in
-      ap (number_in numbers texts) (sym (same_Some (column_index.Number a) s at))
+      ap (number_by numbers texts) (sym (same_Some (column_index.Number a) s at))
       ∙ ap (slice_get numbers) of_a
       ∙ get-behind ns n (number_columns (n + 1) kinds)
       ∙ ap Some (omega arith)
   numbered-from ns ts n (kind.Int ∷ kinds) a b of_a of_b (suc k) s at =
-      ap (λ numbers. number_in numbers (ts ++ text_columns (n + 1) kinds) s) (sym (append_assoc ns (n ∷ []) (number_columns (n + 1) kinds)))
+      ap (λ numbers. number_by numbers (ts ++ text_columns (n + 1) kinds) s) (sym (append_assoc ns (n ∷ []) (number_columns (n + 1) kinds)))
       ∙ numbered-from (ns ++ n ∷ []) ts (n + 1) kinds (a + 1) b (omega (arith, of_a, length_push ns n)) of_b k s at
       ∙ ap Some (omega arith)
   numbered-from ns ts n (kind.Text ∷ kinds) a b of_a of_b zero s at =
       let numbers = ns ++ number_columns n (kind.Text ∷ kinds) in
       let texts = ts ++ text_columns n (kind.Text ∷ kinds) in
-      ap (number_in numbers texts) (sym (same_Some (column_index.Text b) s at))
+      ap (number_by numbers texts) (sym (same_Some (column_index.Text b) s at))
       ∙ ap (slice_get texts) of_b
       ∙ get-behind ts n (text_columns (n + 1) kinds)
       ∙ ap Some (omega arith)
   numbered-from ns ts n (kind.Text ∷ kinds) a b of_a of_b (suc k) s at =
-      ap (λ texts. number_in (ns ++ number_columns (n + 1) kinds) texts s) (sym (append_assoc ts (n ∷ []) (text_columns (n + 1) kinds)))
+      ap (λ texts. number_by (ns ++ number_columns (n + 1) kinds) texts s) (sym (append_assoc ts (n ∷ []) (text_columns (n + 1) kinds)))
       ∙ numbered-from ns (ts ++ n ∷ []) (n + 1) kinds a (b + 1) of_a (omega (arith, of_b, length_push ts n)) k s at
       ∙ ap Some (omega arith)
 

@@ -11,7 +11,7 @@ use Rattle.far_types.specs.Edits.{kinds_fit}
 use Rattle.far_rows.specs.declared.column_index.ColumnIndex.{ColumnIndex}
 use Rattle.far_rows.specs.declared.column_index.ColumnIndex.TheVariants as column_index
 use Rattle.far_types.specs.Lent.{int_cell, text_cell}
-use Rattle.far_rows.specs.ColumnIndexes.{Values, IsWithin, kind_of, cell_in, row_of, with_value}
+use Rattle.far_rows.specs.ColumnIndexes.{Values, IsColumnIn, kind_of, cell_in, row_of, with_value}
 
 and-left : (a b : Bool) → a && b ≡ true → a ≡ true
 and-left true b both = refl
@@ -55,7 +55,7 @@ others-before column_indexes n s once within k d below =
 
 module _ (values : Values) where
   -- an index has the cell that it got
-  pub cell-same : (s : ColumnIndex) (new : Cell) → IsWithin (length values.numbers) (length values.texts) s → is_of_kind (kind_of s) new ≡ true → cell_in (with_value values s new) s ≡ new
+  pub cell-same : (s : ColumnIndex) (new : Cell) → IsColumnIn (length values.numbers) (length values.texts) s → is_of_kind (kind_of s) new ≡ true → cell_in (with_value values s new) s ≡ new
   cell-same (column_index.Number i) (cell.Int number) within of_kind = ap int_cell (get_or-set_same values.numbers i _ None within)
   cell-same (column_index.Number i) (cell.Text text) within of_kind = cc
   cell-same (column_index.Number i) cell.Missing within of_kind = ap int_cell (get_or-set_same values.numbers i _ None within)
@@ -86,7 +86,7 @@ module _ (values : Values) where
   texts-kept (column_index.Text i) new = length-set values.texts i _
 
   -- the indexes so far have the row's cells, and one more gets its own
-  pub row-more : (column_indexes : List ColumnIndex) (n : ℕ) (d : ColumnIndex) (new : Cell) → AllPairs (λ s t. s ≢ t) column_indexes → n < length column_indexes → IsWithin (length values.numbers) (length values.texts) (get_or column_indexes n d) → is_of_kind (kind_of (get_or column_indexes n d)) new ≡ true → row_of (take (n + 1) column_indexes) (with_value values (get_or column_indexes n d) new) ≡ row_of (take n column_indexes) values ++ new ∷ []
+  pub row-more : (column_indexes : List ColumnIndex) (n : ℕ) (d : ColumnIndex) (new : Cell) → AllPairs (λ s t. s ≢ t) column_indexes → n < length column_indexes → IsColumnIn (length values.numbers) (length values.texts) (get_or column_indexes n d) → is_of_kind (kind_of (get_or column_indexes n d)) new ≡ true → row_of (take (n + 1) column_indexes) (with_value values (get_or column_indexes n d) new) ≡ row_of (take n column_indexes) values ++ new ∷ []
   row-more column_indexes n d new once within is of_kind =
       let s : ColumnIndex = get_or column_indexes n d in
       ap (λ ts. row_of ts (with_value values s new)) (take_more column_indexes n d within)
@@ -94,5 +94,5 @@ module _ (values : Values) where
       ∙ (λ k. row-other (take n column_indexes) s new (others-before column_indexes n d once within) k ++ cell-same s new is of_kind k ∷ [])
 
   -- it is an index of the row also once other cells were taken
-  pub within-still : (old : Values) (column_indexes : List ColumnIndex) (n : ℕ) (d : ColumnIndex) → All (IsWithin (length old.numbers) (length old.texts)) column_indexes → n < length column_indexes → length values.numbers ≡ length old.numbers → length values.texts ≡ length old.texts → IsWithin (length values.numbers) (length values.texts) (get_or column_indexes n d)
+  pub within-still : (old : Values) (column_indexes : List ColumnIndex) (n : ℕ) (d : ColumnIndex) → All (IsColumnIn (length old.numbers) (length old.texts)) column_indexes → n < length column_indexes → length values.numbers ≡ length old.numbers → length values.texts ≡ length old.texts → IsColumnIn (length values.numbers) (length values.texts) (get_or column_indexes n d)
   within-still old column_indexes n d all within numbers texts = rw (numbers, texts) (all n d within)

@@ -19,8 +19,8 @@ use Rattle.far_texts.proofs.RowGroups.{texts-of-group}
 use Rattle.far_rows.specs.declared.column_index.ColumnIndex.{ColumnIndex}
 use Rattle.far_rows.specs.declared.column_index.ColumnIndex.TheVariants as column_index
 use Rattle.far_rows.specs.declared.object.Object.TheVariants as object
-use Rattle.far_rows.specs.ColumnIndexes.{IsWithin, column_in}
-use Rattle.far_rows.specs.Rows.{Rows, AreRows, all_numbers, all_texts, cells_of, object_of}
+use Rattle.far_rows.specs.ColumnIndexes.{IsColumnIn, column_in}
+use Rattle.far_rows.specs.Rows.{Rows, AreRows, all_numbers, all_texts, all_cells, object_of}
 use Rattle.far_rows.specs.Moving.{object_at}
 use Rattle.far_rows.proofs.Begun.{lies}
 use Rattle.far_rows.proofs.Overfull.{found-at}
@@ -46,19 +46,19 @@ option-list (Some ys) xs P is all = subst P (same_Some ys xs is) all
 option-list None xs P is all = absurd all
 
 module _ {K : Type 0} (content : K → List ℕ) (r : Rows K) (are : AreRows content r) (column group o : ℕ) where
-  inside : (s : ColumnIndex) → slice_get r.column_indexes column ≡ Some s → IsWithin (length r.numbers) (length r.texts) s
-  inside s is = subst (IsWithin (length r.numbers) (length r.texts)) (get_or_from_slice_get r.column_indexes column s s is) (are.column_indexes.within column s (slice_get_within r.column_indexes column s is))
+  inside : (s : ColumnIndex) → slice_get r.column_indexes column ≡ Some s → IsColumnIn (length r.numbers) (length r.texts) s
+  inside s is = subst (IsColumnIn (length r.numbers) (length r.texts)) (get_or_from_slice_get r.column_indexes column s s is) (are.column_indexes.within column s (slice_get_within r.column_indexes column s is))
 
   -- how many places of the row group are used
   abbrev pub used : ℕ
   used = length (in_group r.size group r.alive)
 
-  cells-at : (s : ColumnIndex) → slice_get r.column_indexes column ≡ Some s → option_map (in_group r.size group) (slice_get (cells_of content r) column) ≡ Some (in_group r.size group (column_in (all_numbers content r) (all_texts content r) s))
+  cells-at : (s : ColumnIndex) → slice_get r.column_indexes column ≡ Some s → option_map (in_group r.size group) (slice_get (all_cells content r) column) ≡ Some (in_group r.size group (column_in (all_numbers content r) (all_texts content r) s))
   cells-at s is = ap (option_map (in_group r.size group)) (slice_get-map (column_in (all_numbers content r) (all_texts content r)) r.column_indexes column ∙ ap (option_map (column_in (all_numbers content r) (all_texts content r))) is)
 
   pub record HasNumbers (list : Numbers) : Type 0 where
     pub enough : used ≤ length list
-    pub cells : option_map (in_group r.size group) (slice_get (cells_of content r) column) ≡ Some (map int_cell (take used list))
+    pub cells : option_map (in_group r.size group) (slice_get (all_cells content r) column) ≡ Some (map int_cell (take used list))
 
   numbers-in : (s : ColumnIndex) → slice_get r.column_indexes column ≡ Some s → object_at r column group ≡ Some (object.Number o) → (list : Numbers) → list_in r.number_objects.memory o ≡ Some list → HasNumbers list
   numbers-in (column_index.Text i) is at list here = no-number (object_of r (column_index.Text i) group) o (sym (found-in content r are column group o (column_index.Text i) is) ∙ at)
@@ -94,7 +94,7 @@ module _ {K : Type 0} (content : K → List ℕ) (r : Rows K) (are : AreRows con
 
   pub record HasTexts (bytes : List ℕ) : Type 0 where
     pub form : IsTextsForm bytes
-    pub cells : option_map (in_group r.size group) (slice_get (cells_of content r) column) ≡ Some (map text_cell (texts_meaning bytes))
+    pub cells : option_map (in_group r.size group) (slice_get (all_cells content r) column) ≡ Some (map text_cell (texts_meaning bytes))
 
   texts-of : (s : ColumnIndex) → slice_get r.column_indexes column ≡ Some s → object_at r column group ≡ Some (object.Text o) → (form : List ℕ) → list_in r.text_objects.memory o ≡ Some form → HasTexts form
   texts-of (column_index.Number i) is at form here = no-text (object_of r (column_index.Number i) group) o (sym (found-in content r are column group o (column_index.Number i) is) ∙ at)

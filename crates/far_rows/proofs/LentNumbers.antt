@@ -23,7 +23,7 @@ use Rattle.far_rows.specs.declared.column_index.ColumnIndex.{ColumnIndex}
 use Rattle.far_rows.specs.declared.column_index.ColumnIndex.TheVariants as column_index
 use Rattle.far_types.specs.Lent.{int_cell}
 use Rattle.far_rows.specs.ColumnIndexes.{kind_of, column_in}
-use Rattle.far_rows.specs.Rows.{Rows, AreRows, all_numbers, all_texts, cells_of}
+use Rattle.far_rows.specs.Rows.{Rows, AreRows, all_numbers, all_texts, all_cells}
 use Rattle.far_rows.specs.Refusing.{told_at, absent_at, no_range, ints_refusal}
 use Rattle.far_rows.specs.Lending.{numbers_of}
 use Rattle.far_rows.proofs.AbsentNames.{range-named}
@@ -80,7 +80,7 @@ module _ {K : Type 0} (content : K → List ℕ) (r : Rows K) (are : AreRows con
 
 -- a column whose index is known
 module _ {K : Type 0} (content : K → List ℕ) (r : Rows K) (column i from to : ℕ) (lies : slice_get r.column_indexes column ≡ Some (column_index.Number i)) where
-  pub part-cells : (numbers : Numbers) → numbers ≡ slice_range (numbers_of content r (column_index.Number i)) from to → option_map (λ (cells : List Cell). slice_range cells from to) (slice_get (cells_of content r) column) ≡ Some (map int_cell numbers)
+  pub part-cells : (numbers : Numbers) → numbers ≡ slice_range (numbers_of content r (column_index.Number i)) from to → option_map (λ (cells : List Cell). slice_range cells from to) (slice_get (all_cells content r) column) ≡ Some (map int_cell numbers)
   part-cells numbers is =
       ap (option_map (λ (cells : List Cell). slice_range cells from to)) (slice_get-map (column_in (all_numbers content r) (all_texts content r)) r.column_indexes column ∙ ap (option_map (column_in (all_numbers content r) (all_texts content r))) lies)
       ∙ ap Some (range-map int_cell (numbers_of content r (column_index.Number i)) from to ∙ ap (map int_cell) (sym is))

@@ -23,7 +23,7 @@ use Rattle.far_rows.specs.declared.column_index.ColumnIndex.{ColumnIndex}
 use Rattle.far_rows.specs.declared.column_index.ColumnIndex.TheVariants as column_index
 use Rattle.far_types.specs.Lent.{text_cell}
 use Rattle.far_rows.specs.ColumnIndexes.{kind_of, column_in}
-use Rattle.far_rows.specs.Rows.{Rows, AreRows, all_numbers, all_texts, cells_of}
+use Rattle.far_rows.specs.Rows.{Rows, AreRows, all_numbers, all_texts, all_cells}
 use Rattle.far_rows.specs.Refusing.{told_at, absent_at, no_range, texts_refusal}
 use Rattle.far_rows.specs.Lending.{texts_of}
 use Rattle.far_rows.proofs.AbsentNames.{range-named}
@@ -87,7 +87,7 @@ module _ {K : Type 0} (content : K → List ℕ) (r : Rows K) (are : AreRows con
 
 -- a column whose index is known
 module _ {K : Type 0} (content : K → List ℕ) (r : Rows K) (column i from to : ℕ) (lies : slice_get r.column_indexes column ≡ Some (column_index.Text i)) where
-  pub part-cells : (lent : List (Option (List ℕ) × Bool)) → map (λ (t : Option (List ℕ) × Bool). t.0) lent ≡ slice_range (texts_of content r (column_index.Text i)) from to → option_map (λ (cells : List Cell). slice_range cells from to) (slice_get (cells_of content r) column) ≡ Some (map (λ (t : Option (List ℕ) × Bool). text_cell t.0) lent)
+  pub part-cells : (lent : List (Option (List ℕ) × Bool)) → map (λ (t : Option (List ℕ) × Bool). t.0) lent ≡ slice_range (texts_of content r (column_index.Text i)) from to → option_map (λ (cells : List Cell). slice_range cells from to) (slice_get (all_cells content r) column) ≡ Some (map (λ (t : Option (List ℕ) × Bool). text_cell t.0) lent)
   part-cells lent is =
       ap (option_map (λ (cells : List Cell). slice_range cells from to)) (slice_get-map (column_in (all_numbers content r) (all_texts content r)) r.column_indexes column ∙ ap (option_map (column_in (all_numbers content r) (all_texts content r))) lies)
       ∙ ap Some (range-map text_cell (texts_of content r (column_index.Text i)) from to ∙ ap (map text_cell) (sym is) ∙ map-map text_cell (λ (t : Option (List ℕ) × Bool). t.0) lent)

@@ -11,7 +11,7 @@ use Rattle.far_texts.specs.Together.{all_texts_with}
 use Rattle.far_rows.specs.declared.column_index.ColumnIndex.{ColumnIndex}
 use Rattle.far_rows.specs.declared.column_index.ColumnIndex.TheVariants as column_index
 use Rattle.far_types.specs.Lent.{int_cell, text_cell}
-use Rattle.far_rows.specs.ColumnIndexes.{Values, IsWithin, cell_in, row_of, column_in, columns_of, with_row}
+use Rattle.far_rows.specs.ColumnIndexes.{Values, IsColumnIn, cell_in, row_of, column_in, columns_of, with_row}
 
 module _ {A : Type 0} where
   -- each list with one more behind it
@@ -37,7 +37,7 @@ texts-with lists (c ∷ columns) [] = refl
 texts-with lists (c ∷ columns) (text ∷ texts) = ap (λ l. (texts_in lists c ++ text ∷ []) ∷ l) (texts-with lists columns texts)
 
 module _ (numbers : List Numbers) (texts : List (List (Option (List ℕ)))) (values : Values) (n m : ℕ) (same_length_numbers : length values.numbers ≡ length numbers) (same_length_texts : length values.texts ≡ length texts) (n_is : n ≡ length numbers) (m_is : m ≡ length texts) where
-  column-with : (s : ColumnIndex) → IsWithin n m s → column_in (all_with numbers values.numbers) (all_with texts values.texts) s ≡ column_in numbers texts s ++ cell_in values s ∷ []
+  column-with : (s : ColumnIndex) → IsColumnIn n m s → column_in (all_with numbers values.numbers) (all_with texts values.texts) s ≡ column_in numbers texts s ++ cell_in values s ∷ []
   column-with (column_index.Number i) within =
       ap (map int_cell) (at-with numbers values.numbers i None same_length_numbers (omega (arith, within, n_is)))
       ∙ map-append int_cell (get_or numbers i []) (get_or values.numbers i None ∷ [])
@@ -46,9 +46,9 @@ module _ (numbers : List Numbers) (texts : List (List (Option (List ℕ)))) (val
       ∙ map-append text_cell (get_or texts i []) (get_or values.texts i None ∷ [])
 
   -- each column of the table has its cell of the row more
-  pub columns-with : (column_indexes : List ColumnIndex) → All (IsWithin n m) column_indexes → columns_of column_indexes (all_with numbers values.numbers) (all_with texts values.texts) ≡ with_row (columns_of column_indexes numbers texts) (row_of column_indexes values)
+  pub columns-with : (column_indexes : List ColumnIndex) → All (IsColumnIn n m) column_indexes → columns_of column_indexes (all_with numbers values.numbers) (all_with texts values.texts) ≡ with_row (columns_of column_indexes numbers texts) (row_of column_indexes values)
   columns-with [] within = refl
   columns-with (s ∷ column_indexes) within =
-      let here = column-with s (All-head (IsWithin n m) s column_indexes within) in
-      let there = columns-with column_indexes (All-tail (IsWithin n m) s column_indexes within) in
+      let here = column-with s (All-head (IsColumnIn n m) s column_indexes within) in
+      let there = columns-with column_indexes (All-tail (IsColumnIn n m) s column_indexes within) in
       λ k. here k ∷ there k

@@ -11,7 +11,7 @@ use Rattle.far_columns.specs.Numbers.{number_lists, numbers_in}
 use Rattle.far_texts.proofs.Disjoint.{columns-stay, texts-stay}
 use Rattle.far_rows.specs.ColumnIndexes.{columns_of}
 use Rattle.far_rows.specs.Naming.{names_of, AreNamed, AreOwned}
-use Rattle.far_rows.specs.Rows.{Rows, AreRows, cells_of, all_numbers, all_texts}
+use Rattle.far_rows.specs.Rows.{Rows, AreRows, all_cells, all_numbers, all_texts}
 use Rattle.far_rows.specs.Moving.{KeepsCells}
 use Rattle.far_rows.proofs.Names.{as-many}
 
@@ -80,17 +80,17 @@ module _ {K : Type 0} (content : K → List ℕ) {r : Rows K} where
   }
 
   module _ {now : Rows K} (is : r ≡ now) where
-    pub number-cells : (m : Movement (Option ℤ) K) → ((o : ℕ) → number_lists content m o ≡ number_lists content r.number_objects o) → cells_of content (record r { number_objects = m }) ≡ cells_of content now
+    pub number-cells : (m : Movement (Option ℤ) K) → ((o : ℕ) → number_lists content m o ≡ number_lists content r.number_objects o) → all_cells content (record r { number_objects = m }) ≡ all_cells content now
     number-cells m lists =
         ap (λ numbers. columns_of r.column_indexes numbers (all_texts content r))
         (same-map (numbers_in content m) (numbers_in content r.number_objects) (λ c. elements-stay (number_lists content r.number_objects) (number_lists content m) c lists) r.numbers)
-        ∙ ap (cells_of content) is
+        ∙ ap (all_cells content) is
 
-    pub text-cells : (m : Movement ℕ K) → ((o : ℕ) → lists_of content m o ≡ lists_of content r.text_objects o) → cells_of content (record r { text_objects = m }) ≡ cells_of content now
+    pub text-cells : (m : Movement ℕ K) → ((o : ℕ) → lists_of content m o ≡ lists_of content r.text_objects o) → all_cells content (record r { text_objects = m }) ≡ all_cells content now
     text-cells m lists =
         ap (columns_of r.column_indexes (all_numbers content r))
         (same-map (texts_in (lists_of content m)) (texts_in (lists_of content r.text_objects)) (λ c. texts-stay (lists_of content r.text_objects) (lists_of content m) c lists) r.texts)
-        ∙ ap (cells_of content) is
+        ∙ ap (all_cells content) is
 
     -- and tickets of a store stay tickets of it, as those of the objects that moved do
     pub numbers-kept : (is_of : K → List ℕ → Type 0) (m : Movement (Option ℤ) K) → ((o : ℕ) → number_lists content m o ≡ number_lists content r.number_objects o) → ((id : List ℕ) → AreHere is_of id r.number_objects → AreHere is_of id m) → KeepsCells content is_of now (record r { number_objects = m })

@@ -26,8 +26,8 @@ use Rattle.far_texts.proofs.RowGroups.{group-with-next, group-with-text}
 use Rattle.far_rows.specs.declared.column_index.ColumnIndex.{ColumnIndex}
 use Rattle.far_rows.specs.declared.column_index.ColumnIndex.TheVariants as column_index
 use Rattle.far_types.specs.Lent.{text_cell}
-use Rattle.far_rows.specs.ColumnIndexes.{IsWithin, Values, kind_of, cell_in, row_of, column_in}
-use Rattle.far_rows.specs.Rows.{Rows, AreRows, all_numbers, all_texts, cells_of}
+use Rattle.far_rows.specs.ColumnIndexes.{IsColumnIn, Values, kind_of, cell_in, row_of, column_in}
+use Rattle.far_rows.specs.Rows.{Rows, AreRows, all_numbers, all_texts, all_cells}
 use Rattle.far_rows.specs.Places.{places_in, AreOf, text_parts}
 use Rattle.far_rows.proofs.Places.{length-places, places-column, set-column, group-back}
 
@@ -135,7 +135,7 @@ module _ {K : Type 0} (content : K → List ℕ) (r : Rows K) (are : AreRows con
 
   by-column_index : (k i : ℕ) → slice_get r.column_indexes k ≡ Some (column_index.Text i) → (c : Texts) × IsThere k i c
   by-column_index k i lies =
-      let inside : i < length r.texts = subst (IsWithin (length r.numbers) (length r.texts)) (get_or_from_slice_get r.column_indexes k (column_index.Text i) (column_index.Text i) lies) (are.column_indexes.within k (column_index.Text i) (slice_get_within r.column_indexes k (column_index.Text i) lies)) in
+      let inside : i < length r.texts = subst (IsColumnIn (length r.numbers) (length r.texts)) (get_or_from_slice_get r.column_indexes k (column_index.Text i) (column_index.Text i) lies) (are.column_indexes.within k (column_index.Text i) (slice_get_within r.column_indexes k (column_index.Text i) lies)) in
       let found = found-at r.texts i inside in
       (found.0, there k i found.0 lies found.1)
 
@@ -143,14 +143,14 @@ module _ {K : Type 0} (content : K → List ℕ) (r : Rows K) (are : AreRows con
   by-column i c at = there c.column i c (are.placed_texts i c.column (slice_get-map (λ (d : Texts). d.column) r.texts i ∙ ap (option_map (λ (d : Texts). d.column)) at)) at
 
   -- its cells are its texts
-  cells-are : (k i : ℕ) (c : Texts) → IsThere k i c → get_or (cells_of content r) k [] ≡ map text_cell (texts_in lists c)
+  cells-are : (k i : ℕ) (c : Texts) → IsThere k i c → get_or (all_cells content r) k [] ≡ map text_cell (texts_in lists c)
   cells-are k i c t =
-      get_or_from_slice_get (cells_of content r) k (map text_cell (texts_in lists c)) [] (
+      get_or_from_slice_get (all_cells content r) k (map text_cell (texts_in lists c)) [] (
       slice_get-map (column_in (all_numbers content r) (all_texts content r)) r.column_indexes k
       ∙ ap (option_map (column_in (all_numbers content r) (all_texts content r))) t.lies
       ∙ ap (λ (ts : List (Option (List ℕ))). Some (map text_cell ts)) (get_or_from_slice_get (all_texts content r) i (texts_in lists c) [] (slice_get-map (texts_in lists) r.texts i ∙ ap (option_map (texts_in lists)) t.at)))
 
-  count-are : (k i : ℕ) (c : Texts) → IsThere k i c → length (get_or (cells_of content r) k []) ≡ length r.alive
+  count-are : (k i : ℕ) (c : Texts) → IsThere k i c → length (get_or (all_cells content r) k []) ≡ length r.alive
   count-are k i c t = ap length (cells-are k i c t) ∙ length-map (texts_in lists c) text_cell ∙ texts-length lists c t.is t.has ∙ t.len
 
   module _ (values : Values) (same_length : length values.texts ≡ length r.texts) where
@@ -166,10 +166,10 @@ module _ {K : Type 0} (content : K → List ℕ) (r : Rows K) (are : AreRows con
         let cell : cell_at k row ≡ text_cell text = ap (λ (found : Option Cell). unwrap_or found cell.Missing) (slice_get-map (cell_in values) r.column_indexes k ∙ ap (option_map (cell_in values)) t.lies) in
         let after : column k (places_after insert places) ≡ map text_cell (texts_in lists c ++ text ∷ []) =
         map-append (λ (place : Place). cell_at k place.cells) places (record { cells = row; alive = true } ∷ [])
-        ∙ ap (λ (cells : List Cell). cells ++ cell_at k row ∷ []) (places-column (cells_of content r) r.alive k (count-are k i c t) ∙ cells-are k i c t)
+        ∙ ap (λ (cells : List Cell). cells ++ cell_at k row ∷ []) (places-column (all_cells content r) r.alive k (count-are k i c t) ∙ cells-are k i c t)
         ∙ ap (λ (one : Cell). map text_cell (texts_in lists c) ++ one ∷ []) cell
         ∙ sym (map-append text_cell (texts_in lists c) (text ∷ [])) in
-        let group : length places / limits.group ≡ c.len / c.size = (λ j. length-places (cells_of content r) r.alive j / sym t.size j) ∙ ap (λ n. n / c.size) (sym t.len) in
+        let group : length places / limits.group ≡ c.len / c.size = (λ j. length-places (all_cells content r) r.alive j / sym t.size j) ∙ ap (λ n. n / c.size) (sym t.len) in
         ap (λ (cells : List Cell). texts_length (map text_in (in_group limits.group (length places / limits.group) cells))) after
         ∙ ap texts_length (group-back limits.group (length places / limits.group) (texts_in lists c ++ text ∷ []))
         ∙ (λ j. texts_length (in_group (sym t.size j) (group j) (texts_in lists c ++ text ∷ [])))
@@ -211,9 +211,9 @@ module _ {K : Type 0} (content : K → List ℕ) (r : Rows K) (are : AreRows con
   pub set-long : (k i p : ℕ) (c : Texts) (text : Option (List ℕ)) → slice_get r.column_indexes k ≡ Some (column_index.Text i) → slice_get r.texts i ≡ Some c → p < length r.alive → texts_length (group_with lists c p text) ≡ text_object_length limits k (p / limits.group) (places_after (edit.Set p k (text_cell text)) (places_in content r))
   set-long k i p c text lies at below =
       let t = there k i c lies at in
-      let wide : k < length (cells_of content r) = omega (arith, slice_get_within r.column_indexes k (column_index.Text i) lies, length-map r.column_indexes (column_in (all_numbers content r) (all_texts content r))) in
+      let wide : k < length (all_cells content r) = omega (arith, slice_get_within r.column_indexes k (column_index.Text i) lies, length-map r.column_indexes (column_in (all_numbers content r) (all_texts content r))) in
       let after : column k (places_after (edit.Set p k (text_cell text)) (places_in content r)) ≡ map text_cell (set (texts_in lists c) p text) =
-      set-column (cells_of content r) r.alive k p (text_cell text) wide (count-are k i c t)
+      set-column (all_cells content r) r.alive k p (text_cell text) wide (count-are k i c t)
       ∙ ap (λ (cells : List Cell). set cells p (text_cell text)) (cells-are k i c t)
       ∙ sym (map-set text_cell (texts_in lists c) p text) in
       sym (

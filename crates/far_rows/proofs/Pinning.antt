@@ -6,7 +6,7 @@ use Rattle.std.proofs.lemmas.Option.{none-some}
 use Rattle.far_types.specs.declared.refusal.Refusal.{Refusal}
 use Rattle.far_types.specs.declared.refusal.Refusal.TheVariants as refusal
 use Rattle.far_types.specs.FirstOf.{first_of}
-use Rattle.far_scopes.specs.Refusing.{absent, pinned_out, pin_refusal as pin_refusal_in}
+use Rattle.far_scopes.specs.Refusing.{absent, pins_used_up, pin_refusal as pin_refusal_in}
 use Rattle.far_scopes.proofs.Places.{cases_option}
 use Rattle.far_rows.specs.declared.column_index.ColumnIndex.{ColumnIndex}
 use Rattle.far_rows.specs.declared.column_index.ColumnIndex.TheVariants as column_index
@@ -44,7 +44,7 @@ module _ {K : Type 0} (content : K → List ℕ) (r : Rows K) (are : AreRows con
   pin-number at = elim (cases_option (slice_get r.column_indexes column)) [
     | inl none ↦ absurd (none-some (object.Number o) (sym (ap (option_and_then (λ (t : ColumnIndex). option_map (object_in t) (object_of r t group))) none) ∙ at))
     | inr (s, is) ↦
-        let later = first_of (pinned_out r.number_objects o ∷ []) in
+        let later = first_of (pins_used_up r.number_objects o ∷ []) in
         let told : told_at r group s ≡ absent r.number_objects o = told-number s is at in
         ap (λ (case : Bool × Refusal). cond case.0 (Some case.1) later) (sym told)
         ∙ one-named content r are group column s is later later refl
@@ -59,7 +59,7 @@ module _ {K : Type 0} (content : K → List ℕ) (r : Rows K) (are : AreRows con
   pin-text at = elim (cases_option (slice_get r.column_indexes column)) [
     | inl none ↦ absurd (none-some (object.Text o) (sym (ap (option_and_then (λ (t : ColumnIndex). option_map (object_in t) (object_of r t group))) none) ∙ at))
     | inr (s, is) ↦
-        let later = first_of (pinned_out r.text_objects o ∷ []) in
+        let later = first_of (pins_used_up r.text_objects o ∷ []) in
         let told : told_at r group s ≡ absent r.text_objects o = told-text s is at in
         ap (λ (case : Bool × Refusal). cond case.0 (Some case.1) later) (sym told)
         ∙ one-named content r are group column s is later later refl

@@ -30,7 +30,7 @@ use Rattle.far_rows.specs.declared.object.Object.{Object}
 use Rattle.far_rows.specs.declared.new_cell.NewCell.{NewCell}
 use Rattle.far_rows.specs.declared.new_cell.NewCell.TheVariants as new
 use Rattle.far_types.specs.Lent.{text_cell}
-use Rattle.far_rows.specs.ColumnIndexes.{IsWithin, kind_of}
+use Rattle.far_rows.specs.ColumnIndexes.{IsColumnIn, kind_of}
 use Rattle.far_rows.specs.Rows.{Rows, AreRows, object_of}
 use Rattle.far_rows.specs.Setting.{cell_of, kind_in, set_refusal, value_refusal}
 use Rattle.far_rows.specs.Moving.{object_in, object_at}
@@ -66,7 +66,7 @@ module _ {K : Type 0} (content : K → List ℕ) (r : Rows K) (are : AreRows con
 
   number-plain : (i : ℕ) (number : Option ℤ) → slice_get r.column_indexes column ≡ Some (column_index.Number i) → first_of (absents r g) ≡ None → value_refusal content r (column_index.Number i) place (new.Number number) ≡ rest (new.Number number) (object_at r column g)
   number-plain i number lies free =
-      let inside : i < length r.numbers = subst (IsWithin (length r.numbers) (length r.texts)) (get_or_from_slice_get r.column_indexes column (column_index.Number i) (column_index.Number i) lies) (are.column_indexes.within column (column_index.Number i) (slice_get_within r.column_indexes column (column_index.Number i) lies)) in
+      let inside : i < length r.numbers = subst (IsColumnIn (length r.numbers) (length r.texts)) (get_or_from_slice_get r.column_indexes column (column_index.Number i) (column_index.Number i) lies) (are.column_indexes.within column (column_index.Number i) (slice_get_within r.column_indexes column (column_index.Number i) lies)) in
       let found = found-at r.numbers i inside in
       let c : Vector (Option ℤ) = found.0 in
       let same = get_or_from_slice_get r.numbers i c c found.1 in
@@ -89,7 +89,7 @@ module _ {K : Type 0} (content : K → List ℕ) (r : Rows K) (are : AreRows con
 
   text-plain : (i : ℕ) (text : Option (List ℕ)) → slice_get r.column_indexes column ≡ Some (column_index.Text i) → is_too_long (text_cell text) ≡ false → first_of (absents r g) ≡ None → value_refusal content r (column_index.Text i) place (new.Text text) ≡ rest (new.Text text) (object_at r column g)
   text-plain i text lies short free =
-      let inside : i < length r.texts = subst (IsWithin (length r.numbers) (length r.texts)) (get_or_from_slice_get r.column_indexes column (column_index.Text i) (column_index.Text i) lies) (are.column_indexes.within column (column_index.Text i) (slice_get_within r.column_indexes column (column_index.Text i) lies)) in
+      let inside : i < length r.texts = subst (IsColumnIn (length r.numbers) (length r.texts)) (get_or_from_slice_get r.column_indexes column (column_index.Text i) (column_index.Text i) lies) (are.column_indexes.within column (column_index.Text i) (slice_get_within r.column_indexes column (column_index.Text i) lies)) in
       let found = found-at r.texts i inside in
       let c : Texts = found.0 in
       let same = get_or_from_slice_get r.texts i c c found.1 in

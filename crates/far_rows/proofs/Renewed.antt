@@ -14,7 +14,7 @@ use Rattle.far_columns.specs.Numbers.{number_lists, numbers_in}
 use Rattle.far_texts.proofs.Disjoint.{columns-stay, texts-stay}
 use Rattle.far_rows.specs.ColumnIndexes.{columns_of}
 use Rattle.far_rows.specs.Naming.{names_of, AreNamed, AreOwned}
-use Rattle.far_rows.specs.Rows.{Rows, AreRows, cells_of}
+use Rattle.far_rows.specs.Rows.{Rows, AreRows, all_cells}
 use Rattle.far_rows.proofs.Moved.{same-map}
 use Rattle.far_rows.proofs.Names.{as-many}
 
@@ -61,7 +61,7 @@ module _ {K L : Type 0} where
       clean_texts = text_clean;
     }
 
-    pub renewed-cells : cells_of new_content record { column_indexes = r.column_indexes; size = r.size; numbers = r.numbers; texts = r.texts; number_objects = number_objects; text_objects = text_objects; alive = r.alive } ≡ cells_of content r
+    pub renewed-cells : all_cells new_content record { column_indexes = r.column_indexes; size = r.size; numbers = r.numbers; texts = r.texts; number_objects = number_objects; text_objects = text_objects; alive = r.alive } ≡ all_cells content r
     renewed-cells =
         let numbers_is = same-map (numbers_in new_content number_objects) (numbers_in content r.number_objects) (λ c. elements-stay (number_lists content r.number_objects) (number_lists new_content number_objects) c number_same) r.numbers in
         let texts_is = same-map (texts_in (lists_of new_content text_objects)) (texts_in (lists_of content r.text_objects)) (λ c. texts-stay (lists_of content r.text_objects) (lists_of new_content text_objects) c text_same) r.texts in

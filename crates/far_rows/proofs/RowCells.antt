@@ -9,7 +9,7 @@ use Rattle.far_types.specs.declared.refusal.Refusal.TheVariants as refusal
 use Rattle.far_types.specs.FirstOf.{first_of}
 use Rattle.far_rows.specs.declared.column_index.ColumnIndex.{ColumnIndex}
 use Rattle.far_rows.specs.ColumnIndexes.{column_in}
-use Rattle.far_rows.specs.Rows.{Rows, all_numbers, all_texts, cells_of}
+use Rattle.far_rows.specs.Rows.{Rows, all_numbers, all_texts, all_cells}
 use Rattle.far_rows.specs.Places.{row_at}
 use Rattle.far_rows.specs.Refusing.{absent_at, absents}
 use Rattle.far_rows.proofs.PlainLaws.{none-away}
@@ -22,7 +22,7 @@ module _ {K : Type 0} (content : K → List ℕ) (r : Rows K) (place : ℕ) wher
   at column = slice_index_or column place Missing
 
   -- the cell of a column is the one that its index has at the place
-  pub row-cell : (column : ℕ) → slice_get (row_at (cells_of content r) place) column ≡ option_map (λ s. slice_index_or (column_in (all_numbers content r) (all_texts content r) s) place Missing) (slice_get r.column_indexes column)
+  pub row-cell : (column : ℕ) → slice_get (row_at (all_cells content r) place) column ≡ option_map (λ s. slice_index_or (column_in (all_numbers content r) (all_texts content r) s) place Missing) (slice_get r.column_indexes column)
   row-cell column = ap (λ row. slice_get row column) (map-map at cells r.column_indexes) ∙ slice_get-map (λ s. at (cells s)) r.column_indexes column
 
   -- if no object of the place's row group is away, none of its cells is refused

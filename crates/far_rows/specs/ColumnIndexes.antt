@@ -20,13 +20,13 @@ kind_of (column_index.Number i) = kind.Int
 kind_of (column_index.Text i) = kind.Text
 
 -- there is such a column, among `numbers` of numbers and `texts` of texts
-abbrev pub IsWithin : ℕ → ℕ → ColumnIndex → Type 0
-IsWithin numbers texts (column_index.Number i) = i < numbers
-IsWithin numbers texts (column_index.Text i) = i < texts
+abbrev pub IsColumnIn : ℕ → ℕ → ColumnIndex → Type 0
+IsColumnIn numbers texts (column_index.Number i) = i < numbers
+IsColumnIn numbers texts (column_index.Text i) = i < texts
 
 -- the indexes are those of `numbers` columns of numbers and `texts` of texts, each once: as many as there are columns
 pub record AreColumnIndexes (column_indexes : List ColumnIndex) (numbers texts : ℕ) : Type 0 where
-  pub within : All (IsWithin numbers texts) column_indexes
+  pub within : All (IsColumnIn numbers texts) column_indexes
   pub once : AllPairs (λ s t. s ≢ t) column_indexes
   pub count : length column_indexes ≡ numbers + texts
 

@@ -5,7 +5,7 @@ use Rattle.far_columns.specs.NumbersTogether.{all_pushed, all_pushed_in}
 use Rattle.far_texts.specs.Together.{all_pushed as all_texts_pushed}
 use Rattle.far_rows.specs.declared.new_cell.NewCell.{NewCell}
 use Rattle.far_rows.specs.ColumnIndexes.{Values, row_of, with_row}
-use Rattle.far_rows.specs.Rows.{Rows, TextsMoved, cells_of}
+use Rattle.far_rows.specs.Rows.{Rows, TextsMoved, all_cells}
 use Rattle.far_rows.specs.Setting.{cell_of, set_in, with_cell_at}
 
 module _ {K : Type 0} (content : K → List ℕ) (old : Rows K) where
@@ -17,7 +17,7 @@ module _ {K : Type 0} (content : K → List ℕ) (old : Rows K) where
     -- the place is alive
     pub alive : new.alive ≡ old.alive ++ true ∷ []
     -- each column has a cell more
-    pub cells : cells_of content new ≡ with_row (cells_of content old) (row_of old.column_indexes values)
+    pub cells : all_cells content new ≡ with_row (all_cells content old) (row_of old.column_indexes values)
     -- each column has an element more: the last objects are written, or new ones are made if a row group begins
     pub numbers : new.numbers ≡ all_pushed (length old.number_objects.records) old.numbers
     pub number_objects : new.number_objects ≡ all_pushed_in old.number_objects old.numbers values.numbers
@@ -29,7 +29,7 @@ module _ {K : Type 0} (content : K → List ℕ) (old : Rows K) where
     -- the object of the place is written, and nothing else changes
     pub moved : IfSome (slice_get old.column_indexes column) (λ s. new ≡ set_in content old s place value)
     -- the column has that cell
-    pub cells : cells_of content new ≡ with_cell_at (cells_of content old) column place (cell_of value)
+    pub cells : all_cells content new ≡ with_cell_at (all_cells content old) column place (cell_of value)
 
 -- what an edit keeps, accepted or not
 pub record KeepsObjects {K : Type 0} (is_of : K → List ℕ → Type 0) (old new : Rows K) : Type 0 where

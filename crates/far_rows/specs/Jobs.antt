@@ -12,7 +12,7 @@ use Rattle.far_log.specs.RegionState.{fits_in}
 use Rattle.far_scopes.specs.Movement.{AreHere, pins_of}
 use Rattle.far_scopes.specs.Effects.{after_leave, after_arrive}
 use Rattle.far_evacuator.specs.Jobs.{Evacuation, CarriedEvacuation, Fetch, CarriedFetch, IsFormTicket}
-use Rattle.far_evacuator.specs.Beginning.{IsBegun, IsFetch}
+use Rattle.far_evacuator.specs.Beginning.{IsBegunEvac, IsFetch}
 use Rattle.far_evacuator.specs.Acceptance.{IsCommittable, IsInstallable}
 use Rattle.far_texts.specs.Texts.{lists_of}
 use Rattle.far_columns.specs.Numbers.{number_lists}
@@ -61,8 +61,8 @@ module _ {K : Type 0} where
   module _ (r : Rows K) where
     -- an evacuation of an object, begun now
     abbrev pub IsEvacOf : Object → ByKind (Evacuation K) (Evacuation K) → Type 0
-    IsEvacOf (object.Number o) (Numbers job) = IsBegun ints_form r.number_objects o job
-    IsEvacOf (object.Text o) (Texts job) = IsBegun (λ bytes. bytes) r.text_objects o job
+    IsEvacOf (object.Number o) (Numbers job) = IsBegunEvac ints_form r.number_objects o job
+    IsEvacOf (object.Text o) (Texts job) = IsBegunEvac (λ bytes. bytes) r.text_objects o job
     IsEvacOf (object.Number o) (Texts job) = ⊥
     IsEvacOf (object.Text o) (Numbers job) = ⊥
 

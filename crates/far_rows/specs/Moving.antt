@@ -6,12 +6,12 @@ use Rattle.far_types.specs.declared.refusal.Refusal.TheVariants as refusal
 use Rattle.far_types.specs.FirstOf.{first_of}
 use Rattle.far_scopes.specs.Movement.{AreHere}
 use Rattle.far_scopes.specs.Effects.{after_pin as pinned_in, after_unpin as unpinned_in, after_touch as touched_in}
-use Rattle.far_scopes.specs.Refusing.{pinned_out, unpin_refusal as unpin_refusal_in}
+use Rattle.far_scopes.specs.Refusing.{pins_used_up, unpin_refusal as unpin_refusal_in}
 use Rattle.far_rows.specs.declared.column_index.ColumnIndex.{ColumnIndex}
 use Rattle.far_rows.specs.declared.column_index.ColumnIndex.TheVariants as column_index
 use Rattle.far_rows.specs.declared.object.Object.{Object}
 use Rattle.far_rows.specs.declared.object.Object.TheVariants as object
-use Rattle.far_rows.specs.Rows.{Rows, object_of, cells_of}
+use Rattle.far_rows.specs.Rows.{Rows, object_of, all_cells}
 use Rattle.far_rows.specs.Refusing.{no_column, absent_in}
 
 -- the object of this number, among those of an index's kind
@@ -47,15 +47,15 @@ module _ {K : Type 0} where
   -- what a pin, an unpin, a use and a compaction keep, accepted or not: the cells, and whose tickets the objects have
   pub record KeepsCells (content : K → List ℕ) (is_of : K → List ℕ → Type 0) (old new : Rows K) : Type 0 where
     -- each column has the cells that it had
-    pub cells : cells_of content new ≡ cells_of content old
+    pub cells : all_cells content new ≡ all_cells content old
     -- tickets of a store stay tickets of it
     pub number_store : (id : List ℕ) → AreHere is_of id old.number_objects → AreHere is_of id new.number_objects
     pub text_store : (id : List ℕ) → AreHere is_of id old.text_objects → AreHere is_of id new.text_objects
 
   -- its pins are used up
   abbrev pub pins_used : Rows K → Object → Bool × Refusal
-  pins_used r (object.Number o) = pinned_out r.number_objects o
-  pins_used r (object.Text o) = pinned_out r.text_objects o
+  pins_used r (object.Number o) = pins_used_up r.number_objects o
+  pins_used r (object.Text o) = pins_used_up r.text_objects o
 
   -- why an object may not be unpinned
 

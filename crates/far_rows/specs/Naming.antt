@@ -19,13 +19,13 @@ AreOwned {C} column_of objects_of names columns =
     (o : ℕ) (name : Name) → slice_get names o ≡ Some name → (i : ℕ) × (c : C) × (slice_get columns i ≡ Some c) × (column_of c ≡ name.column) × (slice_get (objects_of c) name.group ≡ Some o)
 
 -- the number of an index's column, if the columns of numbers and of texts have these numbers
-abbrev pub number_in : List ℕ → List ℕ → ColumnIndex → Option ℕ
-number_in numbers texts (column_index.Number i) = slice_get numbers i
-number_in numbers texts (column_index.Text i) = slice_get texts i
+abbrev pub number_by : List ℕ → List ℕ → ColumnIndex → Option ℕ
+number_by numbers texts (column_index.Number i) = slice_get numbers i
+number_by numbers texts (column_index.Text i) = slice_get texts i
 
 -- the number of each index's column is its place among the indexes
 abbrev pub AreNumbered : List ColumnIndex → List ℕ → List ℕ → Type 0
-AreNumbered column_indexes numbers texts = (k : ℕ) (s : ColumnIndex) → slice_get column_indexes k ≡ Some s → number_in numbers texts s ≡ Some k
+AreNumbered column_indexes numbers texts = (k : ℕ) (s : ColumnIndex) → slice_get column_indexes k ≡ Some s → number_by numbers texts s ≡ Some k
 
 -- a column among those of a kind has its index at its number
 abbrev pub ArePlaced : List ColumnIndex → (ℕ → ColumnIndex) → List ℕ → Type 0

@@ -7,7 +7,7 @@ use Rattle.far_types.specs.declared.limits.Limits.{Limits}
 use Rattle.far_types.specs.declared.edit.Edit.{Edit}
 use Rattle.far_types.specs.Edits.{text_object_length, places_after}
 use Rattle.far_types.specs.Table.{Place}
-use Rattle.far_rows.specs.Rows.{Rows, cells_of}
+use Rattle.far_rows.specs.Rows.{Rows, all_cells}
 
 -- the row at a place: the cell that each column has there
 abbrev pub row_at : List (List Cell) → ℕ → List Cell
@@ -20,7 +20,7 @@ places_of columns flags = map (λ at. record { cells = row_at columns at.0; aliv
 module _ {K : Type 0} where
   -- the places of rows over objects, local or away
   abbrev pub places_in : (K → List ℕ) → Rows K → List Place
-  places_in content r = places_of (cells_of content r) r.alive
+  places_in content r = places_of (all_cells content r) r.alive
 
   -- the rows are those of a table with these limits
   pub record AreOf (limits : Limits) (r : Rows K) : Type 0 where

@@ -41,8 +41,8 @@ module _ {K : Type 0} where
     all_texts r = map (texts_in (lists_of content r.text_objects)) r.texts
 
     -- the cells of each column, over all places, local or away
-    abbrev pub cells_of : Rows K → List (List Cell)
-    cells_of r = columns_of r.column_indexes (all_numbers r) (all_texts r)
+    abbrev pub all_cells : Rows K → List (List Cell)
+    all_cells r = columns_of r.column_indexes (all_numbers r) (all_texts r)
 
     -- at most 16 columns and 2^24 places. All columns are as long as there are places, and have row groups of one size. Each column has
     -- objects of its own, named by the column and the row group, and there are no others. A clean object's list is what its far copy

@@ -1,7 +1,7 @@
 // Jobs on the objects of a table, of either kind of values.
 ghost use Rattle.std.specs.Prelude.{◌≡◌, ◌+◌, ◌<◌, ◌^◌, [], ◌∷◌, IfOk, IfErr, IsErr};
-ghost use Rattle.far_store.specs.Faults.{faults_in, RefusedBy};
-ghost use Rattle.far_evacuator.specs.Jobs.{outcome, IsFormOf, IsDirtyForm};
+ghost use Rattle.far_store.specs.Faults.{faults_in, outcome, RefusedBy};
+ghost use Rattle.far_evacuator.specs.Jobs.{IsFormOf, IsDirtyForm};
 ghost use Rattle.far_rows.specs.Jobs.{of_either, IsCarriedEvac, IsCarriedFetch};
 
 use far_evacuator::{Carried, EvacJob, FetchJob, Fetched};

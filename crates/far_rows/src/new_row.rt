@@ -5,7 +5,7 @@ ghost use Rattle.std.specs.List.{list_any};
 ghost use Rattle.far_types.specs.Cells.{is_of_kind, is_too_long};
 ghost use Rattle.far_texts.specs.RefusingTogether.{any_too_long};
 ghost use Rattle.far_types.specs.Lent.{int_cell, text_cell, lent_cell};
-ghost use Rattle.far_rows.specs.ColumnIndexes.{AreColumnIndexes, IsWithin, cell_in, kind_of, row_of, with_value};
+ghost use Rattle.far_rows.specs.ColumnIndexes.{AreColumnIndexes, IsColumnIn, cell_in, kind_of, row_of, with_value};
 
 use super::column_index::ColumnIndex;
 use super::new_cell::text_ref;
@@ -93,7 +93,7 @@ impl NewRow {
     // Puts the value of a cell, which is of the kind of its index. The cell gets the text that was there before.
     #[inline(always)]
     fn put(&mut self, column_index: ColumnIndex, cell: &mut Cell)
-        requires within { IsWithin (length self.old.numbers) (length self.old.texts) column_index }
+        requires within { IsColumnIn (length self.old.numbers) (length self.old.texts) column_index }
         requires of_kind { is_of_kind (kind_of column_index) cell.old ≡ true }
         requires short { is_too_long cell.old ≡ false }
         ensures { self.new ≡ with_value self.old column_index cell.old }
@@ -129,7 +129,7 @@ impl NewRow {
     // Returns the cell at an index.
     #[inline(always)]
     pub(crate) fn cell(&self, column_index: ColumnIndex) -> CellRef<'_>
-        requires { IsWithin (length self.now.numbers) (length self.now.texts) column_index }
+        requires { IsColumnIn (length self.now.numbers) (length self.now.texts) column_index }
         ensures { lent_cell result ≡ cell_in self.now column_index }
     {
         match column_index {

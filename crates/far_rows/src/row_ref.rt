@@ -2,7 +2,7 @@
 ghost use Rattle.std.specs.Prelude.{◌≡◌, ◌<◌, ◌/◌, None, length, slice_get, option_map};
 ghost use Rattle.far_types.specs.FirstOf.{first_of};
 ghost use Rattle.far_types.specs.Lent.{lent_cell};
-ghost use Rattle.far_rows.specs.Rows.{cells_of};
+ghost use Rattle.far_rows.specs.Rows.{all_cells};
 ghost use Rattle.far_rows.specs.Places.{row_at};
 ghost use Rattle.far_rows.specs.Refusing.{absents};
 
@@ -31,13 +31,13 @@ impl<'a, S: FarTickets> Model for RowRef<'a, S> {
     ghost use Rattle.std.specs.Prelude.{List, ◌≡◌, ◌<◌, ◌/◌, None, length};
     ghost use Rattle.far_types.specs.declared.cell.Cell.{Cell};
     ghost use Rattle.far_types.specs.FirstOf.{first_of};
-    ghost use Rattle.far_rows.specs.Rows.{cells_of};
+    ghost use Rattle.far_rows.specs.Rows.{all_cells};
     ghost use Rattle.far_rows.specs.Places.{row_at};
     ghost use Rattle.far_rows.specs.Refusing.{absents};
 
     ghost Value = { List Cell };
 
-    ghost view = { λ row. row_at (cells_of S.content row.rows.now) row.place };
+    ghost view = { λ row. row_at (all_cells S.content row.rows.now) row.place };
 
     ghost invariant = { λ row. (row.place < length row.rows.now.alive) × (first_of (absents row.rows.now (row.place / row.rows.now.size)) ≡ None) };
 }
@@ -48,7 +48,7 @@ impl<'a, S: FarTickets> RowRef<'a, S> {
     pub(crate) fn new(rows: &'a Rows<S>, place: usize) -> RowRef<'a, S>
         requires place { place < length rows.now.alive }
         requires here { first_of (absents rows.now (place / rows.now.size)) ≡ None }
-        ensures { result ≡ row_at (cells_of S.content rows.now) place }
+        ensures { result ≡ row_at (all_cells S.content rows.now) place }
     {
         RowRef { rows, place }
     }

@@ -19,7 +19,7 @@ use Rattle.far_rows.specs.declared.column_index.ColumnIndex.TheVariants as colum
 use Rattle.far_rows.specs.Moving.{object_at, object_in, object_refusal}
 use Rattle.far_rows.specs.Naming.{names_of}
 use Rattle.far_rows.specs.Rows.{Rows, AreRows, object_of}
-use Rattle.far_rows.specs.ColumnIndexes.{IsWithin, kind_of}
+use Rattle.far_rows.specs.ColumnIndexes.{IsColumnIn, kind_of}
 use Rattle.far_rows.proofs.Overfull.{found-at}
 
 module _ {K : Type 0} (r : Rows K) (column group : ℕ) (due : Object) (at : object_at r column group ≡ Some due) where
@@ -39,7 +39,7 @@ there g size objects len alive some used all enough = subst (λ n. n < objects) 
 
 module _ {K : Type 0} (content : K → List ℕ) (r : Rows K) (are : AreRows content r) where
   module _ (group : ℕ) (used : group * r.size < length r.alive) where
-    in-column_index : (s : ColumnIndex) → IsWithin (length r.numbers) (length r.texts) s → (o : ℕ) × (object_of r s group ≡ Some o)
+    in-column_index : (s : ColumnIndex) → IsColumnIn (length r.numbers) (length r.texts) s → (o : ℕ) × (object_of r s group ≡ Some o)
     in-column_index (column_index.Number i) inside =
         let found = found-at r.numbers i inside in
         let v : Vector (Option ℤ) = found.0 in
@@ -62,7 +62,7 @@ module _ {K : Type 0} (content : K → List ℕ) (r : Rows K) (are : AreRows con
     begun column within =
         let found = found-at r.column_indexes column within in
         let s : ColumnIndex = found.0 in
-        let inside = subst (IsWithin (length r.numbers) (length r.texts)) (get_or_from_slice_get r.column_indexes column s s found.1) (are.column_indexes.within column s within) in
+        let inside = subst (IsColumnIn (length r.numbers) (length r.texts)) (get_or_from_slice_get r.column_indexes column s s found.1) (are.column_indexes.within column s within) in
         let own = in-column_index s inside in
         (object_in s own.0, ap (option_and_then (λ (t : ColumnIndex). option_map (object_in t) (object_of r t group))) found.1 ∙ ap (option_map (object_in s)) own.1)
 

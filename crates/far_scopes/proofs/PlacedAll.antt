@@ -11,7 +11,7 @@ use Rattle.far_pointer.specs.Layout.{with_at}
 use Rattle.far_log.specs.RegionState.{RegionState}
 use Rattle.far_scopes.specs.declared.replacement.Replacement.{Replacement}
 use Rattle.far_scopes.specs.Memory.{Memory, at_of, place_of}
-use Rattle.far_scopes.specs.Placing.{spot, with_new, added}
+use Rattle.far_scopes.specs.Placing.{spot, with_new, with_object}
 use Rattle.far_scopes.specs.Replacing.{with_place, IsUnlisted, with_all, without_all, moved_all, replaced_all, taken_over}
 use Rattle.far_scopes.proofs.Places.{cases_option}
 use Rattle.far_scopes.proofs.WordPlaces.{slice_get-set_other, slice_get-push_other, place-push_last, place-push_other, last-of, take-last}
@@ -76,7 +76,7 @@ module _ {X : Type 0} where
     rest = moved_all (with_new state r.list.items) words rs
 
     abbrev between : Memory X
-    between = replaced_all (added record { words = words; state = state } r.list.items) rs
+    between = replaced_all (with_object record { words = words; state = state } r.list.items) rs
 
     words-between : between.words ≡ rest ++ further ∷ []
     words-between = moved-push words further (with_new state r.list.items) rs within

@@ -9,14 +9,14 @@ use Rattle.far_pointer.specs.declared.pointer.Pointer.TheVariants.{Local}
 use Rattle.far_log.specs.RegionState.{part_of}
 use Rattle.far_scopes.specs.declared.replacement.Replacement.{Replacement}
 use Rattle.far_scopes.specs.Memory.{Memory, place_of, list_in, ChangesList}
-use Rattle.far_scopes.specs.Placing.{spot, added}
+use Rattle.far_scopes.specs.Placing.{spot, with_object}
 use Rattle.far_scopes.specs.Replacing.{AreListedOnce, ChangesLists, IsUnlisted, replaced_all, taken_over}
 use Rattle.far_scopes.proofs.WordPlaces.{place-push_other, place-within, place-end}
 use Rattle.far_scopes.proofs.PlacedAll.{length-moved, last-between, place-last, place-first, taken_over-is}
 use Rattle.far_scopes.proofs.Relisted.{once-head, once-tail}
 
 module _ {X : Type 0} (m : Memory X) (r : Replacement X) (rs lists : List (Replacement X)) (is : lists ≡ r ∷ rs)
-    (local : All (λ s. IsSome (place_of m.words s.object)) lists) (once : AreListedOnce lists) (between : Memory X) (placed : between ≡ added m r.list.items) where
+    (local : All (λ s. IsSome (place_of m.words s.object)) lists) (once : AreListedOnce lists) (between : Memory X) (placed : between ≡ with_object m r.list.items) where
   abbrev IsPlaced : Replacement X → Type 0
   IsPlaced s = IsSome (place_of m.words s.object)
 
@@ -45,7 +45,7 @@ module _ {X : Type 0} (m : Memory X) (r : Replacement X) (rs lists : List (Repla
       subst IsSome (sym (ap (λ w. place_of w.words o) placed ∙ place-push_other m.words further o (λ e. omega (arith, within k d lt, e)))) (All-tail IsPlaced r rs locals k d lt)
 
   module _ (done : Memory X) (all : done ≡ replaced_all between rs) where
-    done-is : done ≡ replaced_all (added m r.list.items) rs
+    done-is : done ≡ replaced_all (with_object m r.list.items) rs
     done-is = all ∙ ap (λ w. replaced_all w rs) placed
 
     last-is : length done.words - 1 ≡ length m.words

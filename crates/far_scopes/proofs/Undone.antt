@@ -12,7 +12,7 @@ use Rattle.far_log.specs.Effects.{with_part, without_part}
 use Rattle.far_log.proofs.Layouts.{no-list-at-fill}
 use Rattle.far_log.proofs.RegionLaws.{layout-segment}
 use Rattle.far_scopes.specs.Memory.{Memory}
-use Rattle.far_scopes.specs.Placing.{spot, with_new, without_at, added, removed}
+use Rattle.far_scopes.specs.Placing.{spot, with_new, without_at, with_object, removed}
 use Rattle.far_scopes.specs.Movement.{Movement}
 use Rattle.far_scopes.specs.Effects.{new_record, after_create, after_uncreate}
 use Rattle.far_scopes.proofs.WordPlaces.{last-of, take-last, place-push_last}
@@ -55,13 +55,13 @@ module _ {X : Type 0} where
       ]
 
   -- the local memory
-  pub removed-added : (memory : Memory X) (list : List X) → IsRegion memory.state → removed (added memory list) ≡ memory
+  pub removed-added : (memory : Memory X) (list : List X) → IsRegion memory.state → removed (with_object memory list) ≡ memory
   removed-added memory list region =
       let word : Pointer = Local (spot memory.state (length list)) true true false in
       rw (take-last (memory.words ++ word ∷ []) memory.words word refl, last-of (memory.words ++ word ∷ []) memory.words word refl, place-push_last memory.words word, state-back memory.state list region) refl
 
 -- all objects, if it is so of the local memory
-pub uncreated-created : {X K : Type 0} (m : Movement X K) (name : Name) (list : List X) → removed (added m.memory list) ≡ m.memory → after_uncreate (after_create m name list) ≡ m
+pub uncreated-created : {X K : Type 0} (m : Movement X K) (name : Name) (list : List X) → removed (with_object m.memory list) ≡ m.memory → after_uncreate (after_create m name list) ≡ m
 uncreated-created {K = K} m name list back =
     let object_record = new_record {K = K} name (length list) in
     rw (back, take-last (m.records ++ object_record ∷ []) m.records object_record refl, last-of (m.records ++ object_record ∷ []) m.records object_record refl, without-cons m.order (length m.records)) refl

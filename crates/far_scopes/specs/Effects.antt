@@ -4,7 +4,7 @@ use Rattle.std.specs.Option.{option_map_or}
 use Rattle.far_types.specs.declared.name.Name.{Name}
 use Rattle.far_scopes.specs.declared.object_record.ObjectRecord.{ObjectRecord}
 use Rattle.far_scopes.specs.Recency.{without, used}
-use Rattle.far_scopes.specs.Placing.{added, removed, marked, heated, sent_away, brought, replaced as replaced_in, overwritten as overwritten_in}
+use Rattle.far_scopes.specs.Placing.{with_object, removed, marked, heated, sent_away, brought, replaced as replaced_in, overwritten as overwritten_in}
 use Rattle.far_scopes.specs.declared.replacement.Replacement.{Replacement}
 use Rattle.far_scopes.specs.Movement.{Movement}
 use Rattle.far_scopes.specs.Replacing.{replaced_all as replaced_all_in}
@@ -21,7 +21,7 @@ module _ {X K : Type 0} where
   -- the objects with one more: local, dirty and hot, never written, away or pinned, without a far copy, used last
   abbrev pub after_create : Movement X K → Name → List X → Movement X K
   after_create m name list = record m {
-    memory = added m.memory list;
+    memory = with_object m.memory list;
     records = m.records ++ new_record name (length list) ∷ [];
     order = length m.records ∷ m.order;
   }

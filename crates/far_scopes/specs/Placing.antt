@@ -28,8 +28,8 @@ module _ {X : Type 0} where
   without_at state (Some at) = with_segment state at.segment (without_part (segment_of state at.segment) at.offset)
 
   -- the memory with one object more, with this list: dirty and hot, and without a far copy
-  abbrev pub added : Memory X → List X → Memory X
-  added memory list = record {
+  abbrev pub with_object : Memory X → List X → Memory X
+  with_object memory list = record {
     words = memory.words ++ Local (spot memory.state (length list)) true true false ∷ [];
     state = with_new memory.state list;
   }

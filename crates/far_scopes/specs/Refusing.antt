@@ -26,8 +26,8 @@ module _ {X K : Type 0} (m : Movement X K) (o : ℕ) where
   written_out = (not (nat_lt (version_of m o) m.max_writes), refusal.EditsUsedUp)
 
   -- its pins are used up
-  abbrev pub pinned_out : Bool × Refusal
-  pinned_out = (pins_of m o == 65535, refusal.EditsUsedUp)
+  abbrev pub pins_used_up : Bool × Refusal
+  pins_used_up = (pins_of m o == 65535, refusal.EditsUsedUp)
 
   -- why an object's list is not lent (`lend`)
   abbrev pub lend_refusal : Option Refusal
@@ -39,7 +39,7 @@ module _ {X K : Type 0} (m : Movement X K) (o : ℕ) where
 
   -- why an object is not pinned (`pin`)
   abbrev pub pin_refusal : Option Refusal
-  pin_refusal = first_of (absent ∷ pinned_out ∷ [])
+  pin_refusal = first_of (absent ∷ pins_used_up ∷ [])
 
   -- why an object is not unpinned (`unpin`)
   abbrev pub unpin_refusal : Option Refusal

@@ -7,7 +7,7 @@ ghost use Rattle.far_scopes.specs.Memory.{at_of as word_at, place_of, list_in, C
 ghost use Rattle.far_scopes.specs.Cool.{cool_of, cool_in};
 ghost use Rattle.far_pointer.specs.declared.pointer.Pointer.{Pointer};
 ghost use Rattle.std.specs.Prelude.{not};
-ghost use Rattle.far_scopes.specs.Placing.{added, removed, marked, heated, sent_away, brought, replaced};
+ghost use Rattle.far_scopes.specs.Placing.{with_object, removed, marked, heated, sent_away, brought, replaced};
 
 mod compaction;
 mod lending;
@@ -94,7 +94,7 @@ impl<T: Elem> LocalMemory<T> {
     /// Adds an object with this list: dirty and hot. If it is refused, nothing is changed.
     pub fn add(&mut self, items: &[T]) -> Result<(), Refusal>
         requires some { 0 < length items.now }
-        ensures ok { OnOk result (self.new ≡ added self.old items.now) }
+        ensures ok { OnOk result (self.new ≡ with_object self.old items.now) }
         ensures list { OnOk result (ChangesList (list_in self.old) (list_in self.new) (length self.old.words) (Some items.now)) }
         ensures undone { OnOk result (removed self.new ≡ self.old) }
         ensures full { IsErrOf result Refusal.RegionFull ↔ (fits_in self.old.state (length items.now) ≡ false) }

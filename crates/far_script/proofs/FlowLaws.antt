@@ -7,7 +7,7 @@ use Rattle.std.specs.Io.KnownBytes.{Appends, Consumes, Keeps}
 use Rattle.std.proofs.KnownBytes.{Appends-nil, Appends-trans, Appends-kept, Consumes-nil, Consumes-trans}
 use Rattle.std.specs.declared.io.traits.Read.{Ghosts}
 use Rattle.far_script.specs.declared.input.Input.{Input}
-use Rattle.far_script.specs.Flow.{Prints, Reads, unread, IsSpent}
+use Rattle.far_script.specs.Flow.{Prints, Reads, unread, IsAtEnd}
 
 -- what a writer took in parts
 pub written-on : (u v w : Option (List ℕ)) (bytes : List ℕ) (n m : ℕ) → Appends u v (take n bytes) → Appends v w (take m (drop n bytes)) → Appends u w (take (n + m) bytes)
@@ -182,12 +182,12 @@ front-within start plain all h = omega (arith, h)
 
 module _ {R : Type 0} (read : Ghosts R) where
   -- nothing is read if nothing comes any more
-  pub spent-nothing : (old new : Input R read) (bytes : List ℕ) → IsSpent read old → Reads read old bytes new → bytes ≡ []
+  pub spent-nothing : (old new : Input R read) (bytes : List ℕ) → IsAtEnd read old → Reads read old bytes new → bytes ≡ []
   spent-nothing old new bytes spent p =
       no-first bytes (unread read new) (sym p.taken ∙ ap (λ (t : List ℕ). unread read old ++ t) (p.none spent.1) ∙ append-nil (unread read old) ∙ spent.0)
 
   -- and nothing comes then
-  pub spent-stays : (old new : Input R read) (bytes : List ℕ) → IsSpent read old → Reads read old bytes new → IsSpent read new
+  pub spent-stays : (old new : Input R read) (bytes : List ℕ) → IsAtEnd read old → Reads read old bytes new → IsAtEnd read new
   spent-stays old new bytes spent p =
       (no-rest bytes (unread read new) (sym p.taken ∙ ap (λ (t : List ℕ). unread read old ++ t) (p.none spent.1) ∙ append-nil (unread read old) ∙ spent.0), p.ended spent.1)
 

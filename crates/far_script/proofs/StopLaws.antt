@@ -8,7 +8,7 @@ use Rattle.far_script.specs.declared.fault.ShellFault.{ShellFault}
 use Rattle.far_script.specs.declared.fault.ShellFault.TheVariants as fault
 use Rattle.far_script.specs.declared.input.Input.{Input}
 use Rattle.far_script.specs.Faults.{IfInput, IsCut}
-use Rattle.far_script.specs.Flow.{Counts, Gives, IsFrontOf, IsShort, IsSpent, IsUnseen, Leaves, Reads, StartsWith, Stops, unread}
+use Rattle.far_script.specs.Flow.{Counts, Gives, IsFrontOf, IsShort, IsAtEnd, IsUnseen, Leaves, Reads, StartsWith, Stops, unread}
 use Rattle.far_script.proofs.FlowLaws.{few-bytes, not-before, spent-nothing, spent-stays}
 
 -- a fault that is handed on
@@ -139,7 +139,7 @@ module _ {R : Type 0} (read : Ghosts R) where
   coming input = unread read input ++ unwrap_or (read.remaining input.source.reader) []
 
   -- nothing comes behind
-  pub spent-rest : (input : Input R read) → IsSpent read input → coming input ≡ []
+  pub spent-rest : (input : Input R read) → IsAtEnd read input → coming input ≡ []
   spent-rest input spent = ap (λ (t : List ℕ). t ++ unwrap_or (read.remaining input.source.reader) []) spent.0 ∙ input.source.end spent.1
 
   pub starts : (old new : Input R read) (bytes : List ℕ) → Reads read old bytes new → StartsWith read old bytes (coming new)

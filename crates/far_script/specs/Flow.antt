@@ -67,8 +67,8 @@ module _ {R : Type 0} (read : Ghosts R) where
   byte_range_of (line.Last byte_range) = byte_range
 
   -- nothing comes any more
-  abbrev pub IsSpent : Input R read → Type 0
-  IsSpent input = (unread input ≡ []) × (input.source.ended ≡ true)
+  abbrev pub IsAtEnd : Input R read → Type 0
+  IsAtEnd input = (unread input ≡ []) × (input.source.ended ≡ true)
 
   -- the end of a script was not seen, before and now. The reader was asked, or may not be asked any more. And why no more came
   abbrev pub IsUnseen : Type 0 → Input R read → Input R read → Type 0
@@ -86,7 +86,7 @@ module _ {R : Type 0} (read : Ghosts R) where
   -- what is left of a script, if it is known, is these bytes and the rest behind them
   abbrev pub StartsWith : Input R read → List ℕ → List ℕ → Type 0
   StartsWith input bytes rest = IfSome (read.remaining input.source.reader) (λ coming. unread input ++ coming ≡ bytes ++ rest)
-      × (IsSpent input → bytes ++ rest ≡ [])
+      × (IsAtEnd input → bytes ++ rest ≡ [])
 
   -- bytes are at hand, those that were held and those that came since, and they were counted. An end that was found stays found
   abbrev pub Counts : Input R read → List ℕ → Input R read → Type 0

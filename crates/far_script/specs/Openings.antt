@@ -63,9 +63,9 @@ start_of (line.Schema opening) = Schema (opening.kinds.items, opening.limits)
 start_of (line.Threads sessions edits) = Threads sessions edits
 
 -- there are as many sessions as may be, and each makes as many edits as it may
-abbrev pub IsWithin : Start → Type 0
-IsWithin (Schema opened) = ⊤
-IsWithin (Threads sessions edits) = (1 ≤ sessions) × (sessions ≤ 4) × (1 ≤ edits) × (edits ≤ 1000)
+abbrev pub IsAllowedStart : Start → Type 0
+IsAllowedStart (Schema opened) = ⊤
+IsAllowedStart (Threads sessions edits) = (1 ≤ sessions) × (sessions ≤ 4) × (1 ≤ edits) × (edits ≤ 1000)
 
 -- a number from one to another
 abbrev pub between : ℕ → ℕ → Option ℕ → Option ℕ

@@ -2,7 +2,7 @@
 ghost use Rattle.std.specs.Prelude.{◌≡◌, ◌≤◌, ◌++◌, IfOk, IfErr, IfSome, option_map, option_and_then, Some, None};
 ghost use Rattle.std.specs.List.{slice_split};
 ghost use Rattle.far_script.specs.OneRecord.{is_comma};
-ghost use Rattle.far_script.specs.Openings.{kind_named, kinds_named, kinds_of, given_limits, limits_of, opening_in, between, threads_in, start_in, start_of, IsWithin};
+ghost use Rattle.far_script.specs.Openings.{kind_named, kinds_named, kinds_of, given_limits, limits_of, opening_in, between, threads_in, start_in, start_of, IsAllowedStart};
 
 use super::words::Words;
 use far_types::{Kind, Limits, Refusal};
@@ -159,7 +159,7 @@ fn between(least: u32, most: u32, number: Option<u32>) -> Option<u32>
 /// Reads `SESSIONS EDITS`.
 fn read_threads(mut words: Words) -> Option<FirstLine>
     ensures threads { option_map start_of result ≡ threads_in words.entry }
-    ensures within { IfSome result (λ first. IsWithin (start_of first)) }
+    ensures within { IfSome result (λ first. IsAllowedStart (start_of first)) }
 {
     let sessions = between(1, MAX_SESSIONS, words.number())?;
     let edits = between(1, MAX_EDITS, words.last_number())?;
@@ -169,7 +169,7 @@ fn read_threads(mut words: Words) -> Option<FirstLine>
 /// Returns what the first line of a script says, or `None` if it is no such line. Refused with `NoMemory` (1) alone.
 pub fn first_line(alloc: Global, line: &str) -> Result<Option<FirstLine>, Refusal>
     ensures start { IfOk result (λ found. option_map start_of found ≡ start_in line.now) }
-    ensures within { IfOk result (λ found. IfSome found (λ first. IsWithin (start_of first))) }
+    ensures within { IfOk result (λ found. IfSome found (λ first. IsAllowedStart (start_of first))) }
     ensures memory { IfErr result (λ e. e ≡ Refusal.NoMemory) }
 {
     let mut words = Words::new(line);

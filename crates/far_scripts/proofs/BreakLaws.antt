@@ -9,15 +9,15 @@ use Rattle.far_script.specs.declared.fault.ShellFault.{ShellFault}
 use Rattle.far_script.specs.declared.fault.ShellFault.TheVariants as fault
 use Rattle.far_script.specs.declared.input.Input.{Input}
 use Rattle.far_types.specs.declared.cell.Kind.{Kind}
-use Rattle.far_commands.specs.Cuts.{Lists, Fails, PrintsCut}
+use Rattle.far_commands.specs.Cuts.{IsListing, Fails, PrintsCut}
 use Rattle.far_scripts.specs.Breaks.{ListsNext, BreaksIn, BreaksLater, BreaksOff, BreaksServing, HasNotBegun, HasNoTurn, IsRefused, IsUnknown, Rejection, Rejects}
 use Rattle.far_script.specs.Faults.{IfInput}
-use Rattle.far_script.specs.Flow.{Counts, Gives, IsOver, IsShort, IsSpent, Prints, Reads, StartsWith, Stops}
+use Rattle.far_script.specs.Flow.{Counts, Gives, IsOver, IsShort, IsAtEnd, Prints, Reads, StartsWith, Stops}
 use Rattle.far_commands.specs.Progress.{At}
 use Rattle.far_script.specs.Lines.{Blank, IsOneLine, without_return}
 use Rattle.far_commands.proofs.CutLaws.{front-more}
 use Rattle.far_script.specs.Openings.{Opened}
-use Rattle.far_scripts.specs.Scripts.{Answers, Begins, IsNew}
+use Rattle.far_scripts.specs.Scripts.{AnswersLines, Begins, IsNew}
 use Rattle.far_script.proofs.FlowLaws.{no-first, no-rest, prints, prints-then, prints-nothing-then, prints-then-nothing, reads-none}
 use Rattle.far_scripts.proofs.ScriptLaws.{begins-then, either}
 use Rattle.far_script.proofs.StopLaws.{coming, counts-then, if-input, leaves-same, short-later, spent-rest, starts, starts-split, starts-then, stops-here, stops-more, stops-then}
@@ -39,7 +39,7 @@ module _ {R : Type 0} (read : Ghosts R) where
       (λ behind rest h. inr (raw, behind, one, append_assoc raw (10 ∷ []) behind, subst (λ (z : List ℕ). fails rest z behind) stripped h)) s
 
   -- the last one came
-  stops-last : (before mid new : Input R read) (line : List ℕ) (unseen : Type 0) (fails : List ℕ → List ℕ → List ℕ → Type 0) → IsOneLine line → Reads read before line mid → IsSpent read mid
+  stops-last : (before mid new : Input R read) (line : List ℕ) (unseen : Type 0) (fails : List ℕ → List ℕ → List ℕ → Type 0) → IsOneLine line → Reads read before line mid → IsAtEnd read mid
       → Stops read (λ behind rest. fails rest line behind) mid new → Stops read (λ bytes rest. HasNoTurn unseen (IsOver read new rest) (fails rest) bytes) before new
   stops-last before mid new line unseen fails one p spent s =
       let none : s.0 ≡ [] = no-first s.0 s.1 (s.2.1 spent) in
@@ -53,7 +53,7 @@ module _ {R : Type 0} (read : Ghosts R) where
       → Stops read (λ bytes rest. HasNoTurn unseen (IsOver read mid rest) (λ line behind. ¬ (IsUtf8 line)) bytes) before mid
   no-text-line before mid raw line unseen one stripped p h = stops-line before mid mid raw line unseen (λ rest line behind. ¬ (IsUtf8 line)) one stripped p (stops-here read mid mid (λ behind rest. ¬ (IsUtf8 line)) refl (λ e. e) (leaves-same _ _) h)
 
-  pub no-text-last : (before mid : Input R read) (line : List ℕ) (unseen : Type 0) → list_any (λ x. x == 10) line ≡ false → Reads read before line mid → IsSpent read mid → (IsUtf8 line → ⊥)
+  pub no-text-last : (before mid : Input R read) (line : List ℕ) (unseen : Type 0) → list_any (λ x. x == 10) line ≡ false → Reads read before line mid → IsAtEnd read mid → (IsUtf8 line → ⊥)
       → Stops read (λ bytes rest. HasNoTurn unseen (IsOver read mid rest) (λ line behind. ¬ (IsUtf8 line)) bytes) before mid
   no-text-last before mid line unseen one p spent h = stops-last before mid mid line unseen (λ rest line behind. ¬ (IsUtf8 line)) one p spent (stops-here read mid mid (λ behind rest. ¬ (IsUtf8 line)) refl (λ e. e) (leaves-same _ _) h)
 
@@ -80,7 +80,7 @@ module _ {R : Type 0} (read : Ghosts R) {S K : Type 0} (tickets : Tickets S K) (
   Ending first new a b h k old why = (all : List ℕ) × (rest : List ℕ) × (said : List ℕ) × Gives read why first new all rest × Prints a h said b k × BreaksOff tickets unseen (IsOver read new rest) old why all rest said
 
   between : (first after new : Input R read) (a b : Option (List ℕ)) (h k : List ℕ) (old at : At K) (bytes text : List ℕ) (why : ShellFault)
-      → IfInput why (Counts read first bytes new) → BreaksIn unseen (IsOver read new (coming read after)) why at [] (coming read after) [] → Reads read first bytes after → Prints a h text b k → Answers tickets old bytes text at → Ending first new a b h k old why
+      → IfInput why (Counts read first bytes new) → BreaksIn unseen (IsOver read new (coming read after)) why at [] (coming read after) [] → Reads read first bytes after → Prints a h text b k → AnswersLines tickets old bytes text at → Ending first new a b h k old why
   between first after new a b h k old at bytes text why counts cut p q r = (
     bytes,
     coming read after,
@@ -92,7 +92,7 @@ module _ {R : Type 0} (read : Ghosts R) {S K : Type 0} (tickets : Tickets S K) (
 
   -- no whole turn came behind
   stopped : (first after new : Input R read) (a b : Option (List ℕ)) (h k : List ℕ) (old at : At K) (bytes text : List ℕ)
-      → Reads read first bytes after → Prints a h text b k → Answers tickets old bytes text at → Stops read (λ bytes rest. HasNoTurn unseen (IsOver read new rest) (Fails (Short new rest) at.world.state.table.schema) bytes) after new → Ending first new a b h k old fault.Input
+      → Reads read first bytes after → Prints a h text b k → AnswersLines tickets old bytes text at → Stops read (λ bytes rest. HasNoTurn unseen (IsOver read new rest) (Fails (Short new rest) at.world.state.table.schema) bytes) after new → Ending first new a b h k old fault.Input
   stopped first after new a b h k old at bytes text p q r s = (
     bytes ++ s.0,
     s.1,
@@ -104,7 +104,7 @@ module _ {R : Type 0} (read : Ghosts R) {S K : Type 0} (tickets : Tickets S K) (
 
   -- a script breaks off between two lines
   pub breaks-between : (first after new : Input R read) (a b : Option (List ℕ)) (h k : List ℕ) (old at : At K) (bytes text : List ℕ) (why : ShellFault) → (why ≡ fault.BadStart → ⊥) → (why ≡ fault.Turns → ⊥)
-      → Reads read first bytes after → Prints a h text b k → Answers tickets old bytes text at → IfInput why unseen → IfInput why (Stops read (λ bytes rest. IsOneLine bytes) after new) → Ending first new a b h k old why
+      → Reads read first bytes after → Prints a h text b k → AnswersLines tickets old bytes text at → IfInput why unseen → IfInput why (Stops read (λ bytes rest. IsOneLine bytes) after new) → Ending first new a b h k old why
   breaks-between first after new a b h k old at bytes text fault.BadStart other distinct p q r u s = absurd (other refl)
   breaks-between first after new a b h k old at bytes text fault.Input other distinct p q r u s = stopped first after new a b h k old at bytes text p q r (s.0, s.1, s.2, s.3, inl (s.4, inl u))
   breaks-between first after new a b h k old at bytes text fault.Output other distinct p q r u s = between first after new a b h k old at bytes text fault.Output tt (refl, inl refl) p q r
@@ -114,7 +114,7 @@ module _ {R : Type 0} (read : Ghosts R) {S K : Type 0} (tickets : Tickets S K) (
   -- within a line
   within-line : (first before mid new : Input R read) (a b c d : Option (List ℕ)) (h k l m : List ℕ) (old at : At K) (raw bytes text front : List ℕ) (why : ShellFault)
       → IfInput why (Counts read first (bytes ++ raw) new) → BreaksIn unseen (IsOver read new (10 ∷ coming read mid)) why at raw (10 ∷ coming read mid) front
-      → Reads read first bytes before → Prints a h text b k → Answers tickets old bytes text at → Reads read before (raw ++ 10 ∷ []) mid → Prints b k [] c l → Prints c l front d m → Ending first new a d h m old why
+      → Reads read first bytes before → Prints a h text b k → AnswersLines tickets old bytes text at → Reads read before (raw ++ 10 ∷ []) mid → Prints b k [] c l → Prints c l front d m → Ending first new a d h m old why
   within-line first before mid new a b c d h k l m old at raw bytes text front why counts cut p q r s t u = (
     bytes ++ raw,
     10 ∷ coming read mid,
@@ -131,7 +131,7 @@ module _ {R : Type 0} (read : Ghosts R) {S K : Type 0} (tickets : Tickets S K) (
   -- within the last line
   within-last : (first before mid new : Input R read) (a b c d : Option (List ℕ)) (h k l m : List ℕ) (old at : At K) (line bytes text front : List ℕ) (why : ShellFault)
       → IfInput why (Counts read first (bytes ++ line) new) → BreaksIn unseen (IsOver read new (coming read mid)) why at line (coming read mid) front
-      → Reads read first bytes before → Prints a h text b k → Answers tickets old bytes text at → Reads read before line mid → Prints b k [] c l → Prints c l front d m → Ending first new a d h m old why
+      → Reads read first bytes before → Prints a h text b k → AnswersLines tickets old bytes text at → Reads read before line mid → Prints b k [] c l → Prints c l front d m → Ending first new a d h m old why
   within-last first before mid new a b c d h k l m old at line bytes text front why counts cut p q r s t u = (
     bytes ++ line,
     coming read mid,
@@ -143,35 +143,35 @@ module _ {R : Type 0} (read : Ghosts R) {S K : Type 0} (tickets : Tickets S K) (
 
   -- within the answer to a line
   pub breaks-line : (first before mid new : Input R read) (a b c d : Option (List ℕ)) (h k l m : List ℕ) (old at : At K) (line raw bytes text : List ℕ) (why : ShellFault)
-      → Reads read first bytes before → Prints a h text b k → Answers tickets old bytes text at
+      → Reads read first bytes before → Prints a h text b k → AnswersLines tickets old bytes text at
       → list_any (λ x. x == 10) raw ≡ false → line ≡ strip_last 13 raw → Reads read before (raw ++ 10 ∷ []) mid → Prints b k [] c l
-      → PrintsCut why (λ said. Lists at line said) c l d m → IfInput why (Stops read (λ behind rest. Fails (Short new rest) at.world.state.table.schema line behind) mid new)
+      → PrintsCut why (λ said. IsListing at line said) c l d m → IfInput why (Stops read (λ behind rest. Fails (Short new rest) at.world.state.table.schema line behind) mid new)
       → Ending first new a d h m old why
   breaks-line first before mid new a b c d h k l m old at line raw bytes text fault.BadStart p q r one stripped s t u v = absurd u.2
   breaks-line first before mid new a b c d h k l m old at line raw bytes text fault.Input p q r one stripped s t u v =
       stopped first before new a d h m old at bytes text p (nothing-printed a b c d h k l m text u.0 q t u.1 u.2) r (stops-line read before mid new raw line unseen (λ rest. Fails (Short new rest) at.world.state.table.schema) one stripped s v)
   breaks-line first before mid new a b c d h k l m old at line raw bytes text fault.Output p q r one stripped s t u v =
       within-line first before mid new a b c d h k l m old at raw bytes text u.0 fault.Output tt
-      (one, front-more (λ said. Lists at line said) (ListsNext at raw (10 ∷ coming read mid)) u.0 (λ said n. inl (coming read mid, refl, subst (λ (z : List ℕ). Lists at z said) stripped n)) u.2) p q r s t u.1
+      (one, front-more (λ said. IsListing at line said) (ListsNext at raw (10 ∷ coming read mid)) u.0 (λ said n. inl (coming read mid, refl, subst (λ (z : List ℕ). IsListing at z said) stripped n)) u.2) p q r s t u.1
   breaks-line first before mid new a b c d h k l m old at line raw bytes text fault.Memory p q r one stripped s t u v =
       within-line first before mid new a b c d h k l m old at raw bytes text u.0 fault.Memory tt
-      (one, front-more (λ said. Lists at line said) (ListsNext at raw (10 ∷ coming read mid)) u.0 (λ said n. inl (coming read mid, refl, subst (λ (z : List ℕ). Lists at z said) stripped n)) u.2) p q r s t u.1
+      (one, front-more (λ said. IsListing at line said) (ListsNext at raw (10 ∷ coming read mid)) u.0 (λ said n. inl (coming read mid, refl, subst (λ (z : List ℕ). IsListing at z said) stripped n)) u.2) p q r s t u.1
   breaks-line first before mid new a b c d h k l m old at line raw bytes text fault.Turns p q r one stripped s t u v = absurd u.2
 
   -- within the answer to the last line
   pub breaks-last : (first before mid new : Input R read) (a b c d : Option (List ℕ)) (h k l m : List ℕ) (old at : At K) (line bytes text : List ℕ) (why : ShellFault)
-      → Reads read first bytes before → Prints a h text b k → Answers tickets old bytes text at
-      → list_any (λ x. x == 10) line ≡ false → Reads read before line mid → IsSpent read mid → Prints b k [] c l
-      → PrintsCut why (λ said. Lists at line said) c l d m → IfInput why (Stops read (λ behind rest. Fails (Short new rest) at.world.state.table.schema line behind) mid new)
+      → Reads read first bytes before → Prints a h text b k → AnswersLines tickets old bytes text at
+      → list_any (λ x. x == 10) line ≡ false → Reads read before line mid → IsAtEnd read mid → Prints b k [] c l
+      → PrintsCut why (λ said. IsListing at line said) c l d m → IfInput why (Stops read (λ behind rest. Fails (Short new rest) at.world.state.table.schema line behind) mid new)
       → Ending first new a d h m old why
   breaks-last first before mid new a b c d h k l m old at line bytes text fault.BadStart p q r one s spent t u v = absurd u.2
   breaks-last first before mid new a b c d h k l m old at line bytes text fault.Input p q r one s spent t u v =
       stopped first before new a d h m old at bytes text p (nothing-printed a b c d h k l m text u.0 q t u.1 u.2) r
       (stops-last read before mid new line unseen (λ rest. Fails (Short new rest) at.world.state.table.schema) one s spent v)
   breaks-last first before mid new a b c d h k l m old at line bytes text fault.Output p q r one s spent t u v =
-      within-last first before mid new a b c d h k l m old at line bytes text u.0 fault.Output tt (one, front-more (λ said. Lists at line said) (ListsNext at line (coming read mid)) u.0 (λ said n. inr (spent-rest read mid spent, n)) u.2) p q r s t u.1
+      within-last first before mid new a b c d h k l m old at line bytes text u.0 fault.Output tt (one, front-more (λ said. IsListing at line said) (ListsNext at line (coming read mid)) u.0 (λ said n. inr (spent-rest read mid spent, n)) u.2) p q r s t u.1
   breaks-last first before mid new a b c d h k l m old at line bytes text fault.Memory p q r one s spent t u v =
-      within-last first before mid new a b c d h k l m old at line bytes text u.0 fault.Memory tt (one, front-more (λ said. Lists at line said) (ListsNext at line (coming read mid)) u.0 (λ said n. inr (spent-rest read mid spent, n)) u.2) p q r s t u.1
+      within-last first before mid new a b c d h k l m old at line bytes text u.0 fault.Memory tt (one, front-more (λ said. IsListing at line said) (ListsNext at line (coming read mid)) u.0 (λ said n. inr (spent-rest read mid spent, n)) u.2) p q r s t u.1
   breaks-last first before mid new a b c d h k l m old at line bytes text fault.Turns p q r one s spent t u v = absurd u.2
 
 module _ {R : Type 0} (read : Ghosts R) {S K : Type 0} (tickets : Tickets S K) (unseen : Type 0) where
@@ -228,7 +228,7 @@ module _ {R : Type 0} (read : Ghosts R) (unseen : Type 0) where
 
   -- the first command is no first line
   pub rejects-first : (old mid : Input R read) (u w : Option (List ℕ)) (held l left first line text : List ℕ) (why : ShellFault)
-      → Reads read old first mid → Begins first (IsSpent read mid) line → Prints u held [] w l → left ≡ l ++ text → Rejection why (IsUnknown line) text
+      → Reads read old first mid → Begins first (IsAtEnd read mid) line → Prints u held [] w l → left ≡ l ++ text → Rejection why (IsUnknown line) text
       → Starting old mid u w held left why
   rejects-first old mid u w held l left first line text why p b q e h = (
     first,
@@ -236,12 +236,12 @@ module _ {R : Type 0} (read : Ghosts R) (unseen : Type 0) where
     text,
     (starts read old mid first p, rejected-input why (IsUnknown line) text (Counts read old first mid) h),
     prints-nothing-then u w w held l text left q (prints w l text left e),
-    not-begun unseen (IsOver read mid (coming read mid)) why (IsUnknown line) first (coming read mid) text h (λ unknown. inl (line, begins-then first line (IsSpent read mid) (coming read mid ≡ []) (spent-rest read mid) b, inl unknown)),
+    not-begun unseen (IsOver read mid (coming read mid)) why (IsUnknown line) first (coming read mid) text h (λ unknown. inl (line, begins-then first line (IsAtEnd read mid) (coming read mid ≡ []) (spent-rest read mid) b, inl unknown)),
   )
 
   -- or there is none
   pub rejects-none : (old before mid : Input R read) (u v w : Option (List ℕ)) (held k l bytes line : List ℕ) (blanks : List (List ℕ))
-      → Reads read old bytes before → Prints u held [] v k → Blank bytes blanks → line ≡ [] → Reads read before line mid → Prints v k [] w l → IsSpent read mid
+      → Reads read old bytes before → Prints u held [] v k → Blank bytes blanks → line ≡ [] → Reads read before line mid → Prints v k [] w l → IsAtEnd read mid
       → Starting old mid u w held l fault.BadStart
   rejects-none old before mid u v w held k l bytes line blanks p q b none s t spent = (
     bytes,

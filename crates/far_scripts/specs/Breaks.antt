@@ -5,12 +5,12 @@ use Rattle.far_types.specs.Bounds.{IsSchema, AreLimits}
 use Rattle.far_store.specs.declared.store.FarTickets.{Ghosts as Tickets}
 use Rattle.far_script.specs.declared.fault.ShellFault.{ShellFault}
 use Rattle.far_script.specs.declared.fault.ShellFault.TheVariants as fault
-use Rattle.far_commands.specs.Cuts.{Fails, IsFront, Lists}
+use Rattle.far_commands.specs.Cuts.{Fails, IsFront, IsListing}
 use Rattle.far_script.specs.Openings.{Opened, Schema, start_in}
 use Rattle.far_script.specs.Printing.{refusal_text}
 use Rattle.far_commands.specs.Progress.{At}
 use Rattle.far_script.specs.Lines.{Blank, IsOneLine, without_return}
-use Rattle.far_scripts.specs.Scripts.{Answers, Begins, IsNew, Opens}
+use Rattle.far_scripts.specs.Scripts.{AnswersLines, Begins, IsNew, Opens}
 
 -- bytes that begin with no line that can get a reply. Either no line has its end: `unseen` is why no more came. Or they are the last line,
 -- and it is at fault: `spent` is that nothing comes behind it. Or the first line is at fault
@@ -67,7 +67,7 @@ module _ {K : Type 0} where
   -- a line asks for a dump, and this is what is listed. Its end comes behind it, and it may lose a carriage return; or it is the last one,
   -- and nothing comes behind it
   abbrev pub ListsNext : At K → List ℕ → List ℕ → List ℕ → Type 0
-  ListsNext at line rest text = ((behind : List ℕ) × (rest ≡ 10 ∷ behind) × Lists at (without_return line) text) ⊎ ((rest ≡ []) × Lists at line text)
+  ListsNext at line rest text = ((behind : List ℕ) × (rest ≡ 10 ∷ behind) × IsListing at (without_return line) text) ⊎ ((rest ≡ []) × IsListing at line text)
 
   -- what follows the lines that got their replies, and what is printed for it. If the input is at fault, it is all that came, and no whole
   -- turn. Else it is a line, and if it asks for a dump, a front of that may be printed. `unseen` is why no more came though the end was not
@@ -86,7 +86,7 @@ module _ {S K : Type 0} (tickets : Tickets S K) (unseen spent : Type 0) where
     pub before : List ℕ
     pub printed : List ℕ
     pub mid : At K
-    pub answered : Answers tickets old before printed mid
+    pub answered : AnswersLines tickets old before printed mid
     pub next : List ℕ
     pub front : List ℕ
     pub cut : BreaksIn unseen spent why mid next rest front

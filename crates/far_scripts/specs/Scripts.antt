@@ -62,15 +62,15 @@ module _ {S K : Type 0} (tickets : Tickets S K) where
   AreTurns old (turn ∷ turns) new = (mid : At K) × IsTurn old turn mid × AreTurns mid turns new
 
   -- these bytes are whole lines with what belongs to them, and the text is their replies
-  abbrev pub Answers : At K → List ℕ → List ℕ → At K → Type 0
-  Answers old bytes text new = (turns : List Turn) × (bytes ≡ flat_map bytes_of turns) × (text ≡ flat_map text_of turns) × AreTurns old turns new
+  abbrev pub AnswersLines : At K → List ℕ → List ℕ → At K → Type 0
+  AnswersLines old bytes text new = (turns : List Turn) × (bytes ≡ flat_map bytes_of turns) × (text ≡ flat_map text_of turns) × AreTurns old turns new
 
   -- the text is the replies to the rest of a script: to its whole lines, and to a last one, which lacks its end and may be empty
   pub record Ends (old : At K) (script text : List ℕ) : Type 0 where
     pub bytes : List ℕ
     pub printed : List ℕ
     pub mid : At K
-    pub answered : Answers old bytes printed mid
+    pub answered : AnswersLines old bytes printed mid
     pub last : List ℕ
     pub line : IsOneLine last
     pub tail : List ℕ

@@ -1,7 +1,7 @@
 // The first line of a script, as it is read.
 ghost use Rattle.std.specs.Prelude.{◌≡◌, ◌≢◌, ℕ, List, [], ◌++◌, ◌≤◌, true, IfOk, IfErr, OnOk, Some};
-ghost use Rattle.far_script.specs.Flow.{Gives, IsOver, IsSpent, IsUnseen, Prints, Reads, has_failed};
-ghost use Rattle.far_script.specs.Openings.{IsWithin, start_in, start_of};
+ghost use Rattle.far_script.specs.Flow.{Gives, IsOver, IsAtEnd, IsUnseen, Prints, Reads, has_failed};
+ghost use Rattle.far_script.specs.Openings.{IsAllowedStart, start_in, start_of};
 ghost use Rattle.far_scripts.specs.Breaks.{HasNotBegun, IsUnknown, Rejection};
 ghost use Rattle.far_scripts.specs.Scripts.{Begins};
 
@@ -17,7 +17,7 @@ fn read_first<W: Sink>(
     output: &mut Output<W>,
 ) -> Result<FirstLine, ShellFault>
     ensures first { IfOk result (λ first. start_in line.now ≡ Some (start_of first)) }
-    ensures within { IfOk result (λ first. IsWithin (start_of first)) }
+    ensures within { IfOk result (λ first. IsAllowedStart (start_of first)) }
     ensures quiet { OnOk result (output.new.page ≡ output.old.page) }
     ensures err { IfErr result (λ fault. (text : List ℕ) × (output.new.page ≡ output.old.page ++ text) × Rejection fault (IsUnknown line.now) text) }
     ensures unwritten { IfErr result (λ fault. fault ≢ ShellFault.Output) }
@@ -39,8 +39,8 @@ pub fn first_command<R: Source + Drop, W: Sink>(
     output: &mut Output<W>,
     writer: &mut W,
 ) -> Result<FirstLine, ShellFault>
-    ensures ok { IfOk result (λ first. (bytes : List ℕ) × (line : List ℕ) × Reads R.Read input.old bytes input.new × Begins bytes (IsSpent R.Read input.new) line × (start_in line ≡ Some (start_of first))) }
-    ensures within { IfOk result (λ first. IsWithin (start_of first)) }
+    ensures ok { IfOk result (λ first. (bytes : List ℕ) × (line : List ℕ) × Reads R.Read input.old bytes input.new × Begins bytes (IsAtEnd R.Read input.new) line × (start_in line ≡ Some (start_of first))) }
+    ensures within { IfOk result (λ first. IsAllowedStart (start_of first)) }
     ensures printed { OnOk result (Prints (W.contents writer.old) output.old.page [] (W.contents writer.new) output.new.page) }
     ensures err { IfErr result (λ fault. (bytes : List ℕ) × (rest : List ℕ) × (text : List ℕ) × Gives R.Read fault input.old input.new bytes rest × Prints (W.contents writer.old) output.old.page text (W.contents writer.new) output.new.page × HasNotBegun (IsUnseen R.Read R.may_fail input.old input.new) (IsOver R.Read input.new rest) fault bytes rest text) }
     ensures failed { IfErr result (λ fault. fault ≡ ShellFault.Output → has_failed output.new ≡ true) }

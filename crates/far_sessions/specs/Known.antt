@@ -17,8 +17,8 @@ abbrev pub at : Known → ℕ → SessionState
 at s = four s.zeroth s.first s.second s.third
 
 -- the number of the session, which is the same at each
-abbrev pub number_of : Known → ℕ
-number_of s = s.zeroth.by
+abbrev pub session_number : Known → ℕ
+session_number s = s.zeroth.by
 
 -- a session that has seen nothing
 abbrev pub newcomer_at_all : ℕ → Known

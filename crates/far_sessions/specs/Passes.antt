@@ -7,11 +7,11 @@ use Rattle.far_kept.specs.declared.Kept.{Kept}
 use Rattle.far_history.specs.Histories.{Planned, IsLegal, AllBelow}
 use Rattle.far_history.specs.Sessions.{IsKeeper}
 use Rattle.far_history.specs.declared.view.Entry.{Entry}
-use Rattle.far_history.specs.declared.view.View.{View}
+use Rattle.far_history.specs.declared.view.PassView.{PassView}
 
 -- a pass that is held, or that is out
 abbrev pub Holder : Type 0
-Holder = Option (Kept (List ℕ) (Doing (List ℕ) View))
+Holder = Option (Kept (List ℕ) (Doing (List ℕ) PassView))
 
 -- the history that it keeps
 abbrev pub history_in : Holder → List Entry
@@ -19,7 +19,7 @@ history_in None = []
 history_in (Some k) = (cell_view k.pass).all
 
 -- it keeps a legal history of this cell, of which all sessions were given out
-abbrev pub IsHistory : TableId → Planned → TableId → View → Type 0
+abbrev pub IsHistory : TableId → Planned → TableId → PassView → Type 0
 IsHistory id p table v = (table ≡ id) × IsKeeper v × (v.given ≡ p.sessions) × IsLegal p v.all × AllBelow p.sessions v.all
 
 -- the pass is held, and keeps the history

@@ -11,7 +11,7 @@ use crate::stripe_cell::{CellsTag, StripeCell};
 use crossbeam_utils::atomic::seq_cell::Doing;
 use far_history::reading::{reading_of, words_of};
 use far_history::steps::{add, join_session, look, split_session};
-use far_history::{PlanTag, Reading, View};
+use far_history::{PlanTag, Reading, PassView};
 use far_kept::Kept;
 use far_types::Edit;
 use std::marker::{Model, PhantomData};
@@ -34,7 +34,7 @@ use std::sync::Wait;
 /// ```
 #[derive(Drop)]
 pub struct Keeper<N: PlanTag, B: CellsTag, const I: usize> {
-    pub(crate) pass: Option<Kept<[u64; 4], Doing<[u64; 4], View>>>,
+    pub(crate) pass: Option<Kept<[u64; 4], Doing<[u64; 4], PassView>>>,
     pub(crate) of: PhantomData<(N, B)>,
 }
 

@@ -14,6 +14,6 @@ pub mod stripe_cell;
 pub use cells::Cells;
 pub use closing::{are_whole, settle};
 pub use keeper::{Keeper, Keepers};
-pub use opening::{Made, Opened};
+pub use opening::{NewCells, Opened};
 pub use session::{Session, SessionAt};
 pub use stripe_cell::{CellsTag, StripeCell};

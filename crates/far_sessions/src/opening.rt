@@ -9,7 +9,7 @@ use crate::session::{Session, SessionAt};
 use crate::stripe_cell::{CellsTag, StripeCell};
 use crossbeam_utils::CachePadded;
 use far_history::steps::{begin, give};
-use far_history::{Cell, Pass, PlanTag};
+use far_history::{HistoryCell, Pass, PlanTag};
 use far_kept::Kept;
 use std::alloc::{AllocError, Global};
 use std::marker::{Model, PhantomData};
@@ -17,7 +17,7 @@ use std::marker::{Model, PhantomData};
 /// A new cell, with the pass that keeps its empty history. Contracts see which cell it is.
 #[derive(Drop)]
 struct Fresh<N: PlanTag> {
-    cell: Cell<N>,
+    cell: HistoryCell<N>,
     pass: Pass,
 }
 
@@ -130,7 +130,7 @@ impl<B: CellsTag, const I: usize> Giver<B, I> {
 /// }
 /// ```
 #[derive(Drop)]
-pub struct Made<N: PlanTag> {
+pub struct NewCells<N: PlanTag> {
     zero: Fresh<N>,
     one: Fresh<N>,
     two: Fresh<N>,
@@ -157,11 +157,11 @@ pub struct Opened<N: PlanTag, B: CellsTag> {
     pub sessions: Vec<Session<B>>,
 }
 
-impl<N: PlanTag> Made<N> {
+impl<N: PlanTag> NewCells<N> {
     /// Makes the four cells. Refused if memory is out.
-    pub fn make(alloc: Global) -> Result<Made<N>, AllocError> {
+    pub fn make(alloc: Global) -> Result<NewCells<N>, AllocError> {
         let mut spacers = Vec::new(alloc);
-        Ok(Made {
+        Ok(NewCells {
             zero: Fresh::make(alloc, &mut spacers)?,
             one: Fresh::make(alloc, &mut spacers)?,
             two: Fresh::make(alloc, &mut spacers)?,
@@ -178,7 +178,7 @@ impl<N: PlanTag> Made<N> {
         ensures sessions { IfOk result (λ o. o.sessions.items ≡ newcomers N.plan.sessions) }
         ensures histories { IfOk result (λ o. (o.keepers.zero ≡ []) × (o.keepers.one ≡ []) × (o.keepers.two ≡ []) × (o.keepers.three ≡ [])) }
     {
-        let Made {
+        let NewCells {
             zero,
             one,
             two,

@@ -1,7 +1,7 @@
 // The tag of the four cells, and the cell of one stripe.
 ghost use Rattle.std.specs.Prelude.{◌≡◌};
 
-use far_history::{Cell, PlanTag};
+use far_history::{HistoryCell, PlanTag};
 use std::marker::{Brand, PhantomData};
 
 /// Names the four cells. It has no functions: a caller picks a type, as `Brand`.
@@ -35,7 +35,7 @@ impl CellsTag for Brand {
 /// ```
 #[derive(Drop)]
 pub struct StripeCell<N: PlanTag, B: CellsTag, const I: usize> {
-    pub(crate) cell: Cell<N>,
+    pub(crate) cell: HistoryCell<N>,
     pub(crate) of: PhantomData<B>,
     ghost is: { cell.table.shared.table_id ≡ B.cells I },
 }

@@ -33,8 +33,8 @@ use Rattle.far_rows.specs.Setting.{set_in}
 use Rattle.far_rows.specs.Opening.{empty_rows}
 use Rattle.far_rows.specs.Jobs.{IsAfterInstall, after_commit}
 use Rattle.far_table.specs.Live.{Moves}
-use Rattle.far_table.specs.State.{State as LiveState}
-use Rattle.far_frame.specs.declared.job.Work.TheVariants as work_of
+use Rattle.far_table.specs.State.{LiveState}
+use Rattle.far_frame.specs.declared.job.JobPhase.TheVariants as work_of
 use Rattle.far_frame.specs.Jobs.{WorkOf, Commits, Installs, Merges}
 use Rattle.far_frame.specs.State.{State}
 use Rattle.far_shared.specs.Stripes.{AreRowsOf, KeepsColumns}

@@ -18,7 +18,7 @@ use Rattle.far_types.proofs.key.Key.TheSendSync as key
 use Rattle.far_types.proofs.spec.Spec.TheSendSync as spec
 use Rattle.far_store.specs.declared.store.FarTickets.{Ghosts as Tickets}
 use Rattle.far_groups.proofs.live_totals.LiveTotals.TheSendSync as totals
-use Rattle.far_extrema.proofs.block.Block.TheSendSync as block
+use Rattle.far_extrema.proofs.block.MinMaxBlock.TheSendSync as block
 use Rattle.far_extrema.proofs.tournament.Tournament.TheLaws.TheKnot as knot
 use Rattle.far_extrema.specs.contracts.tournament.Tournament as tournament
 use Rattle.far_extrema.specs.contracts.tournament.Spare as spare

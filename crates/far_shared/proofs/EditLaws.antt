@@ -12,9 +12,9 @@ use Rattle.far_rows.specs.declared.column_index.ColumnIndex.{ColumnIndex}
 use Rattle.far_rows.specs.Rows.{Rows}
 use Rattle.far_rows.specs.Refusing.{absents, absents_from}
 use Rattle.far_table.specs.Edits.{edit_due, group_of, no_space}
-use Rattle.far_table.specs.State.{State}
+use Rattle.far_table.specs.State.{LiveState}
 use Rattle.far_frame.specs.Effects.{Accepts, Refuses, edit_reply}
-use Rattle.far_frame.specs.State.{State as Whole, live}
+use Rattle.far_frame.specs.State.{LiveState as Whole, live}
 use Rattle.far_frame.specs.declared.step.Reply.{Reply}
 use Rattle.far_frame.specs.declared.step.Reply.TheVariants as reply
 use Rattle.far_frame.specs.declared.step.Step.TheVariants as step
@@ -31,7 +31,7 @@ module _ (columns group : ℕ) (some long : Bool) where
   absents-tell r n [] few = tt
   absents-tell r n (s ∷ column_indexes) few = ((λ away. (omega (arith, few), refl)), absents-tell r (n + 1) column_indexes (omega (arith, few)))
 
-module _ {K : Type 0} (s : State K) (column_indexes : length s.rows.column_indexes ≡ length s.table.schema) where
+module _ {K : Type 0} (s : LiveState K) (column_indexes : length s.rows.column_indexes ≡ length s.table.schema) where
   space-tells : (e : Edit) (columns group : ℕ) (long : Bool) → long ≡ false → AllTell (IsOfObjects columns group (places_cells s.table.schema e) long) (no_space s e)
   space-tells (edit.Insert row) columns group long short = ((λ full. (refl, short)), ((λ full. (refl, short)), tt))
   space-tells (edit.Set p c cell) columns group long short = ((λ full. (first-holds (is_text (slice_get s.table.schema c)) _ full, short)), tt)

@@ -4,7 +4,7 @@ use Rattle.std.proofs.Math.Nat.{div-lt_iff_lt-mul, mul-one}
 use Rattle.std.specs.Prelude.{replicate, slice_get, slice_set}
 use Rattle.far_types.specs.declared.spec.Spec.{Spec}
 use Rattle.far_types.specs.Table.{Table, Registered, groups}
-use Rattle.far_aggregates.specs.Aggregates.{is_pending_in, joined}
+use Rattle.far_aggregates.specs.Aggregates.{is_pending_in, flattened}
 use Rattle.far_aggregates.specs.Scans.{scanned_entry}
 use Rattle.far_aggregates.proofs.RegisterLaws.{count-replicate}
 use Rattle.far_aggregates.proofs.ScanLaws.{left-cleared}
@@ -53,14 +53,14 @@ abbrev no_aggregate : Option Registered
 no_aggregate = None
 
 -- if nothing is registered, nothing is left
-pub empty-few : (n a : ℕ) → pending_in (joined (slice_get (replicate n no_aggregate) a)) ≤ 2 ^ 24
+pub empty-few : (n a : ℕ) → pending_in (flattened (slice_get (replicate n no_aggregate) a)) ≤ 2 ^ 24
 empty-few zero a = zero-least (2 ^ 24)
 empty-few (suc n) zero = zero-least (2 ^ 24)
 empty-few (suc n) (suc a) = empty-few n a
 
 -- few are left of each, once another stands under a number of which few are left
-pub set-few : (xs : List (Option Registered)) (a b : ℕ) (x : Option Registered) → pending_in x ≤ 2 ^ 24 → ((k : ℕ) → pending_in (joined (slice_get xs k)) ≤ 2 ^ 24)
-    → pending_in (joined (slice_get (slice_set xs a x) b)) ≤ 2 ^ 24
+pub set-few : (xs : List (Option Registered)) (a b : ℕ) (x : Option Registered) → pending_in x ≤ 2 ^ 24 → ((k : ℕ) → pending_in (flattened (slice_get xs k)) ≤ 2 ^ 24)
+    → pending_in (flattened (slice_get (slice_set xs a x) b)) ≤ 2 ^ 24
 set-few [] a b x here few = few b
 set-few (y ∷ ys) zero zero x here few = here
 set-few (y ∷ ys) zero (suc b) x here few = few (suc b)
@@ -68,7 +68,7 @@ set-few (y ∷ ys) (suc a) zero x here few = few zero
 set-few (y ∷ ys) (suc a) (suc b) x here few = set-few ys a b x here (λ k. few (suc k))
 
 -- no more are left of any, once one stands under a number of which no more are left
-pub set-fewer : (xs : List (Option Registered)) (a b : ℕ) (x : Option Registered) → pending_in x ≤ pending_in (joined (slice_get xs a)) → pending_in (joined (slice_get (slice_set xs a x) b)) ≤ pending_in (joined (slice_get xs b))
+pub set-fewer : (xs : List (Option Registered)) (a b : ℕ) (x : Option Registered) → pending_in x ≤ pending_in (flattened (slice_get xs a)) → pending_in (flattened (slice_get (slice_set xs a x) b)) ≤ pending_in (flattened (slice_get xs b))
 set-fewer [] a b x less = no-more _ _ refl
 set-fewer (y ∷ ys) zero zero x less = less
 set-fewer (y ∷ ys) zero (suc b) x less = no-more _ _ refl

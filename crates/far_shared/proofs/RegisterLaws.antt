@@ -15,9 +15,9 @@ use Rattle.far_types.specs.Bounds.{spec_refusal}
 use Rattle.far_types.specs.FirstOf.{first_of}
 use Rattle.far_types.specs.MayRefuse.{MayRefuse}
 use Rattle.far_types.specs.Table.{Table, Registered, empty_table, groups}
-use Rattle.far_aggregates.specs.Aggregates.{joined, free_from}
+use Rattle.far_aggregates.specs.Aggregates.{flattened, free_from}
 use Rattle.far_rows.specs.Jobs.{AreAt}
-use Rattle.far_table.specs.State.{State as LiveState}
+use Rattle.far_table.specs.State.{LiveState}
 use Rattle.far_table.specs.Watching.{lowest_free, watch_refusal, with_aggregate, registered_at, registered_now}
 use Rattle.far_frame.specs.Effects.{Accepts, Refuses}
 use Rattle.far_frame.specs.State.{State, empty_state}
@@ -45,7 +45,7 @@ free-within n [] a is = absurd cc
 free-within n (None ∷ rest) a is = (let e : n ≡ a = cc in (omega (arith, e), omega (arith, e)))
 free-within n (Some r ∷ rest) a is = (let ih = free-within (n + 1) rest a is in (omega (arith, ih.0), omega (arith, ih.1)))
 
-number-in : (xs : List (Option Registered)) (r : Registered) (a : ℕ) → joined (slice_get xs 0) ≡ Some r → length xs ≡ 32 → free_from 0 xs ≡ Some a → (a ≢ 0) × (a < 32)
+number-in : (xs : List (Option Registered)) (r : Registered) (a : ℕ) → flattened (slice_get xs 0) ≡ Some r → length xs ≡ 32 → free_from 0 xs ≡ Some a → (a ≢ 0) × (a < 32)
 number-in [] r a first len free = absurd cc
 number-in (None ∷ xs) r a first len free = absurd cc
 number-in (Some s ∷ xs) r a first len free = (let within = free-within 1 xs a free in ((λ e. omega (arith, within.0, e)), omega (arith, within.1, len)))
@@ -65,7 +65,7 @@ module _ (p : Planned) (log : List Entry) (table : Table) (is : IsStripe p log t
       places = is.places;
       edits = is.edits;
       aggregates = length-set table.aggregates a x ∙ is.aggregates;
-      gauge = ap joined (first-kept table.aggregates a x ne) ∙ is.gauge;
+      gauge = ap flattened (first-kept table.aggregates a x ne) ∙ is.gauge;
       few = λ b. set-few table.aggregates a b x few is.few;
     }
 

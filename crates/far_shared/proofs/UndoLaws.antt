@@ -7,7 +7,7 @@ use Rattle.far_types.specs.declared.refusal.Refusal.{Refusal}
 use Rattle.far_types.specs.declared.spec.Spec.{Spec}
 use Rattle.far_types.specs.MayRefuse.{MayRefuse}
 use Rattle.far_types.specs.Table.{Table, Registered}
-use Rattle.far_aggregates.specs.Aggregates.{free_from, joined}
+use Rattle.far_aggregates.specs.Aggregates.{free_from, flattened}
 use Rattle.far_table.specs.Watching.{lowest_free, registered_at, registered_now, unwatch_refusal, with_aggregate}
 use Rattle.far_frame.specs.Effects.{Accepts, Refuses}
 use Rattle.far_frame.specs.State.{State}
@@ -42,15 +42,15 @@ taken-head n None xs taken = absurd cc
 taken-head n (Some r) xs taken = refl
 
 module _ (xs : List (Option Registered)) (a : ℕ) (within : a < length xs) where
-  column_index : joined (slice_get xs a) ≡ get_or xs a None
-  column_index = ap joined (slice_get-get_or xs a None within)
+  column_index : flattened (slice_get xs a) ≡ get_or xs a None
+  column_index = ap flattened (slice_get-get_or xs a None within)
 
   -- the lowest free number from one on, if it is free
-  pub free-here : is_none (joined (slice_get xs a)) ≡ true → free_from a (drop a xs) ≡ Some a
+  pub free-here : is_none (flattened (slice_get xs a)) ≡ true → free_from a (drop a xs) ≡ Some a
   free-here free = ap (free_from a) (drop_more xs a None within) ∙ free-head a (get_or xs a None) (drop (a + 1) xs) (ap is_none (sym column_index) ∙ free)
 
   -- if it is taken, it is the lowest from the next one on
-  pub free-past : is_none (joined (slice_get xs a)) ≡ false → free_from a (drop a xs) ≡ free_from (a + 1) (drop (a + 1) xs)
+  pub free-past : is_none (flattened (slice_get xs a)) ≡ false → free_from a (drop a xs) ≡ free_from (a + 1) (drop (a + 1) xs)
   free-past taken = ap (free_from a) (drop_more xs a None within) ∙ taken-head a (get_or xs a None) (drop (a + 1) xs) (ap is_none (sym column_index) ∙ taken)
 
 -- if all are taken, none is free
@@ -71,7 +71,7 @@ set-back n m (Some r ∷ xs) zero x free at = absurd (let past = free-within (n 
 set-back n m (Some r ∷ xs) (suc a) x free at = ap (λ (rest : List (Option Registered)). Some r ∷ rest) (set-back (n + 1) m xs a x free (omega (arith, at)))
 
 -- nothing is taken out if nothing is there
-set-nothing : (xs : List (Option Registered)) (a : ℕ) → joined (slice_get xs a) ≡ None → slice_set xs a None ≡ xs
+set-nothing : (xs : List (Option Registered)) (a : ℕ) → flattened (slice_get xs a) ≡ None → slice_set xs a None ≡ xs
 set-nothing [] a none = refl
 set-nothing (x ∷ xs) zero none = ap (λ (y : Option Registered). y ∷ xs) (sym none)
 set-nothing (x ∷ xs) (suc a) none = ap (λ (rest : List (Option Registered)). x ∷ rest) (set-nothing xs a none)
@@ -116,4 +116,4 @@ module _ {K : Type 0} (content : K → List ℕ) (old new : State K) where
   pub forgotten : (a : ℕ) (r : Result Unit Refusal) → OnOk r (Accepts content old (step.Unwatch a) reply.Done new) → IfErr r (λ e. Refuses old (step.Unwatch a) e new) → new ≡ record old { table = with_aggregate a None old.table }
   forgotten a (Ok x) done refused = λ i. record { table = (done.1.changed.state i).table; rows = (done.1.changed.state i).rows; accesses = done.1.accesses i }
   forgotten a (Err e) done refused =
-      refused.0 ∙ ap (λ (all : List (Option Registered)). record old { table = record old.table { aggregates = all } }) (sym (set-nothing old.table.aggregates a (none-there (joined (slice_get old.table.aggregates a)) e refused.1)))
+      refused.0 ∙ ap (λ (all : List (Option Registered)). record old { table = record old.table { aggregates = all } }) (sym (set-nothing old.table.aggregates a (none-there (flattened (slice_get old.table.aggregates a)) e refused.1)))

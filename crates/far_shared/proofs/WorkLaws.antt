@@ -13,7 +13,7 @@ use Rattle.far_types.specs.FirstOf.{first_of}
 use Rattle.far_scopes.specs.Refusing.{refusal_in}
 use Rattle.far_types.specs.MayRefuse.{MayRefuse}
 use Rattle.far_types.specs.Table.{Table, Registered, is_pending}
-use Rattle.far_aggregates.specs.Aggregates.{is_pending_in, joined}
+use Rattle.far_aggregates.specs.Aggregates.{is_pending_in, flattened}
 use Rattle.far_aggregates.specs.Scans.{scanned_entry}
 use Rattle.far_aggregates.proofs.ScannedLaws.{none_left}
 use Rattle.far_rows.specs.declared.column_index.ColumnIndex.{ColumnIndex}
@@ -21,10 +21,10 @@ use Rattle.far_rows.specs.Rows.{Rows}
 use Rattle.far_rows.specs.Jobs.{fetch_refusal}
 use Rattle.far_rows.specs.Moving.{object_at}
 use Rattle.far_rows.specs.Refusing.{absent_in}
-use Rattle.far_table.specs.State.{State as LiveState}
+use Rattle.far_table.specs.State.{LiveState}
 use Rattle.far_table.specs.Offloading.{offload_refusal, dirty_from}
 use Rattle.far_table.specs.Watching.{aggregate_at, scanned_at, scan_refusal, group_count, needed_from, IsScanned}
-use Rattle.far_frame.specs.declared.job.Work.TheVariants as work_of
+use Rattle.far_frame.specs.declared.job.JobPhase.TheVariants as work_of
 use Rattle.far_frame.specs.Jobs.{WorkOf, IsOneOf, Commits, Installs, Merges}
 use Rattle.far_frame.specs.State.{State}
 use Rattle.far_shared.specs.Fours.{pending_in}
@@ -69,7 +69,7 @@ scanned-keeps t b g h = record {
   places = refl;
   edits = refl;
   aggregates = length-set t.aggregates b _;
-  built = λ a none. ap joined (get-set_other t.aggregates b a _ (λ e. some-left (aggregate_at t b) g h (ap (λ n. pending_in (aggregate_at t n)) (sym e) ∙ none)));
+  built = λ a none. ap flattened (get-set_other t.aggregates b a _ (λ e. some-left (aggregate_at t b) g h (ap (λ n. pending_in (aggregate_at t n)) (sym e) ∙ none)));
   fewer = λ a. set-fewer t.aggregates b a (scanned_entry g (aggregate_at t b)) (built-fewer (aggregate_at t b) g h);
 }
 

@@ -14,8 +14,8 @@ pub record CellIds : Type 0 where
   pub third : TableId
 
 -- the four cells have these names
-abbrev pub AreNamed : CellIds → (ℕ → TableId) → Type 0
-AreNamed ids names = (ids.zeroth ≡ names 0) × (ids.first ≡ names 1) × (ids.second ≡ names 2) × (ids.third ≡ names 3)
+abbrev pub HaveNames : CellIds → (ℕ → TableId) → Type 0
+HaveNames ids names = (ids.zeroth ≡ names 0) × (ids.first ≡ names 1) × (ids.second ≡ names 2) × (ids.third ≡ names 3)
 
 -- the table of an empty history, with its gauge, as stripe n. It has no tickets, so they are all of any store
 pub record IsEmpty {K : Type 0} (is_of : K → List ℕ → Type 0) (p : Planned) (n : ℕ) (s : State K) : Type 0 where

@@ -97,10 +97,10 @@ module _ {K : Type 0} (s : State K) where
   BuildRefusal given = (a : ℕ) × (g : ℕ) × (is_pending_in (aggregate_at s.table a) g ≡ true) × MayRefuse (offload_refusal (live s) (aggregate_at s.table a) g) true given
 
   -- the job that a work begins, or none if there is nothing to do
-  abbrev pub Begins : Work → Option (JobRecord K) → Type 0
-  Begins (work.Evacuate stripe) job = IsColdestJob s.rows job
-  Begins (work.Fetch stripe name) job = IsSomeAnd job (IsFetchJob s.rows name.column name.group)
-  Begins (work.Build stripe) job = IsBuildJob job
+  abbrev pub BeginsWork : Work → Option (JobRecord K) → Type 0
+  BeginsWork (work.Evacuate stripe) job = IsColdestJob s.rows job
+  BeginsWork (work.Fetch stripe name) job = IsSomeAnd job (IsFetchJob s.rows name.column name.group)
+  BeginsWork (work.Build stripe) job = IsBuildJob job
 
   -- why a work does not begin
   abbrev pub BeginRefusal : Work → Refusal → Type 0
@@ -116,10 +116,10 @@ module _ {K : Type 0} (s : State K) where
 
 module _ {K : Type 0} (number_of : K → ℕ) (content : K → List ℕ) (old : State K) where
   -- a job of this kind is accepted at its end
-  abbrev pub Ends : JobKind → WorkOf K → State K → Type 0
-  Ends kind.Evac done new = Commits number_of old done new
-  Ends kind.Fetch done new = Installs number_of old content done new
-  Ends kind.Offload done new = Merges number_of old done new
+  abbrev pub EndsWork : JobKind → WorkOf K → State K → Type 0
+  EndsWork kind.Evac done new = Commits number_of old done new
+  EndsWork kind.Fetch done new = Installs number_of old content done new
+  EndsWork kind.Offload done new = Merges number_of old done new
 
   -- or it is refused there
   abbrev pub EndRefusal : JobKind → WorkOf K → Refusal → Type 0

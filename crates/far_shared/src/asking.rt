@@ -21,7 +21,7 @@ use std::sync::{RwLock, RwLockReadGuard, Wait};
 /// }
 /// ```
 #[derive(Drop)]
-pub enum Scope<'a, N: PlanTag, B: TableTag, S: FarTickets> {
+pub enum StripeGuard<'a, N: PlanTag, B: TableTag, S: FarTickets> {
     /// Stripe 0.
     Zero(RwLockReadGuard<'a, Stripe<N, B, S, 0>>),
     /// Stripe 1.
@@ -42,16 +42,16 @@ impl<N: PlanTag, B: TableTag, S: FarTickets, const I: usize> Stripe<N, B, S, I> 
     }
 }
 
-impl<'a, N: PlanTag, B: TableTag, S: FarTickets> Scope<'a, N, B, S> {
+impl<'a, N: PlanTag, B: TableTag, S: FarTickets> StripeGuard<'a, N, B, S> {
     /// Returns a view of the rows of the stripe. They are what a legal history leaves.
     pub fn view(&self) -> View<'_, S>
         ensures { IsLeft N.plan result.table }
     {
         match self {
-            Scope::Zero(stripe) => stripe.view(),
-            Scope::One(stripe) => stripe.view(),
-            Scope::Two(stripe) => stripe.view(),
-            Scope::Three(stripe) => stripe.view(),
+            StripeGuard::Zero(stripe) => stripe.view(),
+            StripeGuard::One(stripe) => stripe.view(),
+            StripeGuard::Two(stripe) => stripe.view(),
+            StripeGuard::Three(stripe) => stripe.view(),
         }
     }
 }
@@ -92,15 +92,15 @@ fn read_under<'a, N: PlanTag, B: TableTag, S: FarTickets, const I: usize, R: Wai
 impl<N: PlanTag, B: TableTag, S: FarTickets> Shared<N, B, S> {
     /// Returns the stripe of this number under its read lock. Refused with `OutOfRange` (14) exactly if there is no such
     /// stripe.
-    pub fn scope<R: Wait>(&self, rt: &R, stripe: u32) -> Result<Scope<'_, N, B, S>, Refusal>
+    pub fn scope<R: Wait>(&self, rt: &R, stripe: u32) -> Result<StripeGuard<'_, N, B, S>, Refusal>
         ensures ok { OnOk result (stripe < 4) }
         ensures refused { IfErr result (λ e. (e ≡ Refusal.OutOfRange) × (4 ≤ stripe)) }
     {
         match stripe {
-            0 => Ok(Scope::Zero(read_under(rt, &self.zero, stripe))),
-            1 => Ok(Scope::One(read_under(rt, &self.one, stripe))),
-            2 => Ok(Scope::Two(read_under(rt, &self.two, stripe))),
-            3 => Ok(Scope::Three(read_under(rt, &self.three, stripe))),
+            0 => Ok(StripeGuard::Zero(read_under(rt, &self.zero, stripe))),
+            1 => Ok(StripeGuard::One(read_under(rt, &self.one, stripe))),
+            2 => Ok(StripeGuard::Two(read_under(rt, &self.two, stripe))),
+            3 => Ok(StripeGuard::Three(read_under(rt, &self.three, stripe))),
             _ => Err(Refusal::OutOfRange),
         }
     }

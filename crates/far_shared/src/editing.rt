@@ -18,7 +18,7 @@ use far_types::{Edit, Refusal};
 /// What an accepted edit leaves: the place of the row that it appended, or the one that it names, and what the gauge reads
 /// afterwards.
 #[derive(Drop)]
-pub(crate) struct Changed {
+pub(crate) struct EditOutcome {
     pub(crate) place: u32,
     pub(crate) after: Reading,
 }
@@ -69,7 +69,7 @@ pub(crate) fn change<N: PlanTag, S: FarTickets>(
     frame: &mut Frame<S>,
     edits: u64,
     edit: Edit,
-) -> Result<Changed, Refusal>
+) -> Result<EditOutcome, Refusal>
     requires plan { IsPlan N.plan }
     requires gauge { aggregate_at frame.old.table 0 ≡ Some (first_registered N.plan.gauge) }
     requires column_indexes { length frame.old.rows.column_indexes ≡ length frame.old.table.schema }
@@ -86,5 +86,5 @@ pub(crate) fn change<N: PlanTag, S: FarTickets>(
 {
     let place = make(frame, edit)?;
     let after = gauged::<N, S>(frame, edits + 1);
-    Ok(Changed { place, after })
+    Ok(EditOutcome { place, after })
 }

@@ -19,7 +19,7 @@ pub mod watching;
 pub mod work;
 mod working;
 
-pub use asking::Scope;
+pub use asking::StripeGuard;
 pub use background::Background;
 pub use far_history::Reading;
 pub use far_sessions::{Cells, Session};

@@ -1,7 +1,7 @@
 // Work in the background, under the lock of one stripe. A carry holds no lock.
 ghost use Rattle.std.specs.Prelude.{◌≡◌, ◌+◌, ◌<◌, ◌≤◌, ◌^◌, [], ◌∷◌, None, length, IfOk, IfSome, OnOk};
 ghost use Rattle.far_store.specs.Faults.{RefusedBy, faults_in};
-ghost use Rattle.far_frame.specs.Jobs.{IsJobAt, kind_of};
+ghost use Rattle.far_frame.specs.Jobs.{IsJobAt, job_kind};
 ghost use Rattle.far_shared.specs.Works.{IsJobOf, IsBuildOf, IsBuildingAt, begin_refusals, begun_kind, columns_for, end_refusals, job_refusals, stripe_of};
 
 use crate::stripe::{Stripe, TableTag};
@@ -42,7 +42,7 @@ pub(crate) fn finish_under<N: PlanTag, B: TableTag, S: FarTickets, const I: usiz
     requires store { S.store_id store.now ≡ B.store }
     requires here { IsJobAt S.is_of B.store job.now }
     ensures carried { OnOk result (begun_kind job.now.work ≡ None) }
-    ensures refused { RefusedBy (end_refusals (kind_of job.now)) result }
+    ensures refused { RefusedBy (end_refusals (job_kind job.now)) result }
 {
     lock.write(rt).finish(store, job)
 }
@@ -97,7 +97,7 @@ fn complete_under<N: PlanTag, B: TableTag, S: FarStore, const I: usize, R: Wait>
     requires store { S.store_id store.now ≡ B.store }
     requires here { IsJobAt S.is_of B.store job }
     ensures faults { meter.new ≡ meter.old + faults_in result }
-    ensures refused { RefusedBy (job_refusals (kind_of job)) result }
+    ensures refused { RefusedBy (job_refusals (job_kind job)) result }
 {
     match job.carry(alloc, store, meter) {
         Ok(carried) => {

@@ -12,15 +12,10 @@ ghost use Rattle.far_types.specs.Effects.{add_count_sums, join_min_maxes};
 ghost use Rattle.far_groups.specs.CountSums.{totals_of};
 
 use far_extrema::GroupExtrema;
+use far_groups::{CountSum, CountSums};
 use far_types::{Answer, ExtremaLines, Key, Refusal, TotalLines, clone_key};
 use std::alloc::Global;
 use std::collections::BTreeMap;
-
-/// How many values belong to a key, and their sum.
-type CountSum = (u64, i128);
-
-/// A count and a sum for each key.
-type CountSums = BTreeMap<Option<Key>, CountSum>;
 
 /// Returns the count and the sum of a key with another count and sum added. Refused with `NoMemory` (1) if one of them does not
 /// fit, which takes far more rows than tables have.

@@ -3,7 +3,7 @@ ghost use Rattle.std.specs.Prelude.{◌≡◌, ◌⊎◌, ℕ, List, [], length,
 ghost use Rattle.far_rows.specs.Jobs.{AreAt};
 ghost use Rattle.far_frame.specs.State.{empty_state};
 ghost use Rattle.far_sessions.specs.Known.{newcomers};
-ghost use Rattle.far_shared.specs.Opening.{AreNamed, IsEmpty};
+ghost use Rattle.far_shared.specs.Opening.{HaveNames, IsEmpty};
 
 use crate::plan::Plan;
 use crate::shared::{Count, Shared};
@@ -130,7 +130,7 @@ fn once_done<T: Drop, U: Drop>(value: T, done: Result<U, Refusal>) -> Result<T, 
 pub struct Made<N: PlanTag, S: FarTickets> {
     sessions: u64,
     columns: u64,
-    cells: far_sessions::Made<N>,
+    cells: far_sessions::NewCells<N>,
     frames: Four<Frame<S>>,
 }
 
@@ -203,7 +203,7 @@ impl Plan {
         let columns = self.schema.len() as u64;
         match both(
             open_frames(alloc, &self),
-            far_sessions::Made::<N>::make(alloc),
+            far_sessions::NewCells::<N>::make(alloc),
         ) {
             Ok(both) => Ok(Made {
                 sessions: count,
@@ -266,7 +266,7 @@ impl<N: PlanTag, S: FarTickets> Made<N, S> {
         self,
         alloc: Global,
     ) -> Result<(Shared<N, B, S>, Vec<Session<B>>), Refusal>
-        requires names { AreNamed self B.cells }
+        requires names { HaveNames self B.cells }
         ensures sessions { IfOk result (λ opened. opened.1.items ≡ newcomers N.plan.sessions) }
         ensures memory { IfErr result (λ e. e ≡ Refusal.NoMemory) }
     {

@@ -1,7 +1,7 @@
 // Work in the background of a shared table.
 ghost use Rattle.std.specs.Prelude.{◌≡◌, ◌+◌, ◌<◌, ◌^◌, [], ◌∷◌, None, length, IfOk, IfSome, OnOk};
 ghost use Rattle.far_store.specs.Faults.{faults_in};
-ghost use Rattle.far_frame.specs.Jobs.{IsJobAt, kind_of};
+ghost use Rattle.far_frame.specs.Jobs.{IsJobAt, job_kind};
 ghost use Rattle.far_shared.specs.Works.{IsJobOf, RefusedAt, RefusedFor, stripe_of, columns_for, begin_refusals, begun_kind, end_refusals};
 
 use crate::locked::{begin_under, build_under, evacuate_under, fetch_under, finish_under};
@@ -53,7 +53,7 @@ impl<N: PlanTag, B: TableTag, S: FarTickets> Shared<N, B, S> {
         requires store { S.store_id store.now ≡ B.store }
         requires here { IsJobAt S.is_of B.store job.now }
         ensures carried { OnOk result (begun_kind job.now.work ≡ None) }
-        ensures refused { RefusedAt stripe (end_refusals (kind_of job.now)) result }
+        ensures refused { RefusedAt stripe (end_refusals (job_kind job.now)) result }
     {
         match stripe {
             0 => finish_under(rt, &self.zero, stripe, store, job),

@@ -4,8 +4,8 @@ ghost use Rattle.far_store.specs.Faults.{RefusedBy};
 ghost use Rattle.far_frame.specs.Effects.{Accepts, Refuses};
 ghost use Rattle.far_frame.specs.declared.step.Reply.TheVariants as reply;
 ghost use Rattle.far_frame.specs.declared.step.Step.TheVariants as step;
-ghost use Rattle.far_frame.specs.Jobs.{IsJobAt, kind_of};
-ghost use Rattle.far_shared.specs.Works.{Begins, BeginRefusal, BeginsBuild, BuildRefusal, Ends, EndRefusal, IsJobOf, IsBuildOf, IsBuildingAt, begin_refusals, begun_kind, columns_for, end_refusals};
+ghost use Rattle.far_frame.specs.Jobs.{IsJobAt, job_kind};
+ghost use Rattle.far_shared.specs.Works.{BeginsWork, BeginRefusal, BeginsBuild, BuildRefusal, EndsWork, EndRefusal, IsJobOf, IsBuildOf, IsBuildingAt, begin_refusals, begun_kind, columns_for, end_refusals};
 
 use crate::stripe::{Stripe, TableTag};
 use crate::work::{Building, Work};
@@ -24,7 +24,7 @@ impl<N: PlanTag, B: TableTag, S: FarTickets, const I: usize> Stripe<N, B, S, I> 
     /// - A build is refused with `StaleJob` (20) if an object that its aggregate needs is dirty, and with `NoMemory` (1).
     pub fn begin(&self, store: &S, work: &Work) -> Result<Option<Job<S>>, Refusal>
         requires store { S.store_id store.now ≡ B.store }
-        ensures begins { IfOk result (Begins self.now.state work.now) }
+        ensures begins { IfOk result (BeginsWork self.now.state work.now) }
         ensures begun { IfOk result (IsJobOf work.now) }
         ensures here { IfOk result (λ job. IfSome job (IsJobAt S.is_of B.store)) }
         ensures why { IfErr result (BeginRefusal self.now.state work.now) }
@@ -42,11 +42,11 @@ impl<N: PlanTag, B: TableTag, S: FarTickets, const I: usize> Stripe<N, B, S, I> 
         requires store { S.store_id store.now ≡ B.store }
         requires here { IsJobAt S.is_of B.store job.now }
         ensures same { self.new.log ≡ self.old.log }
-        ensures ended { OnOk result (Ends S.number_of S.content self.old.state (kind_of job.now) job.now.work self.new.state) }
-        ensures why { IfErr result (EndRefusal S.number_of S.content self.old.state (kind_of job.now) job.now.work) }
+        ensures ended { OnOk result (EndsWork S.number_of S.content self.old.state (job_kind job.now) job.now.work self.new.state) }
+        ensures why { IfErr result (EndRefusal S.number_of S.content self.old.state (job_kind job.now) job.now.work) }
         ensures err { OnErr result (self.new ≡ self.old) }
         ensures carried { OnOk result (begun_kind job.now.work ≡ None) }
-        ensures refused { RefusedBy (end_refusals (kind_of job.now)) result }
+        ensures refused { RefusedBy (end_refusals (job_kind job.now)) result }
     {
         finish_on(&mut self.frame, store, job)
     }

@@ -5,9 +5,9 @@ ghost use Rattle.far_rows.specs.Jobs.{AreAt, fetch_refusal};
 ghost use Rattle.far_frame.specs.Effects.{Accepts, Refuses};
 ghost use Rattle.far_frame.specs.declared.step.Reply.TheVariants as reply;
 ghost use Rattle.far_frame.specs.declared.step.Step.TheVariants as step;
-ghost use Rattle.far_frame.specs.Jobs.{IsFetchJob, IsJobAt, kind_of};
+ghost use Rattle.far_frame.specs.Jobs.{IsFetchJob, IsJobAt, job_kind};
 ghost use Rattle.far_shared.specs.Stripes.{KeepsColumns};
-ghost use Rattle.far_shared.specs.Works.{KeepsRows, IsBuildJob, BuildRefusal, Begins, BeginRefusal, BeginsBuild, IsBuildingAt, Ends, EndRefusal, begin_refusals, begun_kind, columns_for, end_refusals};
+ghost use Rattle.far_shared.specs.Works.{KeepsRows, IsBuildJob, BuildRefusal, BeginsWork, BeginRefusal, BeginsBuild, IsBuildingAt, EndsWork, EndRefusal, begin_refusals, begun_kind, columns_for, end_refusals};
 
 use crate::work::{Building, Work};
 use far_frame::{Frame, Job, JobKind};
@@ -63,7 +63,7 @@ pub(crate) fn begin_on<S: FarTickets>(
     work: &Work,
 ) -> Result<Option<Job<S>>, Refusal>
     requires here { AreAt S.is_of (S.store_id store.now) frame.now.rows }
-    ensures begun { IfOk result (Begins frame.now work.now) }
+    ensures begun { IfOk result (BeginsWork frame.now work.now) }
     ensures here { IfOk result (λ job. IfSome job (IsJobAt S.is_of (S.store_id store.now))) }
     ensures refused { IfErr result (BeginRefusal frame.now work.now) }
     ensures column { length frame.now.rows.column_indexes < columns_for work.now → IsErrOf result Refusal.NoColumn }
@@ -90,11 +90,11 @@ pub(crate) fn finish_on<S: FarTickets>(
 ) -> Result<(), Refusal>
     requires here { AreAt S.is_of (S.store_id store.now) frame.old.rows }
     requires job_here { IsJobAt S.is_of (S.store_id store.now) job.now }
-    ensures ended { OnOk result (Ends S.number_of S.content frame.old (kind_of job.now) job.now.work frame.new) }
-    ensures refused { IfErr result (EndRefusal S.number_of S.content frame.old (kind_of job.now) job.now.work) }
+    ensures ended { OnOk result (EndsWork S.number_of S.content frame.old (job_kind job.now) job.now.work frame.new) }
+    ensures refused { IfErr result (EndRefusal S.number_of S.content frame.old (job_kind job.now) job.now.work) }
     ensures err { OnErr result (frame.new ≡ frame.old) }
     ensures carried { OnOk result (begun_kind job.now.work ≡ None) }
-    ensures numbers { RefusedBy (end_refusals (kind_of job.now)) result }
+    ensures numbers { RefusedBy (end_refusals (job_kind job.now)) result }
     ensures keeps { KeepsRows frame.old.table frame.new.table }
     ensures here { AreAt S.is_of (S.store_id store.now) frame.new.rows }
     ensures columns { KeepsColumns frame.old.rows frame.new.rows }

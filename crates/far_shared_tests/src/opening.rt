@@ -1,6 +1,6 @@
 // How a scene begins: the names of its plan, of its cells and of its store are picked, each by a call.
 ghost use Rattle.std.specs.Prelude.{◌≡◌};
-ghost use Rattle.far_shared.specs.Opening.{AreNamed};
+ghost use Rattle.far_shared.specs.Opening.{HaveNames};
 
 use crate::ending::ends;
 use crate::gates::{Gated, gate_of};
@@ -26,7 +26,7 @@ fn opened<
     S: FarStore + Gated,
     R: Threads + Wait + Sync,
 >(rt: &R, alloc: Global, made: Made<N, S>, store: &S, scene: &Scene) -> Result<bool, Refusal>
-    requires names { AreNamed made B.cells }
+    requires names { HaveNames made B.cells }
     requires store { S.store_id store.now ≡ B.store }
 {
     let Ok((shared, sessions)) = made.open::<B>(alloc) else {

@@ -10,7 +10,7 @@ use Rattle.far_script.specs.declared.input.Input.{Input}
 use Rattle.far_scripts.specs.Breaks.{BreaksLater, BreaksServing, HasNotBegun, IsRefused}
 use Rattle.far_shell.specs.Breaks.{Breaks, EndsBy, IsBroken, IsUnfinished}
 use Rattle.far_script.specs.Faults.{IfInput, IsCut}
-use Rattle.far_script.specs.Flow.{Counts, Gives, IsOver, IsSpent, IsUnseen, Prints, Reads, unread}
+use Rattle.far_script.specs.Flow.{Counts, Gives, IsOver, IsAtEnd, IsUnseen, Prints, Reads, unread}
 use Rattle.far_script.specs.Openings.{Opened, Schema, start_in}
 use Rattle.far_scripts.specs.Scripts.{Begins}
 use Rattle.far_shell.specs.Sessions.{IsAnswered}
@@ -58,7 +58,7 @@ module _ {R : Type 0} (read : Ghosts R) {S K : Type 0} (tickets : Tickets S K) (
 
   -- behind its first command, which asks for a table
   pub breaks-table : (old mid new : Input R read) (u v w : Option (List ℕ)) (held k left first line bytes rest text : List ℕ) (opened : Opened) (why : ShellFault)
-      → held ≡ [] → Reads read old first mid → Prints u held [] v k → Begins first (IsSpent read mid) line → start_in line ≡ Some (Schema opened)
+      → held ≡ [] → Reads read old first mid → Prints u held [] v k → Begins first (IsAtEnd read mid) line → start_in line ≡ Some (Schema opened)
       → Gives read why mid new bytes rest → Prints v k text w left → BreaksServing tickets unseen (IsOver read new rest) opened why bytes rest text
       → Breaking old new u w left why
   breaks-table old mid new u v w held k left first line bytes rest text opened why empty p q b asks g t (inl h) = (
@@ -68,7 +68,7 @@ module _ {R : Type 0} (read : Ghosts R) {S K : Type 0} (tickets : Tickets S K) (
     subst (λ (z : List ℕ). Gives read why old new z rest) (ap (λ (z : List ℕ). first ++ z) h.0 ∙ append-nil first) (gives-then read old mid new first bytes rest why p g),
     subst (λ (z : List ℕ). Prints u z text w left) empty (prints-nothing-then u v w held k text left q t),
     broken-first tickets (λ _. unseen) (IsOver read new) why first rest text
-        (not-begun unseen (IsOver read new rest) why (IsRefused opened) first rest text h.1 (λ refused. inl (line, begins-then first line (IsSpent read mid) (rest ≡ []) (λ s. no-rest bytes rest (g.0.1 s)) b, inr (opened, asks, refused)))),
+        (not-begun unseen (IsOver read new rest) why (IsRefused opened) first rest text h.1 (λ refused. inl (line, begins-then first line (IsAtEnd read mid) (rest ≡ []) (λ s. no-rest bytes rest (g.0.1 s)) b, inr (opened, asks, refused)))),
   )
   breaks-table old mid new u v w held k left first line bytes rest text opened why empty p q b asks g t (inr h) = (
     first ++ bytes,
@@ -81,7 +81,7 @@ module _ {R : Type 0} (read : Ghosts R) {S K : Type 0} (tickets : Tickets S K) (
       at = h.0;
       more = bytes;
       tail = h.1;
-      opens = (line, opened, begins-then first line (IsSpent read mid) (bytes ++ rest ≡ []) g.0.1 b, asks, h.2);
+      opens = (line, opened, begins-then first line (IsAtEnd read mid) (bytes ++ rest ≡ []) g.0.1 b, asks, h.2);
       breaks = h.3;
       whole = refl;
       said = h.4;

@@ -8,7 +8,7 @@ use Rattle.far_store.specs.declared.store.FarTickets.{Ghosts as Tickets}
 use Rattle.far_script.specs.declared.fault.ShellFault.{ShellFault}
 use Rattle.far_script.specs.declared.fault.ShellFault.TheVariants as fault
 use Rattle.far_script.specs.declared.input.Input.{Input}
-use Rattle.far_script.specs.Flow.{IsSpent, Prints, Reads}
+use Rattle.far_script.specs.Flow.{IsAtEnd, Prints, Reads}
 use Rattle.far_script.specs.Openings.{Threads, start_in}
 use Rattle.far_script.specs.Printing.{answer_text}
 use Rattle.far_script.proofs.FlowLaws.{prints, prints-nothing-then}
@@ -16,16 +16,16 @@ use Rattle.far_script.proofs.StopLaws.{coming, spent-rest, starts}
 use Rattle.far_threads.specs.declared.outcome.Outcome.{Outcome}
 use Rattle.far_threads.specs.Runs.{IsOutcome}
 use Rattle.far_scripts.specs.Scripts.{Begins}
-use Rattle.far_shell.specs.Sessions.{CutOutcome, IsAnswered, IsThreads, IsOutcomeText, gauges_text, line_of, outcome_text}
+use Rattle.far_shell.specs.Sessions.{CutOutcome, IsAnswered, IsThreads, IsOutcomeText, gauges_text, session_line, outcome_text}
 use Rattle.far_shell.proofs.BreakLaws.{Breaking}
 use Rattle.far_commands.proofs.RowLaws.{drop-past}
 use Rattle.far_scripts.proofs.ScriptLaws.{begins-then, either}
 
 -- a gauge line more
-pub gauges-more : (readings : List Reading) (i : ℕ) (reading : Reading) (page after whole : List ℕ) → i < length readings → after ≡ page ++ line_of i (get_or readings i reading)
+pub gauges-more : (readings : List Reading) (i : ℕ) (reading : Reading) (page after whole : List ℕ) → i < length readings → after ≡ page ++ session_line i (get_or readings i reading)
     → page ++ gauges_text i (drop i readings) ≡ whole → after ++ gauges_text (i + 1) (drop (i + 1) readings) ≡ whole
 gauges-more readings i reading page after whole low grown e =
-    rw grown (append_assoc page (line_of i (get_or readings i reading)) (gauges_text (i + 1) (drop (i + 1) readings))
+    rw grown (append_assoc page (session_line i (get_or readings i reading)) (gauges_text (i + 1) (drop (i + 1) readings))
     ∙ sym (ap (λ (rest : List Reading). page ++ gauges_text i rest) (drop_more readings i reading low)) ∙ e)
 
 -- none is left
@@ -60,8 +60,8 @@ answered-then tickets bytes text P Q f a =
 module _ {R : Type 0} (read : Ghosts R) {S K : Type 0} (tickets : Tickets S K) where
   -- a script begins with sessions, and they ended
   pub sessions-whole : (old mid : Input R read) (u w : Option (List ℕ)) (held l left first line text : List ℕ) (sessions edits : ℕ) → held ≡ []
-      → Reads read old first mid → Begins first (IsSpent read mid) line → start_in line ≡ Some (Threads sessions edits) → Prints u held [] w l → left ≡ l ++ text → IsOutcomeText sessions edits text
-      → (bytes : List ℕ) × (said : List ℕ) × Reads read old bytes mid × Prints u [] said w left × IsAnswered tickets bytes (IsSpent read mid) said
+      → Reads read old first mid → Begins first (IsAtEnd read mid) line → start_in line ≡ Some (Threads sessions edits) → Prints u held [] w l → left ≡ l ++ text → IsOutcomeText sessions edits text
+      → (bytes : List ℕ) × (said : List ℕ) × Reads read old bytes mid × Prints u [] said w left × IsAnswered tickets bytes (IsAtEnd read mid) said
   sessions-whole old mid u w held l left first line text sessions edits empty p b asks q e printed = (
     first,
     text,
@@ -72,7 +72,7 @@ module _ {R : Type 0} (read : Ghosts R) {S K : Type 0} (tickets : Tickets S K) w
 
   -- or they were stopped
   pub sessions-stopped : (old mid : Input R read) (u w : Option (List ℕ)) (held l left first line : List ℕ) (sessions edits : ℕ) (why : ShellFault) (unseen : Type 0) → held ≡ []
-      → Reads read old first mid → Begins first (IsSpent read mid) line → start_in line ≡ Some (Threads sessions edits) → Prints u held [] w l → left ≡ l → (why ≡ fault.Memory) ⊎ (why ≡ fault.Turns)
+      → Reads read old first mid → Begins first (IsAtEnd read mid) line → start_in line ≡ Some (Threads sessions edits) → Prints u held [] w l → left ≡ l → (why ≡ fault.Memory) ⊎ (why ≡ fault.Turns)
       → Breaking read tickets unseen old mid u w left why
   sessions-stopped old mid u w held l left first line sessions edits why unseen empty p b asks q e (inl memory) =
       rw (memory, e) (first, coming read mid, [], (starts read old mid first p, tt), subst (λ (z : List ℕ). Prints u z [] w l) empty q, inl refl)
@@ -83,5 +83,5 @@ module _ {R : Type 0} (read : Ghosts R) {S K : Type 0} (tickets : Tickets S K) w
         [],
         (starts read old mid first p, tt),
         subst (λ (z : List ℕ). Prints u z [] w l) empty q,
-        (refl, (sessions, edits, (line, begins-then first line (IsSpent read mid) (coming read mid ≡ []) (spent-rest read mid) b, asks))),
+        (refl, (sessions, edits, (line, begins-then first line (IsAtEnd read mid) (coming read mid ≡ []) (spent-rest read mid) b, asks))),
       )

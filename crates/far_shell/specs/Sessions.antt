@@ -13,13 +13,13 @@ use Rattle.far_script.specs.Printing.{answer_text, gauge_text}
 use Rattle.far_scripts.specs.Scripts.{Begins, IsScript}
 
 -- the gauge line of a session
-abbrev pub line_of : ℕ → Reading → List ℕ
-line_of session reading = gauge_text session reading.edits reading.count reading.sum
+abbrev pub session_line : ℕ → Reading → List ℕ
+session_line session reading = gauge_text session reading.edits reading.count reading.sum
 
 -- the gauge lines of sessions, numbered from a first one on
 abbrev pub gauges_text : ℕ → List Reading → List ℕ
 gauges_text session [] = []
-gauges_text session (reading ∷ readings) = line_of session reading ++ gauges_text (session + 1) readings
+gauges_text session (reading ∷ readings) = session_line session reading ++ gauges_text (session + 1) readings
 
 -- the printed outcome of sessions: the gauge lines of sessions 0, 1 and so on, and the answer over the rows of all of them
 abbrev pub outcome_text : Outcome → List ℕ

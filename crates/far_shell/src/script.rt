@@ -1,7 +1,7 @@
 // Runs whole scripts: each line is read when the replies before it are written.
 ghost use Rattle.std.specs.Prelude.{◌≡◌, ℕ, List, [], ◌++◌, ◌≤◌, true, IfErr, IfSome, OnErr, OnOk};
 ghost use Rattle.std.specs.Io.KnownBytes.{Appends, Keeps};
-ghost use Rattle.far_script.specs.Flow.{Gives, IsFrontOf, IsOver, IsSpent, IsUnseen, Prints, Reads, has_failed};
+ghost use Rattle.far_script.specs.Flow.{Gives, IsFrontOf, IsOver, IsAtEnd, IsUnseen, Prints, Reads, has_failed};
 ghost use Rattle.far_shell.specs.Breaks.{Breaks, IsBroken, IsUnfinished};
 ghost use Rattle.far_shell.specs.Sessions.{IsAnswered};
 
@@ -31,7 +31,7 @@ fn serve<
     writer: &mut W,
 ) -> Result<(), ShellFault>
     requires { output.old.page ≡ [] }
-    ensures ok { OnOk result ((bytes : List ℕ) × (text : List ℕ) × Reads R.Read input.old bytes input.new × Prints (W.contents writer.old) [] text (W.contents writer.new) output.new.page × IsAnswered S.FarTickets bytes (IsSpent R.Read input.new) text) }
+    ensures ok { OnOk result ((bytes : List ℕ) × (text : List ℕ) × Reads R.Read input.old bytes input.new × Prints (W.contents writer.old) [] text (W.contents writer.new) output.new.page × IsAnswered S.FarTickets bytes (IsAtEnd R.Read input.new) text) }
     ensures err { IfErr result (λ fault. (bytes : List ℕ) × (rest : List ℕ) × (text : List ℕ) × Gives R.Read fault input.old input.new bytes rest × Prints (W.contents writer.old) [] text (W.contents writer.new) output.new.page × IsBroken S.FarTickets (λ _. IsUnseen R.Read R.may_fail input.old input.new) (IsOver R.Read input.new) fault bytes rest text) }
     ensures failed { IfErr result (λ fault. fault ≡ ShellFault.Output → has_failed output.new ≡ true) }
     ensures asked { input.new.source.reads ≤ input.old.source.reads }
@@ -91,7 +91,7 @@ pub fn run_input<T: AllocGlobal + Sync + Threads + Wait, R: Source + Drop, W: Si
     input: &mut Input<R>,
     writer: &mut W,
 ) -> Result<(), ShellFault>
-    ensures ok { OnOk result ((bytes : List ℕ) × (text : List ℕ) × Reads R.Read input.old bytes input.new × Appends (W.contents writer.old) (W.contents writer.new) text × IsAnswered ⟦<AgentStore<&'static T> as FarTickets>⟧ bytes (IsSpent R.Read input.new) text) }
+    ensures ok { OnOk result ((bytes : List ℕ) × (text : List ℕ) × Reads R.Read input.old bytes input.new × Appends (W.contents writer.old) (W.contents writer.new) text × IsAnswered ⟦<AgentStore<&'static T> as FarTickets>⟧ bytes (IsAtEnd R.Read input.new) text) }
     ensures err { IfErr result (λ fault. Breaks ⟦<AgentStore<&'static T> as FarTickets>⟧ (λ _. IsUnseen R.Read R.may_fail input.old input.new) (IsOver R.Read input.new) (λ why. Gives R.Read why input.old input.new) W.may_fail (W.contents writer.old) (W.contents writer.new) fault) }
     ensures asked { input.new.source.reads ≤ input.old.source.reads }
 {

@@ -1,7 +1,7 @@
 // Sessions on threads, and their printed outcome.
 ghost use Rattle.std.specs.Prelude.{◌≡◌, ◌⊎◌, ◌≤◌, ℕ, List, ◌++◌, IfErr, OnOk, OnErr};
 ghost use Rattle.std.specs.Io.KnownBytes.{Appends};
-ghost use Rattle.far_shell.specs.Sessions.{CutOutcome, IsOutcomeText, fault_of, gauges_text, line_of, outcome_text};
+ghost use Rattle.far_shell.specs.Sessions.{CutOutcome, IsOutcomeText, fault_of, gauges_text, session_line, outcome_text};
 
 use far_history::Reading;
 use far_script::print::{answer, gauge};
@@ -24,7 +24,7 @@ fn fault_of(stop: Stop) -> ShellFault
 
 /// Prints the gauge line of a session. Refused with `NoMemory` if memory runs out.
 fn gauge_line(page: &mut Page, session: u64, reading: &Reading) -> Result<(), Refusal>
-    ensures ok { OnOk result (page.new ≡ page.old ++ line_of session reading.now) }
+    ensures ok { OnOk result (page.new ≡ page.old ++ session_line session reading.now) }
     ensures memory { IfErr result (λ e. e ≡ Refusal.NoMemory) }
 {
     gauge(page, session, reading.edits, reading.count, reading.sum)

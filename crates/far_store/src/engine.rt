@@ -63,7 +63,7 @@ impl<T: Drop, E> From<AllocFailed<T>> for Failure<E> {
 ///
 /// ```
 /// impl Engine for ByteLog {
-///     type Key = Extent;
+///     type Key = LogKey;
 ///
 ///     type Error = LogFull;
 ///
@@ -73,7 +73,7 @@ impl<T: Drop, E> From<AllocFailed<T>> for Failure<E> {
 ///
 ///     ghost is_of = { λ key id. (i : ℕ) → IfSome (slice_get key.written.items i) (λ token. slice_get id (key.offset + i) ≡ Some token.of) };
 ///
-///     fn write(&self, alloc: Global, bytes: &[u8]) -> Result<Extent, Failure<LogFull>> {
+///     fn write(&self, alloc: Global, bytes: &[u8]) -> Result<LogKey, Failure<LogFull>> {
 ///         let mut written = Vec::with_capacity(alloc, bytes.len())?;
 ///         let Some(offset) = self.take(bytes.len()) else {
 ///             return Err(Failure::Engine(LogFull));
@@ -83,7 +83,7 @@ impl<T: Drop, E> From<AllocFailed<T>> for Failure<E> {
 ///         for (i, byte) in bytes.iter().enumerate() {
 ///             written.push(self.write_at(offset + i, *byte)?)?;
 ///         }
-///         Ok(Extent { offset, written })
+///         Ok(LogKey { offset, written })
 ///     }
 /// ```
 pub trait Engine: Sync + Drop {

@@ -36,7 +36,7 @@ pub struct EngineStore<E: Engine, R> {
 }
 
 /// A ticket of an `EngineStore`: the index of its key.
-pub type Kept<E> = Pushed<<E as Engine>::Key, Global, OfEngine<E>>;
+pub type EngineTicket<E> = Pushed<<E as Engine>::Key, Global, OfEngine<E>>;
 
 /// The rule of the keys of a store: they are of its engine.
 pub struct OfEngine<E> {
@@ -87,7 +87,7 @@ impl<E: Engine, R: Drop> EngineStore<E, R> {
 }
 
 impl<E: Engine, R: Sync + Drop> FarTickets for EngineStore<E, R> {
-    type Ticket = Kept<E>;
+    type Ticket = EngineTicket<E>;
 
     ghost content = { λ t. E.written t.value };
 
@@ -99,15 +99,15 @@ impl<E: Engine, R: Sync + Drop> FarTickets for EngineStore<E, R> {
 
     ghost capacity_of = { λ s. s.capacity };
 
-    fn again(&self, ticket: &Kept<E>) -> Kept<E> {
+    fn again(&self, ticket: &EngineTicket<E>) -> EngineTicket<E> {
         ticket.again()
     }
 
-    fn number(&self, ticket: &Kept<E>) -> u64 {
+    fn number(&self, ticket: &EngineTicket<E>) -> u64 {
         ticket.index() as u64
     }
 
-    fn same(&self, a: &Kept<E>, b: &Kept<E>) -> bool {
+    fn same(&self, a: &EngineTicket<E>, b: &EngineTicket<E>) -> bool {
         if a.index() != b.index() {
             return false;
         }
@@ -122,7 +122,7 @@ impl<E: Engine, R: Sync + Drop> FarRead for EngineStore<E, R> {
         &self,
         alloc: Global,
         meter: &mut Meter,
-        ticket: &Kept<E>,
+        ticket: &EngineTicket<E>,
         buffer: &mut Vec<u8>,
     ) -> Result<(), Refusal> {
         buffer.clear();
@@ -140,7 +140,7 @@ impl<E: Engine, R: Sync + Drop> FarRead for EngineStore<E, R> {
 }
 
 impl<E: Engine, R: Sync + Drop + Wait> FarStore for EngineStore<E, R> {
-    fn put(&self, alloc: Global, meter: &mut Meter, bytes: &[u8]) -> Result<Kept<E>, Refusal>
+    fn put(&self, alloc: Global, meter: &mut Meter, bytes: &[u8]) -> Result<EngineTicket<E>, Refusal>
         requires few { meter.old < 2 ^ 63 }
         ensures here { IfOk result (λ ticket. IsOf ticket self.now.id) }
         ensures content { IfOk result (λ ticket. E.written ticket.value ≡ bytes.now) }

@@ -22,7 +22,7 @@ mod store;
 
 pub use agent::AgentStore;
 pub use engine::{Engine, Failure};
-pub use engine_store::{EngineStore, Kept};
+pub use engine_store::{EngineStore, EngineTicket};
 pub use faulty::FaultyStore;
 pub use gate::GateStore;
 pub use meter::Meter;

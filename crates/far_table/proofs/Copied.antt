@@ -25,8 +25,8 @@ use Rattle.far_rows.specs.declared.column_index.ColumnIndex.{ColumnIndex}
 use Rattle.far_rows.specs.declared.column_index.ColumnIndex.TheVariants as column_index
 use Rattle.far_rows.specs.declared.object.Object.{Object}
 use Rattle.far_rows.specs.declared.object.Object.TheVariants as object
-use Rattle.far_rows.specs.ColumnIndexes.{IsWithin, column_in}
-use Rattle.far_rows.specs.Rows.{Rows, AreRows, all_numbers, all_texts, cells_of, object_of}
+use Rattle.far_rows.specs.ColumnIndexes.{IsColumnIn, column_in}
+use Rattle.far_rows.specs.Rows.{Rows, AreRows, all_numbers, all_texts, all_cells, object_of}
 use Rattle.far_rows.specs.Moving.{object_at}
 use Rattle.far_rows.specs.Places.{places_in}
 use Rattle.far_rows.specs.Jobs.{SpellsNumbers, SpellsTexts}
@@ -63,10 +63,10 @@ front-cell (x ∷ xs) more zero within = refl
 front-cell (x ∷ xs) more (suc i) within = front-cell xs more i (omega (arith, within))
 
 module _ {K : Type 0} (content : K → List ℕ) (r : Rows K) (are : AreRows content r) (column group o : ℕ) where
-  inside : (s : ColumnIndex) → slice_get r.column_indexes column ≡ Some s → IsWithin (length r.numbers) (length r.texts) s
-  inside s is = subst (IsWithin (length r.numbers) (length r.texts)) (get_or_from_slice_get r.column_indexes column s s is) (are.column_indexes.within column s (slice_get_within r.column_indexes column s is))
+  inside : (s : ColumnIndex) → slice_get r.column_indexes column ≡ Some s → IsColumnIn (length r.numbers) (length r.texts) s
+  inside s is = subst (IsColumnIn (length r.numbers) (length r.texts)) (get_or_from_slice_get r.column_indexes column s s is) (are.column_indexes.within column s (slice_get_within r.column_indexes column s is))
 
-  cells-at : (s : ColumnIndex) → slice_get r.column_indexes column ≡ Some s → option_map (in_group r.size group) (slice_get (cells_of content r) column) ≡ Some (in_group r.size group (column_in (all_numbers content r) (all_texts content r) s))
+  cells-at : (s : ColumnIndex) → slice_get r.column_indexes column ≡ Some s → option_map (in_group r.size group) (slice_get (all_cells content r) column) ≡ Some (in_group r.size group (column_in (all_numbers content r) (all_texts content r) s))
   cells-at s is = ap (option_map (in_group r.size group)) (slice_get-map (column_in (all_numbers content r) (all_texts content r)) r.column_indexes column ∙ ap (option_map (column_in (all_numbers content r) (all_texts content r))) is)
 
   -- the list of an object of numbers begins with those of its row group
@@ -75,7 +75,7 @@ module _ {K : Type 0} (content : K → List ℕ) (r : Rows K) (are : AreRows con
     default_values : Numbers
     is : list ≡ front ++ default_values
     used : length front ≡ length (in_group r.size group r.alive)
-    cells : option_map (in_group r.size group) (slice_get (cells_of content r) column) ≡ Some (map int_cell front)
+    cells : option_map (in_group r.size group) (slice_get (all_cells content r) column) ≡ Some (map int_cell front)
 
   numbers-in : (s : ColumnIndex) → slice_get r.column_indexes column ≡ Some s → object_at r column group ≡ Some (object.Number o) → (list : Numbers) → number_lists content r.number_objects o ≡ Some list → HasNumbers list
   numbers-in (column_index.Text i) is at list there = no-number (object_of r (column_index.Text i) group) o (sym (found-in content r are column group o (column_index.Text i) is) ∙ at)
@@ -104,7 +104,7 @@ module _ {K : Type 0} (content : K → List ℕ) (r : Rows K) (are : AreRows con
 
   -- the form of an object of texts is that of its row group
   record HasTexts (bytes : List ℕ) : Type 0 where
-    cells : option_map (in_group r.size group) (slice_get (cells_of content r) column) ≡ Some (map text_cell (texts_meaning bytes))
+    cells : option_map (in_group r.size group) (slice_get (all_cells content r) column) ≡ Some (map text_cell (texts_meaning bytes))
 
   texts-in : (s : ColumnIndex) → slice_get r.column_indexes column ≡ Some s → object_at r column group ≡ Some (object.Text o) → (form : List ℕ) → lists_of content r.text_objects o ≡ Some form → HasTexts form
   texts-in (column_index.Number i) is at form there = no-text (object_of r (column_index.Number i) group) o (sym (found-in content r are column group o (column_index.Number i) is) ∙ at)
@@ -133,14 +133,14 @@ module _ {K : Type 0} (content : K → List ℕ) (r : Rows K) (are : AreRows con
   places = in_group r.size group (places_in content r)
 
   places-long : length places ≡ length (in_group r.size group r.alive)
-  places-long = group-long r.size group (places_in content r) r.alive (length-places (cells_of content r) r.alive)
+  places-long = group-long r.size group (places_in content r) r.alive (length-places (all_cells content r) r.alive)
 
   -- cells that begin with those of a row group are of its places
-  begins : (front more cells : List Cell) → option_map (in_group r.size group) (slice_get (cells_of content r) column) ≡ Some front → length front ≡ length (in_group r.size group r.alive) → cells ≡ front ++ more → IsOfPlaces places (column, cells)
+  begins : (front more cells : List Cell) → option_map (in_group r.size group) (slice_get (all_cells content r) column) ≡ Some front → length front ≡ length (in_group r.size group r.alive) → cells ≡ front ++ more → IsOfPlaces places (column, cells)
   begins front more cells are_those long is i place at =
       let within : i < length front = omega (arith, slice_get_within places i place at, places-long, long) in
       ap Some (ap (λ (cs : List Cell). get_or cs i cell.Missing) is ∙ front-cell front more i within)
-      ∙ lent-cells (cells_of content r) r.alive r.size group column front are_those i place at
+      ∙ lent-cells (all_cells content r) r.alive r.size group column front are_those i place at
 
   -- the far copy of an object of numbers
   copied-number : object_at r column group ≡ Some (object.Number o) → (t : K) (list : Numbers) → number_lists content r.number_objects o ≡ Some list → SpellsNumbers list (content t) → IsCopy content r group column t
@@ -166,7 +166,7 @@ module _ {K : Type 0} (content : K → List ℕ) (r : Rows K) (are : AreRows con
         form = inr form;
         cells = λ i place here.
             ap (λ (cs : List Cell). Some (get_or cs i cell.Missing)) (texts-lent (content t) form)
-            ∙ lent-cells (cells_of content r) r.alive r.size group column (map text_cell (texts_meaning (content t))) has.cells i place here;
+            ∙ lent-cells (all_cells content r) r.alive r.size group column (map text_cell (texts_meaning (content t))) has.cells i place here;
       }
 
 -- the far form of a row group of a column has the cells of its places

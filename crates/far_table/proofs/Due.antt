@@ -19,11 +19,11 @@ use Rattle.far_scopes.specs.Refusing.{written_out}
 use Rattle.far_rows.specs.declared.column_index.ColumnIndex.{ColumnIndex}
 use Rattle.far_rows.specs.declared.column_index.ColumnIndex.TheVariants as column_index
 use Rattle.far_rows.specs.ColumnIndexes.{Values, kind_of, row_of}
-use Rattle.far_rows.specs.Rows.{Rows, cells_of, object_of}
+use Rattle.far_rows.specs.Rows.{Rows, all_cells, object_of}
 use Rattle.far_rows.specs.Refusing.{absents, no_space_for_texts, no_space_for_numbers, is_written_out, some_written_out}
 use Rattle.far_rows.specs.Places.{text_parts}
 use Rattle.far_rows.specs.Plain.{insert_refusal}
-use Rattle.far_table.specs.TableRows.{TableRows, AreWritten, AreKept, asked, rows_in}
+use Rattle.far_table.specs.TableRows.{TableRows, AreWritten, AreTableRows, asked, rows_in}
 use Rattle.far_table.specs.Edits.{edit_due, group_of}
 use Rattle.far_table.proofs.First.{first-behind, passed, or-assoc, last-used}
 use Rattle.far_table.proofs.Places.{length-places}
@@ -45,7 +45,7 @@ none-there : (test : ℕ → Bool) (found : Option ℕ) → ((o : ℕ) → test 
 none-there test None each = refl
 none-there test (Some o) each = each o
 
-module _ {K : Type 0} (content : K → List ℕ) (schema : List Kind) (limits : Limits) (held : Rows K) (new_row : Values) (edits : ℕ) (kept : AreKept content schema limits held new_row edits) where
+module _ {K : Type 0} (content : K → List ℕ) (schema : List Kind) (limits : Limits) (held : Rows K) (new_row : Values) (edits : ℕ) (kept : AreTableRows content schema limits held new_row edits) where
   abbrev t : TableRows K
   t = rows_in content schema limits held new_row edits
 
@@ -63,7 +63,7 @@ module _ {K : Type 0} (content : K → List ℕ) (schema : List Kind) (limits : 
     each (column_index.Text i) = none-there (λ o. (written_out held.text_objects o).0) (object_of held (column_index.Text i) g) (not-out limits edits held.text_objects kept.texts_written kept.edits_few left)
 
   next-group : length held.alive / held.size ≡ length t.places / limits.group
-  next-group = λ i. sym (length-places (cells_of content held) held.alive) i / kept.layout.group i
+  next-group = λ i. sym (length-places (all_cells content held) held.alive) i / kept.layout.group i
 
   taken-due : first_of (edit_faults schema limits t.places (edit.Insert (row_of held.column_indexes new_row))) ≡ None → option_or (insert_refusal content limits held new_row) last ≡ edit_due (asked t) (edit.Insert (row_of held.column_indexes new_row))
   taken-due free =

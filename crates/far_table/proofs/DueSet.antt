@@ -21,13 +21,13 @@ use Rattle.far_rows.specs.declared.object.Object.{Object}
 use Rattle.far_rows.specs.declared.new_cell.NewCell.{NewCell}
 use Rattle.far_rows.specs.declared.column_index.ColumnIndex.{ColumnIndex}
 use Rattle.far_rows.specs.declared.column_index.ColumnIndex.TheVariants as column_index
-use Rattle.far_rows.specs.ColumnIndexes.{Values, IsWithin, kind_of}
+use Rattle.far_rows.specs.ColumnIndexes.{Values, IsColumnIn, kind_of}
 use Rattle.far_rows.specs.Rows.{Rows, AreRows, object_of}
 use Rattle.far_rows.specs.Moving.{object_at, object_in}
 use Rattle.far_rows.specs.Refusing.{absents}
 use Rattle.far_rows.specs.Setting.{cell_of}
 use Rattle.far_rows.specs.Plain.{no_space_alone, writes_used, cell_set_refusal}
-use Rattle.far_table.specs.TableRows.{TableRows, AreKept, asked, rows_in}
+use Rattle.far_table.specs.TableRows.{TableRows, AreTableRows, asked, rows_in}
 use Rattle.far_table.specs.Edits.{edit_due}
 use Rattle.far_table.proofs.First.{first-behind, passed, or-assoc, last-used}
 use Rattle.far_table.proofs.Due.{not-out}
@@ -40,8 +40,8 @@ found-at (x ∷ xs) (suc i) within = found-at xs i (omega (arith, within))
 module _ {K : Type 0} (content : K → List ℕ) (held : Rows K) (are : AreRows content held) where
   -- a column has an object for the row group of each place
   pub object-there : (c : ℕ) (s : ColumnIndex) → slice_get held.column_indexes c ≡ Some s → (p : ℕ) → p < length held.alive → (o : ℕ) × (object_of held s (p / held.size) ≡ Some o)
-  object-there c s lies p below = by s (subst (IsWithin (length held.numbers) (length held.texts)) (get_or_from_slice_get held.column_indexes c s s lies) (are.column_indexes.within c s (slice_get_within held.column_indexes c s lies))) where
-    by : (some : ColumnIndex) → IsWithin (length held.numbers) (length held.texts) some → (o : ℕ) × (object_of held some (p / held.size) ≡ Some o)
+  object-there c s lies p below = by s (subst (IsColumnIn (length held.numbers) (length held.texts)) (get_or_from_slice_get held.column_indexes c s s lies) (are.column_indexes.within c s (slice_get_within held.column_indexes c s lies))) where
+    by : (some : ColumnIndex) → IsColumnIn (length held.numbers) (length held.texts) some → (o : ℕ) × (object_of held some (p / held.size) ≡ Some o)
     by (column_index.Number i) inside =
         let found = found-at held.numbers i inside in
         let v : Vector (Option ℤ) = found.0 in
@@ -59,7 +59,7 @@ module _ {K : Type 0} (content : K → List ℕ) (held : Rows K) (are : AreRows 
         let object = found-at v.objects (p / v.size) (div_below p v.size (length v.objects) has.some (omega (arith, below, same_length.1, has.held))) in
         (object.0, ap (option_and_then (λ (w : Texts). slice_get w.objects (p / held.size))) found.1 ∙ (λ k. slice_get v.objects (p / sym same_length.0 k)) ∙ object.1)
 
-module _ {K : Type 0} (content : K → List ℕ) (schema : List Kind) (limits : Limits) (held : Rows K) (new_row : Values) (edits : ℕ) (kept : AreKept content schema limits held new_row edits) where
+module _ {K : Type 0} (content : K → List ℕ) (schema : List Kind) (limits : Limits) (held : Rows K) (new_row : Values) (edits : ℕ) (kept : AreTableRows content schema limits held new_row edits) where
   abbrev t : TableRows K
   t = rows_in content schema limits held new_row edits
 

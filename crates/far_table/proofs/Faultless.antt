@@ -18,7 +18,7 @@ use Rattle.far_rows.specs.declared.column_index.ColumnIndex.{ColumnIndex}
 use Rattle.far_rows.specs.ColumnIndexes.{kind_of}
 use Rattle.far_rows.specs.Places.{places_of}
 use Rattle.far_rows.specs.Refusing.{absents}
-use Rattle.far_table.specs.State.{State}
+use Rattle.far_table.specs.State.{LiveState}
 use Rattle.far_table.specs.Edits.{edit_due, obstacles, group_of, no_space}
 use Rattle.far_table.proofs.First.{free-head, free-parts}
 use Rattle.far_table.proofs.Places.{flag-there}
@@ -112,7 +112,7 @@ place-below columns flags p is =
 pub remove-right : (schema : List Kind) (limits : Limits) (places : List Place) (p : ℕ) → first_of (edit_faults schema limits places (edit.Remove p)) ≡ None → is_none (slice_get places p) ≡ false
 remove-right schema limits places p free = (free-head (is_none (slice_get places p)) refusal.NoRow _ free).0
 
-module _ {K : Type 0} (s : State K) (e : Edit) (free : edit_due s e ≡ None) where
+module _ {K : Type 0} (s : LiveState K) (e : Edit) (free : edit_due s e ≡ None) where
   parts : (first_of (edit_faults s.table.schema s.table.limits s.table.places e) ≡ None) × (first_of (obstacles s e) ≡ None)
   parts = free-parts (edit_faults s.table.schema s.table.limits s.table.places e) (obstacles s e) free
 

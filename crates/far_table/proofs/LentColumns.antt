@@ -13,7 +13,7 @@ use Rattle.far_types.specs.Table.{in_group}
 use Rattle.far_scopes.specs.Refusing.{refusal_in}
 use Rattle.far_rows.specs.declared.lent_column.LentColumn.{LentColumn}
 use Rattle.far_rows.specs.Moving.{object_at}
-use Rattle.far_rows.specs.Rows.{cells_of}
+use Rattle.far_rows.specs.Rows.{all_cells}
 use Rattle.far_rows.specs.Refusing.{absent_in}
 use Rattle.far_rows.specs.Lending.{IsLent, cells_lent}
 use Rattle.far_rows.specs.Jobs.{evac_refusal}
@@ -43,7 +43,7 @@ module _ {K : Type 0} (content : K → List ℕ) (g : GroupRows K) where
 
   -- what a look at a column gives
   pub looked : (column : ℕ) (r : Result LentColumn Refusal) → refusal_in r ≡ evac_refusal g.rows column g.group → IfOk r IsLent
-      → IfOk r (λ lent. option_map (in_group g.rows.size g.group) (slice_get (cells_of content g.rows) column) ≡ Some (cells_lent lent))
+      → IfOk r (λ lent. option_map (in_group g.rows.size g.group) (slice_get (all_cells content g.rows) column) ≡ Some (cells_lent lent))
       → IsLentOf content g column (result_ok r)
   looked column (Ok lent) due form cells = record { there = λ has. refl; form = form; cells = cells }
   looked column (Err e) due form cells = record { there = λ has. absurd (let no : true ≡ false = sym has ∙ refused column e due in cc); form = tt; cells = tt }

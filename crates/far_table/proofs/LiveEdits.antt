@@ -18,7 +18,7 @@ use Rattle.far_types.specs.MayRefuse.{MayRefuse}
 use Rattle.far_types.specs.Table.{Place, Registered}
 use Rattle.far_rows.specs.declared.new_cell.NewCell.{NewCell}
 use Rattle.far_rows.specs.ColumnIndexes.{Values, kind_of, row_of}
-use Rattle.far_rows.specs.Rows.{Rows, cells_of}
+use Rattle.far_rows.specs.Rows.{Rows, all_cells}
 use Rattle.far_rows.specs.Effects.{IsPushed}
 use Rattle.far_rows.specs.Places.{places_in}
 use Rattle.far_rows.specs.Refusing.{absents}
@@ -26,9 +26,9 @@ use Rattle.far_rows.specs.Setting.{cell_of, kind_in}
 use Rattle.far_aggregates.specs.Pairs.{alive_with}
 use Rattle.far_aggregates.specs.declared.pending.Pending.{Pending}
 use Rattle.far_aggregates.specs.Accumulators.{RegistryEntry, Keeps, PlacesFit, registered_of}
-use Rattle.far_aggregates.specs.Pending.{AreKept, RetractsAll}
+use Rattle.far_aggregates.specs.Pending.{AreUpToDate, RetractsAll}
 use Rattle.far_aggregates.proofs.GroupLaws.{length-changed}
-use Rattle.far_table.specs.State.{State, AreChecked}
+use Rattle.far_table.specs.State.{LiveState, AreChecked}
 use Rattle.far_table.specs.TableRows.{TableRows, asked}
 use Rattle.far_table.specs.Edits.{edit_due, IsMade, IsAppended, IsPut}
 use Rattle.far_table.specs.Live.{IsLive, IsEdited, Refuses, state_of}
@@ -61,15 +61,15 @@ module _ {K : Type 0} where
   taken-live old new r registry stays live = subst (λ (t : TableRows K). IsLive t r registry) (sym stays) record { registrations_few = live.registrations_few; kept = live.kept; checked = live.checked }
 
   -- a call is refused with what is due, and the state that is seen stays
-  pub refuses-due : (shown seen after : State K) (e : Edit) (r : Refusal) → shown ≡ seen → after ≡ shown → Some r ≡ edit_due shown e → Refuses (edit_due seen e) true seen r after
-  refuses-due shown seen after e r same stays is = (stays ∙ same, subst (λ (s : State K). MayRefuse (edit_due s e) true r) same (subst (λ (o : Option Refusal). MayRefuse o true r) is refl))
+  pub refuses-due : (shown seen after : LiveState K) (e : Edit) (r : Refusal) → shown ≡ seen → after ≡ shown → Some r ≡ edit_due shown e → Refuses (edit_due seen e) true seen r after
+  refuses-due shown seen after e r same stays is = (stays ∙ same, subst (λ (s : LiveState K). MayRefuse (edit_due s e) true r) same (subst (λ (o : Option Refusal). MayRefuse o true r) is refl))
 
   -- likewise if nothing is due, for lack of memory
-  pub refuses-memory : (shown seen after : State K) (e : Edit) (r : Refusal) → shown ≡ seen → after ≡ shown → None ≡ edit_due shown e → r ≡ refusal.NoMemory → Refuses (edit_due seen e) true seen r after
-  refuses-memory shown seen after e r same stays free is = (stays ∙ same, subst (λ (s : State K). MayRefuse (edit_due s e) true r) same (subst (λ (o : Option Refusal). MayRefuse o true r) free (is, refl)))
+  pub refuses-memory : (shown seen after : LiveState K) (e : Edit) (r : Refusal) → shown ≡ seen → after ≡ shown → None ≡ edit_due shown e → r ≡ refusal.NoMemory → Refuses (edit_due seen e) true seen r after
+  refuses-memory shown seen after e r same stays free is = (stays ∙ same, subst (λ (s : LiveState K). MayRefuse (edit_due s e) true r) same (subst (λ (o : Option Refusal). MayRefuse o true r) free (is, refl)))
 
   -- what is kept is that of the places, as the aggregates' calls ask for it
-  pub kept-fit : (t : TableRows K) (r : ℕ) (registry : List RegistryEntry) (limits : Limits) → limits ≡ t.limits → AreLimits t.limits → length t.places ≤ t.limits.places → PlacesFit t.places → IsLive t r registry → AreKept limits.group t.places registry
+  pub kept-fit : (t : TableRows K) (r : ℕ) (registry : List RegistryEntry) (limits : Limits) → limits ≡ t.limits → AreLimits t.limits → length t.places ≤ t.limits.places → PlacesFit t.places → IsLive t r registry → AreUpToDate limits.group t.places registry
   kept-fit t r registry limits same bounds few fit live = record { kept = subst (λ (l : Limits). Keeps l.group t.places registry) (sym same) live.kept; few = omega (arith, few, bounds.places_high); fit = fit }
 
   -- an edit is made
@@ -96,7 +96,7 @@ module _ {K : Type 0} (content : K → List ℕ) (old mid new : TableRows K) (ro
   pub inserted : (r : ℕ) (was now : List RegistryEntry) → None ≡ edit_due (asked old) (edit.Insert row) → registered_of now ≡ registered_of was → IsEdited content (state_of old r was) (edit.Insert row) (state_of new r now)
   inserted r was now free same = record {
     due = sym free;
-    table = made-table mid new (edit.Insert row) r was now made same ∙ ap (λ (s : State K). edited (edit.Insert row) s.table) (taken-state old mid r was stays);
+    table = made-table mid new (edit.Insert row) r was now made same ∙ ap (λ (s : LiveState K). edited (edit.Insert row) s.table) (taken-state old mid r was stays);
     rows = subst (λ (t : TableRows K). (values : Values) × (row_of t.held.column_indexes values ≡ row) × IsPushed content t.held values new.held) stays (mid.new_row, taken, appended.held);
   }
 
@@ -158,7 +158,7 @@ there-below places p is = let found = found-some (slice_get places p) is in slic
 module _ {K : Type 0} (content : K → List ℕ) (schema : List Kind) (held : Rows K) (kinds : map kind_of held.column_indexes ≡ schema) where
   row-width : (p : ℕ) (row : List Cell) → slice_get (places_in content held) p ≡ Some (alive_with row) → length row ≡ length schema
   row-width p row at =
-      let columns : List (List Cell) = cells_of content held in
+      let columns : List (List Cell) = all_cells content held in
       let flag = flag-there columns held.alive p (alive_with row) at in
       let same : Some row ≡ Some _ = sym (ap (option_map (λ (place : Place). place.cells)) at) ∙ cells-get columns held.alive p true flag in
       ap length (same_Some row _ same) ∙ length-map columns _ ∙ length-map held.column_indexes _ ∙ sym (length-map held.column_indexes kind_of) ∙ ap length kinds

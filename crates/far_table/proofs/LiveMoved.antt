@@ -6,7 +6,7 @@ use Rattle.far_types.specs.declared.refusal.Refusal.{Refusal}
 use Rattle.far_scopes.proofs.Outcomes.{by-outcome}
 use Rattle.far_aggregates.specs.Accumulators.{RegistryEntry}
 use Rattle.far_rows.specs.Rows.{Rows}
-use Rattle.far_table.specs.State.{State}
+use Rattle.far_table.specs.State.{LiveState}
 use Rattle.far_table.specs.TableRows.{TableRows}
 use Rattle.far_table.specs.Live.{IsLive, state_of}
 use Rattle.far_table.specs.Moving.{AreMoved, IsMoved}
@@ -20,6 +20,6 @@ module _ {K : Type 0} (old now : TableRows K) (registrations : ℕ) (registry : 
     pub moved-live : IsLive old registrations registry → IsLive now registrations registry
     moved-live live = by-outcome r ok err (λ (done : AreMoved moves old now). stays-live done.stays live) (λ (same : now ≡ old). subst (λ (t : TableRows K). IsLive t registrations registry) (sym same) live)
 
-    module _ (s : State K) (is : state_of old registrations registry ≡ s) where
+    module _ (s : LiveState K) (is : state_of old registrations registry ≡ s) where
       pub moved-state : OnOk r (IsMoved moves s (state_of now registrations registry))
-      moved-state = on_ok_weaker r (λ (done : AreMoved moves old now). subst (λ (was : State K). IsMoved moves was (state_of now registrations registry)) is record { table = ap (λ (t : TableRows K). (state_of t registrations registry).table) done.stays; rows = done.held }) ok
+      moved-state = on_ok_weaker r (λ (done : AreMoved moves old now). subst (λ (was : LiveState K). IsMoved moves was (state_of now registrations registry)) is record { table = ap (λ (t : TableRows K). (state_of t registrations registry).table) done.stays; rows = done.held }) ok

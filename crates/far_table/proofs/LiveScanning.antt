@@ -16,7 +16,7 @@ use Rattle.far_rows.specs.declared.column_index.ColumnIndex.{ColumnIndex}
 use Rattle.far_rows.specs.ColumnIndexes.{kind_of}
 use Rattle.far_rows.specs.Rows.{Rows, AreRows}
 use Rattle.far_rows.specs.Refusing.{told_at}
-use Rattle.far_aggregates.specs.Aggregates.{joined}
+use Rattle.far_aggregates.specs.Aggregates.{flattened}
 use Rattle.far_aggregates.specs.Lending.{IsServed}
 use Rattle.far_aggregates.specs.Scans.{scanned_entry}
 use Rattle.far_table.specs.State.{IsChecked, AreChecked}
@@ -89,7 +89,7 @@ pub an-aggregate : (found : Option Registered) (spec : Spec) → Some spec ≡ o
 an-aggregate None spec is = absurd (none-some spec (sym is))
 an-aggregate (Some r) spec is = record { aggregate = r; is = refl; same = same_Some r.spec spec (sym is) }
 
-pub checked-at : (schema : List Kind) (aggregates : List (Option Registered)) (a : ℕ) → AreChecked schema aggregates → IsChecked schema (joined (slice_get aggregates a))
+pub checked-at : (schema : List Kind) (aggregates : List (Option Registered)) (a : ℕ) → AreChecked schema aggregates → IsChecked schema (flattened (slice_get aggregates a))
 checked-at schema [] a checked = tt
 checked-at schema (other ∷ rest) zero checked = checked.0
 checked-at schema (other ∷ rest) (suc a) checked = checked-at schema rest a checked.1
@@ -100,8 +100,8 @@ built-checked schema g (Some r) checked = checked
 
 -- what is registered may be had over the schema still, whether a row group was scanned or not
 pub scanned-checked : {A : Type 0} (schema : List Kind) (aggregates after : List (Option Registered)) (a g : ℕ) (r : Result A Refusal)
-    → OnOk r (after ≡ slice_set aggregates a (scanned_entry g (joined (slice_get aggregates a)))) → OnErr r (after ≡ aggregates) → AreChecked schema aggregates → AreChecked schema after
-scanned-checked schema aggregates after a g (Ok x) built same checked = subst (AreChecked schema) (sym built) (checked-put schema aggregates a _ checked (built-checked schema g (joined (slice_get aggregates a)) (checked-at schema aggregates a checked)))
+    → OnOk r (after ≡ slice_set aggregates a (scanned_entry g (flattened (slice_get aggregates a)))) → OnErr r (after ≡ aggregates) → AreChecked schema aggregates → AreChecked schema after
+scanned-checked schema aggregates after a g (Ok x) built same checked = subst (AreChecked schema) (sym built) (checked-put schema aggregates a _ checked (built-checked schema g (flattened (slice_get aggregates a)) (checked-at schema aggregates a checked)))
 scanned-checked schema aggregates after a g (Err e) built same checked = subst (AreChecked schema) (sym same) checked
 
 -- a call that is refused for lack of memory alone

@@ -9,7 +9,7 @@ use Rattle.far_types.specs.Table.{Registered, in_group}
 use Rattle.far_rows.specs.declared.column_index.ColumnIndex.{ColumnIndex}
 use Rattle.far_rows.specs.declared.column_index.ColumnIndex.TheVariants as column_index
 use Rattle.far_rows.specs.ColumnIndexes.{kind_of}
-use Rattle.far_rows.specs.Rows.{Rows, AreRows, cells_of}
+use Rattle.far_rows.specs.Rows.{Rows, AreRows, all_cells}
 use Rattle.far_rows.specs.Refusing.{absents, absents_from, absent_at}
 use Rattle.far_rows.specs.Places.{places_in}
 use Rattle.far_aggregates.specs.Lending.{IsServed, AreServed}
@@ -40,7 +40,7 @@ module _ {K : Type 0} (content : K → List ℕ) (t : TableRows K) (places : t.p
       → AreRows content t.held → map kind_of t.held.column_indexes ≡ t.schema → (p : ℕ) → p < length t.places → first_of (absents t.held (p / t.limits.group)) ≡ None
       → (aggregates : List (Option Registered)) → AreChecked t.schema aggregates → AreServed (has_column record { rows = t.held; group = p / t.limits.group }) aggregates
   served-here law are kinds p inside free aggregates checked =
-      let long : length t.places ≡ length t.held.alive = ap length places ∙ length-places (cells_of content t.held) t.held.alive in
+      let long : length t.places ≡ length t.held.alive = ap length places ∙ length-places (all_cells content t.held) t.held.alive in
       subst (λ n. AreServed (has_column record { rows = t.held; group = p / n }) aggregates) size
       (all-served content t.held are p (omega (arith, inside, long)) (subst (λ n. first_of (absents t.held (p / n)) ≡ None) (sym size) free) law t.schema kinds aggregates checked)
 

@@ -12,7 +12,7 @@ use Rattle.far_rows.specs.ColumnIndexes.{kind_of}
 use Rattle.far_rows.specs.Rows.{Rows}
 use Rattle.far_aggregates.specs.Aggregates.{is_pending_in}
 use Rattle.far_aggregates.specs.Lending.{IsServed}
-use Rattle.far_table.specs.State.{State}
+use Rattle.far_table.specs.State.{LiveState}
 use Rattle.far_table.specs.Watching.{aggregate_at}
 use Rattle.far_rows.specs.Copies.{copy_of}
 use Rattle.far_table.specs.Offloading.{Build, HoldsStill, IsMergeable, HaveOneNumber, ticket_for}
@@ -32,7 +32,7 @@ pub some-has : {A Q : Type 0} (found : Option A) (P : A → Type 0) → IsSomeAn
 some-has None P there then = absurd there
 some-has (Some a) P there then = then a there
 
-module _ {K : Type 0} (number_of : K → ℕ) (s : State K) (build : Build K) where
+module _ {K : Type 0} (number_of : K → ℕ) (s : LiveState K) (build : Build K) where
   -- the flags are those of the row group
   pub still-alive : IsMergeable number_of s build → build.job.alive ≡ in_group s.rows.size build.group s.rows.alive
   still-alive still = some-has (aggregate_at s.table build.aggregate) (HoldsStill number_of s build) still (λ a holds. holds.alive)

@@ -23,12 +23,12 @@ use Rattle.far_rows.specs.declared.object.Object.{Object}
 use Rattle.far_rows.specs.declared.object.Object.TheVariants as object
 use Rattle.far_rows.specs.declared.column_index.ColumnIndex.{ColumnIndex}
 use Rattle.far_rows.specs.ColumnIndexes.{Values, kind_of, row_of}
-use Rattle.far_rows.specs.Rows.{Rows, cells_of}
+use Rattle.far_rows.specs.Rows.{Rows, all_cells}
 use Rattle.far_rows.specs.Places.{places_in, places_of}
 use Rattle.far_rows.specs.Moving.{object_at, after_pin, after_unpin, after_touch}
 use Rattle.far_rows.specs.Jobs.{IsEvacAccepted, IsFetchAccepted, IsAfterInstall, HasNoSpace, after_commit, pins_by}
 use Rattle.far_aggregates.specs.Accumulators.{PlacesFit}
-use Rattle.far_table.specs.TableRows.{TableRows, AreWritten, AreKept, rows_in}
+use Rattle.far_table.specs.TableRows.{TableRows, AreWritten, AreTableRows, rows_in}
 use Rattle.far_table.specs.Moving.{AreMoved, IsPinned, IsUnpinned, IsTouched, IsCommitted, IsInstalled, IsCompactedOf}
 
 -- objects were written as often as before, and may be written as often
@@ -156,11 +156,11 @@ module _ {K : Type 0} (content : K → List ℕ) (schema : List Kind) (limits : 
   written-still : {X L : Type 0} (m : Movement X K) (now : Movement X L) → AreAsWritten m now → AreWritten limits edits m → AreWritten limits edits now
   written-still m now kept are = record { max_writes = kept.max_writes ∙ are.max_writes; versions = λ o. (let before = are.versions o in let same = kept.versions o in omega (arith, before, same)) }
 
-  module _ {L : Type 0} (new_content : L → List ℕ) (now : Rows L) (cells : cells_of new_content now ≡ cells_of content old) (still : AreStill old now) where
+  module _ {L : Type 0} (new_content : L → List ℕ) (now : Rows L) (cells : all_cells new_content now ≡ all_cells content old) (still : AreStill old now) where
     pub still-places : places_in new_content now ≡ places_in content old
     still-places = λ i. places_of (cells i) (still.alive i)
 
-    pub still-kept : AreKept content schema limits old new_row edits → AreKept new_content schema limits now new_row edits
+    pub still-kept : AreTableRows content schema limits old new_row edits → AreTableRows new_content schema limits now new_row edits
     still-kept kept = record {
       bounds = kept.bounds;
       kinds = ap (map kind_of) still.column_indexes ∙ kept.kinds;
@@ -176,8 +176,8 @@ module _ {K : Type 0} (content : K → List ℕ) (schema : List Kind) (limits : 
     }
 
   -- a call moved objects, or was refused
-  module _ {A : Type 0} (t : TableRows K) (is : rows_in content schema limits old new_row edits ≡ t) (r : Result A Refusal) (now : Rows K) (moves : Rows K → Rows K → Type 0) (ok : OnOk r (moves old now)) (err : OnErr r (now ≡ old)) (cells : cells_of content now ≡ cells_of content old) (still : moves old now → AreStill old now) where
-    pub moved-kept : AreKept content schema limits old new_row edits → AreKept content schema limits now new_row edits
+  module _ {A : Type 0} (t : TableRows K) (is : rows_in content schema limits old new_row edits ≡ t) (r : Result A Refusal) (now : Rows K) (moves : Rows K → Rows K → Type 0) (ok : OnOk r (moves old now)) (err : OnErr r (now ≡ old)) (cells : all_cells content now ≡ all_cells content old) (still : moves old now → AreStill old now) where
+    pub moved-kept : AreTableRows content schema limits old new_row edits → AreTableRows content schema limits now new_row edits
     moved-kept kept = still-kept content now cells (by-outcome r ok err still (λ (same : now ≡ old). subst (AreStill old) (sym same) (nothing-still old))) kept
 
     pub moved-rows : OnOk r (AreMoved moves t (rows_in content schema limits now new_row edits))

@@ -10,7 +10,7 @@ use Rattle.far_types.specs.Bounds.{AreLimits}
 use Rattle.far_texts.specs.Texts.{Texts}
 use Rattle.far_rows.specs.Opening.{numbers_from, texts_from, empty_rows}
 use Rattle.far_rows.specs.ColumnIndexes.{Values, kind_of, column_indexes_from}
-use Rattle.far_table.specs.TableRows.{AreKept}
+use Rattle.far_table.specs.TableRows.{AreTableRows}
 use Rattle.far_table.proofs.Fits.{default_value-fits}
 
 kinds-opened : (n m : ℕ) (kinds : List Kind) → map kind_of (column_indexes_from n m kinds) ≡ kinds
@@ -24,7 +24,7 @@ limits-opened size limit n (kind.Int ∷ kinds) = limits-opened size limit (n + 
 limits-opened size limit n (kind.Text ∷ kinds) = All-cons (λ (c : Texts). c.limit ≡ limit) _ _ refl (limits-opened size limit (n + 1) kinds)
 
 pub opened-kept : {K : Type 0} (content : K → List ℕ) (schema : List Kind) (limits : Limits) (number : ℕ) → AreLimits limits → (n m : ℕ) (values : Values) → values ≡ record { numbers = replicate n None; texts = replicate m None }
-    → n ≡ length (numbers_from limits.group 0 schema) → m ≡ length (texts_from limits.group limits.text_size 0 schema) → AreKept content schema limits (empty_rows {K = K} schema limits number) values 0
+    → n ≡ length (numbers_from limits.group 0 schema) → m ≡ length (texts_from limits.group limits.text_size 0 schema) → AreTableRows content schema limits (empty_rows {K = K} schema limits number) values 0
 opened-kept {K = K} content schema limits number bounds n m values default_value ints strings = record {
   bounds = bounds;
   kinds = kinds-opened 0 0 schema;

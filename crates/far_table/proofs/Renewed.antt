@@ -7,9 +7,9 @@ use Rattle.far_scopes.specs.declared.object_record.ObjectRecord.{ObjectRecord}
 use Rattle.far_scopes.specs.Movement.{Movement}
 use Rattle.far_scopes.specs.Renewal.{Renews, after_renew, renewed_record}
 use Rattle.far_rows.specs.ColumnIndexes.{Values}
-use Rattle.far_rows.specs.Rows.{Rows, cells_of}
+use Rattle.far_rows.specs.Rows.{Rows, all_cells}
 use Rattle.far_rows.specs.Renewal.{RowsTickets, RenewsRows, renewed_rows}
-use Rattle.far_table.specs.TableRows.{TableRows, AreKept, rows_in}
+use Rattle.far_table.specs.TableRows.{TableRows, AreTableRows, rows_in}
 use Rattle.far_table.specs.Renewing.{renewed_table_rows}
 use Rattle.far_table.proofs.Moved.{AreAsWritten, AreStill, writes, still-kept, still-places}
 
@@ -36,11 +36,11 @@ module _ {K L : Type 0} where
         text_objects = renewed-unwritten r.text_objects tickets.texts renews.texts;
       }
 
-      module _ (schema : List Kind) (limits : Limits) (new_row : Values) (edits : ℕ) (now : Rows L) (is : now ≡ renewed_rows r tickets) (cells : cells_of new_content now ≡ cells_of content r) where
+      module _ (schema : List Kind) (limits : Limits) (new_row : Values) (edits : ℕ) (now : Rows L) (is : now ≡ renewed_rows r tickets) (cells : all_cells new_content now ≡ all_cells content r) where
         still : AreStill r now
         still = subst (AreStill r) (sym is) renewed-still
 
-        pub renewed-kept : AreKept content schema limits r new_row edits → AreKept new_content schema limits now new_row edits
+        pub renewed-kept : AreTableRows content schema limits r new_row edits → AreTableRows new_content schema limits now new_row edits
         renewed-kept kept = still-kept content schema limits r new_row edits new_content now cells still kept
 
         pub renewed-rows : (t : TableRows K) → rows_in content schema limits r new_row edits ≡ t → rows_in new_content schema limits now new_row edits ≡ renewed_table_rows t tickets

@@ -10,7 +10,7 @@ use Rattle.far_types.specs.Answers.{Totals, totals, extrema}
 use Rattle.far_types.specs.Effects.{joined_totals, joined_extrema}
 use Rattle.far_types.specs.Table.{Place, groups, in_group, place_pair}
 use Rattle.far_types.proofs.TotalLaws.{totals-append, extrema-append}
-use Rattle.far_groups.specs.Live.{Live, CanJoin}
+use Rattle.far_groups.specs.Live.{TotalsState, CanJoin}
 use Rattle.far_groups.proofs.PairLaws.{can_join}
 use Rattle.far_offload.specs.declared.partial.PartialDone.{PartialDone}
 use Rattle.far_offload.specs.Partials.{partial_of}
@@ -64,7 +64,7 @@ ceil-short count workers ceil some last =
       | inr within ↦ within
     ]
 
-abbrev pub live_of : ℕ → Totals → Live
+abbrev pub live_of : ℕ → Totals → TotalsState
 live_of left totals = record { left = left; totals = totals }
 
 -- ---- the places of a run

@@ -29,7 +29,7 @@ use Rattle.far_rows.specs.Effects.{IsPushed, KeepsObjects}
 use Rattle.far_rows.specs.Places.{places_in}
 use Rattle.far_rows.specs.Setting.{cell_of, set_in}
 use Rattle.far_aggregates.specs.Accumulators.{PlacesFit}
-use Rattle.far_table.specs.TableRows.{AreWritten, AreKept}
+use Rattle.far_table.specs.TableRows.{AreWritten, AreTableRows}
 use Rattle.far_table.proofs.Fits.{fit-appended, fit-set, fit-removed}
 
 -- how often objects may be written stays
@@ -70,11 +70,11 @@ texts-limit : (limit n : ℕ) (columns : List Texts) → All (λ c. c.limit ≡ 
 texts-limit limit n [] of = All-nil (λ c. c.limit ≡ limit)
 texts-limit limit n (c ∷ columns) of = All-cons (λ c. c.limit ≡ limit) _ _ (All-head (λ c. c.limit ≡ limit) c columns of) (texts-limit limit (n + 1) columns (All-tail (λ c. c.limit ≡ limit) c columns of))
 
-module _ {K : Type 0} (content : K → List ℕ) (is_of : K → List ℕ → Type 0) (schema : List Kind) (limits : Limits) (old : Rows K) (new_row : Values) (edits : ℕ) (kept : AreKept content schema limits old new_row edits) where
+module _ {K : Type 0} (content : K → List ℕ) (is_of : K → List ℕ → Type 0) (schema : List Kind) (limits : Limits) (old : Rows K) (new_row : Values) (edits : ℕ) (kept : AreTableRows content schema limits old new_row edits) where
   more-written : {X : Type 0} (m now : Movement X K) → AreWritten limits edits m → now.max_writes ≡ m.max_writes → ((o : ℕ) → version_of now o ≤ version_of m o + 1) → AreWritten limits (edits + 1) now
   more-written m now are same once = record { max_writes = same ∙ are.max_writes; versions = λ o. (let before = are.versions o in let after = once o in omega (arith, before, after)) }
 
-  pub pushed-kept : edits ≢ limits.edits → (now : Rows K) → IsPushed content old new_row now → KeepsObjects is_of old now → length old.alive ≢ limits.places → places_in content now ≡ places_in content old ++ record { cells = row_of old.column_indexes new_row; alive = true } ∷ [] → AreKept content schema limits now new_row (edits + 1)
+  pub pushed-kept : edits ≢ limits.edits → (now : Rows K) → IsPushed content old new_row now → KeepsObjects is_of old now → length old.alive ≢ limits.places → places_in content now ≡ places_in content old ++ record { cells = row_of old.column_indexes new_row; alive = true } ∷ [] → AreTableRows content schema limits now new_row (edits + 1)
   pushed-kept left now pushed keeps few places = record {
     bounds = kept.bounds;
     kinds = ap (map kind_of) pushed.column_indexes ∙ kept.kinds;
@@ -116,7 +116,7 @@ module _ {K : Type 0} (content : K → List ℕ) (is_of : K → List ℕ → Typ
   alike (column_index.Number i) place (new.Text text) = record { column_indexes = refl; size = refl; numbers = refl; texts = refl; alive = refl; number_changes = refl; text_changes = refl }
   alike (column_index.Text i) place (new.Number number) = record { column_indexes = refl; size = refl; numbers = refl; texts = refl; alive = refl; number_changes = refl; text_changes = refl }
 
-  pub set-kept : edits ≢ limits.edits → (now : Rows K) (s : ColumnIndex) (column place : ℕ) (value : NewCell) → now ≡ set_in content old s place value → KeepsObjects is_of old now → CellFits (cell_of value) → places_in content now ≡ changed_at (with_cell column (cell_of value)) place (places_in content old) → AreKept content schema limits now new_row (edits + 1)
+  pub set-kept : edits ≢ limits.edits → (now : Rows K) (s : ColumnIndex) (column place : ℕ) (value : NewCell) → now ≡ set_in content old s place value → KeepsObjects is_of old now → CellFits (cell_of value) → places_in content now ≡ changed_at (with_cell column (cell_of value)) place (places_in content old) → AreTableRows content schema limits now new_row (edits + 1)
   set-kept left now s column place value moved keeps fits places =
       let same = subst IsAlike (sym moved) (alike s place value) in
       record {
@@ -133,7 +133,7 @@ module _ {K : Type 0} (content : K → List ℕ) (is_of : K → List ℕ → Typ
         new_row_fit = subst (λ (column_indexes : List ColumnIndex). RowFits (row_of column_indexes new_row)) (sym same.column_indexes) kept.new_row_fit;
       }
 
-  pub cleared-kept : edits ≢ limits.edits → (place : ℕ) → places_in content (record old { alive = set old.alive place false }) ≡ changed_at removed place (places_in content old) → AreKept content schema limits (record old { alive = set old.alive place false }) new_row (edits + 1)
+  pub cleared-kept : edits ≢ limits.edits → (place : ℕ) → places_in content (record old { alive = set old.alive place false }) ≡ changed_at removed place (places_in content old) → AreTableRows content schema limits (record old { alive = set old.alive place false }) new_row (edits + 1)
   cleared-kept left place places = record {
     bounds = kept.bounds;
     kinds = kept.kinds;
@@ -149,7 +149,7 @@ module _ {K : Type 0} (content : K → List ℕ) (is_of : K → List ℕ → Typ
   }
 
   -- another row of such a width is taken
-  pub taken-kept : (next : Values) → length next.numbers ≡ length new_row.numbers → length next.texts ≡ length new_row.texts → RowFits (row_of old.column_indexes next) → AreKept content schema limits old next edits
+  pub taken-kept : (next : Values) → length next.numbers ≡ length new_row.numbers → length next.texts ≡ length new_row.texts → RowFits (row_of old.column_indexes next) → AreTableRows content schema limits old next edits
   taken-kept next numbers texts fits = record {
     bounds = kept.bounds;
     kinds = kept.kinds;

@@ -11,7 +11,7 @@ use Rattle.far_types.specs.Bounds.{spec_refusal}
 use Rattle.far_types.specs.FirstOf.{first_of}
 use Rattle.far_types.specs.MayRefuse.{MayRefuse}
 use Rattle.far_types.specs.Table.{Table, Registered, is_pending}
-use Rattle.far_table.specs.State.{State, IsChecked, AreChecked}
+use Rattle.far_table.specs.State.{LiveState, IsChecked, AreChecked}
 use Rattle.far_table.specs.Watching.{lowest_free, group_count, needed_from, watch_refusal, scan_refusal}
 
 -- what is due is returned
@@ -46,7 +46,7 @@ module _ (table : Table) (spec : Spec) where
       pub watch-free : table.registrations ≢ 2 ^ 32 → watch_refusal table spec ≡ None
       watch-free few = let e : (table.registrations == 2 ^ 32) ≡ false = grind (arith, nat_tests) in numbered ∙ ap (λ b. cond b (Some refusal.TooManyAggregates) None) e
 
-module _ {K : Type 0} (s : State K) (r : Registered) (g : ℕ) where
+module _ {K : Type 0} (s : LiveState K) (r : Registered) (g : ℕ) where
   abbrev away : List (Bool × Refusal)
   away = needed_from s.rows r.spec g 0 s.rows.column_indexes
 

@@ -13,10 +13,10 @@ use Rattle.far_rows.specs.ColumnIndexes.{kind_of, row_of}
 use Rattle.far_rows.specs.Refusing.{absents, no_space_for_texts, no_space_for_numbers, push_refusal}
 use Rattle.far_rows.specs.Effects.{IsPushed, IsSet}
 use Rattle.far_rows.specs.Setting.{cell_of, kind_in, set_refusal}
-use Rattle.far_table.specs.State.{State}
+use Rattle.far_table.specs.State.{LiveState}
 use Rattle.far_table.specs.TableRows.{TableRows, asked}
 
-module _ {K : Type 0} (s : State K) where
+module _ {K : Type 0} (s : LiveState K) where
   -- the row group that an edit writes
   abbrev pub group_of : Edit → ℕ
   group_of (edit.Insert row) = length s.table.places / s.table.limits.group

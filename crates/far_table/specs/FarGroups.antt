@@ -30,8 +30,8 @@ module _ {K : Type 0} where
   places_there content g = in_group g.rows.size g.build.group (places_in content g.rows)
 
   -- the columns that the build needs are at hand
-  abbrev pub has_copy : FarRows K → ℕ → Bool
-  has_copy g column = needs g.build.job.spec column
+  abbrev pub needs_column : FarRows K → ℕ → Bool
+  needs_column g column = needs g.build.job.spec column
 
   -- a content is that of a column of the row group
   pub record IsCopy (content : K → List ℕ) (r : Rows K) (group column : ℕ) (ticket : K) : Type 0 where

@@ -2,7 +2,7 @@
 use Rattle.std.specs.Prelude.{◌≡◌, ℕ, Bool, true, List, length, Option, None, Some, is_none, option_map, slice_get, slice_index_or, IsSome, IfSome}
 use Rattle.far_types.specs.Table.{Place, in_group}
 use Rattle.far_rows.specs.declared.lent_column.LentColumn.{LentColumn}
-use Rattle.far_rows.specs.Rows.{Rows, cells_of}
+use Rattle.far_rows.specs.Rows.{Rows, all_cells}
 use Rattle.far_rows.specs.Places.{places_in}
 use Rattle.far_rows.specs.Lending.{IsLent, cells_lent}
 use Rattle.far_rows.specs.Jobs.{evac_refusal}
@@ -26,7 +26,7 @@ module _ {K : Type 0} where
     pub record IsLentOf (column : ℕ) (found : Option LentColumn) : Type 0 where
       pub there : has_column g column ≡ true → IsSome found
       pub form : IfSome found IsLent
-      pub cells : IfSome found (λ lent. option_map (in_group g.rows.size g.group) (slice_get (cells_of content g.rows) column) ≡ Some (cells_lent lent))
+      pub cells : IfSome found (λ lent. option_map (in_group g.rows.size g.group) (slice_get (all_cells content g.rows) column) ≡ Some (cells_lent lent))
 
     -- what was lent of the columns, and the flags of the places
     pub record AreLent (columns : List (Option LentColumn)) (flags : List Bool) : Type 0 where

@@ -11,13 +11,13 @@ use Rattle.far_rows.specs.ColumnIndexes.{Values, kind_of, row_of}
 use Rattle.far_rows.specs.Rows.{Rows}
 use Rattle.far_rows.specs.Effects.{IsPushed, IsSet}
 use Rattle.far_rows.specs.Setting.{cell_of, kind_in}
-use Rattle.far_table.specs.State.{State, AreChecked}
+use Rattle.far_table.specs.State.{LiveState, AreChecked}
 use Rattle.far_table.specs.TableRows.{TableRows}
 use Rattle.far_table.specs.Edits.{edit_due}
 
 module _ {K : Type 0} where
   -- the table of these rows and aggregates
-  abbrev pub state_of : TableRows K → ℕ → List RegistryEntry → State K
+  abbrev pub state_of : TableRows K → ℕ → List RegistryEntry → LiveState K
   state_of t registrations registry = record {
     table = record { schema = t.schema; limits = t.limits; places = t.places; edits = t.edits; registrations = registrations; aggregates = registered_of registry };
     rows = t.held;
@@ -30,7 +30,7 @@ module _ {K : Type 0} where
     pub checked : AreChecked t.schema (registered_of registry)
 
   -- a call is refused: nothing changes, and this was due, or an allocation failed
-  abbrev pub Refuses : Option Refusal → Bool → State K → Refusal → State K → Type 0
+  abbrev pub Refuses : Option Refusal → Bool → LiveState K → Refusal → LiveState K → Type 0
   Refuses due grows old given new = (new ≡ old) × MayRefuse due grows given
 
   -- how the rows change by an edit. What is set is a value of its column's kind, even if it is missing: so the column's object
@@ -41,7 +41,7 @@ module _ {K : Type 0} where
   Moves content old (edit.Remove p) new = new ≡ record old { alive = slice_set old.alive p false }
 
   -- an edit is made
-  pub record IsEdited (content : K → List ℕ) (old : State K) (e : Edit) (new : State K) : Type 0 where
+  pub record IsEdited (content : K → List ℕ) (old : LiveState K) (e : Edit) (new : LiveState K) : Type 0 where
     pub due : edit_due old e ≡ None
     pub table : new.table ≡ edited e old.table
     pub rows : Moves content old.rows e new.rows

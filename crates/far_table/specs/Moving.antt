@@ -9,7 +9,7 @@ use Rattle.far_rows.specs.declared.job.ByKind.{ByKind}
 use Rattle.far_rows.specs.Rows.{Rows}
 use Rattle.far_rows.specs.Moving.{object_at, after_pin, after_unpin, after_touch}
 use Rattle.far_rows.specs.Jobs.{IsEvacAccepted, IsFetchAccepted, IsAfterInstall, HasNoSpace, after_commit, pins_by}
-use Rattle.far_table.specs.State.{State}
+use Rattle.far_table.specs.State.{LiveState}
 use Rattle.far_table.specs.TableRows.{TableRows}
 
 module _ {K : Type 0} where
@@ -59,6 +59,6 @@ module _ {K : Type 0} where
       pub held : moves old.held new.held
 
     -- the objects of a table move like this, and its rows, aggregates and edits stay
-    pub record IsMoved (old new : State K) : Type 0 where
+    pub record IsMoved (old new : LiveState K) : Type 0 where
       pub table : new.table ≡ old.table
       pub rows : moves old.rows new.rows

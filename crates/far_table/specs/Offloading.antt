@@ -11,7 +11,7 @@ use Rattle.far_offload.specs.Jobs.{Job}
 use Rattle.far_rows.specs.declared.column_index.ColumnIndex.{ColumnIndex}
 use Rattle.far_rows.specs.Rows.{Rows}
 use Rattle.far_rows.specs.Copies.{copy_of}
-use Rattle.far_table.specs.State.{State}
+use Rattle.far_table.specs.State.{LiveState}
 use Rattle.far_table.specs.Watching.{aggregate_at, group_count, scanned_at}
 
 -- a build as it was begun: the number of the table, the aggregate, how many registrations were made before its own, and the row group.
@@ -45,7 +45,7 @@ module _ {K : Type 0} where
   dirty_from r spec g n (s ∷ column_indexes) = (needs spec n && is_none (copy_of r n g), refusal.StaleJob) ∷ dirty_from r spec g (n + 1) column_indexes
 
   -- a build is begun if the row group has a place, is still pending, and the columns that the aggregate needs are clean
-  abbrev pub offload_refusal : State K → Option Registered → ℕ → Option Refusal
+  abbrev pub offload_refusal : LiveState K → Option Registered → ℕ → Option Refusal
   offload_refusal s None g = Some refusal.NoAggregate
   offload_refusal s (Some aggregate) g = first_of (
       (not (nat_lt g (group_count s.table)), refusal.OutOfRange)
@@ -58,7 +58,7 @@ module _ {K : Type 0} where
     pub spec : build.job.spec ≡ aggregate.spec
 
   -- a build of a row group into the aggregate of a number, begun now
-  pub record IsOffloadBegun (s : State K) (a g : ℕ) (build : Build K) : Type 0 where
+  pub record IsOffloadBegun (s : LiveState K) (a g : ℕ) (build : Build K) : Type 0 where
     pub number : build.number ≡ s.rows.number_objects.number
     pub aggregate : build.aggregate ≡ a
     pub group : build.group ≡ g
@@ -66,7 +66,7 @@ module _ {K : Type 0} where
     pub tickets : (column : ℕ) → ticket_for build.job.tickets column ≡ cond (needs build.job.spec column) (copy_of s.rows column g) None
     pub alive : build.job.alive ≡ in_group s.rows.size g s.rows.alive
 
-  module _ (number_of : K → ℕ) (s : State K) (build : Build K) where
+  module _ (number_of : K → ℕ) (s : LiveState K) (build : Build K) where
     -- what a build rests on still holds, of the aggregate under its number
     pub record HoldsStill (aggregate : Registered) : Type 0 where
       pub number : build.number ≡ s.rows.number_objects.number
@@ -80,6 +80,6 @@ module _ {K : Type 0} where
     IsMergeable = IsSomeAnd (aggregate_at s.table build.aggregate) HoldsStill
 
     -- and then its row group is built into its aggregate
-    pub record IsMerged (new : State K) : Type 0 where
+    pub record IsMerged (new : LiveState K) : Type 0 where
       pub accepted : IsMergeable
       pub state : new ≡ record s { table = scanned_at build.aggregate build.group s.table }

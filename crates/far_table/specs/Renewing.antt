@@ -1,6 +1,6 @@
 -- A table whose far copies go into another store: everything else stays.
 use Rattle.far_rows.specs.Renewal.{RowsTickets, renewed_rows}
-use Rattle.far_table.specs.State.{State}
+use Rattle.far_table.specs.State.{LiveState}
 use Rattle.far_table.specs.TableRows.{TableRows}
 
 module _ {K L : Type 0} where
@@ -9,5 +9,5 @@ module _ {K L : Type 0} where
   renewed_table_rows t tickets = record { schema = t.schema; limits = t.limits; places = t.places; edits = t.edits; new_row = t.new_row; held = renewed_rows t.held tickets }
 
   -- a table under these tickets
-  abbrev pub renewed_state : State K → RowsTickets L → State L
+  abbrev pub renewed_state : LiveState K → RowsTickets L → LiveState L
   renewed_state s tickets = record { table = s.table; rows = renewed_rows s.rows tickets }

@@ -9,13 +9,13 @@ use Rattle.far_rows.specs.Rows.{Rows}
 use Rattle.far_rows.specs.Opening.{empty_rows}
 
 -- all that an edit or a question can see or change: the plain table, and the rows over objects that hold its places
-pub record State (K : Type 0) : Type 0 where
+pub record LiveState (K : Type 0) : Type 0 where
   pub table : Table
   pub rows : Rows K
 
 -- a table as it is opened
-abbrev pub empty_state : {K : Type 0} → List Kind → Limits → ℕ → State K
-empty_state schema limits number = record { table = empty_table schema limits; rows = empty_rows schema limits number }
+abbrev pub empty_live_state : {K : Type 0} → List Kind → Limits → ℕ → LiveState K
+empty_live_state schema limits number = record { table = empty_table schema limits; rows = empty_rows schema limits number }
 
 -- what is registered may be had over the schema
 abbrev pub IsChecked : List Kind → Option Registered → Type 0

@@ -5,7 +5,7 @@ use Rattle.far_types.specs.declared.limits.Limits.{Limits}
 use Rattle.far_types.specs.Bounds.{AreLimits}
 use Rattle.far_types.specs.Cells.{RowFits}
 use Rattle.far_types.specs.Table.{Place}
-use Rattle.far_table.specs.State.{State}
+use Rattle.far_table.specs.State.{LiveState}
 use Rattle.far_scopes.specs.Movement.{Movement, version_of}
 use Rattle.far_aggregates.specs.Accumulators.{PlacesFit}
 use Rattle.far_rows.specs.ColumnIndexes.{Values, kind_of, row_of}
@@ -29,7 +29,7 @@ module _ {K : Type 0} where
   rows_in content schema limits held new_row edits = record { schema = schema; limits = limits; places = places_in content held; edits = edits; new_row = new_row; held = held }
 
   -- a table of which only what an edit's refusal looks at is known
-  abbrev pub asked : TableRows K → State K
+  abbrev pub asked : TableRows K → LiveState K
   asked t = record { table = record { schema = t.schema; limits = t.limits; places = t.places; edits = t.edits; registrations = 0; aggregates = [] }; rows = t.held }
 
   -- objects may be written as often as the table may be edited, and none was written more often than the table was edited
@@ -38,7 +38,7 @@ module _ {K : Type 0} where
     pub versions : (o : ℕ) → version_of m o ≤ edits
 
   -- what always holds of the parts of such rows
-  pub record AreKept (content : K → List ℕ) (schema : List Kind) (limits : Limits) (held : Rows K) (new_row : Values) (edits : ℕ) : Type 0 where
+  pub record AreTableRows (content : K → List ℕ) (schema : List Kind) (limits : Limits) (held : Rows K) (new_row : Values) (edits : ℕ) : Type 0 where
     pub bounds : AreLimits limits
     pub kinds : map kind_of held.column_indexes ≡ schema
     pub layout : AreOf limits held

@@ -7,16 +7,16 @@ use Rattle.far_types.specs.declared.refusal.Refusal.TheVariants as refusal
 use Rattle.far_types.specs.Bounds.{needs, spec_refusal}
 use Rattle.far_types.specs.FirstOf.{first_of}
 use Rattle.far_types.specs.Table.{Table, Registered, groups, all_pending, is_pending}
-use Rattle.far_aggregates.specs.Aggregates.{joined, free_from}
+use Rattle.far_aggregates.specs.Aggregates.{flattened, free_from}
 use Rattle.far_aggregates.specs.Scans.{scanned_entry}
 use Rattle.far_rows.specs.declared.column_index.ColumnIndex.{ColumnIndex}
 use Rattle.far_rows.specs.Rows.{Rows}
 use Rattle.far_rows.specs.Refusing.{told_at}
-use Rattle.far_table.specs.State.{State}
+use Rattle.far_table.specs.State.{LiveState}
 
 -- the aggregate that is registered under a number
 abbrev pub aggregate_at : Table → ℕ → Option Registered
-aggregate_at table a = joined (slice_get table.aggregates a)
+aggregate_at table a = flattened (slice_get table.aggregates a)
 
 -- the lowest number under which none is registered
 abbrev pub lowest_free : Table → Option ℕ
@@ -46,7 +46,7 @@ module _ {K : Type 0} where
   needed_from r spec g n (s ∷ column_indexes) = (needs spec n && (told_at r g s).0, refusal.Absent n g) ∷ needed_from r spec g (n + 1) column_indexes
 
   -- a row group is scanned if it has a place, is still pending, and the columns that the aggregate needs are local
-  abbrev pub scan_refusal : State K → Option Registered → ℕ → Option Refusal
+  abbrev pub scan_refusal : LiveState K → Option Registered → ℕ → Option Refusal
   scan_refusal s None g = Some refusal.NoAggregate
   scan_refusal s (Some aggregate) g = first_of (
       (not (nat_lt g (group_count s.table)), refusal.OutOfRange)
@@ -69,7 +69,7 @@ registered_at a spec table = record (with_aggregate a (Some (registered_now spec
 abbrev pub scanned_at : ℕ → ℕ → Table → Table
 scanned_at a g table = with_aggregate a (scanned_entry g (aggregate_at table a)) table
 
-module _ {K : Type 0} (old new : State K) where
+module _ {K : Type 0} (old new : LiveState K) where
   -- an aggregate is registered under the lowest free number
   pub record IsWatched (spec : Spec) (a : ℕ) : Type 0 where
     pub due : watch_refusal old.table spec ≡ None

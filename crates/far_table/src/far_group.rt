@@ -52,11 +52,11 @@ impl<'a, S: FarTickets> FarGroup<'a, S> {
 }
 
 impl<'a, S: FarTickets> LendGroup for FarGroup<'a, S> {
-    ghost use Rattle.far_table.specs.FarGroups.{places_there, has_copy};
+    ghost use Rattle.far_table.specs.FarGroups.{places_there, needs_column};
 
     ghost places = { places_there S.content };
 
-    ghost has = { has_copy };
+    ghost has = { needs_column };
 
     fn column(&self, number: u32) -> Option<Column<'_>> {
         if !self.spec.needs(number) {

@@ -7,7 +7,7 @@ ghost use Rattle.far_rows.specs.Jobs.{AreAt};
 ghost use Rattle.far_rows.specs.Refusing.{absents};
 ghost use Rattle.far_aggregates.specs.Accumulators.{Keeps, registered_of};
 ghost use Rattle.far_aggregates.specs.Pending.{RetractsAll};
-ghost use Rattle.far_table.specs.State.{AreChecked, empty_state};
+ghost use Rattle.far_table.specs.State.{AreChecked, empty_live_state};
 ghost use Rattle.far_table.specs.Edits.{edit_due};
 ghost use Rattle.far_table.specs.Live.{IsEdited, Refuses};
 
@@ -47,10 +47,10 @@ pub struct LiveTable<S: FarTickets> {
 }
 
 impl<S: FarTickets> Model for LiveTable<S> {
-    ghost use Rattle.far_table.specs.State.{State};
+    ghost use Rattle.far_table.specs.State.{LiveState};
     ghost use Rattle.far_table.specs.Live.{IsLive, state_of};
 
-    ghost Value = { State S.Ticket };
+    ghost Value = { LiveState S.Ticket };
 
     ghost view = { λ t. state_of t.rows t.registrations t.aggregates };
 
@@ -70,7 +70,7 @@ impl<S: FarTickets> LiveTable<S> {
         limits: Limits,
         number: u32,
     ) -> Result<LiveTable<S>, Refusal>
-        ensures ok { IfOk result (λ table. table ≡ empty_state schema limits number) }
+        ensures ok { IfOk result (λ table. table ≡ empty_live_state schema limits number) }
         ensures limits { OnOk result (AreLimits limits) }
         ensures here { IfOk result (λ table. (id : List ℕ) → AreAt S.is_of id table.rows) }
         ensures bad { IfErr result (λ e. ((e ≡ Refusal.BadSchema) × ¬ (AreLimits limits)) ⊎ ((e ≡ Refusal.NoMemory) × AreLimits limits)) }

@@ -1,7 +1,6 @@
 // Offloaded builds: a row group is built into an aggregate from the far store's copies of its columns.
 ghost use Rattle.std.specs.Prelude.{◌≡◌, ◌+◌, ◌<◌, ◌^◌, [], ◌∷◌, IfOk, IfErr};
-ghost use Rattle.far_store.specs.Faults.{faults_in, RefusedBy};
-ghost use Rattle.far_offload.specs.Jobs.{outcome};
+ghost use Rattle.far_store.specs.Faults.{faults_in, outcome, RefusedBy};
 ghost use Rattle.far_table.specs.Offloading.{AreTicketsOf};
 ghost use Rattle.far_table.specs.FarGroups.{contents_under};
 
@@ -22,7 +21,7 @@ use std::marker::Model;
 /// let build = self.table.begin_offload(store, a, group)?;
 /// Ok(Job {
 ///     name: None,
-///     work: Work::Offload(build),
+///     work: JobPhase::Offload(build),
 /// })
 /// ```
 #[derive(Drop)]
@@ -47,12 +46,12 @@ impl<S: FarTickets> Model for OffloadBuild<S> {
 ///
 /// ```
 /// match &job.work {
-///     Work::Offloaded(carried) => self.table.merge(store, carried),
-///     Work::Offload(_) => Err(Refusal::StaleJob),
-///     Work::Evac(_) => Err(Refusal::StaleJob),
-///     Work::Carried(_) => Err(Refusal::StaleJob),
-///     Work::Fetch(_) => Err(Refusal::StaleJob),
-///     Work::Fetched(_) => Err(Refusal::StaleJob),
+///     JobPhase::Offloaded(carried) => self.table.merge(store, carried),
+///     JobPhase::Offload(_) => Err(Refusal::StaleJob),
+///     JobPhase::Evac(_) => Err(Refusal::StaleJob),
+///     JobPhase::Carried(_) => Err(Refusal::StaleJob),
+///     JobPhase::Fetch(_) => Err(Refusal::StaleJob),
+///     JobPhase::Fetched(_) => Err(Refusal::StaleJob),
 /// }
 /// ```
 #[derive(Drop)]

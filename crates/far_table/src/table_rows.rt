@@ -49,13 +49,13 @@ pub struct TableRows<S: FarTickets> {
 }
 
 impl<S: FarTickets> Model for TableRows<S> {
-    ghost use Rattle.far_table.specs.TableRows.{TableRows, AreKept, rows_in};
+    ghost use Rattle.far_table.specs.TableRows.{TableRows, AreTableRows, rows_in};
 
     ghost Value = { TableRows S.Ticket };
 
     ghost view = { λ t. rows_in S.content t.schema t.limits t.rows t.new_row t.edits };
 
-    ghost invariant = { λ t. AreKept S.content t.schema t.limits t.rows t.new_row t.edits };
+    ghost invariant = { λ t. AreTableRows S.content t.schema t.limits t.rows t.new_row t.edits };
 }
 
 impl<S: FarTickets> TableRows<S> {

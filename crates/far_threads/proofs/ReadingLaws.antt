@@ -9,7 +9,7 @@ use Rattle.std.specs.declared.result.Result.TheVariants.{Ok, Err}
 use Rattle.far_history.specs.Histories.{Planned, by_session, gauge_of}
 use Rattle.far_history.specs.Sessions.{SessionState, newcomer}
 use Rattle.far_history.specs.declared.reading.Reading.{Reading}
-use Rattle.far_sessions.specs.Known.{Known, at, number_of, newcomers, newcomer_at_all}
+use Rattle.far_sessions.specs.Known.{Known, at, session_number, newcomers, newcomer_at_all}
 use Rattle.far_threads.specs.Runs.{inserts}
 use Rattle.far_threads.specs.Working.{AreGauged, AreWorked, Ended, IsGauged, IsRead, IsWorked, Looked, Makes}
 
@@ -92,7 +92,7 @@ of-ok A (Ok x) P ok holds = holds
 of-ok A (Err e) P ok holds = absurd (not-ok A e ok)
 
 -- who keeps its number at one stripe, and all at the others, keeps its number
-number-kept : (k : ℕ) (before after : Known) → (at after k).by ≡ (at before k).by → ((i : ℕ) → i < 4 → i ≢ k → at after i ≡ at before i) → number_of after ≡ number_of before
+number-kept : (k : ℕ) (before after : Known) → (at after k).by ≡ (at before k).by → ((i : ℕ) → i < 4 → i ≢ k → at after i ≡ at before i) → session_number after ≡ session_number before
 number-kept k before after by others =
     dite (ℕ_discrete 0 k) (λ is. subst (λ (i : ℕ). (at after i).by ≡ (at before i).by) (sym is) by) (λ other. ap (λ (s : SessionState). s.by) (others 0 (omega arith) other))
 
@@ -115,7 +115,7 @@ gauged-at p s n k ended me reading home made looked =
 gauged-of : (p : Planned) (s n : ℕ) (ended : Ended) (me : Known) (reading : Reading) → IsRead p ended me reading → IsWorked n (newcomer_at_all s) ended → IsGauged p s n me reading
 gauged-of p s n ended me reading read worked =
     let made : Makes (s % 4) n (newcomer_at_all s) ended.session = of-ok _ ended.outcome _ read.done worked in
-    let number : number_of ended.session ≡ s = number-kept (s % 4) (newcomer_at_all s) ended.session made.by made.others in
+    let number : session_number ended.session ≡ s = number-kept (s % 4) (newcomer_at_all s) ended.session made.by made.others in
     gauged-at p s n (s % 4) ended me reading refl made (subst (λ (t : ℕ). Looked p (t % 4) ended me reading) number read)
 
 -- what is read of all sessions of a plan when each has made its inserts

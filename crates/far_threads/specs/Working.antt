@@ -5,7 +5,7 @@ use Rattle.far_types.specs.declared.answer.Answer.{Answer}
 use Rattle.far_types.specs.declared.answer.Answer.TheVariants as answer
 use Rattle.far_history.specs.Histories.{Planned, by_session, gauge_of}
 use Rattle.far_history.specs.declared.reading.Reading.{Reading}
-use Rattle.far_sessions.specs.Known.{Known, SeesMore, at, number_of}
+use Rattle.far_sessions.specs.Known.{Known, SeesMore, at, session_number}
 use Rattle.far_shared.specs.Asking.{IsAnswer}
 use Rattle.far_threads.specs.declared.outcome.Outcome.{Outcome}
 use Rattle.far_threads.specs.declared.outcome.Stop.{Stop}
@@ -29,7 +29,7 @@ pub record Ended : Type 0 where
 
 -- a session made n inserts on its home stripe and nothing elsewhere, unless it was stopped
 abbrev pub IsWorked : ℕ → Known → Ended → Type 0
-IsWorked n me ended = OnOk ended.outcome (Makes (number_of me % 4) n me ended.session)
+IsWorked n me ended = OnOk ended.outcome (Makes (session_number me % 4) n me ended.session)
 
 -- all sessions did, in order
 pub record AreWorked (n : ℕ) (sessions : List Known) (worked : List Ended) : Type 0 where
@@ -45,12 +45,12 @@ pub record Looked (p : Planned) (k : ℕ) (ended : Ended) (me : Known) (reading 
 
 -- it looked at its home stripe
 abbrev pub IsRead : Planned → Ended → Known → Reading → Type 0
-IsRead p ended me reading = Looked p (number_of ended.session % 4) ended me reading
+IsRead p ended me reading = Looked p (session_number ended.session % 4) ended me reading
 
 -- session s has made n inserts on its home stripe and nothing elsewhere. A reading is of what it has seen at home, where just
 -- these are its own
 pub record IsGauged (p : Planned) (s n : ℕ) (me : Known) (reading : Reading) : Type 0 where
-  pub number : number_of me ≡ s
+  pub number : session_number me ≡ s
   pub none : (k : ℕ) → k < 4 → k ≢ s % 4 → (at me k).mine ≡ []
   pub made : (at me (s % 4)).mine ≡ inserts s n
   pub own : by_session s (at me (s % 4)).seen ≡ inserts s n

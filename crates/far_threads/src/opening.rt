@@ -1,6 +1,6 @@
 // How a run begins: one call each picks the names of its plan, of its cells and of its store.
 ghost use Rattle.std.specs.Prelude.{◌≡◌, ◌≤◌, IfOk};
-ghost use Rattle.far_shared.specs.Opening.{AreNamed};
+ghost use Rattle.far_shared.specs.Opening.{HaveNames};
 ghost use Rattle.far_threads.specs.Runs.{IsOutcome, IsRun};
 ghost use Rattle.far_threads.specs.Working.{HasHomes};
 
@@ -25,7 +25,7 @@ fn opened<
     S: FarStore,
     R: Threads + Wait + Sync,
 >(rt: &R, alloc: Global, made: Made<N, S>, store: &S, edits: u32) -> Result<Outcome, Stop>
-    requires names { AreNamed made B.cells }
+    requires names { HaveNames made B.cells }
     requires store { S.store_id store.now ≡ B.store }
     requires homes { HasHomes N.plan }
     ensures { IfOk result (IsRun N.plan edits) }

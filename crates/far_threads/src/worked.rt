@@ -1,6 +1,6 @@
 // Sessions that have made their edits, and where they make them.
 ghost use Rattle.std.specs.Prelude.{◌≡◌, ◌%◌};
-ghost use Rattle.far_sessions.specs.Known.{number_of};
+ghost use Rattle.far_sessions.specs.Known.{session_number};
 
 use crate::outcome::Stop;
 use far_sessions::Session;
@@ -24,7 +24,7 @@ impl<B: TableTag> Model for Worked<B> {
 
 /// Returns the home stripe of a session.
 pub(crate) fn home_of<B: TableTag>(me: &Session<B>) -> u32
-    ensures { result ≡ number_of me.now % 4 }
+    ensures { result ≡ session_number me.now % 4 }
 {
     (me.number() % 4) as u32
 }

@@ -8,7 +8,7 @@ ghost use Rattle.far_rows.specs.Moving.{object_refusal};
 ghost use Rattle.far_frame.specs.declared.step.Reply.{Reply};
 ghost use Rattle.far_frame.specs.declared.step.Step.TheVariants as step;
 ghost use Rattle.far_frame.specs.Effects.{Accepts};
-ghost use Rattle.far_frame.specs.Lending.{AreObserved, Gives, lend_refusal, lent_part, next_groups, prefetch_refusal};
+ghost use Rattle.far_frame.specs.Lending.{AreObserved, IsReplyOf, lend_refusal, lent_part, next_groups, prefetch_refusal};
 
 use super::Frame;
 use far_store::FarTickets;
@@ -61,7 +61,7 @@ impl<S: FarTickets> Frame<S> {
 
     /// Checks that a part of a column can be lent: then there is a reply with it. Allocates nothing.
     fn may_lend(&self, column: u32, from: u32, to: u32) -> Result<(), Refusal>
-        ensures given { OnOk result ((given : Reply) × Gives (slice_get self.now.table.schema column) (lent_part self.now.table column from to) given) }
+        ensures given { OnOk result ((given : Reply) × IsReplyOf (slice_get self.now.table.schema column) (lent_part self.now.table column from to) given) }
         ensures refused { refusal_in result ≡ lend_refusal self.now.rows column from to }
     {
         let view = self.scope();
@@ -92,7 +92,7 @@ impl<S: FarTickets> Frame<S> {
     ///
     /// A refused call changes nothing.
     pub fn record_lending(&mut self, column: u32, from: u32, to: u32) -> Result<(), Refusal>
-        ensures ok { OnOk result ((given : Reply) × Gives (slice_get self.old.table.schema column) (lent_part self.old.table column from to) given × Accepts S.content self.old (step.Lend column from to) given self.new) }
+        ensures ok { OnOk result ((given : Reply) × IsReplyOf (slice_get self.old.table.schema column) (lent_part self.old.table column from to) given × Accepts S.content self.old (step.Lend column from to) given self.new) }
         ensures refused { refusal_in result ≡ lend_refusal self.old.rows column from to }
         ensures err { OnErr result (self.new ≡ self.old) }
         ensures here { (id : List ℕ) → AreAt S.is_of id self.old.rows → AreAt S.is_of id self.new.rows }

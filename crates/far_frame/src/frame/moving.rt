@@ -9,7 +9,7 @@ ghost use Rattle.far_frame.specs.State.{Alters};
 ghost use Rattle.far_frame.specs.Jobs.{IsJobAt, IsEvacJob, IsFetchJob, IsColdestJob, Commits, CommitRefusal, Installs, InstallRefusal};
 
 use super::Frame;
-use crate::job::{Job, Work};
+use crate::job::{Job, JobPhase};
 use far_store::FarTickets;
 use far_types::{Kind, Name, Refusal};
 
@@ -86,7 +86,7 @@ impl<S: FarTickets> Frame<S> {
         let evac = self.table.begin_evac(store, column, group)?;
         Ok(Job {
             name: Some(Name { column, group }),
-            work: Work::Evac(evac),
+            work: JobPhase::Evac(evac),
         })
     }
 
@@ -106,7 +106,7 @@ impl<S: FarTickets> Frame<S> {
         let evac = self.table.begin_evac(store, name.column, name.group)?;
         Ok(Some(Job {
             name: Some(name),
-            work: Work::Evac(evac),
+            work: JobPhase::Evac(evac),
         }))
     }
 
@@ -126,7 +126,7 @@ impl<S: FarTickets> Frame<S> {
         let fetch = self.table.begin_fetch(store, column, group)?;
         Ok(Job {
             name: Some(Name { column, group }),
-            work: Work::Fetch(fetch),
+            work: JobPhase::Fetch(fetch),
         })
     }
 
@@ -147,12 +147,12 @@ impl<S: FarTickets> Frame<S> {
         ensures here { AreAt S.is_of (S.store_id store.now) self.new.rows }
     {
         match &job.work {
-            Work::Carried(carried) => self.table.commit(store, carried),
-            Work::Evac(_) => Err(Refusal::StaleJob),
-            Work::Fetch(_) => Err(Refusal::StaleJob),
-            Work::Fetched(_) => Err(Refusal::StaleJob),
-            Work::Offload(_) => Err(Refusal::StaleJob),
-            Work::Offloaded(_) => Err(Refusal::StaleJob),
+            JobPhase::Carried(carried) => self.table.commit(store, carried),
+            JobPhase::Evac(_) => Err(Refusal::StaleJob),
+            JobPhase::Fetch(_) => Err(Refusal::StaleJob),
+            JobPhase::Fetched(_) => Err(Refusal::StaleJob),
+            JobPhase::Offload(_) => Err(Refusal::StaleJob),
+            JobPhase::Offloaded(_) => Err(Refusal::StaleJob),
         }
     }
 
@@ -175,12 +175,12 @@ impl<S: FarTickets> Frame<S> {
         ensures here { AreAt S.is_of (S.store_id store.now) self.new.rows }
     {
         match &job.work {
-            Work::Fetched(fetched) => self.table.install(store, fetched),
-            Work::Evac(_) => Err(Refusal::StaleJob),
-            Work::Carried(_) => Err(Refusal::StaleJob),
-            Work::Fetch(_) => Err(Refusal::StaleJob),
-            Work::Offload(_) => Err(Refusal::StaleJob),
-            Work::Offloaded(_) => Err(Refusal::StaleJob),
+            JobPhase::Fetched(fetched) => self.table.install(store, fetched),
+            JobPhase::Evac(_) => Err(Refusal::StaleJob),
+            JobPhase::Carried(_) => Err(Refusal::StaleJob),
+            JobPhase::Fetch(_) => Err(Refusal::StaleJob),
+            JobPhase::Offload(_) => Err(Refusal::StaleJob),
+            JobPhase::Offloaded(_) => Err(Refusal::StaleJob),
         }
     }
 

@@ -9,7 +9,7 @@ ghost use Rattle.far_frame.specs.Jobs.{IsJobAt, IsOffloadJob, Merges, MergeRefus
 ghost use Rattle.far_frame.specs.State.{live};
 
 use super::Frame;
-use crate::job::{Job, Work};
+use crate::job::{Job, JobPhase};
 use far_store::FarTickets;
 use far_types::Refusal;
 
@@ -48,7 +48,7 @@ impl<S: FarTickets> Frame<S> {
         let build = self.table.begin_offload(store, a, group)?;
         Ok(Job {
             name: None,
-            work: Work::Offload(build),
+            work: JobPhase::Offload(build),
         })
     }
 
@@ -71,18 +71,18 @@ impl<S: FarTickets> Frame<S> {
         ensures err { OnErr result (self.new ≡ self.old) }
         ensures here { AreAt S.is_of (S.store_id store.now) self.new.rows }
     {
-        if let Work::Offload(build) = &job.work {
+        if let JobPhase::Offload(build) = &job.work {
             if self.table.spec(build.aggregate()).is_none() {
                 return Err(Refusal::NoAggregate);
             }
         }
         match &job.work {
-            Work::Offloaded(carried) => self.table.merge(store, carried),
-            Work::Offload(_) => Err(Refusal::StaleJob),
-            Work::Evac(_) => Err(Refusal::StaleJob),
-            Work::Carried(_) => Err(Refusal::StaleJob),
-            Work::Fetch(_) => Err(Refusal::StaleJob),
-            Work::Fetched(_) => Err(Refusal::StaleJob),
+            JobPhase::Offloaded(carried) => self.table.merge(store, carried),
+            JobPhase::Offload(_) => Err(Refusal::StaleJob),
+            JobPhase::Evac(_) => Err(Refusal::StaleJob),
+            JobPhase::Carried(_) => Err(Refusal::StaleJob),
+            JobPhase::Fetch(_) => Err(Refusal::StaleJob),
+            JobPhase::Fetched(_) => Err(Refusal::StaleJob),
         }
     }
 }

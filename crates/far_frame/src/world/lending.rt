@@ -4,7 +4,7 @@ ghost use Rattle.far_types.specs.MayRefuse.{MayRefuse};
 ghost use Rattle.far_rows.specs.Jobs.{AreAt};
 ghost use Rattle.far_rows.specs.Refusing.{ints_refusal, texts_refusal};
 ghost use Rattle.far_frame.specs.Effects.{Changes};
-ghost use Rattle.far_frame.specs.Lending.{Gives, int_piece, ints_lent, lent_part, lend_refusal, text_piece, texts_lent};
+ghost use Rattle.far_frame.specs.Lending.{IsReplyOf, int_piece, ints_lent, lent_part, lend_refusal, text_piece, texts_lent};
 
 use crate::frame::Frame;
 use crate::piece::{IntPiece, TextPiece};
@@ -43,7 +43,7 @@ fn copied<S: FarTickets>(
     from: u32,
     to: u32,
 ) -> Result<Reply, Refusal>
-    ensures given { IfOk result (Gives (slice_get frame.now.table.schema column) (lent_part frame.now.table column from to)) }
+    ensures given { IfOk result (IsReplyOf (slice_get frame.now.table.schema column) (lent_part frame.now.table column from to)) }
     ensures due { OnOk result (lend_refusal frame.now.rows column from to ≡ None) }
     ensures refused { IfErr result (MayRefuse (lend_refusal frame.now.rows column from to) true) }
 {

@@ -5,7 +5,7 @@ ghost use Rattle.far_codec.specs.FarForm.{ints_form};
 ghost use Rattle.far_scopes.specs.Movement.{AreHere};
 ghost use Rattle.far_scopes.specs.Refusing.{refusal_in, lend_refusal};
 ghost use Rattle.far_evacuator.specs.Jobs.{IsFormOf};
-ghost use Rattle.far_evacuator.specs.Beginning.{IsBegun};
+ghost use Rattle.far_evacuator.specs.Beginning.{IsBegunEvac};
 ghost use Rattle.far_rows.specs.Jobs.{of_either, AreAt, IsEvacBegun, IsFetchBegun, evac_refusal, fetch_refusal};
 
 use super::Rows;
@@ -57,7 +57,7 @@ impl<S: FarTickets> Rows<S> {
     ) -> Result<EvacJob<Option<i64>, S>, Refusal>
         requires within { o < length self.now.number_objects.records }
         requires here { AreHere S.is_of (S.store_id store.now) self.now.number_objects }
-        ensures begun { IfOk result (IsBegun ints_form self.now.number_objects o) }
+        ensures begun { IfOk result (IsBegunEvac ints_form self.now.number_objects o) }
         ensures here { IfOk result (λ job. IsFormOf S.is_of (S.store_id store.now) job.form) }
         ensures free { OnOk result (lend_refusal self.now.number_objects o ≡ None) }
         ensures refused { IfErr result (MayRefuse (lend_refusal self.now.number_objects o) true) }
@@ -69,7 +69,7 @@ impl<S: FarTickets> Rows<S> {
     fn begin_texts(&self, alloc: Global, store: &S, o: u32) -> Result<EvacJob<u8, S>, Refusal>
         requires within { o < length self.now.text_objects.records }
         requires here { AreHere S.is_of (S.store_id store.now) self.now.text_objects }
-        ensures begun { IfOk result (IsBegun (λ bytes. bytes) self.now.text_objects o) }
+        ensures begun { IfOk result (IsBegunEvac (λ bytes. bytes) self.now.text_objects o) }
         ensures here { IfOk result (λ job. IsFormOf S.is_of (S.store_id store.now) job.form) }
         ensures free { OnOk result (lend_refusal self.now.text_objects o ≡ None) }
         ensures refused { IfErr result (MayRefuse (lend_refusal self.now.text_objects o) true) }

@@ -2,7 +2,7 @@
 ghost use Rattle.std.specs.Prelude.{◌≡◌, Some, IfOk, option_map, slice_get};
 ghost use Rattle.far_types.specs.Table.{in_group};
 ghost use Rattle.far_scopes.specs.Refusing.{refusal_in};
-ghost use Rattle.far_rows.specs.Rows.{cells_of};
+ghost use Rattle.far_rows.specs.Rows.{all_cells};
 ghost use Rattle.far_rows.specs.Lending.{cells_lent, IsLent};
 ghost use Rattle.far_rows.specs.Jobs.{evac_refusal};
 
@@ -37,7 +37,7 @@ impl<S: FarTickets> Rows<S> {
     /// - `OutOfRange` (14): no place of the row group is used.
     /// - `Absent` (16): its object is away.
     pub fn group_column(&self, column: usize, group: u32) -> Result<LentColumn<'_>, Refusal>
-        ensures cells { IfOk result (λ lent. option_map (in_group self.now.size group) (slice_get (cells_of S.content self.now) column) ≡ Some (cells_lent lent)) }
+        ensures cells { IfOk result (λ lent. option_map (in_group self.now.size group) (slice_get (all_cells S.content self.now) column) ≡ Some (cells_lent lent)) }
         ensures form { IfOk result IsLent }
         ensures refused { refusal_in result ≡ evac_refusal self.now column group }
     {

@@ -7,7 +7,7 @@ ghost use Rattle.far_scopes.specs.Movement.{AreHere, pins_of};
 ghost use Rattle.far_evacuator.specs.Acceptance.{IsCommittable, IsInstallable};
 ghost use Rattle.far_texts.specs.Texts.{lists_of};
 ghost use Rattle.far_columns.specs.Numbers.{number_lists};
-ghost use Rattle.far_rows.specs.Rows.{cells_of};
+ghost use Rattle.far_rows.specs.Rows.{all_cells};
 ghost use Rattle.far_rows.specs.Jobs.{SpellsNumbers, SpellsTexts, of_either, AreAt, IsEvacAccepted, IsFetchAccepted, pins_by, after_commit, HasNoSpace, IsAfterInstall};
 
 use super::Rows;
@@ -33,7 +33,7 @@ impl<S: FarTickets> Rows<S> {
         requires carried_here { S.is_of (of_either carried.now).ticket (S.store_id store.now) }
         ensures committed { OnOk result (self.new ≡ after_commit self.old carried.now) }
         ensures accepted { OnOk result (IsEvacAccepted S.number_of self.old carried.now) }
-        ensures cells { cells_of S.content self.new ≡ cells_of S.content self.old }
+        ensures cells { all_cells S.content self.new ≡ all_cells S.content self.old }
         ensures here { AreAt S.is_of (S.store_id store.now) self.new }
         ensures stale { IsErrOf result Refusal.StaleJob ↔ (¬ IsEvacAccepted S.number_of self.old carried.now) }
         ensures pinned { IsErrOf result Refusal.Pinned ↔ (IsEvacAccepted S.number_of self.old carried.now × (pins_by self.old carried.now ≢ 0)) }
@@ -57,7 +57,7 @@ impl<S: FarTickets> Rows<S> {
         ensures committed { OnOk result (self.new ≡ record self.old { number_objects = after_leave self.old.number_objects carried.now.job.object carried.now.ticket }) }
         ensures accepted { OnOk result (IsCommittable S.number_of ints_form self.old.number_objects carried.now) }
         ensures kept { self.new ≡ record self.old { number_objects = self.new.number_objects } }
-        ensures cells { cells_of S.content self.new ≡ cells_of S.content self.old }
+        ensures cells { all_cells S.content self.new ≡ all_cells S.content self.old }
         ensures here { AreHere S.is_of (S.store_id store.now) self.new.number_objects }
         ensures stale { IsErrOf result Refusal.StaleJob ↔ (¬ IsCommittable S.number_of ints_form self.old.number_objects carried.now) }
         ensures pinned { IsErrOf result Refusal.Pinned ↔ (IsCommittable S.number_of ints_form self.old.number_objects carried.now × (pins_of self.old.number_objects carried.now.job.object ≢ 0)) }
@@ -74,7 +74,7 @@ impl<S: FarTickets> Rows<S> {
         ensures committed { OnOk result (self.new ≡ record self.old { text_objects = after_leave self.old.text_objects carried.now.job.object carried.now.ticket }) }
         ensures accepted { OnOk result (IsCommittable S.number_of (λ bytes. bytes) self.old.text_objects carried.now) }
         ensures kept { self.new ≡ record self.old { text_objects = self.new.text_objects } }
-        ensures cells { cells_of S.content self.new ≡ cells_of S.content self.old }
+        ensures cells { all_cells S.content self.new ≡ all_cells S.content self.old }
         ensures here { AreHere S.is_of (S.store_id store.now) self.new.text_objects }
         ensures stale { IsErrOf result Refusal.StaleJob ↔ (¬ IsCommittable S.number_of (λ bytes. bytes) self.old.text_objects carried.now) }
         ensures pinned { IsErrOf result Refusal.Pinned ↔ (IsCommittable S.number_of (λ bytes. bytes) self.old.text_objects carried.now × (pins_of self.old.text_objects carried.now.job.object ≢ 0)) }
@@ -104,7 +104,7 @@ impl<S: FarTickets> Rows<S> {
         requires fetched_here { S.is_of (of_either fetched.now).job.ticket (S.store_id store.now) }
         ensures installed { OnOk result (IsAfterInstall S.content self.old fetched.now self.new) }
         ensures accepted { OnOk result (IsFetchAccepted S.number_of self.old fetched.now) }
-        ensures cells { cells_of S.content self.new ≡ cells_of S.content self.old }
+        ensures cells { all_cells S.content self.new ≡ all_cells S.content self.old }
         ensures here { AreAt S.is_of (S.store_id store.now) self.new }
         ensures stale { IsErrOf result Refusal.StaleJob ↔ (¬ IsFetchAccepted S.number_of self.old fetched.now) }
         ensures full { IsErrOf result Refusal.RegionFull ↔ (IsFetchAccepted S.number_of self.old fetched.now × HasNoSpace S.content self.old fetched.now) }
@@ -129,7 +129,7 @@ impl<S: FarTickets> Rows<S> {
         ensures installed { OnOk result (IsSomeAnd (number_lists S.content self.old.number_objects fetched.now.job.object) (λ list. self.new ≡ record self.old { number_objects = after_arrive self.old.number_objects fetched.now.job.object list })) }
         ensures accepted { OnOk result (IsInstallable S.number_of SpellsNumbers self.old.number_objects fetched.now) }
         ensures kept { self.new ≡ record self.old { number_objects = self.new.number_objects } }
-        ensures cells { cells_of S.content self.new ≡ cells_of S.content self.old }
+        ensures cells { all_cells S.content self.new ≡ all_cells S.content self.old }
         ensures here { AreHere S.is_of (S.store_id store.now) self.new.number_objects }
         ensures stale { IsErrOf result Refusal.StaleJob ↔ (¬ IsInstallable S.number_of SpellsNumbers self.old.number_objects fetched.now) }
         ensures full { IsErrOf result Refusal.RegionFull ↔ (IsInstallable S.number_of SpellsNumbers self.old.number_objects fetched.now × IsSomeAnd (number_lists S.content self.old.number_objects fetched.now.job.object) (λ list. fits_in self.old.number_objects.memory.state (length list) ≡ false)) }
@@ -151,7 +151,7 @@ impl<S: FarTickets> Rows<S> {
         ensures installed { OnOk result (IsSomeAnd (lists_of S.content self.old.text_objects fetched.now.job.object) (λ list. self.new ≡ record self.old { text_objects = after_arrive self.old.text_objects fetched.now.job.object list })) }
         ensures accepted { OnOk result (IsInstallable S.number_of SpellsTexts self.old.text_objects fetched.now) }
         ensures kept { self.new ≡ record self.old { text_objects = self.new.text_objects } }
-        ensures cells { cells_of S.content self.new ≡ cells_of S.content self.old }
+        ensures cells { all_cells S.content self.new ≡ all_cells S.content self.old }
         ensures here { AreHere S.is_of (S.store_id store.now) self.new.text_objects }
         ensures stale { IsErrOf result Refusal.StaleJob ↔ (¬ IsInstallable S.number_of SpellsTexts self.old.text_objects fetched.now) }
         ensures full { IsErrOf result Refusal.RegionFull ↔ (IsInstallable S.number_of SpellsTexts self.old.text_objects fetched.now × IsSomeAnd (lists_of S.content self.old.text_objects fetched.now.job.object) (λ list. fits_in self.old.text_objects.memory.state (length list) ≡ false)) }

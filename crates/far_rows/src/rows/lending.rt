@@ -6,7 +6,7 @@ ghost use Rattle.far_scopes.specs.Refusing.{refusal_in};
 ghost use Rattle.far_vector.specs.Pieces.{pieces_of, overlapped_groups};
 ghost use Rattle.far_columns.specs.Numbers.{with_flags};
 ghost use Rattle.far_types.specs.Lent.{int_cell, text_cell};
-ghost use Rattle.far_rows.specs.Rows.{cells_of};
+ghost use Rattle.far_rows.specs.Rows.{all_cells};
 ghost use Rattle.far_rows.specs.Refusing.{no_range, told_at, ints_refusal, texts_refusal};
 ghost use Rattle.far_rows.specs.Lending.{lent_ints, lent_texts, numbers_of, texts_of};
 
@@ -29,7 +29,7 @@ impl<S: FarTickets> Rows<S> {
     /// - `Absent` (16): the object of a row group with some of them is away. It names the first such.
     pub fn ints(&self, column: usize, from: usize, to: usize) -> Result<Lents<'_, S>, Refusal>
         ensures lent { IfOk result (λ lents. lents ≡ lent_ints S.content self.now column from to) }
-        ensures cells { IfOk result (λ lents. option_map (λ cells. slice_range cells from to) (slice_get (cells_of S.content self.now) column) ≡ Some (map int_cell (flat_map (λ lent. lent.0) lents))) }
+        ensures cells { IfOk result (λ lents. option_map (λ cells. slice_range cells from to) (slice_get (all_cells S.content self.now) column) ≡ Some (map int_cell (flat_map (λ lent. lent.0) lents))) }
         ensures alive { IfOk result (λ lents. flat_map (λ lent. lent.1) lents ≡ slice_range self.now.alive from to) }
         ensures same_length { IfOk result (λ lents. All (λ lent. length lent.1 ≡ length lent.0) lents) }
         ensures refused { refusal_in result ≡ ints_refusal self.now column from to }
@@ -69,7 +69,7 @@ impl<S: FarTickets> Rows<S> {
     /// - `Absent` (16): the object of a row group with some of them is away. It names the first such.
     pub fn texts(&self, column: usize, from: usize, to: usize) -> Result<TextCells<'_, S>, Refusal>
         ensures lent { IfOk result (λ lent. lent ≡ lent_texts S.content self.now column from to) }
-        ensures cells { IfOk result (λ lent. option_map (λ cells. slice_range cells from to) (slice_get (cells_of S.content self.now) column) ≡ Some (map (λ t. text_cell t.0) lent)) }
+        ensures cells { IfOk result (λ lent. option_map (λ cells. slice_range cells from to) (slice_get (all_cells S.content self.now) column) ≡ Some (map (λ t. text_cell t.0) lent)) }
         ensures alive { IfOk result (λ lent. map (λ t. t.1) lent ≡ slice_range self.now.alive from to) }
         ensures refused { refusal_in result ≡ texts_refusal self.now column from to }
     {

@@ -9,7 +9,7 @@ ghost use Rattle.far_columns.specs.NumbersTogether.{AreNumberColumns, all_begin,
 ghost use Rattle.far_texts.specs.Together.{AreColumns, AreReplaced, all_begin as all_texts_begin, after_create_all, all_pushed as all_texts_pushed, all_texts_with, next_forms};
 ghost use Rattle.far_texts.specs.RefusingTogether.{push_texts_refusal};
 ghost use Rattle.far_rows.specs.ColumnIndexes.{row_of, with_row};
-ghost use Rattle.far_rows.specs.Rows.{cells_of, TextsMoved};
+ghost use Rattle.far_rows.specs.Rows.{all_cells, TextsMoved};
 ghost use Rattle.far_rows.specs.Places.{places_in};
 ghost use Rattle.far_rows.specs.Refusing.{push_refusal};
 ghost use Rattle.far_rows.specs.ByKind.{kinds_refusal};
@@ -160,7 +160,7 @@ impl<S: FarTickets> Rows<S> {
         requires texts { length row.now.texts ≡ length self.old.texts }
         requires free { kinds_refusal S.content self.old row.now ≡ None }
         requires few { length self.old.alive < 2 ^ 24 }
-        ensures cells { OnOk result (cells_of S.content self.new ≡ with_row (cells_of S.content self.old) (row_of self.old.column_indexes row.now)) }
+        ensures cells { OnOk result (all_cells S.content self.new ≡ with_row (all_cells S.content self.old) (row_of self.old.column_indexes row.now)) }
         ensures alive { OnOk result (self.new.alive ≡ self.old.alive ++ true ∷ []) }
         ensures column_indexes { self.new.column_indexes ≡ self.old.column_indexes }
         ensures size { self.new.size ≡ self.old.size }

@@ -9,9 +9,9 @@ ghost use Rattle.far_columns.specs.Numbers.{number_lists};
 ghost use Rattle.far_texts.specs.Texts.{lists_of, IsTextColumn};
 ghost use Rattle.far_rows.specs.declared.column_index.ColumnIndex.TheVariants as column_index;
 ghost use Rattle.far_types.specs.Lent.{int_cell, text_cell, lent_cell};
-ghost use Rattle.far_rows.specs.ColumnIndexes.{IsWithin, column_in};
+ghost use Rattle.far_rows.specs.ColumnIndexes.{IsColumnIn, column_in};
 ghost use Rattle.far_rows.specs.Places.{row_at};
-ghost use Rattle.far_rows.specs.Rows.{all_numbers, all_texts, cells_of};
+ghost use Rattle.far_rows.specs.Rows.{all_numbers, all_texts, all_cells};
 ghost use Rattle.far_rows.specs.Refusing.{told_at, absent_at, absents, cell_refusal, text_refusal};
 
 use super::Rows;
@@ -58,7 +58,7 @@ impl<S: FarTickets> Rows<S> {
 
     // Checks that the object of a row group of a column is local, if there is one.
     pub(super) fn is_here(&self, column_index: ColumnIndex, group: u32) -> Result<(), Refusal>
-        requires { IsWithin (length self.now.numbers) (length self.now.texts) column_index }
+        requires { IsColumnIn (length self.now.numbers) (length self.now.texts) column_index }
         ensures { refusal_in result ≡ first_of (told_at self.now group column_index ∷ []) }
     {
         match column_index {
@@ -77,7 +77,7 @@ impl<S: FarTickets> Rows<S> {
     /// - `NoRow` (8): the place is past the end.
     /// - `Absent` (16): the object of the cell is away.
     pub fn cell(&self, column: usize, place: usize) -> Result<CellRef<'_>, Refusal>
-        ensures cell { IfOk result (λ cell. option_map (λ cells. slice_index_or cells place Missing) (slice_get (cells_of S.content self.now) column) ≡ Some (lent_cell cell)) }
+        ensures cell { IfOk result (λ cell. option_map (λ cells. slice_index_or cells place Missing) (slice_get (all_cells S.content self.now) column) ≡ Some (lent_cell cell)) }
         ensures refused { refusal_in result ≡ cell_refusal self.now column place }
     {
         let Some(column_index) = self.column_indexes.get(column) else {
@@ -118,7 +118,7 @@ impl<S: FarTickets> Rows<S> {
     /// columns.
     pub fn row(&self, place: usize) -> Result<LentRow<'_>, Refusal>
         requires { place < length self.now.alive }
-        ensures row { IfOk result (λ row. row ≡ row_at (cells_of S.content self.now) place) }
+        ensures row { IfOk result (λ row. row ≡ row_at (all_cells S.content self.now) place) }
         ensures refused { refusal_in result ≡ first_of (absents self.now (place / self.now.size)) }
     {
         // For the proof: gives that a table has at most 16 columns.
@@ -135,7 +135,7 @@ impl<S: FarTickets> Rows<S> {
     /// Refused as `row` is, with `Absent` (16) alone.
     pub fn row_ref(&self, place: usize) -> Result<RowRef<'_, S>, Refusal>
         requires { place < length self.now.alive }
-        ensures row { IfOk result (λ row. row ≡ row_at (cells_of S.content self.now) place) }
+        ensures row { IfOk result (λ row. row ≡ row_at (all_cells S.content self.now) place) }
         ensures refused { refusal_in result ≡ first_of (absents self.now (place / self.now.size)) }
     {
         // For the proof: gives that there are fewer places than numbers of 32 bits.
@@ -153,7 +153,7 @@ impl<S: FarTickets> Rows<S> {
     /// - `NoRow` (8): the place is past the end.
     /// - `Absent` (16): the object of the text is away.
     pub fn text(&self, column: usize, place: usize) -> Result<Option<&str>, Refusal>
-        ensures text { IfOk result (λ text. option_map (λ cells. slice_index_or cells place Missing) (slice_get (cells_of S.content self.now) column) ≡ Some (text_cell (option_copied text))) }
+        ensures text { IfOk result (λ text. option_map (λ cells. slice_index_or cells place Missing) (slice_get (all_cells S.content self.now) column) ≡ Some (text_cell (option_copied text))) }
         ensures refused { refusal_in result ≡ text_refusal self.now column place }
     {
         let Some(column_index) = self.column_indexes.get(column) else {

@@ -1,7 +1,7 @@
 // Rows whose far copies go into another store.
 ghost use Rattle.std.specs.Prelude.{◌≡◌, ◌+◌, ◌<◌, ◌^◌, ℕ, List, [], ◌∷◌, IfOk};
 ghost use Rattle.far_store.specs.Faults.{faults_in, RefusedBy};
-ghost use Rattle.far_rows.specs.Rows.{cells_of};
+ghost use Rattle.far_rows.specs.Rows.{all_cells};
 ghost use Rattle.far_rows.specs.Jobs.{AreAt};
 ghost use Rattle.far_rows.specs.Renewal.{RenewsRows, AreTicketsAt, renewed_rows};
 
@@ -48,7 +48,7 @@ impl<S: FarTickets> Rows<S> {
     pub fn renew<N: FarTickets>(self, renewal: RowsRenewal<N>) -> Rows<N>
         requires { RenewsRows S.content N.content self renewal }
         ensures renewed { result ≡ renewed_rows self renewal }
-        ensures cells { cells_of N.content result ≡ cells_of S.content self }
+        ensures cells { all_cells N.content result ≡ all_cells S.content self }
         ensures store { (id : List ℕ) → AreTicketsAt N.is_of id renewal → AreAt N.is_of id result }
     {
         let RowsRenewal { numbers, texts } = renewal;

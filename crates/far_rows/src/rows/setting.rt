@@ -11,7 +11,7 @@ ghost use Rattle.far_types.specs.declared.limits.Limits.{Limits};
 ghost use Rattle.far_rows.specs.ColumnIndexes.{kind_of};
 ghost use Rattle.far_rows.specs.Places.{AreOf, places_in};
 ghost use Rattle.far_rows.specs.Plain.{cell_set_refusal};
-ghost use Rattle.far_rows.specs.Rows.{all_numbers, all_texts, cells_of};
+ghost use Rattle.far_rows.specs.Rows.{all_numbers, all_texts, all_cells};
 ghost use Rattle.far_types.specs.Edits.{changed_at, with_cell};
 ghost use Rattle.far_rows.specs.Refusing.{absents};
 ghost use Rattle.far_rows.specs.Effects.{IsSet, KeepsObjects};
@@ -168,7 +168,7 @@ impl<S: FarTickets> Rows<S> {
     ) -> Result<(), Refusal>
         requires of_kind { option_map kind_of (slice_get self.old.column_indexes column) ≡ Some (kind_in value.now) }
         requires free { set_refusal S.content self.old column place value.now ≡ None }
-        ensures cells { OnOk result (cells_of S.content self.new ≡ with_cell_at (cells_of S.content self.old) column place (cell_of value.now)) }
+        ensures cells { OnOk result (all_cells S.content self.new ≡ with_cell_at (all_cells S.content self.old) column place (cell_of value.now)) }
         ensures moved { OnOk result (IfSome (slice_get self.old.column_indexes column) (λ s. self.new ≡ set_in S.content self.old s place value.now)) }
         ensures number_store { (id : List ℕ) → AreHere S.is_of id self.old.number_objects → AreHere S.is_of id self.new.number_objects }
         ensures text_store { (id : List ℕ) → AreHere S.is_of id self.old.text_objects → AreHere S.is_of id self.new.text_objects }

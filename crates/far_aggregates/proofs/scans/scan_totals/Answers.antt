@@ -3,11 +3,11 @@ use Rattle.std.proofs.lemmas.Result.{on_ok_weaker}
 use Rattle.far_types.specs.Answers.{Totals, totals}
 use Rattle.far_types.specs.Effects.{joined_totals}
 use Rattle.far_types.specs.Pairs.{Pair}
-use Rattle.far_groups.specs.Live.{Live, CanJoin}
+use Rattle.far_groups.specs.Live.{TotalsState, CanJoin}
 use Rattle.far_aggregates.proofs.ScanLaws.{pairs-lent}
 use Rattle.far_aggregates.proofs.scans.scan_totals.Goals as goal
 
-abbrev live_of : ℕ → Totals → Live
+abbrev live_of : ℕ → Totals → TotalsState
 live_of left totals = record { left = left; totals = totals }
 
 pub fold_into-requires-clause-can_join : goal.fold_into-requires-clause-can_join

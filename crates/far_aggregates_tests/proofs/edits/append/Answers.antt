@@ -5,7 +5,7 @@ use Rattle.far_types.specs.declared.cell.Cell.TheVariants as cell
 use Rattle.far_types.specs.Cells.{RowFits}
 use Rattle.far_types.specs.Table.{Place}
 use Rattle.far_aggregates.specs.Accumulators.{RegistryEntry, PlacesFit}
-use Rattle.far_aggregates.specs.Pending.{AreKept}
+use Rattle.far_aggregates.specs.Pending.{AreUpToDate}
 use Rattle.far_aggregates_tests.proofs.edits.append.Goals as goal
 
 fit_more : (places : List Place) (place : Place) → PlacesFit places → RowFits place.cells → PlacesFit (places ++ place ∷ [])
@@ -24,5 +24,5 @@ returns c =
     let place : Place = record { cells = cells; alive = true } in
     let more : length (places ++ place ∷ []) ≡ c.args.place + 1 = length-append places (place ∷ []) ∙ ap (λ n. n + 1) many in
     let few : length (places ++ place ∷ []) ≤ 2 ^ 24 = omega (arith, more, c.requires.few) in
-    subst (λ (registry : List RegistryEntry). (all : List Place) × (length all ≡ c.args.place + 1) × AreKept 4 all registry) (sym c.end.ensures.same)
+    subst (λ (registry : List RegistryEntry). (all : List Place) × (length all ≡ c.args.place + 1) × AreUpToDate 4 all registry) (sym c.end.ensures.same)
     (places ++ place ∷ [], more, record { kept = c.in_ok-pending.ensures.applied places cells many refl kept.kept; few = few; fit = fit_more places place kept.fit (tt, (fits_five, tt)) })

@@ -12,7 +12,7 @@ returns-then-ne-clause-exact g c =
     let i = c.loop-i.i in
     let x = c.index-list-i.result in (
       λ h. absurd (false≢true h),
-      λ e. absurd (differ_if_ne c.ne.result (get_or words i []) c.word.result c.ne.ensures c.if-ne.true (ap (λ (l : List (List ℕ)). get_or l i []) e ∙ get_or-map g.T.Word.written list i x [] (omega arith) ∙ ap g.T.Word.written (sym c.index-list-i.is) ∙ sym c.word.ensures.bytes)),
+      λ e. absurd (differ_if_ne c.ne.result (get_or words i []) c.word.result c.ne.ensures c.if-ne.true (ap (λ (l : List (List ℕ)). get_or l i []) e ∙ get_or-map g.T.EightBytes.written list i x [] (omega arith) ∙ ap g.T.EightBytes.written (sym c.index-list-i.is) ∙ sym c.word.ensures.bytes)),
     )
 
 pub loop-i-preserved : goal.loop-i-preserved
@@ -27,8 +27,8 @@ loop-i-preserved g c =
       same =
           take_more words i [] c.loop-i-test.true
           ∙ ap (λ (l : List (List ℕ)). l ++ get_or words i [] ∷ []) c.loop-i.invariant.same
-          ∙ ap (λ (w : List ℕ). map g.T.Word.written (take i list) ++ w ∷ []) same
-          ∙ sym (map-append g.T.Word.written (take i list) (x ∷ []))
-          ∙ ap (map g.T.Word.written) (sym more);
-      range = rw more (AllByRecursion-append g.T.Word.in_range (take i list) (x ∷ []) c.loop-i.invariant.range (c.word.ensures.range, tt));
+          ∙ ap (λ (w : List ℕ). map g.T.EightBytes.written (take i list) ++ w ∷ []) same
+          ∙ sym (map-append g.T.EightBytes.written (take i list) (x ∷ []))
+          ∙ ap (map g.T.EightBytes.written) (sym more);
+      range = rw more (AllByRecursion-append g.T.EightBytes.in_range (take i list) (x ∷ []) c.loop-i.invariant.range (c.word.ensures.range, tt));
     }

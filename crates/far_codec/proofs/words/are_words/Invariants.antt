@@ -4,6 +4,6 @@ use Rattle.far_codec.proofs.words.are_words.Given as goal
 
 abbrev pub invariant-loop-i : goal.invariant-loop-i
 invariant-loop-i g l = record {
-  same : take l.i l.words ≡ map g.T.Word.written (take l.i l.list);
-  range : AllByRecursion g.T.Word.in_range (take l.i l.list);
+  same : take l.i l.words ≡ map g.T.EightBytes.written (take l.i l.list);
+  range : AllByRecursion g.T.EightBytes.in_range (take l.i l.list);
 }

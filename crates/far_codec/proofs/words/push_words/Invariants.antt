@@ -4,12 +4,12 @@ use Rattle.far_codec.proofs.words.push_words.Given as goal
 
 abbrev pub invariant-loop-i : goal.invariant-loop-i
 invariant-loop-i g l = record {
-  written : l.form.items ≡ l.fn.form.items ++ flat_map g.T.Word.written (take (64 * l.i) l.list);
-  range : AllByRecursion g.T.Word.in_range (take (64 * l.i) l.list);
+  written : l.form.items ≡ l.fn.form.items ++ flat_map g.T.EightBytes.written (take (64 * l.i) l.list);
+  range : AllByRecursion g.T.EightBytes.in_range (take (64 * l.i) l.list);
 }
 
 abbrev pub invariant-loop-element : goal.invariant-loop-element
 invariant-loop-element g l = record {
-  written : l.form.items ≡ l.initial.form.items ++ flat_map g.T.Word.written (take l.element-index l.rest);
-  range : AllByRecursion g.T.Word.in_range (take l.element-index l.rest);
+  written : l.form.items ≡ l.initial.form.items ++ flat_map g.T.EightBytes.written (take l.element-index l.rest);
+  range : AllByRecursion g.T.EightBytes.in_range (take l.element-index l.rest);
 }

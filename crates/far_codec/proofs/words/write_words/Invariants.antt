@@ -5,6 +5,6 @@ use Rattle.far_codec.proofs.words.write_words.Given as goal
 abbrev pub invariant-loop-j : goal.invariant-loop-j
 invariant-loop-j g l = record {
   len : length l.words ≡ length l.block;
-  written : take l.j l.words ≡ map g.T.Word.written (take l.j l.block);
-  range : AllByRecursion g.T.Word.in_range (take l.j l.block);
+  written : take l.j l.words ≡ map g.T.EightBytes.written (take l.j l.block);
+  range : AllByRecursion g.T.EightBytes.in_range (take l.j l.block);
 }

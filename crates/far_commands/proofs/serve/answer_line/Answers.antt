@@ -8,7 +8,7 @@ use Rattle.far_commands.specs.declared.command.Command.TheVariants as command
 use Rattle.far_commands.specs.Listings.{listing_of}
 use Rattle.far_commands.specs.Replies.{AnswersLine}
 use Rattle.far_commands.specs.Progress.{At}
-use Rattle.far_commands.specs.Cuts.{Fails, FailsBy, Lists}
+use Rattle.far_commands.specs.Cuts.{Fails, FailsBy, IsListing}
 use Rattle.far_script.proofs.StopLaws.{each-fault, handed-on, if-input, leaves-same, stops-here, stops-more}
 use Rattle.far_script.proofs.FlowLaws.{reads-none, prints, prints-none, range-empty, range-some}
 use Rattle.far_commands.proofs.CutLaws.{cut-more, no-input, no-output, printed-err}
@@ -85,8 +85,8 @@ returns-in-Ok-Some-clause-err g c =
     each-fault c.serve_command.result _ _ (λ why p. (
       p.0,
       p.1,
-      cut-more why (λ said. (c.in-Ok-Some.command ≡ command.Dump) × (said ≡ listing_of (live world.state))) (λ said. Lists c.args.progress.now line said) p.0
-          (λ said s. subst (λ (at : At g.row.S-Ticket.Denot). Lists at line said) c.progress.view_is (some ∙ ap (λ (asked : Command). Some asked) s.0, s.1)) p.2,
+      cut-more why (λ said. (c.in-Ok-Some.command ≡ command.Dump) × (said ≡ listing_of (live world.state))) (λ said. IsListing c.args.progress.now line said) p.0
+          (λ said s. subst (λ (at : At g.row.S-Ticket.Denot). IsListing at line said) c.progress.view_is (some ∙ ap (λ (asked : Command). Some asked) s.0, s.1)) p.2,
     )) c.serve_command.ensures.err
 
 pub returns-in_err-text-clause-stopped : goal.returns-in_err-text-clause-stopped

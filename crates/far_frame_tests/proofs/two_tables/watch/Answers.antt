@@ -1,5 +1,5 @@
 use Rattle.std.proofs.Common.{ap}
-use Rattle.far_table.specs.State.{State as LiveState}
+use Rattle.far_table.specs.State.{LiveState}
 use Rattle.far_frame.specs.State.{State}
 use Rattle.far_frame_tests.proofs.Kept.{by-value, kept-at}
 use Rattle.far_frame_tests.proofs.two_tables.watch.Goals as goal

@@ -1,7 +1,7 @@
 use Rattle.std.proofs.Common.{ℕ, ◌≡◌, ◌≢◌, ◌<◌, Some}
 use Rattle.std.specs.Prelude.{slice_get}
-use Rattle.far_sessions.specs.Known.{Known, number_of}
+use Rattle.far_sessions.specs.Known.{Known, session_number}
 use Rattle.far_sessions.proofs.closing.has.Given as goal
 
 abbrev pub invariant-loop-session : goal.invariant-loop-session
-invariant-loop-session g l = (j : ℕ) (s : Known) → j < l.session-index → slice_get l.sessions j ≡ Some s → number_of s ≢ l.number
+invariant-loop-session g l = (j : ℕ) (s : Known) → j < l.session-index → slice_get l.sessions j ≡ Some s → session_number s ≢ l.number

@@ -1,5 +1,5 @@
 use Rattle.std.proofs.Common.{◌≡◌, [], subst}
-use Rattle.far_script.specs.Flow.{Gives, IsOver, IsSpent, IsUnseen, Prints}
+use Rattle.far_script.specs.Flow.{Gives, IsOver, IsAtEnd, IsUnseen, Prints}
 use Rattle.far_script.specs.declared.fault.ShellFault.TheVariants as fault
 use Rattle.far_script.proofs.StopLaws.{coming, handed-on, spent-rest, starts}
 use Rattle.far_shell.proofs.BreakLaws.{breaks-unwritten, breaks-written, whole-unwritten}
@@ -21,7 +21,7 @@ returns-in_err-flush-in-Ok-clause-err g c =
     let new = c.serve-outcome.new.input in
     handed-on c.from_residual.result fault.Output _ (rw f.fault at c.from_residual.ensures.1)
     (whole-unwritten _ (λ _. IsUnseen g.R.Read g.R.Source.may_fail c.args.input.now new) (IsOver g.R.Read new) (λ why. Gives g.R.Read why c.args.input.now new) g.W.Sink.may_fail (g.W.Write.contents c.args.writer.now) (g.W.Write.contents c.serve-outcome.new.writer) (g.W.Write.contents c.flush.new.writer)
-    s.0 (coming g.R.Read new) s.1 c.serve-outcome.new.output.page c.flush.new.self.page (c.flush.new.self.cause f.failed) (starts g.R.Read c.args.input.now new s.0 s.2, tt) s.3 (answered-then _ s.0 s.1 (IsSpent g.R.Read new) (coming g.R.Read new ≡ []) (spent-rest g.R.Read new) s.4) f.printed)
+    s.0 (coming g.R.Read new) s.1 c.serve-outcome.new.output.page c.flush.new.self.page (c.flush.new.self.cause f.failed) (starts g.R.Read c.args.input.now new s.0 s.2, tt) s.3 (answered-then _ s.0 s.1 (IsAtEnd g.R.Read new) (coming g.R.Read new ≡ []) (spent-rest g.R.Read new) s.4) f.printed)
 
 pub returns-in_err-flush_at-in-Err-clause-err : goal.returns-in_err-flush_at-in-Err-clause-err
 returns-in_err-flush_at-in-Err-clause-err g c =

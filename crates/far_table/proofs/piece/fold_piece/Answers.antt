@@ -3,7 +3,7 @@ use Rattle.std.proofs.lemmas.Result.{IfOk-weaker}
 use Rattle.far_offload.specs.declared.partial.PartialDone.{PartialDone}
 use Rattle.far_offload.specs.Partials.{partial_of}
 use Rattle.far_rows.specs.Places.{places_in}
-use Rattle.far_rows.specs.Rows.{cells_of}
+use Rattle.far_rows.specs.Rows.{all_cells}
 use Rattle.far_aggregates.specs.Accumulators.{pairs_here}
 use Rattle.far_table.specs.Pieces.{begin_of, run_of}
 use Rattle.far_table.proofs.Places.{length-places}
@@ -20,7 +20,7 @@ returns g c =
     let long = c.args.cut.long in
     let i = c.args.piece in
     let run : ℕ → ℕ → PartialDone = λ from to. partial_of spec.fold (pairs_here spec (run_of r.size from to places)) in
-    let all : length places ≤ count * r.size = omega (arith, length-places (cells_of content r) r.alive, c.requires.all) in
+    let all : length places ≤ count * r.size = omega (arith, length-places (all_cells content r) r.alive, c.requires.all) in
     record {
       partial = IfOk-weaker c.fold_run-partial.result _ _ (λ done is.
           is

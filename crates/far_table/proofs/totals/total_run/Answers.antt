@@ -2,9 +2,9 @@ use Rattle.std.proofs.Common.{◌≡◌, ◌+◌, ◌-◌, ◌≤◌, ◌^◌, L
 use Rattle.far_types.specs.Answers.{Totals, totals}
 use Rattle.far_types.specs.Effects.{joined_totals}
 use Rattle.far_types.specs.Table.{Place}
-use Rattle.far_groups.specs.Live.{Live, CanJoin}
+use Rattle.far_groups.specs.Live.{TotalsState, CanJoin}
 use Rattle.far_rows.specs.Places.{places_in}
-use Rattle.far_rows.specs.Rows.{cells_of}
+use Rattle.far_rows.specs.Rows.{all_cells}
 use Rattle.far_aggregates.specs.Accumulators.{pairs_here, group_pairs}
 use Rattle.far_table.specs.Pieces.{run_of}
 use Rattle.far_table.proofs.Places.{length-places}
@@ -24,7 +24,7 @@ loop-group-init g c =
     }
 
 pub total_at-requires-clause-left : goal.total_at-requires-clause-left
-total_at-requires-clause-left g c κs within = λ none. absurd (omega (arith, ap (λ (live : Live). live.left) c.loop-group.invariant.totals, c.loop-group-test.true, none))
+total_at-requires-clause-left g c κs within = λ none. absurd (omega (arith, ap (λ (live : TotalsState). live.left) c.loop-group.invariant.totals, c.loop-group-test.true, none))
 
 pub total_at-requires-clause-can_join : goal.total_at-requires-clause-can_join
 total_at-requires-clause-can_join g c κs within =
@@ -32,8 +32,8 @@ total_at-requires-clause-can_join g c κs within =
     let content = g.S.FarTickets.content in
     let places = places_in content r in
     let k = c.loop-group.group in
-    let few : length places ≤ 2 ^ 24 = omega (arith, length-places (cells_of content r) r.alive, c.len-len.ensures.rows.places) in
-    subst (λ (m : Totals). CanJoin m (totals (group_pairs c.args.spec.now r.size k places))) (sym (ap (λ (live : Live). live.totals) c.loop-group.invariant.totals)) (run-joins places c.args.spec.now r.size c.args.from k few)
+    let few : length places ≤ 2 ^ 24 = omega (arith, length-places (all_cells content r) r.alive, c.len-len.ensures.rows.places) in
+    subst (λ (m : Totals). CanJoin m (totals (group_pairs c.args.spec.now r.size k places))) (sym (ap (λ (live : TotalsState). live.totals) c.loop-group.invariant.totals)) (run-joins places c.args.spec.now r.size c.args.from k few)
 
 pub loop-group-preserved : goal.loop-group-preserved
 loop-group-preserved g c =
@@ -47,7 +47,7 @@ loop-group-preserved g c =
     let left : c.args.to - k - 1 ≡ c.args.to - (k + 1) = omega arith in
     record {
       totals = c.in_ok-total_at.ensures.totals
-          ∙ ap (λ (live : Live). live_of (live.left - 1) (joined_totals live.totals here)) inv.totals
+          ∙ ap (λ (live : TotalsState). live_of (live.left - 1) (joined_totals live.totals here)) inv.totals
           ∙ ap (λ n. live_of n (joined_totals before here)) left
           ∙ ap (live_of (c.args.to - (k + 1))) (run-joined places spec r.size c.args.from k inv.low);
       low = omega (arith, inv.low);

@@ -4,7 +4,7 @@ use Rattle.std.proofs.lemmas.Int.{to_z-of_z}
 use Rattle.std.specs.FinMap as fin
 use Rattle.far_types.specs.Answers.{Extrema}
 use Rattle.far_types.specs.Effects.{with_observed, widened}
-use Rattle.far_extrema.specs.Live.{Live, group_at}
+use Rattle.far_extrema.specs.Live.{ExtremaState, group_at}
 use Rattle.far_aggregates.specs.Known.{AreKnown}
 use Rattle.far_aggregates.proofs.ExtremaLaws.{observed-within}
 use Rattle.far_aggregates.proofs.KnownLaws.{known-at, known-noted, known-same, observed-plain}
@@ -19,7 +19,7 @@ pub invariant_of-self : goal.invariant_of-self
 invariant_of-self c =
     let groups = c.self.inside.live.groups in
     let known = subst (λ plain. AreKnown plain groups) (sym c.make_place.ensures) c.self.invariant in
-    known-same c.make_place.new.plain.items groups c.observe_noted.new.live.groups (ap (λ (live : Live). live.groups) c.in_err-previous.ensures.err) known
+    known-same c.make_place.new.plain.items groups c.observe_noted.new.live.groups (ap (λ (live : ExtremaState). live.groups) c.in_err-previous.ensures.err) known
 
 pub invariant_of-self-2 : goal.invariant_of-self-2
 invariant_of-self-2 c =
@@ -28,9 +28,9 @@ invariant_of-self-2 c =
     let groups = c.self.inside.live.groups in
     let m = group_at groups c.args.group in
     let value = c.args.value in
-    let reserved : c.args.group < length groups = subst (λ (live : Live). c.args.group < length live.groups) (sym c.self.view_is) c.requires in
+    let reserved : c.args.group < length groups = subst (λ (live : ExtremaState). c.args.group < length live.groups) (sym c.self.view_is) c.requires in
     let new = simp to_z-of_z at c.in_ok-previous.ensures.ok in
-    let is = ap (λ (live : Live). live.groups) new in
+    let is = ap (λ (live : ExtremaState). live.groups) new in
     let wide : c.wider.result ≡ widened value c.in_ok-previous.previous = simp to_z-of_z at c.wider.ensures in
     let known = subst (λ plain. AreKnown plain groups) (sym c.make_place.ensures) c.self.invariant in
     let noted = ap Some wide ∙ observed-plain m None value c.in_ok-previous.previous refl c.in_ok-previous.ensures.previous in
@@ -44,7 +44,7 @@ returns-then-is_within_noted-clause-ok c =
     let within : (s : ℤ × ℤ) × (c.noted_in-noted.result ≡ Some s) × (s.0 ≤ℤ c.args.value) × (c.args.value ≤ℤ s.1) = simp to_z-of_z at c.if-is_within_noted.ensures refl in
     let known = known-at c.as_slice.result.now inside c.args.group c.noted_in-noted.result (subst (λ plain. AreKnown plain inside) (sym c.as_slice.ensures.value) c.self.invariant) c.noted_in-noted.ensures in
     let there = subst (λ (o : Option (ℤ × ℤ)). IfSome o (λ min_max. fin.get (group_at inside c.args.group) None ≡ Some min_max)) within.1 known in
-    let found = ap (λ (live : Live). fin.get (group_at live.groups c.args.group) None) (sym c.self.view_is) ∙ there in
+    let found = ap (λ (live : ExtremaState). fin.get (group_at live.groups c.args.group) None) (sym c.self.view_is) ∙ there in
     ap (λ (gs : List Extrema). record c.args.self.now { groups = gs }) (observed-within c.args.group groups None c.args.value within.0 found within.2 within.3)
 
 pub returns-then-is_within_noted-clause-previous : goal.returns-then-is_within_noted-clause-previous
@@ -54,5 +54,5 @@ returns-then-is_within_noted-clause-previous c =
     let within : (s : ℤ × ℤ) × (c.noted_in-noted.result ≡ Some s) × (s.0 ≤ℤ c.args.value) × (c.args.value ≤ℤ s.1) = simp to_z-of_z at c.if-is_within_noted.ensures refl in
     let known = known-at c.as_slice.result.now inside c.args.group c.noted_in-noted.result (subst (λ plain. AreKnown plain inside) (sym c.as_slice.ensures.value) c.self.invariant) c.noted_in-noted.ensures in
     let there = subst (λ (o : Option (ℤ × ℤ)). IfSome o (λ min_max. fin.get (group_at inside c.args.group) None ≡ Some min_max)) within.1 known in
-    let found = ap (λ (live : Live). fin.get (group_at live.groups c.args.group) None) (sym c.self.view_is) ∙ there in
+    let found = ap (λ (live : ExtremaState). fin.get (group_at live.groups c.args.group) None) (sym c.self.view_is) ∙ there in
     within.1 ∙ sym found

@@ -2,7 +2,7 @@ use Rattle.std.proofs.Common.{◌<◌, length, sym, ap, ◌∙◌, subst, arith}
 use Rattle.std.specs.Prelude.{slice_set, cond}
 use Rattle.std.specs.FinMap as fin
 use Rattle.far_types.specs.Keys.{line_cmp}
-use Rattle.far_extrema.specs.Live.{Live}
+use Rattle.far_extrema.specs.Live.{ExtremaState}
 use Rattle.far_extrema.specs.Holders.{holders_of, min_max_at, IsGroup}
 use Rattle.far_extrema.proofs.HolderLaws.{get-reserved, length-groups_in, put-group}
 use Rattle.far_extrema.proofs.ReserveLaws.{reserved-group, group-twice, own_test}
@@ -10,7 +10,7 @@ use Rattle.far_extrema.proofs.live_extrema.LiveExtrema.set_group.Goals as goal
 
 pub fill_all-requires-clause-reserved : goal.fill_all-requires-clause-reserved
 fill_all-requires-clause-reserved c = λ q there none. c.requires.keys q (λ n. there (ap (λ e. fin.get e q) c.min_maxes.ensures ∙ n))
-    (ap (λ (live : Live). fin.get live.reserved q) (sym c.self.view_is) ∙ get-reserved (holders_of c.self.inside.holders.entries) q ∙ sym (c.clear_in.ensures.reserved q) ∙ none)
+    (ap (λ (live : ExtremaState). fin.get live.reserved q) (sym c.self.view_is) ∙ get-reserved (holders_of c.self.inside.holders.entries) q ∙ sym (c.clear_in.ensures.reserved q) ∙ none)
 
 pub fill_all-requires-clause-new : goal.fill_all-requires-clause-new
 fill_all-requires-clause-new c = λ q.
@@ -21,7 +21,7 @@ pub invariant_of-self : goal.invariant_of-self
 invariant_of-self c =
     let m = holders_of c.self.inside.holders.entries in
     let n = holders_of c.fill_all.new.holders.entries in
-    let less : c.args.group < c.self.inside.reserved_groups = omega (arith, ap (λ (live : Live). length live.groups) c.self.view_is, length-groups_in m c.self.inside.reserved_groups, c.requires.reserved) in
+    let less : c.args.group < c.self.inside.reserved_groups = omega (arith, ap (λ (live : ExtremaState). length live.groups) c.self.view_is, length-groups_in m c.self.inside.reserved_groups, c.requires.reserved) in
     reserved-group m n c.self.inside.reserved_groups c.args.group c.args.extrema c.self.invariant less
     (group-twice m (holders_of c.clear_in.new.holders.entries) n c.args.group fin.empty c.args.extrema c.clear_in.ensures.min_maxes (subst (λ e. IsGroup (holders_of c.clear_in.new.holders.entries) c.args.group e n) c.min_maxes.ensures c.fill_all.ensures))
 
@@ -29,7 +29,7 @@ pub returns-clause-groups : goal.returns-clause-groups
 returns-clause-groups c =
     let m = holders_of c.self.inside.holders.entries in
     let n = holders_of c.fill_all.new.holders.entries in
-    let less : c.args.group < c.self.inside.reserved_groups = omega (arith, ap (λ (live : Live). length live.groups) c.self.view_is, length-groups_in m c.self.inside.reserved_groups, c.requires.reserved) in
+    let less : c.args.group < c.self.inside.reserved_groups = omega (arith, ap (λ (live : ExtremaState). length live.groups) c.self.view_is, length-groups_in m c.self.inside.reserved_groups, c.requires.reserved) in
     put-group m n c.self.inside.reserved_groups c.args.group c.args.extrema less
     (group-twice m (holders_of c.clear_in.new.holders.entries) n c.args.group fin.empty c.args.extrema c.clear_in.ensures.min_maxes (subst (λ e. IsGroup (holders_of c.clear_in.new.holders.entries) c.args.group e n) c.min_maxes.ensures c.fill_all.ensures))
-    ∙ ap (λ (live : Live). slice_set live.groups c.args.group c.args.extrema) c.self.view_is
+    ∙ ap (λ (live : ExtremaState). slice_set live.groups c.args.group c.args.extrema) c.self.view_is

@@ -1,7 +1,7 @@
 use Rattle.std.proofs.Common.{ℕ, ◌≤◌, sym, ap, subst, ◌∙◌, arith, Some}
 use Rattle.far_extrema.specs.declared.tournament.Branch.{Branch}
 use Rattle.far_extrema.specs.Spreads.{Spread, at, IsSet}
-use Rattle.far_extrema.specs.Tournaments.{spread_of, IsKept}
+use Rattle.far_extrema.specs.Tournaments.{spread_of, IsTree}
 use Rattle.far_extrema.proofs.SpreadLaws.{at-before, at-after}
 use Rattle.far_extrema.proofs.TournamentLaws.{whole, IsChanged, branch-before, branch-after}
 use Rattle.far_extrema.proofs.tournament.Tournament.+add.Goals as goal
@@ -9,7 +9,7 @@ use Rattle.far_extrema.proofs.tournament.Tournament.+add.Goals.{After-either, th
 
 pub add-requires : goal.add-requires
 add-requires t c =
-    let kept = (subst IsKept c.in-Several.is c.self.invariant).1 in
+    let kept = (subst IsTree c.in-Several.is c.self.invariant).1 in
     let spread_is = sym c.self.view_is ∙ ap spread_of c.in-Several.is in
     let here = ap (λ (b : Branch). b.split) c.deref_mut-branch.ensures.value in
     let depth = ap (λ (s : Spread). s.depth) spread_is in
@@ -21,7 +21,7 @@ add-requires t c =
 
 pub add-requires-else-group-branch : goal.add-requires-else-group-branch
 add-requires-else-group-branch t c =
-    let kept = (subst IsKept c.in-Several.is c.self.invariant).1 in
+    let kept = (subst IsTree c.in-Several.is c.self.invariant).1 in
     let spread_is = sym c.self.view_is ∙ ap spread_of c.in-Several.is in
     let here = ap (λ (b : Branch). b.split) c.deref_mut-branch.ensures.value in
     let depth = ap (λ (s : Spread). s.depth) spread_is in
@@ -33,7 +33,7 @@ add-requires-else-group-branch t c =
 
 changed : (t : ℕ) (c : After-either t) → IsChanged c.in-Several.branch.value c.args.group (Some c.args.min_max) c.if-group-branch.branch' c.either.result
 changed t c =
-    let kept = (subst IsKept c.in-Several.is c.self.invariant).1 in
+    let kept = (subst IsTree c.in-Several.is c.self.invariant).1 in
     let spread_is = sym c.self.view_is ∙ ap spread_of c.in-Several.is in
     let first = ap (λ (s : Spread). s.first) spread_is in
     let last = ap (λ (s : Spread). s.last) spread_is in

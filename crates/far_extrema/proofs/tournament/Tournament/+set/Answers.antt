@@ -2,7 +2,7 @@ use Rattle.std.proofs.Common.{ℕ, ◌∷◌, [], sym, ap, subst, ◌∙◌, ari
 use Rattle.far_extrema.specs.declared.tournament.Branch.{Branch}
 use Rattle.far_extrema.specs.Blocks.{BlockState, present}
 use Rattle.far_extrema.specs.Spreads.{Spread, at, IsSet}
-use Rattle.far_extrema.specs.Tournaments.{spread_of, IsKept}
+use Rattle.far_extrema.specs.Tournaments.{spread_of, IsTree}
 use Rattle.far_extrema.specs.declared.tournament.Tournament.TheInside.{Inside}
 use Rattle.far_extrema.proofs.BlockLaws.{top-element, set-element}
 use Rattle.far_extrema.proofs.SpreadLaws.{at-before, at-after, absent-parted}
@@ -12,7 +12,7 @@ use Rattle.far_extrema.proofs.tournament.Tournament.+set.Goals.{Joined-self, in-
 
 pub returns-then-not-reaches-clause-absent : goal.returns-then-not-reaches-clause-absent
 returns-then-not-reaches-clause-absent t c h =
-    let kept = (subst IsKept c.in-Several.is c.self.invariant).1 in
+    let kept = (subst IsTree c.in-Several.is c.self.invariant).1 in
     let first = ap (λ (b : Branch). b.first) c.deref_mut-branch.ensures.value in
     let last = ap (λ (b : Branch). b.last) c.deref_mut-branch.ensures.value in
     ap (λ (s : Spread). at s.min_maxes c.args.group) (sym c.self.view_is ∙ ap spread_of c.in-Several.is)
@@ -20,7 +20,7 @@ returns-then-not-reaches-clause-absent t c h =
 
 pub returns-then-not-is_set-clause-absent : goal.returns-then-not-is_set-clause-absent
 returns-then-not-is_set-clause-absent t c h =
-    let kept = (subst IsKept c.in-Several.is c.self.invariant).1 in
+    let kept = (subst IsTree c.in-Several.is c.self.invariant).1 in
     let here = ap (λ (b : Branch). b.split) c.deref_mut-branch.ensures.value in
     let min_maxes = ap (λ (s : Spread). at s.min_maxes c.args.group) (sym c.self.view_is ∙ ap spread_of c.in-Several.is) in
     elim c.if-group-branch.branch [
@@ -32,21 +32,21 @@ returns-then-not-is_set-clause-absent t c h =
           ∙ sym (ap (λ (b : Branch). at b.after.min_maxes c.args.group) c.deref_mut-branch.ensures.value) ∙ w.set-is_set-else-group-branch.ensures.absent (sym w.is_set-is ∙ c.if-not-is_set.true)
     ]
 
-result : (t : ℕ) (c : Joined-self t) → IsKept c.match-self.self-inside.node × IsSet c.args.self.now.min_maxes c.args.group c.args.min_max (spread_of c.match-self.self-inside.node).min_maxes
+result : (t : ℕ) (c : Joined-self t) → IsTree c.match-self.self-inside.node × IsSet c.args.self.now.min_maxes c.args.group c.args.min_max (spread_of c.match-self.self-inside.node).min_maxes
 result t c = elim c.match-self.branch [
   | in-One+else-holder-group w ↦
       let min_maxes = ap (λ (s : Spread). s.min_maxes) (sym (ap spread_of w.in-One.is) ∙ c.self.view_is) in
-      subst (λ (i : Inside). IsKept i.node × IsSet c.args.self.now.min_maxes c.args.group c.args.min_max (spread_of i.node).min_maxes) (sym w.self-inside-is) (
+      subst (λ (i : Inside). IsTree i.node × IsSet c.args.self.now.min_maxes c.args.group c.args.min_max (spread_of i.node).min_maxes) (sym w.self-inside-is) (
         (top-element w.in-One.holder c.args.min_max, tt),
         subst (λ s. IsSet s c.args.group c.args.min_max (present w.in-One.holder (c.args.min_max ∷ []))) min_maxes
             (subst (λ g. IsSet (present w.in-One.holder (w.in-One.previous ∷ [])) g c.args.min_max (present w.in-One.holder (c.args.min_max ∷ []))) w.if-holder-group.false (set-element w.in-One.holder w.in-One.previous c.args.min_max)),
       )
   | in-Few+else-not-covers w ↦
       let min_maxes = ap (λ (s : Spread). s.min_maxes) (sym (ap spread_of w.in-Few.is) ∙ c.self.view_is) in
-      subst (λ (i : Inside). IsKept i.node × IsSet c.args.self.now.min_maxes c.args.group c.args.min_max (spread_of i.node).min_maxes) (sym w.self-inside-is)
+      subst (λ (i : Inside). IsTree i.node × IsSet c.args.self.now.min_maxes c.args.group c.args.min_max (spread_of i.node).min_maxes) (sym w.self-inside-is)
       ((w.joined.ensures, tt), subst (λ s. IsSet s c.args.group c.args.min_max w.put.new.self.min_maxes) (ap (λ (b : BlockState). b.min_maxes) w.deref_mut-block.ensures.value ∙ min_maxes) w.put.ensures.set)
   | in-Several+else-not-reaches+else-not-is_set w ↦
-      let kept = (subst IsKept w.in-Several.is c.self.invariant).1 in
+      let kept = (subst IsTree w.in-Several.is c.self.invariant).1 in
       let min_maxes = ap (λ (s : Spread). s.min_maxes) (sym (ap spread_of w.in-Several.is) ∙ c.self.view_is) in
       let first = ap (λ (b : Branch). b.first) w.deref_mut-branch.ensures.value in
       let last = ap (λ (b : Branch). b.last) w.deref_mut-branch.ensures.value in
@@ -56,7 +56,7 @@ result t c = elim c.match-self.branch [
         | else-group-branch v ↦ branch-after w.in-Several.branch.value w.deref_mut-branch.result.now w.if-group-branch.branch' v.set-is_set-else-group-branch.new.self w.either.result w.top.result w.top-in-Several.result c.args.group c.args.min_max
             w.deref_mut-branch.ensures.value kept v.if-group-branch.false (omega (arith, last, w.reaches.ensures.last w.if-not-reaches.false)) (v.set-is_set-else-group-branch.ensures.set (sym v.is_set-is ∙ w.if-not-is_set.false)) v.branch'-is w.top.ensures.top w.top-in-Several.ensures.top w.either.ensures
       ] in
-      subst (λ (i : Inside). IsKept i.node × IsSet c.args.self.now.min_maxes c.args.group c.args.min_max (spread_of i.node).min_maxes) (sym w.self-inside-is)
+      subst (λ (i : Inside). IsTree i.node × IsSet c.args.self.now.min_maxes c.args.group c.args.min_max (spread_of i.node).min_maxes) (sym w.self-inside-is)
       (changed.0, subst (λ s. IsSet s c.args.group c.args.min_max (whole w.if-group-branch.branch')) min_maxes changed.1)
 ]
 

@@ -1,5 +1,5 @@
 use Rattle.std.proofs.Common.{None, refl, subst}
-use Rattle.far_frame.specs.declared.job.Work.TheVariants as work
+use Rattle.far_frame.specs.declared.job.JobPhase.TheVariants as work
 use Rattle.far_frame.specs.Jobs.{IsOffloadJob}
 use Rattle.far_frame.specs.State.{State}
 use Rattle.far_frame.proofs.frame.Frame.begin_offload.Goals as goal

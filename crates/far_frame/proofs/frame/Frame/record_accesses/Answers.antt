@@ -1,5 +1,5 @@
 use Rattle.std.proofs.Common.{◌≡◌, ◌+◌, ◌*◌, ◌/◌, ◌<◌, ◌≤◌, ℕ, List, ◌∷◌, ap, subst, sym, ◌∙◌, arith}
-use Rattle.far_table.specs.State.{State as LiveState}
+use Rattle.far_table.specs.State.{LiveState}
 use Rattle.far_vector.specs.Pieces.{overlapped_groups}
 use Rattle.far_frame.proofs.ObservedLaws.{IsObserving, observing-all, observing-more, overlapped-next, overlapped-none}
 use Rattle.far_frame.proofs.frame.Frame.record_accesses.Goals as goal

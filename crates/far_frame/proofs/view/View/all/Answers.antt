@@ -3,7 +3,7 @@ use Rattle.std.proofs.lemmas.Result.{err_from_is_err_and}
 use Rattle.far_types.specs.declared.limits.Limits.{Limits}
 use Rattle.far_types.specs.FirstOf.{first_of}
 use Rattle.far_types.specs.Table.{groups}
-use Rattle.far_table.specs.State.{State}
+use Rattle.far_table.specs.State.{LiveState}
 use Rattle.far_frame.specs.Views.{absents_of, away}
 use Rattle.far_frame.proofs.ViewLaws.{here-first, away-first, each-here, group-within}
 use Rattle.far_frame.proofs.view.View.all.Goals as goal
@@ -32,5 +32,5 @@ returns-clause-here g c =
     let at = c.loop-group.group in
     let none : c.groups-group-end.result - at ≡ 0 = omega (arith, c.loop-group-test.false) in
     let free : away s ≡ None = c.loop-group.invariant ∙ ap (λ n. first_of (absents_of held at n)) none in
-    let some : 0 < s.table.limits.group = subst (λ (limits : Limits). 0 < limits.group) (c.rows-rows.ensures.limits ∙ ap (λ (t : State g.row.S-Ticket.Denot). t.table.limits) c.self.view_is) (omega (arith, c.limits-limits.ensures.bounds.group_low)) in
+    let some : 0 < s.table.limits.group = subst (λ (limits : Limits). 0 < limits.group) (c.rows-rows.ensures.limits ∙ ap (λ (t : LiveState g.row.S-Ticket.Denot). t.table.limits) c.self.view_is) (omega (arith, c.limits-limits.ensures.bounds.group_low)) in
     λ place below. each-here s.rows 0 (groups s.table.limits.group (length s.table.places)) free (place / s.table.limits.group) (omega arith) (let within = group-within place s.table.limits.group (length s.table.places) some below in omega (arith, within))

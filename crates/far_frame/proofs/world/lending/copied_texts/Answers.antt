@@ -3,7 +3,7 @@ use Rattle.std.specs.Prelude.{slice_range}
 use Rattle.std.proofs.lemmas.Option.{none-some}
 use Rattle.far_types.specs.Table.{part}
 use Rattle.far_vector.specs.Pieces.{pieces_of}
-use Rattle.far_table.specs.State.{State as LiveState}
+use Rattle.far_table.specs.State.{LiveState}
 use Rattle.far_rows.specs.Refusing.{texts_refusal}
 use Rattle.far_frame.specs.Lending.{flags_of, lent_part, piece_of, text_piece}
 use Rattle.far_frame.proofs.LendingLaws.{copied-texts-more, next-further, texts-part}

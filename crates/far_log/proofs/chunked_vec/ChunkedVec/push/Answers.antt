@@ -1,5 +1,5 @@
 use Rattle.std.proofs.Common.{◌≡◌, ◌≤◌, ◌++◌, ◌∷◌, [], length, take, refl, ap, ◌∙◌, arith}
-use Rattle.far_log.specs.Chunking.{joined, start_at}
+use Rattle.far_log.specs.Chunking.{items_of, start_at}
 use Rattle.far_log.proofs.Chunks.{next-chunk, all-full}
 use Rattle.far_log.proofs.ChunkedVecs.{chunk-is, has-size, kept-reused, shown-reused, kept-pushed, shown-pushed, length-shown}
 use Rattle.far_log.proofs.chunked_vec.ChunkedVec.push.Goals as goal
@@ -18,7 +18,7 @@ make_chunk-requires-clause-full g c = λ is.
 pub push_reserved-requires : goal.push_reserved-requires
 push_reserved-requires g c =
     let here = chunk-is c.make_chunk.new.chunks.items c.self.inside.len c.self.inside.len _ _ c.place_of-chunk.ensures.place c.index_mut-chunk.result.now c.index_mut-chunk.ensures.value c.in_ok-make_chunk.ensures.there in
-    let within : c.self.inside.len ≤ length (joined c.make_chunk.new.chunks.items) = omega (arith, ap length c.in_ok-make_chunk.ensures.same, c.self.invariant.within) in
+    let within : c.self.inside.len ≤ length (items_of c.make_chunk.new.chunks.items) = omega (arith, ap length c.in_ok-make_chunk.ensures.same, c.self.invariant.within) in
     let few = length-shown c.self.inside.chunks.items c.self.inside.len c.self.invariant in
     let size = has-size c.make_chunk.new.chunks.items c.self.inside.len c.self.inside.len _ _ c.place_of-chunk.ensures.place c.index_mut-chunk.result.now c.index_mut-chunk.result.now c.args.value c.in_ok-make_chunk.ensures.kept refl within (omega (arith, c.requires, few, ap length c.self.view_is)) here (omega (arith, c.if-at-len.false, c.len.ensures, c.index_mut-chunk.result.now.ok.0)) in
     omega (arith, size, c.index_mut-chunk.result.now.ok.0)
@@ -26,7 +26,7 @@ push_reserved-requires g c =
 pub invariant_of-self-2 : goal.invariant_of-self-2
 invariant_of-self-2 g c =
     let here = chunk-is c.make_chunk.new.chunks.items c.self.inside.len c.self.inside.len _ _ c.place_of-chunk.ensures.place c.index_mut-chunk.result.now c.index_mut-chunk.ensures.value c.in_ok-make_chunk.ensures.there in
-    let within : c.self.inside.len ≤ length (joined c.make_chunk.new.chunks.items) = omega (arith, ap length c.in_ok-make_chunk.ensures.same, c.self.invariant.within) in
+    let within : c.self.inside.len ≤ length (items_of c.make_chunk.new.chunks.items) = omega (arith, ap length c.in_ok-make_chunk.ensures.same, c.self.invariant.within) in
     let few = length-shown c.self.inside.chunks.items c.self.inside.len c.self.invariant in
     elim c.if-at-len.branch [
       | then-at-len w ↦ rw w.self-inside-is (kept-reused c.make_chunk.new.chunks.items c.self.inside.len c.self.inside.len _ _ c.place_of-chunk.ensures.place c.index_mut-chunk.result.now _ c.args.value c.in_ok-make_chunk.ensures.kept refl (omega (arith, c.requires, few, ap length c.self.view_is)) here (omega (arith, w.if-at-len.true, c.len.ensures, c.index_mut-chunk.result.now.ok.0)) refl refl)
@@ -36,9 +36,9 @@ invariant_of-self-2 g c =
 pub returns-clause-pushed : goal.returns-clause-pushed
 returns-clause-pushed g c =
     let here = chunk-is c.make_chunk.new.chunks.items c.self.inside.len c.self.inside.len _ _ c.place_of-chunk.ensures.place c.index_mut-chunk.result.now c.index_mut-chunk.ensures.value c.in_ok-make_chunk.ensures.there in
-    let within : c.self.inside.len ≤ length (joined c.make_chunk.new.chunks.items) = omega (arith, ap length c.in_ok-make_chunk.ensures.same, c.self.invariant.within) in
+    let within : c.self.inside.len ≤ length (items_of c.make_chunk.new.chunks.items) = omega (arith, ap length c.in_ok-make_chunk.ensures.same, c.self.invariant.within) in
     let few = length-shown c.self.inside.chunks.items c.self.inside.len c.self.invariant in
-    let was : take c.self.inside.len (joined c.make_chunk.new.chunks.items) ≡ c.args.self.now = ap (take c.self.inside.len) c.in_ok-make_chunk.ensures.same ∙ c.self.view_is in
+    let was : take c.self.inside.len (items_of c.make_chunk.new.chunks.items) ≡ c.args.self.now = ap (take c.self.inside.len) c.in_ok-make_chunk.ensures.same ∙ c.self.view_is in
     elim c.if-at-len.branch [
       | then-at-len w ↦ rw w.self-inside-is (shown-reused c.make_chunk.new.chunks.items c.self.inside.len c.self.inside.len _ _ c.place_of-chunk.ensures.place c.index_mut-chunk.result.now _ c.args.value c.in_ok-make_chunk.ensures.kept refl (omega (arith, c.requires, few, ap length c.self.view_is)) here (omega (arith, w.if-at-len.true, c.len.ensures, c.index_mut-chunk.result.now.ok.0)) refl refl ∙ ap (λ xs. xs ++ c.args.value ∷ []) was)
       | else-at-len w ↦ rw w.self-inside-is (shown-pushed c.make_chunk.new.chunks.items c.self.inside.len c.self.inside.len _ _ c.place_of-chunk.ensures.place c.index_mut-chunk.result.now w.push_reserved.new.self c.args.value c.in_ok-make_chunk.ensures.kept refl within (omega (arith, c.requires, few, ap length c.self.view_is)) here (omega (arith, w.if-at-len.false, c.len.ensures, c.index_mut-chunk.result.now.ok.0)) w.push_reserved.ensures.items w.push_reserved.ensures.capacity ∙ ap (λ xs. xs ++ c.args.value ∷ []) was)

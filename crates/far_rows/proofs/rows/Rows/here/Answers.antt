@@ -5,7 +5,7 @@ use Rattle.far_scopes.proofs.FirstCases.{next-free, next-due}
 use Rattle.far_types.specs.FirstOf.{first_of}
 use Rattle.far_rows.specs.declared.column_index.ColumnIndex.{ColumnIndex}
 use Rattle.far_rows.specs.declared.column_index.ColumnIndex.TheVariants as column_index
-use Rattle.far_rows.specs.ColumnIndexes.{IsWithin}
+use Rattle.far_rows.specs.ColumnIndexes.{IsColumnIn}
 use Rattle.far_rows.specs.Refusing.{told_at}
 use Rattle.far_rows.proofs.AbsentNames.{absents-named}
 use Rattle.far_rows.proofs.rows.Rows.here.Goals as goal
@@ -14,7 +14,7 @@ pub is_here-requires-after_bounds : goal.is_here-requires-after_bounds
 is_here-requires-after_bounds g c κs within =
     let column_indexes = c.column_indexes-column_index-items.result.now in
     let there = subst (λ (ss : List ColumnIndex). c.loop-column_index.column_index-index < length ss) c.column_indexes-column_index-items.ensures c.loop-column_index-test.true in
-    subst (λ (ss : List ColumnIndex). IsWithin (length c.args.self.now.numbers) (length c.args.self.now.texts) (get_or ss c.loop-column_index.column_index-index (column_index.Number 0))) (sym c.column_indexes-column_index-items.ensures) (c.len-len.ensures.rows.column_indexes.within c.loop-column_index.column_index-index (column_index.Number 0) there)
+    subst (λ (ss : List ColumnIndex). IsColumnIn (length c.args.self.now.numbers) (length c.args.self.now.texts) (get_or ss c.loop-column_index.column_index-index (column_index.Number 0))) (sym c.column_indexes-column_index-items.ensures) (c.len-len.ensures.rows.column_indexes.within c.loop-column_index.column_index-index (column_index.Number 0) there)
 
 pub loop-column_index-preserved : goal.loop-column_index-preserved
 loop-column_index-preserved g c =

@@ -9,7 +9,7 @@ use Rattle.far_columns.specs.Numbers.{Numbers}
 use Rattle.far_rows.specs.declared.column_index.ColumnIndex.{ColumnIndex}
 use Rattle.far_rows.specs.declared.column_index.ColumnIndex.TheVariants as column_index
 use Rattle.far_types.specs.Lent.{int_cell}
-use Rattle.far_rows.specs.Rows.{Rows, AreRows, cells_of}
+use Rattle.far_rows.specs.Rows.{Rows, AreRows, all_cells}
 use Rattle.far_rows.specs.Lending.{numbers_of}
 use Rattle.far_rows.proofs.LentNumbers.{part-cells, part-due}
 use Rattle.far_rows.proofs.rows.Rows.ints.Goals as goal
@@ -22,7 +22,7 @@ returns-clause-cells g c =
     let numbers = numbers_of g.S.FarTickets.content c.args.self.now (column_index.Number c.in-Number.number) in
     IfOk-weaker c.ints_at.result
     (λ (lents : List (Numbers × List Bool)). flat_map (λ lent. lent.0) lents ≡ slice_range numbers c.args.from c.args.to)
-    (λ lents. option_map (λ (cells : List Cell). slice_range cells c.args.from c.args.to) (slice_get (cells_of g.S.FarTickets.content c.args.self.now) c.args.column) ≡ Some (map int_cell (flat_map (λ lent. lent.0) lents)))
+    (λ lents. option_map (λ (cells : List Cell). slice_range cells c.args.from c.args.to) (slice_get (all_cells g.S.FarTickets.content c.args.self.now) c.args.column) ≡ Some (map int_cell (flat_map (λ lent. lent.0) lents)))
     (λ lents is. part-cells g.S.FarTickets.content c.args.self.now c.args.column c.in-Number.number c.args.from c.args.to lies (flat_map (λ lent. lent.0) lents) is)
     c.ints_at.ensures.joined
 

@@ -9,7 +9,7 @@ use Rattle.far_texts.specs.Refusing.{set_refusal as text_refusal}
 use Rattle.far_rows.specs.declared.column_index.ColumnIndex.{ColumnIndex}
 use Rattle.far_rows.specs.declared.column_index.ColumnIndex.TheVariants as column_index
 use Rattle.far_rows.specs.Refusing.{absents}
-use Rattle.far_rows.specs.ColumnIndexes.{IsWithin}
+use Rattle.far_rows.specs.ColumnIndexes.{IsColumnIn}
 use Rattle.far_rows.specs.Setting.{kind_in, value_refusal}
 use Rattle.far_rows.proofs.CellsSet.{column_index-within}
 use Rattle.far_rows.proofs.rows.Rows.may_set_value.Goals as goal
@@ -42,7 +42,7 @@ may_set-requires-after_bounds g c κs bounds =
     let read : c.index.result.now ≡ get_or r.column_indexes c.args.column c.index.result.now = c.index.ensures ∙ ap (λ rows. get_or rows.column_indexes c.args.column c.index.result.now) c.self.view_is in
     let below = column_index-within r.column_indexes c.args.column (kind_in c.args.value.now) c.requires.of_kind in
     let at : slice_get r.column_indexes c.args.column ≡ Some s = slice_get-get_or r.column_indexes c.args.column c.index.result.now below ∙ ap Some (sym read ∙ c.in-Text-Text.is-0) in
-    let inside : IsWithin (length r.numbers) (length r.texts) s = subst (IsWithin (length r.numbers) (length r.texts)) (get_or_from_slice_get r.column_indexes c.args.column s s at) (c.len-len.ensures.rows.column_indexes.within c.args.column s below) in
+    let inside : IsColumnIn (length r.numbers) (length r.texts) s = subst (IsColumnIn (length r.numbers) (length r.texts)) (get_or_from_slice_get r.column_indexes c.args.column s s at) (c.len-len.ensures.rows.column_indexes.within c.args.column s below) in
     let within = subst (λ rows. c.in-Text-Text.i < length rows.texts) (sym c.self.view_is) inside in
     subst (IsTextColumn (lists_of g.S.FarTickets.content c.self.inside.text_objects)) (sym c.index-in-Text-Text.ensures) (c.self.invariant.texts.all_disjoint.each c.in-Text-Text.i c.index-in-Text-Text.result.now within)
 
@@ -55,7 +55,7 @@ returns-in-Text-Text g c =
     let read : c.index.result.now ≡ get_or r.column_indexes c.args.column c.index.result.now = c.index.ensures ∙ ap (λ rows. get_or rows.column_indexes c.args.column c.index.result.now) c.self.view_is in
     let below = column_index-within r.column_indexes c.args.column (kind_in c.args.value.now) c.requires.of_kind in
     let at : slice_get r.column_indexes c.args.column ≡ Some s = slice_get-get_or r.column_indexes c.args.column c.index.result.now below ∙ ap Some (sym read ∙ c.in-Text-Text.is-0) in
-    let inside : IsWithin (length r.numbers) (length r.texts) s = subst (IsWithin (length r.numbers) (length r.texts)) (get_or_from_slice_get r.column_indexes c.args.column s s at) (c.len-len.ensures.rows.column_indexes.within c.args.column s below) in
+    let inside : IsColumnIn (length r.numbers) (length r.texts) s = subst (IsColumnIn (length r.numbers) (length r.texts)) (get_or_from_slice_get r.column_indexes c.args.column s s at) (c.len-len.ensures.rows.column_indexes.within c.args.column s below) in
     let read_column : v ≡ get_or r.texts c.in-Text-Text.i v = c.index-in-Text-Text.ensures ∙ ap (λ rows. get_or rows.texts c.in-Text-Text.i v) c.self.view_is in
     let column : slice_get r.texts c.in-Text-Text.i ≡ Some v = slice_get-get_or r.texts c.in-Text-Text.i v inside ∙ ap Some (sym read_column) in
     let here : first_of (absents r (c.args.place / r.size)) ≡ None = sym (c.in_ok-here.ensures ∙ ap (λ n. first_of (absents r n)) c.group_of-group.ensures) in

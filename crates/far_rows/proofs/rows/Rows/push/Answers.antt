@@ -1,6 +1,6 @@
 use Rattle.std.proofs.Common.{true, ◌∙◌}
 use Rattle.far_rows.specs.ColumnIndexes.{row_of}
-use Rattle.far_rows.specs.Rows.{cells_of}
+use Rattle.far_rows.specs.Rows.{all_cells}
 use Rattle.far_rows.specs.Places.{places_of}
 use Rattle.far_rows.proofs.CellsLong.{cells-long, row-wide}
 use Rattle.far_rows.proofs.OneList.{push-kinds}
@@ -17,4 +17,4 @@ returns-clause-places g c =
     let rows = c.len-len.ensures.rows in
     let done = c.in_ok-push_row.ensures in
     (λ k. places_of (done.cells k) (done.alive k))
-    ∙ places-push (cells_of content r) (row_of r.column_indexes c.args.row.now) r.alive true (cells-long content r rows) (row-wide content r rows c.args.row.now)
+    ∙ places-push (all_cells content r) (row_of r.column_indexes c.args.row.now) r.alive true (cells-long content r rows) (row-wide content r rows c.args.row.now)

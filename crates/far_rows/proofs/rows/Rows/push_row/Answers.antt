@@ -23,7 +23,7 @@ use Rattle.far_scopes.specs.Movement.{version_of}
 use Rattle.far_rows.proofs.Versions.{number-versions, text-versions}
 use Rattle.far_rows.proofs.NumbersOwned.{numbers-owned}
 use Rattle.far_rows.proofs.TextsOwned.{texts-owned}
-use Rattle.far_rows.specs.Rows.{AreRows, cells_of}
+use Rattle.far_rows.specs.Rows.{AreRows, all_cells}
 use Rattle.far_rows.specs.ColumnIndexes.{AreColumnIndexes, columns_of, row_of, with_row}
 use Rattle.std.specs.Vec.{with_items}
 use Rattle.std.specs.Option.{option_or}
@@ -203,7 +203,7 @@ returns-clause-cells g c =
     ∙ ap (λ ns. columns_of column_indexes ns (map (texts_in (lists_of content c.push_values-pushed.new.text_objects)) texts)) is
     ∙ ap (columns_of column_indexes (all_with was values.numbers)) texts_are
     ∙ columns-with was texts_was values (length columns) (length texts_before) same_length texts_same_length (sym (length-map columns (numbers_in content c.self.inside.number_objects))) (sym (length-map texts_before (texts_in text_lists_before))) column_indexes inv.column_indexes.within
-    ∙ ap (λ r. with_row (cells_of content r) (row_of r.column_indexes values)) c.self.view_is
+    ∙ ap (λ r. with_row (all_cells content r) (row_of r.column_indexes values)) c.self.view_is
 
 pub returns-clause-number_versions : goal.returns-clause-number_versions
 returns-clause-number_versions g c = λ o.

@@ -1,7 +1,7 @@
 use Rattle.std.proofs.Common.{◌≡◌, length, sym, ap, subst, ◌∙◌}
 use Rattle.far_scopes.specs.Renewal.{AreTicketsHere}
 use Rattle.far_rows.specs.Naming.{names_of}
-use Rattle.far_rows.specs.Rows.{Rows, cells_of}
+use Rattle.far_rows.specs.Rows.{Rows, all_cells}
 use Rattle.far_rows.proofs.Renewed.{renewed-named, rows-renewed, renewed-cells}
 use Rattle.far_rows.proofs.rows.Rows.renew.Goals as goal
 
@@ -17,7 +17,7 @@ invariant_of-result g c =
 pub returns-clause-cells : goal.returns-clause-cells
 returns-clause-cells g c =
     let old : Rows g.row.S-Ticket.Denot = record { column_indexes = c.self.inside.column_indexes.items; size = c.self.inside.size; numbers = c.self.inside.numbers.items; texts = c.self.inside.texts.items; number_objects = c.self.inside.number_objects; text_objects = c.self.inside.text_objects; alive = c.self.inside.alive } in
-    renewed-cells g.S.FarTickets.content g.N.FarTickets.content old c.renew.result c.renew-2.result c.renew.ensures.lists c.renew-2.ensures.lists ∙ ap (cells_of g.S.FarTickets.content) c.self.view_is
+    renewed-cells g.S.FarTickets.content g.N.FarTickets.content old c.renew.result c.renew-2.result c.renew.ensures.lists c.renew-2.ensures.lists ∙ ap (all_cells g.S.FarTickets.content) c.self.view_is
 
 pub returns-clause-store : goal.returns-clause-store
 returns-clause-store g c = λ id here. record {

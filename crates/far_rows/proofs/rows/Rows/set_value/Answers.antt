@@ -7,8 +7,8 @@ use Rattle.far_texts.specs.Texts.{lists_of, texts_in}
 use Rattle.far_scopes.proofs.Outcomes.{on-ok, on-both}
 use Rattle.far_rows.specs.declared.column_index.ColumnIndex.{ColumnIndex}
 use Rattle.far_rows.specs.declared.column_index.ColumnIndex.TheVariants as column_index
-use Rattle.far_rows.specs.ColumnIndexes.{IsWithin, columns_of}
-use Rattle.far_rows.specs.Rows.{all_numbers, all_texts, cells_of}
+use Rattle.far_rows.specs.ColumnIndexes.{IsColumnIn, columns_of}
+use Rattle.far_rows.specs.Rows.{all_numbers, all_texts, all_cells}
 use Rattle.far_rows.specs.Setting.{cell_of, kind_in, set_in, with_cell_at}
 use Rattle.far_rows.proofs.CellsSet.{column_index-within, number-set, text-set}
 use Rattle.far_rows.proofs.rows.Rows.set_value.Goals as goal
@@ -37,13 +37,13 @@ returns-in-Number-Number-clause-cells g c =
     let read : c.index.result.now ≡ get_or column_indexes c.args.column c.index.result.now = c.index.ensures ∙ ap (λ rows. get_or rows.column_indexes c.args.column c.index.result.now) c.self.view_is in
     let below = column_index-within column_indexes c.args.column (kind_in c.args.value.now) c.requires.of_kind in
     let at : slice_get column_indexes c.args.column ≡ Some s = slice_get-get_or column_indexes c.args.column c.index.result.now below ∙ ap Some (sym read ∙ c.in-Number-Number.is-0) in
-    let inside : IsWithin (length r.numbers) (length r.texts) s = subst (IsWithin (length r.numbers) (length r.texts)) (get_or_from_slice_get column_indexes c.args.column s s at) (c.len-len.ensures.rows.column_indexes.within c.args.column s below) in
+    let inside : IsColumnIn (length r.numbers) (length r.texts) s = subst (IsColumnIn (length r.numbers) (length r.texts)) (get_or_from_slice_get column_indexes c.args.column s s at) (c.len-len.ensures.rows.column_indexes.within c.args.column s below) in
     let within : i < length (all_numbers content r) = omega (arith, inside, length-map r.numbers (numbers_in content r.number_objects)) in
     let same_column_indexes : now.column_indexes ≡ column_indexes = ap (λ rows. rows.column_indexes) moved in
     let same_texts : all_texts content now ≡ all_texts content r = ap (all_texts content) moved in
     (λ j. columns_of (same_column_indexes j) (c.set_number.ensures.numbers j) (same_texts j))
     ∙ number-set column_indexes (all_numbers content r) (all_texts content r) c.args.column i c.args.place c.in-Number-Number.number c.len-len.ensures.rows.column_indexes.once at within
-    ∙ ap (λ value. with_cell_at (cells_of content r) c.args.column c.args.place (cell_of value)) (sym c.in-Number-Number.is-1)
+    ∙ ap (λ value. with_cell_at (all_cells content r) c.args.column c.args.place (cell_of value)) (sym c.in-Number-Number.is-1)
 
 pub returns-in-Text-Text-clause-moved : goal.returns-in-Text-Text-clause-moved
 returns-in-Text-Text-clause-moved g c =
@@ -69,11 +69,11 @@ returns-in-Text-Text-clause-cells g c =
     let read : c.index.result.now ≡ get_or column_indexes c.args.column c.index.result.now = c.index.ensures ∙ ap (λ rows. get_or rows.column_indexes c.args.column c.index.result.now) c.self.view_is in
     let below = column_index-within column_indexes c.args.column (kind_in c.args.value.now) c.requires.of_kind in
     let at : slice_get column_indexes c.args.column ≡ Some s = slice_get-get_or column_indexes c.args.column c.index.result.now below ∙ ap Some (sym read ∙ c.in-Text-Text.is-0) in
-    let inside : IsWithin (length r.numbers) (length r.texts) s = subst (IsWithin (length r.numbers) (length r.texts)) (get_or_from_slice_get column_indexes c.args.column s s at) (c.len-len.ensures.rows.column_indexes.within c.args.column s below) in
+    let inside : IsColumnIn (length r.numbers) (length r.texts) s = subst (IsColumnIn (length r.numbers) (length r.texts)) (get_or_from_slice_get column_indexes c.args.column s s at) (c.len-len.ensures.rows.column_indexes.within c.args.column s below) in
     let within : i < length (all_texts content r) = omega (arith, inside, length-map r.texts (texts_in (lists_of content r.text_objects))) in
     on-both c.set_text.result c.set_text.ensures.moved c.set_text.ensures.texts (λ moved texts.
     let same_column_indexes : now.column_indexes ≡ column_indexes = ap (λ rows. rows.column_indexes) moved in
     let same_numbers : all_numbers content now ≡ all_numbers content r = ap (all_numbers content) moved in
     (λ j. columns_of (same_column_indexes j) (same_numbers j) (texts j))
     ∙ text-set column_indexes (all_numbers content r) (all_texts content r) c.args.column i c.args.place c.in-Text-Text.text c.len-len.ensures.rows.column_indexes.once at within
-    ∙ ap (λ value. with_cell_at (cells_of content r) c.args.column c.args.place (cell_of value)) (sym c.in-Text-Text.is-1))
+    ∙ ap (λ value. with_cell_at (all_cells content r) c.args.column c.args.place (cell_of value)) (sym c.in-Text-Text.is-1))

@@ -7,7 +7,7 @@ use Rattle.far_types.specs.declared.cell.Cell.{Cell}
 use Rattle.far_rows.specs.declared.column_index.ColumnIndex.{ColumnIndex}
 use Rattle.far_rows.specs.declared.column_index.ColumnIndex.TheVariants as column_index
 use Rattle.far_types.specs.Lent.{text_cell}
-use Rattle.far_rows.specs.Rows.{Rows, AreRows, cells_of}
+use Rattle.far_rows.specs.Rows.{Rows, AreRows, all_cells}
 use Rattle.far_rows.specs.Lending.{texts_of}
 use Rattle.far_rows.proofs.LentTexts.{part-cells, part-due}
 use Rattle.far_rows.proofs.rows.Rows.texts.Goals as goal
@@ -19,7 +19,7 @@ returns-clause-cells g c =
     let lies = sym (ap (λ (ss : List ColumnIndex). slice_get ss c.args.column) column_indexes) ∙ read ∙ ap Some c.in-Text.is in
     IfOk-weaker c.texts_at.result
     (λ (lent : List (Option (List ℕ) × Bool)). map (λ t. t.0) lent ≡ slice_range (texts_of g.S.FarTickets.content c.args.self.now (column_index.Text c.in-Text.text)) c.args.from c.args.to)
-    (λ lent. option_map (λ (cells : List Cell). slice_range cells c.args.from c.args.to) (slice_get (cells_of g.S.FarTickets.content c.args.self.now) c.args.column) ≡ Some (map (λ t. text_cell t.0) lent))
+    (λ lent. option_map (λ (cells : List Cell). slice_range cells c.args.from c.args.to) (slice_get (all_cells g.S.FarTickets.content c.args.self.now) c.args.column) ≡ Some (map (λ t. text_cell t.0) lent))
     (λ lent is. part-cells g.S.FarTickets.content c.args.self.now c.args.column c.in-Text.text c.args.from c.args.to lies lent is)
     c.texts_at.ensures.texts
 

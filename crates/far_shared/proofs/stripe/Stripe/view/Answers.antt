@@ -1,6 +1,6 @@
 use Rattle.std.proofs.Common.{sym, ap, subst}
 use Rattle.far_types.specs.Table.{Table}
-use Rattle.far_table.specs.State.{State}
+use Rattle.far_table.specs.State.{LiveState}
 use Rattle.far_shared.specs.Stripes.{IsStripe}
 use Rattle.far_shared.proofs.stripe.Stripe.view.Goals as goal
 
@@ -9,5 +9,5 @@ returns g c =
     let s = c.self.inside in record {
       log = s.keeper;
       legal = c.known.ensures.legal;
-      stripe = subst (λ (table : Table). IsStripe g.N.PlanTag.plan s.keeper table) (sym (ap (λ (x : State g.row.S-Ticket.Denot). x.table) c.scope.ensures)) c.self.invariant.0;
+      stripe = subst (λ (table : Table). IsStripe g.N.PlanTag.plan s.keeper table) (sym (ap (λ (x : LiveState g.row.S-Ticket.Denot). x.table) c.scope.ensures)) c.self.invariant.0;
     }

@@ -3,7 +3,7 @@ use Rattle.far_types.specs.declared.spec.Spec.{Spec}
 use Rattle.far_types.specs.Bounds.{needs}
 use Rattle.far_offload.specs.Columns.{cells_meant}
 use Rattle.far_aggregates.specs.Lending.{IsOfPlaces}
-use Rattle.far_table.specs.FarGroups.{FarRows, places_there, has_copy}
+use Rattle.far_table.specs.FarGroups.{FarRows, places_there, needs_column}
 use Rattle.far_table.proofs.Tickets.{read-copy, one-read}
 use Rattle.far_table.proofs.far_group.FarGroupLendGroup.column.Goals as goal
 
@@ -22,5 +22,5 @@ returns-in-None-clause-there g c = λ has.
     let content = g.S.FarTickets.content in
     let i = c.self.inside in
     let v = c.self.invariant in
-    let wanted : needs i.build.now.job.spec c.args.number ≡ true = ap (λ (lent : FarRows g.row.S-Ticket.Denot). has_copy lent c.args.number) c.self.view_is ∙ has in
+    let wanted : needs i.build.now.job.spec c.args.number ≡ true = ap (λ (lent : FarRows g.row.S-Ticket.Denot). needs_column lent c.args.number) c.self.view_is ∙ has in
     one-read content i.rows.now i.build.now.group c.args.number i.build.now.job.tickets i.contents.now v.same_contents (v.copies.tickets c.args.number wanted) c.in-None.ensures

@@ -2,7 +2,7 @@ use Rattle.std.proofs.Common.{true, refl, subst, arith}
 use Rattle.std.proofs.lemmas.Result.{IfErr-weaker, IfOk-weaker}
 use Rattle.far_types.specs.MayRefuse.{MayRefuse}
 use Rattle.far_aggregates.specs.Aggregates.{Answers, ask_refusal}
-use Rattle.far_table.specs.State.{State}
+use Rattle.far_table.specs.State.{LiveState}
 use Rattle.far_table.specs.Watching.{aggregate_at}
 use Rattle.far_table.proofs.live_table.LiveTable.ask.Goals as goal
 
@@ -10,7 +10,7 @@ pub returns-clause-ok : goal.returns-clause-ok
 returns-clause-ok g c =
     let rows = c.self.inside.rows in
     IfOk-weaker c.answer.result _ _ (λ answer told.
-    subst (λ (s : State g.row.S-Ticket.Denot). Answers s.table.places (aggregate_at s.table c.args.a) answer) c.self.view_is
+    subst (λ (s : LiveState g.row.S-Ticket.Denot). Answers s.table.places (aggregate_at s.table c.args.a) answer) c.self.view_is
     (told rows.limits.group rows.places (omega (arith, c.limits-limits.ensures.bounds.group_low)) c.self.invariant.kept)) c.answer.ensures.ok
 
 pub returns-clause-err : goal.returns-clause-err
@@ -18,6 +18,6 @@ returns-clause-err g c =
     let rows = c.self.inside.rows in
     IfErr-weaker c.answer.result _ _ (λ e told. (
       refl,
-      subst (λ (s : State g.row.S-Ticket.Denot). MayRefuse (ask_refusal (aggregate_at s.table c.args.a)) true e) c.self.view_is
+      subst (λ (s : LiveState g.row.S-Ticket.Denot). MayRefuse (ask_refusal (aggregate_at s.table c.args.a)) true e) c.self.view_is
           (told rows.limits.group rows.places c.self.invariant.kept),
     )) c.answer.ensures.err

@@ -5,7 +5,7 @@ use Rattle.far_types.specs.declared.limits.Limits.{Limits}
 use Rattle.far_types.specs.Cells.{cells_of}
 use Rattle.far_types.specs.Edits.{places_after}
 use Rattle.far_aggregates.specs.Accumulators.{RegistryEntry, Keeps}
-use Rattle.far_table.specs.State.{State}
+use Rattle.far_table.specs.State.{LiveState}
 use Rattle.far_table.specs.TableRows.{TableRows}
 use Rattle.far_table.specs.Live.{IsLive, IsEdited, state_of}
 use Rattle.far_table.proofs.LiveEdits.{refuses-due, refuses-memory, kept-fit, shown-same, same-live, taken-state, taken-live, inserted, inserted-live}
@@ -81,7 +81,7 @@ returns-clause-ok g c =
     let taken = c.in_ok-may_insert.ensures in
     let content = g.S.FarTickets.content in
     subst (λ (now : List RegistryEntry). IsEdited content c.args.self.now (edit.Insert c.args.row) (state_of c.push-2.new.self n now)) (sym c.end.ensures.same)
-    (subst (λ (s : State g.row.S-Ticket.Denot). IsEdited content s (edit.Insert c.args.row) (state_of c.push-2.new.self n c.apply_deltas.new.self)) c.self.view_is
+    (subst (λ (s : LiveState g.row.S-Ticket.Denot). IsEdited content s (edit.Insert c.args.row) (state_of c.push-2.new.self n c.apply_deltas.new.self)) c.self.view_is
     (inserted content c.self.inside.rows c.may_insert.new.self c.push-2.new.self c.args.row taken.stays taken.taken c.in_default.ensures.appended n registry c.apply_deltas.new.self taken.refused c.in_ok-pending.ensures.registered))
 
 pub returns-in_err-push-clause-err : goal.returns-in_err-push-clause-err
@@ -108,5 +108,5 @@ returns-then-is_empty-clause-ok g c =
     let registry = c.self.inside.aggregates in
     let taken = c.in_ok-may_insert.ensures in
     let content = g.S.FarTickets.content in
-    subst (λ (s : State g.row.S-Ticket.Denot). IsEdited content s (edit.Insert c.args.row) (state_of c.push.new.self n registry)) c.self.view_is
+    subst (λ (s : LiveState g.row.S-Ticket.Denot). IsEdited content s (edit.Insert c.args.row) (state_of c.push.new.self n registry)) c.self.view_is
     (inserted content c.self.inside.rows c.may_insert.new.self c.push.new.self c.args.row taken.stays taken.taken c.in_ok-push.ensures.appended n registry registry taken.refused refl)

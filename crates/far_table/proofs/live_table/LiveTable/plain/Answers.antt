@@ -1,6 +1,6 @@
 use Rattle.std.proofs.Common.{ap, ◌∙◌}
 use Rattle.far_aggregates.specs.Readings.{plain_in}
-use Rattle.far_table.specs.State.{State}
+use Rattle.far_table.specs.State.{LiveState}
 use Rattle.far_table.specs.Watching.{aggregate_at}
 use Rattle.far_table.proofs.live_table.LiveTable.plain.Goals as goal
 
@@ -8,4 +8,4 @@ pub returns : goal.returns
 returns g c =
     let rows = c.self.inside.rows in
     c.plain.ensures rows.limits.group rows.places c.self.invariant.kept
-    ∙ ap (λ (s : State g.row.S-Ticket.Denot). plain_in s.table.places (aggregate_at s.table c.args.a)) c.self.view_is
+    ∙ ap (λ (s : LiveState g.row.S-Ticket.Denot). plain_in s.table.places (aggregate_at s.table c.args.a)) c.self.view_is

@@ -1,5 +1,5 @@
 use Rattle.std.proofs.Common.{ap, ◌∙◌, subst, sym}
-use Rattle.far_table.specs.State.{State}
+use Rattle.far_table.specs.State.{LiveState}
 use Rattle.far_table.specs.Live.{IsLive, state_of}
 use Rattle.far_table.specs.Renewing.{renewed_state}
 use Rattle.far_table.specs.TableRows.{TableRows}
@@ -14,4 +14,4 @@ invariant_of-result g c =
 pub returns-clause-renewed : goal.returns-clause-renewed
 returns-clause-renewed g c =
     let inside = c.self.inside in
-    ap (λ (t : TableRows g.row.N-Ticket.Denot). state_of t inside.registrations inside.aggregates) c.renew.ensures.renewed ∙ ap (λ (s : State g.row.S-Ticket.Denot). renewed_state s c.args.renewal) c.self.view_is
+    ap (λ (t : TableRows g.row.N-Ticket.Denot). state_of t inside.registrations inside.aggregates) c.renew.ensures.renewed ∙ ap (λ (s : LiveState g.row.S-Ticket.Denot). renewed_state s c.args.renewal) c.self.view_is

@@ -3,7 +3,7 @@ use Rattle.far_types.specs.declared.limits.Limits.{Limits}
 use Rattle.far_types.specs.declared.spec.Spec.{Spec}
 use Rattle.far_types.specs.Bounds.{spec_refusal}
 use Rattle.far_types.specs.Table.{in_group}
-use Rattle.far_rows.specs.Rows.{cells_of}
+use Rattle.far_rows.specs.Rows.{all_cells}
 use Rattle.far_aggregates.specs.Aggregates.{aggregate_in}
 use Rattle.far_aggregates.specs.Accumulators.{Keeps, registered_of}
 use Rattle.far_aggregates.specs.Lending.{IsServed, EntryIsServed}
@@ -25,7 +25,7 @@ scan_at-requires-clause-served g c =
     let found = an-aggregate (aggregate_in registry c.args.a) spec c.in-Some.ensures in
     let counted : c.args.group < c.groups.result = c.if-group-groups.false in
     let first : c.args.group * t.limits.group < length t.places = begun c.args.group t.limits.group (length t.places) (omega (arith, c.limits.ensures.bounds.group_low)) (subst (λ (n : ℕ). c.args.group < n) c.groups.ensures counted) in
-    let long = sym (ap length c.held-held.ensures.places ∙ length-places (cells_of content t.held) t.held.alive) in
+    let long = sym (ap length c.held-held.ensures.places ∙ length-places (all_cells content t.held) t.held.alive) in
     let inside = begun-at c.args.group t.held t.held refl t.limits.group (length t.places) c.held-held.ensures.size long first in
     let checked = subst (IsChecked t.schema) found.is (checked-at t.schema (registered_of registry) c.args.a c.self.invariant.checked) in
     let right = ap (λ (s : Spec). spec_refusal t.schema s) (sym found.same) ∙ checked in

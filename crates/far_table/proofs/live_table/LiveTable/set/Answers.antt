@@ -4,7 +4,7 @@ use Rattle.far_types.specs.declared.edit.Edit.TheVariants as edit
 use Rattle.far_types.specs.Lent.{lent_cell}
 use Rattle.far_aggregates.specs.Accumulators.{RegistryEntry, Keeps, PlacesFit}
 use Rattle.far_rows.specs.Setting.{cell_of}
-use Rattle.far_table.specs.State.{State}
+use Rattle.far_table.specs.State.{LiveState}
 use Rattle.far_table.specs.TableRows.{TableRows}
 use Rattle.far_table.specs.Live.{IsLive, IsEdited, state_of}
 use Rattle.far_table.proofs.LiveEdits.{refuses-due, refuses-memory, kept-fit, shown-same, same-live, made-checked, made-live, made-with, retracts-after, put, set-inside, set-below, set-row, set-column}
@@ -89,5 +89,5 @@ pub returns-clause-ok : goal.returns-clause-ok
 returns-clause-ok g c =
     let n = c.self.inside.registrations in
     let content = g.S.FarTickets.content in
-    subst (λ (s : State g.row.S-Ticket.Denot). IsEdited content s (edit.Set c.args.place c.args.column c.args.cell) (state_of c.set.new.self n c.retract_row.new.aggregates)) c.self.view_is
+    subst (λ (s : LiveState g.row.S-Ticket.Denot). IsEdited content s (edit.Set c.args.place c.args.column c.args.cell) (state_of c.set.new.self n c.retract_row.new.aggregates)) c.self.view_is
     (put c.self.inside.rows c.set.new.self c.args.place c.args.column content c.args.cell c.in_ok-value.value n c.self.inside.aggregates c.retract_row.new.aggregates c.in_ok-value.ensures.cell c.in_ok-value.ensures.free.of_kind c.in_default-set.ensures.put c.in_ok-value.ensures.refused (c.retract_row.ensures.registered ∙ c.in_ok-pending.ensures.registered))

@@ -6,7 +6,7 @@ use Rattle.far_types.specs.Bounds.{spec_refusal}
 use Rattle.far_types.specs.Table.{Registered, groups}
 use Rattle.far_aggregates.specs.Accumulators.{RegistryEntry, Keeps, registered_of}
 use Rattle.far_table.specs.Live.{state_of}
-use Rattle.far_table.specs.State.{State, AreChecked}
+use Rattle.far_table.specs.State.{LiveState, AreChecked}
 use Rattle.far_table.specs.Watching.{lowest_free, registered_at, watch_refusal}
 use Rattle.far_table.proofs.Watched.{due, for-memory, watch-wrong, watch-full, watch-used, watch-free, checked-put}
 use Rattle.far_table.proofs.live_table.LiveTable.watch.Goals as goal
@@ -16,22 +16,22 @@ returns-in_err-check-clause-err g c =
     let p = err_from_is_err_and c.from_residual.result c.from_residual.ensures.1 in
     let table = c.args.self.now.table in
     let e = c.in_err-check.field-0.0 in
-    let wrong = ap (λ (s : State g.row.S-Ticket.Denot). spec_refusal s.table.schema c.args.spec) (sym c.self.view_is) ∙ ap (λ (kinds : List Kind). spec_refusal kinds c.args.spec) (sym c.schema.ensures) ∙ c.in_err-check.ensures.refused in
+    let wrong = ap (λ (s : LiveState g.row.S-Ticket.Denot). spec_refusal s.table.schema c.args.spec) (sym c.self.view_is) ∙ ap (λ (kinds : List Kind). spec_refusal kinds c.args.spec) (sym c.schema.ensures) ∙ c.in_err-check.ensures.refused in
     rw (p.1, p.2) (refl, due (watch_refusal table c.args.spec) true e (watch-wrong table c.args.spec e wrong))
 
 pub returns-in_default-clause-err : goal.returns-in_default-clause-err
 returns-in_default-clause-err g c =
     let table = c.args.self.now.table in
-    let right = ap (λ (s : State g.row.S-Ticket.Denot). spec_refusal s.table.schema c.args.spec) (sym c.self.view_is) ∙ ap (λ (kinds : List Kind). spec_refusal kinds c.args.spec) (sym c.schema.ensures) ∙ c.in_ok-check.ensures.ok in
-    let full = ap (λ (s : State g.row.S-Ticket.Denot). lowest_free s.table) (sym c.self.view_is) ∙ sym c.in_default.ensures.number in
+    let right = ap (λ (s : LiveState g.row.S-Ticket.Denot). spec_refusal s.table.schema c.args.spec) (sym c.self.view_is) ∙ ap (λ (kinds : List Kind). spec_refusal kinds c.args.spec) (sym c.schema.ensures) ∙ c.in_ok-check.ensures.ok in
+    let full = ap (λ (s : LiveState g.row.S-Ticket.Denot). lowest_free s.table) (sym c.self.view_is) ∙ sym c.in_default.ensures.number in
     (refl, due (watch_refusal table c.args.spec) true _ (watch-full table c.args.spec right full))
 
 pub returns-then-self-eq4294967296-clause-err : goal.returns-then-self-eq4294967296-clause-err
 returns-then-self-eq4294967296-clause-err g c =
     let table = c.args.self.now.table in
-    let right = ap (λ (s : State g.row.S-Ticket.Denot). spec_refusal s.table.schema c.args.spec) (sym c.self.view_is) ∙ ap (λ (kinds : List Kind). spec_refusal kinds c.args.spec) (sym c.schema.ensures) ∙ c.in_ok-check.ensures.ok in
-    let free = ap (λ (s : State g.row.S-Ticket.Denot). lowest_free s.table) (sym c.self.view_is) ∙ sym c.in-Some.ensures.number in
-    let count = ap (λ (s : State g.row.S-Ticket.Denot). s.table.registrations) (sym c.self.view_is) in
+    let right = ap (λ (s : LiveState g.row.S-Ticket.Denot). spec_refusal s.table.schema c.args.spec) (sym c.self.view_is) ∙ ap (λ (kinds : List Kind). spec_refusal kinds c.args.spec) (sym c.schema.ensures) ∙ c.in_ok-check.ensures.ok in
+    let free = ap (λ (s : LiveState g.row.S-Ticket.Denot). lowest_free s.table) (sym c.self.view_is) ∙ sym c.in-Some.ensures.number in
+    let count = ap (λ (s : LiveState g.row.S-Ticket.Denot). s.table.registrations) (sym c.self.view_is) in
     (refl, due (watch_refusal table c.args.spec) true _ (watch-used table c.args.spec right c.in-Some.a free (count ∙ c.if-self-eq4294967296.true)))
 
 pub returns-in_err-register-clause-err : goal.returns-in_err-register-clause-err
@@ -39,9 +39,9 @@ returns-in_err-register-clause-err g c =
     let p = err_from_is_err_and c.from_residual-in_err-register.result c.from_residual-in_err-register.ensures.1 in
     let table = c.args.self.now.table in
     let inside = c.self.inside in
-    let right = ap (λ (s : State g.row.S-Ticket.Denot). spec_refusal s.table.schema c.args.spec) (sym c.self.view_is) ∙ ap (λ (kinds : List Kind). spec_refusal kinds c.args.spec) (sym c.schema.ensures) ∙ c.in_ok-check.ensures.ok in
-    let free = ap (λ (s : State g.row.S-Ticket.Denot). lowest_free s.table) (sym c.self.view_is) ∙ sym c.in-Some.ensures.number in
-    let count = ap (λ (s : State g.row.S-Ticket.Denot). s.table.registrations) c.self.view_is in
+    let right = ap (λ (s : LiveState g.row.S-Ticket.Denot). spec_refusal s.table.schema c.args.spec) (sym c.self.view_is) ∙ ap (λ (kinds : List Kind). spec_refusal kinds c.args.spec) (sym c.schema.ensures) ∙ c.in_ok-check.ensures.ok in
+    let free = ap (λ (s : LiveState g.row.S-Ticket.Denot). lowest_free s.table) (sym c.self.view_is) ∙ sym c.in-Some.ensures.number in
+    let count = ap (λ (s : LiveState g.row.S-Ticket.Denot). s.table.registrations) c.self.view_is in
     let nothing = watch-free table c.args.spec right c.in-Some.a free (λ all. omega (arith, count, c.if-self-eq4294967296.false, all)) in
     rw (p.1, p.2) (
       ap (λ (registry : List RegistryEntry). state_of inside.rows inside.registrations registry) c.in_err-register.ensures.unchanged ∙ c.self.view_is,
@@ -67,9 +67,9 @@ returns-clause-ok g c =
     let inside = c.self.inside in
     let rows = inside.rows in
     let a = c.in-Some.a in
-    let right = ap (λ (s : State g.row.S-Ticket.Denot). spec_refusal s.table.schema c.args.spec) (sym c.self.view_is) ∙ ap (λ (kinds : List Kind). spec_refusal kinds c.args.spec) (sym c.schema.ensures) ∙ c.in_ok-check.ensures.ok in
-    let free = ap (λ (s : State g.row.S-Ticket.Denot). lowest_free s.table) (sym c.self.view_is) ∙ sym c.in-Some.ensures.number in
-    let count = ap (λ (s : State g.row.S-Ticket.Denot). s.table.registrations) c.self.view_is in
+    let right = ap (λ (s : LiveState g.row.S-Ticket.Denot). spec_refusal s.table.schema c.args.spec) (sym c.self.view_is) ∙ ap (λ (kinds : List Kind). spec_refusal kinds c.args.spec) (sym c.schema.ensures) ∙ c.in_ok-check.ensures.ok in
+    let free = ap (λ (s : LiveState g.row.S-Ticket.Denot). lowest_free s.table) (sym c.self.view_is) ∙ sym c.in-Some.ensures.number in
+    let count = ap (λ (s : LiveState g.row.S-Ticket.Denot). s.table.registrations) c.self.view_is in
     let put : Option Registered → List (Option Registered) = λ aggregate. slice_set (registered_of inside.aggregates) a aggregate in
     let groups-are =
     ap (λ (limits : Limits). put (Some (record { spec = c.args.spec; registration = inside.registrations; pending = replicate (groups limits.group c.len-places.result) true }))) c.limits.ensures.same
@@ -82,5 +82,5 @@ returns-clause-ok g c =
             table = record { schema = rows.schema; limits = rows.limits; places = rows.places; edits = rows.edits; registrations = inside.registrations + 1; aggregates = aggregates };
             rows = rows.held;
           }) (c.in_ok-register.ensures.registered ∙ groups-are)
-          ∙ ap (λ (s : State g.row.S-Ticket.Denot). record s { table = registered_at a c.args.spec s.table }) c.self.view_is;
+          ∙ ap (λ (s : LiveState g.row.S-Ticket.Denot). record s { table = registered_at a c.args.spec s.table }) c.self.view_is;
     }

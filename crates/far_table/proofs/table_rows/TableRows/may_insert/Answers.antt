@@ -11,7 +11,7 @@ use Rattle.far_types.specs.Edits.{edit_faults, kinds_fit}
 use Rattle.far_types.specs.FirstOf.{first_of}
 use Rattle.far_rows.specs.declared.column_index.ColumnIndex.{ColumnIndex}
 use Rattle.far_rows.specs.Places.{places_in}
-use Rattle.far_rows.specs.Rows.{cells_of}
+use Rattle.far_rows.specs.Rows.{all_cells}
 use Rattle.far_rows.specs.ColumnIndexes.{kind_of, row_of}
 use Rattle.far_table.specs.Edits.{edit_due, obstacles}
 use Rattle.far_table.specs.TableRows.{TableRows, asked, rows_in}
@@ -29,7 +29,7 @@ returns-in_err-row_faults-clause-refused g c =
     let content = g.S.FarTickets.content in
     let inside = c.self.inside in
     let places = places_in content inside.rows in
-    let count = length-places (cells_of content inside.rows) inside.rows.alive ∙ sym c.len-len.ensures.len in
+    let count = length-places (all_cells content inside.rows) inside.rows.alive ∙ sym c.len-len.ensures.len in
     let e = edit.Insert c.args.row in
     let table = rows_in content inside.schema inside.limits inside.rows inside.new_row inside.edits in
     let told = refused-first (edit_faults inside.schema inside.limits places e) (obstacles (asked table) e) c.in_err-row_faults.field-0.0 (sym (c.in_err-row_faults.ensures places count)) in
@@ -40,7 +40,7 @@ load-requires-clause-width g c =
     let content = g.S.FarTickets.content in
     let inside = c.self.inside in
     let places = places_in content inside.rows in
-    let count = length-places (cells_of content inside.rows) inside.rows.alive ∙ sym c.len-len.ensures.len in
+    let count = length-places (all_cells content inside.rows) inside.rows.alive ∙ sym c.len-len.ensures.len in
     let free = sym (c.in_ok-row_faults.ensures places count) in
     let right = row-right inside.schema inside.limits places c.args.row free in
     let kinds = ap length c.self.invariant.kinds in
@@ -53,7 +53,7 @@ load-requires-clause-of_kinds g c =
     let content = g.S.FarTickets.content in
     let inside = c.self.inside in
     let places = places_in content inside.rows in
-    let count = length-places (cells_of content inside.rows) inside.rows.alive ∙ sym c.len-len.ensures.len in
+    let count = length-places (all_cells content inside.rows) inside.rows.alive ∙ sym c.len-len.ensures.len in
     let free = sym (c.in_ok-row_faults.ensures places count) in
     let right = row-right inside.schema inside.limits places c.args.row free in
     ap (λ (column_indexes : List ColumnIndex). kinds_fit (map kind_of column_indexes) c.args.row) c.column_indexes.ensures
@@ -65,7 +65,7 @@ load-requires-clause-short g c =
     let content = g.S.FarTickets.content in
     let inside = c.self.inside in
     let places = places_in content inside.rows in
-    let count = length-places (cells_of content inside.rows) inside.rows.alive ∙ sym c.len-len.ensures.len in
+    let count = length-places (all_cells content inside.rows) inside.rows.alive ∙ sym c.len-len.ensures.len in
     let free = sym (c.in_ok-row_faults.ensures places count) in
     let right = row-right inside.schema inside.limits places c.args.row free in
     right.short
@@ -76,7 +76,7 @@ returns-in_err-may_push-clause-refused g c =
     let content = g.S.FarTickets.content in
     let inside = c.self.inside in
     let places = places_in content inside.rows in
-    let count = length-places (cells_of content inside.rows) inside.rows.alive ∙ sym c.len-len.ensures.len in
+    let count = length-places (all_cells content inside.rows) inside.rows.alive ∙ sym c.len-len.ensures.len in
     let free = sym (c.in_ok-row_faults.ensures places count) in
     let new_row = c.load.new.self in
     let row : row_of inside.rows.column_indexes new_row ≡ c.args.row = ap (λ (column_indexes : List ColumnIndex). row_of column_indexes new_row) (sym c.column_indexes.ensures) ∙ c.load.ensures.row in
@@ -91,7 +91,7 @@ returns-clause-refused g c =
     let content = g.S.FarTickets.content in
     let inside = c.self.inside in
     let places = places_in content inside.rows in
-    let count = length-places (cells_of content inside.rows) inside.rows.alive ∙ sym c.len-len.ensures.len in
+    let count = length-places (all_cells content inside.rows) inside.rows.alive ∙ sym c.len-len.ensures.len in
     let free = sym (c.in_ok-row_faults.ensures places count) in
     let new_row = c.load.new.self in
     let row : row_of inside.rows.column_indexes new_row ≡ c.args.row = ap (λ (column_indexes : List ColumnIndex). row_of column_indexes new_row) (sym c.column_indexes.ensures) ∙ c.load.ensures.row in
@@ -106,7 +106,7 @@ returns-clause-free g c =
     let content = g.S.FarTickets.content in
     let inside = c.self.inside in
     let places = places_in content inside.rows in
-    let count = length-places (cells_of content inside.rows) inside.rows.alive ∙ sym c.len-len.ensures.len in
+    let count = length-places (all_cells content inside.rows) inside.rows.alive ∙ sym c.len-len.ensures.len in
     let free = sym (c.in_ok-row_faults.ensures places count) in
     let new_row = c.load.new.self in
     let row : row_of inside.rows.column_indexes new_row ≡ c.args.row = ap (λ (column_indexes : List ColumnIndex). row_of column_indexes new_row) (sym c.column_indexes.ensures) ∙ c.load.ensures.row in

@@ -2,7 +2,7 @@ use Rattle.std.proofs.Common.{◌≡◌, ◌*◌, ◌<◌, ◌≤◌, length, re
 use Rattle.std.proofs.lemmas.List.{length-map}
 use Rattle.std.proofs.lemmas.Result.{err_from_is_err_and}
 use Rattle.far_rows.specs.Jobs.{evac_refusal}
-use Rattle.far_rows.specs.Rows.{Rows, AreRows, cells_of}
+use Rattle.far_rows.specs.Rows.{Rows, AreRows, all_cells}
 use Rattle.far_rows.specs.ColumnIndexes.{kind_of}
 use Rattle.far_table.specs.TableRows.{TableRows}
 use Rattle.far_table.proofs.Needed.{begun-at, none-left, step-past, step-here, step-away}
@@ -25,7 +25,7 @@ returns-in_err-group_column g c =
     let schema = ap length c.self.invariant.kinds in
     let kinds = length-map inside.rows.column_indexes kind_of in
     let size = c.self.invariant.layout.group ∙ ap (λ (t : TableRows g.row.S-Ticket.Denot). t.limits.group) c.self.view_is in
-    let places = sym (length-places (cells_of content inside.rows) inside.rows.alive) ∙ ap (λ (t : TableRows g.row.S-Ticket.Denot). length t.places) c.self.view_is in
+    let places = sym (length-places (all_cells content inside.rows) inside.rows.alive) ∙ ap (λ (t : TableRows g.row.S-Ticket.Denot). length t.places) c.self.view_is in
     let begun : c.args.group * held.size < length held.alive = begun-at c.args.group inside.rows held same c.args.self.now.limits.group (length c.args.self.now.places) size places c.requires in
     let below : c.loop-column.column < length held.column_indexes = omega (arith, c.loop-column-test.true, c.len-column-end.ensures.len, schema, kinds, count) in
     let away = c.in_err-group_column.ensures.refused ∙ ap (λ (r : Rows g.row.S-Ticket.Denot). evac_refusal r c.loop-column.column c.args.group) same in
@@ -42,7 +42,7 @@ loop-column-preserved g c =
     let schema = ap length c.self.invariant.kinds in
     let kinds = length-map inside.rows.column_indexes kind_of in
     let size = c.self.invariant.layout.group ∙ ap (λ (t : TableRows g.row.S-Ticket.Denot). t.limits.group) c.self.view_is in
-    let places = sym (length-places (cells_of content inside.rows) inside.rows.alive) ∙ ap (λ (t : TableRows g.row.S-Ticket.Denot). length t.places) c.self.view_is in
+    let places = sym (length-places (all_cells content inside.rows) inside.rows.alive) ∙ ap (λ (t : TableRows g.row.S-Ticket.Denot). length t.places) c.self.view_is in
     let begun : c.args.group * held.size < length held.alive = begun-at c.args.group inside.rows held same c.args.self.now.limits.group (length c.args.self.now.places) size places c.requires in
     let below : c.loop-column.column < length held.column_indexes = omega (arith, c.loop-column-test.true, c.len-column-end.ensures.len, schema, kinds, count) in
     c.loop-column.invariant ∙ (elim c.if-needs.branch [

@@ -12,7 +12,7 @@ use Rattle.far_types.specs.Edits.{edit_faults}
 use Rattle.far_types.specs.FirstOf.{first_of}
 use Rattle.far_types.specs.Table.{Place}
 use Rattle.far_rows.specs.Places.{places_in}
-use Rattle.far_rows.specs.Rows.{cells_of}
+use Rattle.far_rows.specs.Rows.{all_cells}
 use Rattle.far_rows.specs.ColumnIndexes.{kind_of}
 use Rattle.far_table.specs.Edits.{MayPut, edit_due, obstacles}
 use Rattle.far_table.specs.TableRows.{TableRows, asked, rows_in}
@@ -62,7 +62,7 @@ may_set-requires-clause-place g c κs within =
     let alive = ap (λ (t : TableRows g.row.S-Ticket.Denot). option_map (λ (p : Place). p.alive) (slice_get t.places c.args.place)) c.self.view_is ∙ sym c.is_alive.ensures in
     let free = sym (c.in_ok-cell_faults.ensures inside.limits places c.args.place alive) in
     let right = cell-right inside.schema inside.limits places c.args.place c.args.column c.args.cell free in
-    place-below (cells_of content inside.rows) inside.rows.alive c.args.place right.place
+    place-below (all_cells content inside.rows) inside.rows.alive c.args.place right.place
 
 pub may_set-requires-clause-of_kind : goal.may_set-requires-clause-of_kind
 may_set-requires-clause-of_kind g c κs within =
@@ -91,7 +91,7 @@ returns-in_err-may_set-clause-refused g c =
     let right = cell-right inside.schema inside.limits places c.args.place c.args.column c.args.cell free in
     let kind : option_map kind_of (slice_get inside.rows.column_indexes c.args.column) ≡ Some c.in-Some.kind = sym (slice_get-map kind_of inside.rows.column_indexes c.args.column) ∙ ap (λ (kinds : List Kind). slice_get kinds c.args.column) c.self.invariant.kinds ∙ sym c.in-Some.ensures in
     let s = column_index-of (slice_get inside.rows.column_indexes c.args.column) c.in-Some.kind kind in
-    let below = place-below (cells_of content inside.rows) inside.rows.alive c.args.place right.place in
+    let below = place-below (all_cells content inside.rows) inside.rows.alive c.args.place right.place in
     let due = set-due content inside.schema inside.limits inside.rows inside.new_row inside.edits c.self.invariant c.len-len.ensures.rows c.args.column c.args.place c.new-value.result s.0 s.1 below c.args.cell c.new-value.ensures.cell free in
     let last = first_of ((inside.edits == inside.limits.edits, refusal.EditsUsedUp) ∷ []) in
     let seen = ap (λ (t : TableRows g.row.S-Ticket.Denot). edit_due (asked t) (edit.Set c.args.place c.args.column c.args.cell)) c.self.view_is in
@@ -108,7 +108,7 @@ returns-in_err-may_count-clause-refused g c =
     let right = cell-right inside.schema inside.limits places c.args.place c.args.column c.args.cell free in
     let kind : option_map kind_of (slice_get inside.rows.column_indexes c.args.column) ≡ Some c.in-Some.kind = sym (slice_get-map kind_of inside.rows.column_indexes c.args.column) ∙ ap (λ (kinds : List Kind). slice_get kinds c.args.column) c.self.invariant.kinds ∙ sym c.in-Some.ensures in
     let s = column_index-of (slice_get inside.rows.column_indexes c.args.column) c.in-Some.kind kind in
-    let below = place-below (cells_of content inside.rows) inside.rows.alive c.args.place right.place in
+    let below = place-below (all_cells content inside.rows) inside.rows.alive c.args.place right.place in
     let due = set-due content inside.schema inside.limits inside.rows inside.new_row inside.edits c.self.invariant c.len-len.ensures.rows c.args.column c.args.place c.new-value.result s.0 s.1 below c.args.cell c.new-value.ensures.cell free in
     let last = first_of ((inside.edits == inside.limits.edits, refusal.EditsUsedUp) ∷ []) in
     let seen = ap (λ (t : TableRows g.row.S-Ticket.Denot). edit_due (asked t) (edit.Set c.args.place c.args.column c.args.cell)) c.self.view_is in
@@ -125,7 +125,7 @@ returns-clause-refused g c =
     let right = cell-right inside.schema inside.limits places c.args.place c.args.column c.args.cell free in
     let kind : option_map kind_of (slice_get inside.rows.column_indexes c.args.column) ≡ Some c.in-Some.kind = sym (slice_get-map kind_of inside.rows.column_indexes c.args.column) ∙ ap (λ (kinds : List Kind). slice_get kinds c.args.column) c.self.invariant.kinds ∙ sym c.in-Some.ensures in
     let s = column_index-of (slice_get inside.rows.column_indexes c.args.column) c.in-Some.kind kind in
-    let below = place-below (cells_of content inside.rows) inside.rows.alive c.args.place right.place in
+    let below = place-below (all_cells content inside.rows) inside.rows.alive c.args.place right.place in
     let due = set-due content inside.schema inside.limits inside.rows inside.new_row inside.edits c.self.invariant c.len-len.ensures.rows c.args.column c.args.place c.new-value.result s.0 s.1 below c.args.cell c.new-value.ensures.cell free in
     let last = first_of ((inside.edits == inside.limits.edits, refusal.EditsUsedUp) ∷ []) in
     let seen = ap (λ (t : TableRows g.row.S-Ticket.Denot). edit_due (asked t) (edit.Set c.args.place c.args.column c.args.cell)) c.self.view_is in
@@ -142,7 +142,7 @@ returns-clause-free g c =
     let right = cell-right inside.schema inside.limits places c.args.place c.args.column c.args.cell free in
     let kind : option_map kind_of (slice_get inside.rows.column_indexes c.args.column) ≡ Some c.in-Some.kind = sym (slice_get-map kind_of inside.rows.column_indexes c.args.column) ∙ ap (λ (kinds : List Kind). slice_get kinds c.args.column) c.self.invariant.kinds ∙ sym c.in-Some.ensures in
     let s = column_index-of (slice_get inside.rows.column_indexes c.args.column) c.in-Some.kind kind in
-    let below = place-below (cells_of content inside.rows) inside.rows.alive c.args.place right.place in
+    let below = place-below (all_cells content inside.rows) inside.rows.alive c.args.place right.place in
     let due = set-due content inside.schema inside.limits inside.rows inside.new_row inside.edits c.self.invariant c.len-len.ensures.rows c.args.column c.args.place c.new-value.result s.0 s.1 below c.args.cell c.new-value.ensures.cell free in
     let last = first_of ((inside.edits == inside.limits.edits, refusal.EditsUsedUp) ∷ []) in
     let used = sym (ap (λ (t : TableRows g.row.S-Ticket.Denot). first_of ((t.edits == t.limits.edits, refusal.EditsUsedUp) ∷ [])) c.self.view_is) in

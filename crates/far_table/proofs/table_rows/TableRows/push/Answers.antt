@@ -2,7 +2,7 @@ use Rattle.std.proofs.Common.{◌≡◌, None, sym, ap, ◌∙◌, subst, arith}
 use Rattle.std.proofs.lemmas.Result.{err_from_is_err_and}
 use Rattle.far_types.specs.declared.edit.Edit.TheVariants as edit
 use Rattle.far_rows.specs.Refusing.{push_refusal}
-use Rattle.far_rows.specs.Rows.{Rows, cells_of}
+use Rattle.far_rows.specs.Rows.{Rows, all_cells}
 use Rattle.far_rows.specs.ColumnIndexes.{row_of}
 use Rattle.far_table.specs.Edits.{MayPush}
 use Rattle.far_table.specs.TableRows.{TableRows, asked, rows_in}
@@ -24,7 +24,7 @@ push-requires-clause-few g c κs within =
     let row = row_of rows.column_indexes inside.new_row in
     let may : MayPush content table = subst (MayPush content) (sym c.self.view_is) c.requires in
     let right = row-right inside.schema inside.limits table.places row (faultless (asked table) (edit.Insert row) may.due) in
-    let count = length-places (cells_of content rows) rows.alive in
+    let count = length-places (all_cells content rows) rows.alive in
     let bounds = c.self.invariant.bounds in
     omega (arith, right.few, count, c.self.invariant.few, bounds.places_high)
 
@@ -43,6 +43,6 @@ invariant_of-self-2 g c =
     let row = row_of old.column_indexes inside.new_row in
     let may : MayPush content table = subst (MayPush content) (sym c.self.view_is) c.requires in
     let right = row-right inside.schema inside.limits table.places row (faultless (asked table) (edit.Insert row) may.due) in
-    let count = length-places (cells_of content old) old.alive in
+    let count = length-places (all_cells content old) old.alive in
     let done = c.in_ok-push.ensures in
     pushed-kept content g.S.FarTickets.is_of inside.schema inside.limits old inside.new_row inside.edits c.self.invariant (edits-left (asked table) (edit.Insert row) may.due) c.push.new.self done.pushed done.kept (λ full. right.few (count ∙ full)) done.places

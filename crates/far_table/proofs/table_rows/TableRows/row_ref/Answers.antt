@@ -2,7 +2,7 @@ use Rattle.std.proofs.Common.{length, Some, sym, ap, ◌∙◌, arith}
 use Rattle.std.specs.Prelude.{option_map, slice_get}
 use Rattle.std.proofs.lemmas.Result.{IfOk-weaker}
 use Rattle.far_types.specs.Table.{Place}
-use Rattle.far_rows.specs.Rows.{cells_of}
+use Rattle.far_rows.specs.Rows.{all_cells}
 use Rattle.far_table.specs.TableRows.{TableRows}
 use Rattle.far_table.proofs.DueSet.{found-at}
 use Rattle.far_table.proofs.Places.{length-places, cells-get}
@@ -11,14 +11,14 @@ use Rattle.far_table.proofs.table_rows.TableRows.row_ref.Goals as goal
 pub row_ref-requires-after_bounds : goal.row_ref-requires-after_bounds
 row_ref-requires-after_bounds g c κs within =
     let rows = c.self.inside.rows in
-    let count = length-places (cells_of g.S.FarTickets.content rows) rows.alive in
+    let count = length-places (all_cells g.S.FarTickets.content rows) rows.alive in
     let places = ap (λ (t : TableRows g.row.S-Ticket.Denot). length t.places) c.self.view_is in
     omega (arith, c.requires, count, places)
 
 pub returns-clause-row : goal.returns-clause-row
 returns-clause-row g c =
     let rows = c.self.inside.rows in
-    let cells = cells_of g.S.FarTickets.content rows in
+    let cells = all_cells g.S.FarTickets.content rows in
     let count = length-places cells rows.alive in
     let places = ap (λ (t : TableRows g.row.S-Ticket.Denot). length t.places) c.self.view_is in
     let flag = found-at rows.alive c.args.place (omega (arith, c.requires, count, places)) in

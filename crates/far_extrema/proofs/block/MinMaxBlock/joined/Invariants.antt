@@ -1,6 +1,6 @@
 use Rattle.std.proofs.Common.{◌≡◌, take}
 use Rattle.far_extrema.proofs.BlockLaws.{all_elements}
-use Rattle.far_extrema.proofs.block.Block.joined.Given as goal
+use Rattle.far_extrema.proofs.block.MinMaxBlock.joined.Given as goal
 
 abbrev pub invariant-loop-element : goal.invariant-loop-element
 invariant-loop-element l = l.top ≡ all_elements (take l.element-index l.element-items)
