@@ -8,15 +8,15 @@ use Rattle.far_types.specs.declared.key.Key.{Key}
 use Rattle.far_types.specs.Keys.{line_cmp}
 use Rattle.far_types.specs.KeyOrder.{line_total}
 use Rattle.far_types.specs.Answers.{Extrema}
-use Rattle.far_types.specs.Effects.{with_observed, widened}
-use Rattle.far_types.proofs.ByKeyMaps.{get_inserted}
-use Rattle.far_extrema.specs.Live.{group_at, with_reserved}
+use Rattle.far_types.specs.Effects.{with_observed, min_max_with}
+use Rattle.far_types.proofs.AnswersByKeyMaps.{get_inserted}
+use Rattle.far_extrema.specs.Live.{group_at, after_reserve}
 use Rattle.far_extrema.specs.MinMaxes.{put_min_max}
 use Rattle.far_aggregates.specs.Known.{AreKnown, IsNoted}
-use Rattle.far_aggregates.proofs.ExtremaLaws.{same_or_not}
+use Rattle.far_aggregates.proofs.AccumulatorsExtrema.{same_or_not}
 use Rattle.far_aggregates.proofs.ListLaws.{index-replicate}
 
-pub known-reserved : (plain : List (Option (ℤ × ℤ))) (groups new : List Extrema) (g : ℕ) → new ≡ with_reserved g groups → AreKnown plain groups → AreKnown plain new
+pub known-reserved : (plain : List (Option (ℤ × ℤ))) (groups new : List Extrema) (g : ℕ) → new ≡ after_reserve g groups → AreKnown plain groups → AreKnown plain new
 known-reserved plain groups new g is known h min_max noted =
     ap (λ (gs : List Extrema). fin.get (group_at gs h) None) is
     ∙ ap (λ (m : Extrema). fin.get m None) (index-replicate groups (g + 1 - length groups) h fin.empty)
@@ -64,10 +64,10 @@ pub put-elsewhere : (m : Extrema) (key : Option Key) (o : Option (ℤ × ℤ)) �
 put-elsewhere m None o is = absurd cc
 put-elsewhere m (Some k) o is = get_put m (Some k) o None
 
-pub observed-plain : (m : Extrema) (key : Option Key) (v : ℤ) (previous : Option (ℤ × ℤ)) → is_some key ≡ false → previous ≡ fin.get m key → Some (widened v previous) ≡ fin.get (with_observed m (key, v)) None
-observed-plain m None v previous is there = ap (λ o. Some (widened v o)) there ∙ sym (get_inserted m None (widened v (fin.get m None)))
+pub observed-plain : (m : Extrema) (key : Option Key) (v : ℤ) (previous : Option (ℤ × ℤ)) → is_some key ≡ false → previous ≡ fin.get m key → Some (min_max_with v previous) ≡ fin.get (with_observed m (key, v)) None
+observed-plain m None v previous is there = ap (λ o. Some (min_max_with v o)) there ∙ sym (get_inserted m None (min_max_with v (fin.get m None)))
 observed-plain m (Some k) v previous is there = absurd cc
 
 pub observed-elsewhere : (m : Extrema) (key : Option Key) (v : ℤ) → is_some key ≡ true → fin.get (with_observed m (key, v)) None ≡ fin.get m None
 observed-elsewhere m None v is = absurd cc
-observed-elsewhere m (Some k) v is = fin.get-insert line_total m (Some k) (widened v (fin.get m (Some k))) None
+observed-elsewhere m (Some k) v is = fin.get-insert line_total m (Some k) (min_max_with v (fin.get m (Some k))) None

@@ -6,10 +6,10 @@ use Rattle.std.proofs.lemmas.List.{get_or-set_same, length-map}
 use Rattle.far_types.specs.declared.key.Key.{Key}
 use Rattle.far_types.specs.declared.spec.Spec.{Spec}
 use Rattle.far_types.specs.Answers.{Extrema, extrema}
-use Rattle.far_types.specs.Effects.{with_observed, widened}
+use Rattle.far_types.specs.Effects.{with_observed, min_max_with}
 use Rattle.far_types.specs.Pairs.{Pair}
 use Rattle.far_types.specs.Table.{Place, in_group}
-use Rattle.far_types.proofs.ByKeyMaps.{get_inserted}
+use Rattle.far_types.proofs.AnswersByKeyMaps.{get_inserted}
 use Rattle.far_extrema.specs.Live.{group_at}
 use Rattle.far_aggregates.specs.declared.aggregate.Aggregate.{Aggregate}
 use Rattle.far_aggregates.specs.declared.aggregate.Accumulator.{Accumulator}
@@ -19,20 +19,20 @@ use Rattle.far_aggregates.specs.declared.pending.Pending.{Pending}
 use Rattle.far_aggregates.specs.Accumulators.{RegistryEntry, Change, pairs_here, Keeps}
 use Rattle.far_aggregates.specs.Pairs.{ChangeBySpec, change_of}
 use Rattle.far_aggregates.specs.Deltas.{delta_of, row_delta, accumulator_more, with_delta}
-use Rattle.far_aggregates.specs.Retract.{accumulator_less, retracted, AccumulatorMayRetract, MayRetract, EachMayRetract}
-use Rattle.far_aggregates.specs.Pending.{all_retracted, RetractsAll}
+use Rattle.far_aggregates.specs.Retract.{accumulator_less, after_retract, AccumulatorMayRetract, MayRetract, EachMayRetract}
+use Rattle.far_aggregates.specs.Pending.{after_retract_all, RetractsAll}
 use Rattle.far_aggregates.specs.Reserve.{AccumulatorIsReserved, IsReserved, AreReserved}
 use Rattle.far_aggregates.specs.LeavingOut.{NeedNotRetract, IsLeftOut, EachLeftOut}
 use Rattle.far_aggregates.specs.Until.{zip_all}
-use Rattle.far_aggregates.proofs.ExtremaLaws.{left-within, same_or_not}
+use Rattle.far_aggregates.proofs.AccumulatorsExtrema.{left-within, same_or_not}
 use Rattle.far_aggregates.proofs.PendingLaws.{get-set_other}
 
 -- what stands under the key of a delta
-observed-under_key : (m : Extrema) (p : Pair) (k : Option Key) (min_max : ℤ × ℤ) → fin.get m p.0 ≡ Some min_max → p.0 ≡ k → fin.get (with_observed m p) k ≡ Some (widened p.1 (Some min_max))
+observed-under_key : (m : Extrema) (p : Pair) (k : Option Key) (min_max : ℤ × ℤ) → fin.get m p.0 ≡ Some min_max → p.0 ≡ k → fin.get (with_observed m p) k ≡ Some (min_max_with p.1 (Some min_max))
 observed-under_key m p k min_max is same =
     ap (fin.get (with_observed m p)) (sym same)
-    ∙ get_inserted m p.0 (widened p.1 (fin.get m p.0))
-    ∙ ap (λ (o : Option (ℤ × ℤ)). Some (widened p.1 o)) is
+    ∙ get_inserted m p.0 (min_max_with p.1 (fin.get m p.0))
+    ∙ ap (λ (o : Option (ℤ × ℤ)). Some (min_max_with p.1 o)) is
 
 same-some : {X : Type 0} (x y : X) → Some x ≡ Some y → x ≡ y
 same-some x y e = cc
@@ -41,25 +41,25 @@ none-min_max : (min_max : ℤ × ℤ) → None ≡ Some min_max → ⊥
 none-min_max min_max h = cc
 
 module _ (g : ℕ) (here : List Place) where
-  needless-kept : (spec : Spec) (k : Accumulator) (p pair : Pair) → AccumulatorIsReserved g k → NeedNotRetract (Some (delta_of g k p)) (Some pair) → AccumulatorMayRetract spec g here (accumulator_more g k p) pair
+  accumulator-needless : (spec : Spec) (k : Accumulator) (p pair : Pair) → AccumulatorIsReserved g k → NeedNotRetract (Some (delta_of g k p)) (Some pair) → AccumulatorMayRetract spec g here (accumulator_more g k p) pair
       → accumulator_less spec g here (accumulator_more g k p) pair ≡ accumulator_more g k p
-  needless-kept spec (accumulator.Totals live) p pair reserved s may = absurd (none-min_max s.0 s.1)
-  needless-kept spec (accumulator.Extrema live) p pair reserved s may =
+  accumulator-needless spec (accumulator.Totals live) p pair reserved s may = absurd (none-min_max s.0 s.1)
+  accumulator-needless spec (accumulator.Extrema live) p pair reserved s may =
       let m = group_at live.groups g in
       let gs = slice_set live.groups g (with_observed m p) in
-      let wide = widened p.1 (Some s.0) in
+      let wide = min_max_with p.1 (Some s.0) in
       let found : fin.get (group_at gs g) pair.0 ≡ Some wide =
       ap (λ (n : Extrema). fin.get n pair.0) (get_or-set_same live.groups g (with_observed m p) fin.empty reserved) ∙ observed-under_key m p pair.0 s.0 s.1 s.2 in
       ap (λ (hs : List Extrema). accumulator.Extrema (record live { groups = hs })) (sym (left-within g gs pair.0 pair.1 (fin.get (extrema (pairs_here spec here)) pair.0) wide may found s.3 s.4))
 
   -- of one registry entry, which has a delta or none
   needless-entry : (a : Aggregate) (o c : Change) → AccumulatorIsReserved g a.accumulator → NeedNotRetract (option_map (delta_of g a.accumulator) o) c → MayRetract g here (with_delta g (Some a) (option_map (delta_of g a.accumulator) o)) c
-      → retracted g here (with_delta g (Some a) (option_map (delta_of g a.accumulator) o)) c ≡ with_delta g (Some a) (option_map (delta_of g a.accumulator) o)
+      → after_retract g here (with_delta g (Some a) (option_map (delta_of g a.accumulator) o)) c ≡ with_delta g (Some a) (option_map (delta_of g a.accumulator) o)
   needless-entry a None c reserved s may = absurd s
   needless-entry a (Some p) None reserved s may = absurd s
-  needless-entry a (Some p) (Some pair) reserved s may = ap (λ (k : Accumulator). Some (record a { accumulator = k })) (needless-kept a.spec a.accumulator p pair reserved s may)
+  needless-entry a (Some p) (Some pair) reserved s may = ap (λ (k : Accumulator). Some (record a { accumulator = k })) (accumulator-needless a.spec a.accumulator p pair reserved s may)
 
-  nothing-retracted : (s : RegistryEntry) → retracted g here s None ≡ s
+  nothing-retracted : (s : RegistryEntry) → after_retract g here s None ≡ s
   nothing-retracted None = refl
   nothing-retracted (Some a) = refl
 
@@ -73,21 +73,21 @@ module _ (g : ℕ) (here : List Place) where
 
 module _ (size i : ℕ) (gives : ChangeBySpec) (here : List Place) where
   needless : (t : RegistryEntry) (c : Change) → IsReserved (i / size) t → NeedNotRetract (row_delta size i gives t) c → MayRetract (i / size) here (with_delta (i / size) t (row_delta size i gives t)) c
-      → retracted (i / size) here (with_delta (i / size) t (row_delta size i gives t)) c ≡ with_delta (i / size) t (row_delta size i gives t)
+      → after_retract (i / size) here (with_delta (i / size) t (row_delta size i gives t)) c ≡ with_delta (i / size) t (row_delta size i gives t)
   needless None c reserved s may = refl
   needless (Some a) c reserved s may = needless-entry (i / size) here a (change_of size i gives (Some a)) c reserved s may
 
   left-retracted : (t : RegistryEntry) (c d : Change) → IsReserved (i / size) t → IsLeftOut (row_delta size i gives t) c d → MayRetract (i / size) here (with_delta (i / size) t (row_delta size i gives t)) c
-      → retracted (i / size) here (with_delta (i / size) t (row_delta size i gives t)) d ≡ retracted (i / size) here (with_delta (i / size) t (row_delta size i gives t)) c
-  left-retracted t c d reserved (inl same) may = ap (retracted (i / size) here (with_delta (i / size) t (row_delta size i gives t))) same
+      → after_retract (i / size) here (with_delta (i / size) t (row_delta size i gives t)) d ≡ after_retract (i / size) here (with_delta (i / size) t (row_delta size i gives t)) c
+  left-retracted t c d reserved (inl same) may = ap (after_retract (i / size) here (with_delta (i / size) t (row_delta size i gives t))) same
   left-retracted t c d reserved (inr out) may =
-      ap (retracted (i / size) here (with_delta (i / size) t (row_delta size i gives t))) out.0
+      ap (after_retract (i / size) here (with_delta (i / size) t (row_delta size i gives t))) out.0
       ∙ nothing-retracted (i / size) here (with_delta (i / size) t (row_delta size i gives t))
       ∙ sym (needless t c reserved out.1 may)
 
   all-left_retracted : (registry : List RegistryEntry) (cs ds : List Change) → length ds ≡ length cs → AreReserved (i / size) registry → EachLeftOut (map (row_delta size i gives) registry) cs ds
       → EachMayRetract (i / size) here (zip_all (with_delta (i / size)) registry (map (row_delta size i gives) registry)) cs
-      → zip_all (retracted (i / size) here) (zip_all (with_delta (i / size)) registry (map (row_delta size i gives) registry)) ds ≡ zip_all (retracted (i / size) here) (zip_all (with_delta (i / size)) registry (map (row_delta size i gives) registry)) cs
+      → zip_all (after_retract (i / size) here) (zip_all (with_delta (i / size)) registry (map (row_delta size i gives) registry)) ds ≡ zip_all (after_retract (i / size) here) (zip_all (with_delta (i / size)) registry (map (row_delta size i gives) registry)) cs
   all-left_retracted [] cs ds many reserved out may = refl
   all-left_retracted (t ∷ registry) [] [] many reserved out may = refl
   all-left_retracted (t ∷ registry) [] (d ∷ ds) many reserved out may = absurd (omega arith)
@@ -125,9 +125,9 @@ left_out-retracts size place gives places mid new deltas old left reserved at th
     let few : length deltas ≡ length mid = ap length delta ∙ length-map mid (row_delta size place gives) in
     let outs : EachLeftOut (map (row_delta size place gives) mid) old.to_retract.items left.to_retract.items = subst (λ l. EachLeftOut l old.to_retract.items left.to_retract.items) delta out in
     let mays : EachMayRetract g here (zip_all (with_delta g) mid (map (row_delta size place gives) mid)) old.to_retract.items = subst (λ l. EachMayRetract g here l old.to_retract.items) applied may in
-    let same : zip_all (retracted g here) new left.to_retract.items ≡ zip_all (retracted g here) new old.to_retract.items =
-    ap (λ l. zip_all (retracted g here) l left.to_retract.items) applied ∙ all-left_retracted size place gives here mid old.to_retract.items left.to_retract.items many reserved outs mays ∙ ap (λ l. zip_all (retracted g here) l old.to_retract.items) (sym applied) in
-    let to_retract : all_retracted here new left ≡ all_retracted here new old = ap (λ n. zip_all (retracted n here) new left.to_retract.items) there ∙ same ∙ ap (λ n. zip_all (retracted n here) new old.to_retract.items) (sym at) in
+    let same : zip_all (after_retract g here) new left.to_retract.items ≡ zip_all (after_retract g here) new old.to_retract.items =
+    ap (λ l. zip_all (after_retract g here) l left.to_retract.items) applied ∙ all-left_retracted size place gives here mid old.to_retract.items left.to_retract.items many reserved outs mays ∙ ap (λ l. zip_all (after_retract g here) l old.to_retract.items) (sym applied) in
+    let to_retract : after_retract_all here new left ≡ after_retract_all here new old = ap (λ n. zip_all (after_retract n here) new left.to_retract.items) there ∙ same ∙ ap (λ n. zip_all (after_retract n here) new old.to_retract.items) (sym at) in
     record {
       at = there;
       may = record {

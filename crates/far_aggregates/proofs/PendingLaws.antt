@@ -7,18 +7,18 @@ use Rattle.std.proofs.lemmas.Option.{none-some}
 use Rattle.std.proofs.Math.Seq.{take-append_seam}
 use Rattle.far_types.specs.declared.cell.Cell.{Cell}
 use Rattle.far_types.specs.Cells.{Cells, cells_of}
-use Rattle.far_types.specs.Edits.{changed_at, with_cell, removed}
+use Rattle.far_types.specs.Edits.{change_at, with_cell, after_remove}
 use Rattle.far_types.specs.Table.{Place, in_group}
 use Rattle.far_aggregates.specs.declared.pending.Pending.{Pending}
 use Rattle.far_aggregates.specs.Accumulators.{RegistryEntry, PlacesFit, Keeps, registered_in, registered_of}
 use Rattle.far_aggregates.specs.Changed.{with_cell_at}
 use Rattle.far_aggregates.specs.Pairs.{row_gives, place_gives, alive_with, change_of}
 use Rattle.far_aggregates.specs.Deltas.{row_delta, with_delta, undo, EachMayUndo}
-use Rattle.far_aggregates.specs.Retract.{retracted, EachMayRetract}
+use Rattle.far_aggregates.specs.Retract.{after_retract, EachMayRetract}
 use Rattle.far_aggregates.specs.Pending.{AreUpToDate, KeepsAsBefore, IsAliveAt, UndoesAll, RetractsAll}
 use Rattle.far_aggregates.specs.Reserve.{AreReserved}
 use Rattle.far_aggregates.specs.Until.{zip_all}
-use Rattle.far_aggregates.proofs.EditLaws.{after_insert, set_may_retract, after_set, removed-adds_all}
+use Rattle.far_aggregates.proofs.AccumulatorsEdits.{after_insert, set_may_retract, after_set, removed-adds_all}
 use Rattle.far_aggregates.proofs.ListLaws.{length-zip_all}
 
 -- a row with another cell in a column, by the number of the column
@@ -55,7 +55,7 @@ shown-alike old new h =
     ap (λ n. map registered_in new ++ replicate (32 - n) None) many ∙ ap (λ l. l ++ replicate (32 - length old) None) h
 
 -- a removed place keeps its numbers
-fit-removed : (i : ℕ) (ps : List Place) → PlacesFit ps → PlacesFit (changed_at removed i ps)
+fit-removed : (i : ℕ) (ps : List Place) → PlacesFit ps → PlacesFit (change_at after_remove i ps)
 fit-removed i [] h = tt
 fit-removed zero (p ∷ ps) h = h
 fit-removed (suc i) (p ∷ ps) h = (h.0, fit-removed i ps h.1)
@@ -90,10 +90,10 @@ nothing-retracts-undo registry pending empty none = record {
 retracts-on : (size place : ℕ) (f : Place → Place) (x : Place) (old mid new : List RegistryEntry) (pending : Pending) (places : List Place) → 0 < size → AreReserved (place / size) mid → KeepsAsBefore old mid
     → pending.group ≡ place / size → pending.to_retract.items ≡ map (change_of size place (place_gives x)) mid
     → new ≡ zip_all (with_delta (place / size)) mid (map (row_delta size place (place_gives (f x))) mid)
-    → slice_get places place ≡ Some x → AreUpToDate size places old → PlacesFit (changed_at f place places)
-    → RetractsAll size (place / size) (changed_at f place places) new pending
+    → slice_get places place ≡ Some x → AreUpToDate size places old → PlacesFit (change_at f place places)
+    → RetractsAll size (place / size) (change_at f place places) new pending
 retracts-on size place f x old mid new pending places positive reserved before at went applied here kept fit =
-    let after = changed_at f place places in
+    let after = change_at f place places in
     let there : Some (f x) ≡ option_map f (slice_get places place) = sym (ap (option_map f) here) in
     let many : length pending.to_retract.items ≡ length mid = ap length went ∙ length-map mid (change_of size place (place_gives x)) in
     let more : length new ≡ length mid = ap length applied ∙ length-zip_all (with_delta (place / size)) mid (map (row_delta size place (place_gives (f x))) mid) in
@@ -105,16 +105,16 @@ retracts-on size place f x old mid new pending places positive reserved before a
             (set_may_retract size f places after place x (f x) mid new pending.to_retract.items positive refl (sym here) there went applied (before size places kept.kept) reserved kept.fit fit);
       };
       kept = after_set size f places after place x (f x) mid new pending.to_retract.items positive refl (sym here) there went applied (before size places kept.kept) reserved
-          (zip_all (retracted pending.group (in_group size (place / size) after)) new pending.to_retract.items)
-          (ap (λ n. zip_all (retracted n (in_group size (place / size) after)) new pending.to_retract.items) at);
+          (zip_all (after_retract pending.group (in_group size (place / size) after)) new pending.to_retract.items)
+          (ap (λ n. zip_all (after_retract n (in_group size (place / size) after)) new pending.to_retract.items) at);
     }
 
 -- a set
 pub set-retracts : (size place column : ℕ) (cell : Cell) (cells : Cells) (old mid new : List RegistryEntry) (pending : Pending) → 0 < size → IsSome (cells column) → AreReserved (place / size) mid → KeepsAsBefore old mid
     → pending.group ≡ place / size → pending.to_retract.items ≡ map (change_of size place (row_gives cells)) mid
     → new ≡ zip_all (with_delta (place / size)) mid (map (row_delta size place (row_gives (with_cell_at column cell cells))) mid)
-    → (places : List Place) → IsAliveAt cells place places → AreUpToDate size places old → PlacesFit (changed_at (with_cell column cell) place places)
-    → RetractsAll size (place / size) (changed_at (with_cell column cell) place places) new pending
+    → (places : List Place) → IsAliveAt cells place places → AreUpToDate size places old → PlacesFit (change_at (with_cell column cell) place places)
+    → RetractsAll size (place / size) (change_at (with_cell column cell) place places) new pending
 set-retracts size place column cell cells old mid new pending positive has reserved before at went applied places there kept fit =
     retracts-on size place (with_cell column cell) (alive_with there.0) old mid new pending places positive reserved before at
     (went ∙ ap (λ (f : Cells). map (change_of size place (row_gives f)) mid) there.1)
@@ -125,9 +125,9 @@ set-retracts size place column cell cells old mid new pending positive has reser
 pub remove-retracts : (size place : ℕ) (cells : Cells) (old mid : List RegistryEntry) (pending : Pending) → 0 < size → AreReserved (place / size) mid → KeepsAsBefore old mid
     → pending.group ≡ place / size → pending.to_retract.items ≡ map (change_of size place (row_gives cells)) mid
     → (places : List Place) → IsAliveAt cells place places → AreUpToDate size places old
-    → RetractsAll size (place / size) (changed_at removed place places) mid pending
+    → RetractsAll size (place / size) (change_at after_remove place places) mid pending
 remove-retracts size place cells old mid pending positive reserved before at went places there kept =
-    retracts-on size place removed (alive_with there.0) old mid mid pending places positive reserved before at
+    retracts-on size place after_remove (alive_with there.0) old mid mid pending places positive reserved before at
     (went ∙ ap (λ (f : Cells). map (change_of size place (row_gives f)) mid) there.1)
     (sym (removed-adds_all size place (alive_with there.0) mid))
     there.2 kept (fit-removed place places kept.fit)

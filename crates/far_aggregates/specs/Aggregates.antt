@@ -33,8 +33,8 @@ ask_refusal None = Some refusal.NoAggregate
 ask_refusal (Some aggregate) = cond (left aggregate.pending == 0) None (Some (refusal.Building (left aggregate.pending)))
 
 -- a row group less is pending
-abbrev pub scanned_in : ℕ → Registered → Registered
-scanned_in g aggregate = record aggregate { pending = slice_set aggregate.pending g false }
+abbrev pub after_scan : ℕ → Registered → Registered
+after_scan g aggregate = record aggregate { pending = slice_set aggregate.pending g false }
 
 -- this is the answer of an aggregate over the rows of these places, and no row group is pending
 abbrev pub Answers : List Place → Option Registered → Answer → Type 0

@@ -1,7 +1,7 @@
 -- Pairs that need not be retracted, since the aggregates are the same without that.
 -- Internal: no public contract cites it.
 use Rattle.std.specs.Prelude.{◌≡◌, ◌⊎◌, ℕ, ℤ, ◌<ℤ◌, List, Option, None, Some, slice_get}
-use Rattle.far_types.specs.Effects.{widened}
+use Rattle.far_types.specs.Effects.{min_max_with}
 use Rattle.far_aggregates.specs.declared.deltas.Delta.{Delta}
 use Rattle.far_aggregates.specs.Accumulators.{Change}
 
@@ -9,7 +9,7 @@ use Rattle.far_aggregates.specs.Accumulators.{Change}
 abbrev pub NeedNotRetract : Option Delta → Change → Type 0
 NeedNotRetract None change = ⊥
 NeedNotRetract (Some delta) None = ⊥
-NeedNotRetract (Some delta) (Some pair) = (min_max : ℤ × ℤ) × (delta.previous ≡ Some min_max) × (delta.pair.0 ≡ pair.0) × ((widened delta.pair.1 (Some min_max)).0 <ℤ pair.1) × (pair.1 <ℤ (widened delta.pair.1 (Some min_max)).1)
+NeedNotRetract (Some delta) (Some pair) = (min_max : ℤ × ℤ) × (delta.previous ≡ Some min_max) × (delta.pair.0 ≡ pair.0) × ((min_max_with delta.pair.1 (Some min_max)).0 <ℤ pair.1) × (pair.1 <ℤ (min_max_with delta.pair.1 (Some min_max)).1)
 
 -- a pair is the same, or is left out because it need not be retracted
 abbrev pub IsLeftOut : Option Delta → Change → Change → Type 0

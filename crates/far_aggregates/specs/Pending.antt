@@ -7,7 +7,7 @@ use Rattle.far_aggregates.specs.declared.pending.Pending.{Pending}
 use Rattle.far_aggregates.specs.Accumulators.{RegistryEntry, PlacesFit, Keeps}
 use Rattle.far_aggregates.specs.Pairs.{alive_with}
 use Rattle.far_aggregates.specs.Deltas.{undo, EachMayUndo}
-use Rattle.far_aggregates.specs.Retract.{retracted, EachMayRetract}
+use Rattle.far_aggregates.specs.Retract.{after_retract, EachMayRetract}
 use Rattle.far_aggregates.specs.Until.{zip_all}
 
 -- the aggregates are those of these places, which are few, and whose numbers fit 64 bits
@@ -30,13 +30,13 @@ pub record MayUndoAll (registry : List RegistryEntry) (pending : Pending) : Type
   pub may : EachMayUndo pending.group (length registry) registry pending.applied.items
 
 -- the aggregates without the deltas
-abbrev pub all_undone : List RegistryEntry → Pending → List RegistryEntry
-all_undone registry pending = zip_all (undo pending.group) registry pending.applied.items
+abbrev pub after_undo_all : List RegistryEntry → Pending → List RegistryEntry
+after_undo_all registry pending = zip_all (undo pending.group) registry pending.applied.items
 
 -- if the rows stay the same, the deltas can be undone, and then the aggregates are as before
 pub record UndoesAll (old new : List RegistryEntry) (pending : Pending) : Type 0 where
   pub may : MayUndoAll new pending
-  pub kept : KeepsAsBefore old (all_undone new pending)
+  pub kept : KeepsAsBefore old (after_undo_all new pending)
 
 -- the pairs can be retracted, if these are the places of the row group
 pub record MayRetractAll (here : List Place) (registry : List RegistryEntry) (pending : Pending) : Type 0 where
@@ -44,12 +44,12 @@ pub record MayRetractAll (here : List Place) (registry : List RegistryEntry) (pe
   pub may : EachMayRetract pending.group here registry pending.to_retract.items
 
 -- the aggregates without the pairs to retract
-abbrev pub all_retracted : List Place → List RegistryEntry → Pending → List RegistryEntry
-all_retracted here registry pending = zip_all (retracted pending.group here) registry pending.to_retract.items
+abbrev pub after_retract_all : List Place → List RegistryEntry → Pending → List RegistryEntry
+after_retract_all here registry pending = zip_all (after_retract pending.group here) registry pending.to_retract.items
 
 -- if these are the places after the edit of a row group, the pairs can be retracted. Then the aggregates are those of these
 -- places
 pub record RetractsAll (size g : ℕ) (places : List Place) (registry : List RegistryEntry) (pending : Pending) : Type 0 where
   pub at : pending.group ≡ g
   pub may : MayRetractAll (in_group size g places) registry pending
-  pub kept : Keeps size places (all_retracted (in_group size g places) registry pending)
+  pub kept : Keeps size places (after_retract_all (in_group size g places) registry pending)

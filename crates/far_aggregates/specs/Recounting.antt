@@ -4,7 +4,7 @@ use Rattle.std.specs.FinMap as fin
 use Rattle.far_types.specs.declared.spec.Spec.{Spec}
 use Rattle.far_types.specs.Effects.{joined_totals}
 use Rattle.far_types.specs.Table.{Place}
-use Rattle.far_extrema.specs.Live.{with_reserved, group_at}
+use Rattle.far_extrema.specs.Live.{after_reserve, group_at}
 use Rattle.far_groups.specs.Live.{CanJoin}
 use Rattle.far_offload.specs.declared.partial.PartialDone.{PartialDone}
 use Rattle.far_offload.specs.declared.partial.PartialDone.TheVariants as partial
@@ -35,4 +35,4 @@ IsMerged g (partial.Totals done) (accumulator.Totals live) new = new ≡ accumul
 IsMerged g (partial.Totals done) (accumulator.Extrema live) new = ⊥
 IsMerged g (partial.Extrema observed) (accumulator.Totals live) new = ⊥
 IsMerged g (partial.Extrema observed) (accumulator.Extrema live) (accumulator.Totals new) = ⊥
-IsMerged g (partial.Extrema observed) (accumulator.Extrema live) (accumulator.Extrema new) = (new.left ≡ live.left - 1) × (new.groups ≡ slice_set (with_reserved g live.groups) g observed)
+IsMerged g (partial.Extrema observed) (accumulator.Extrema live) (accumulator.Extrema new) = (new.left ≡ live.left - 1) × (new.groups ≡ slice_set (after_reserve g live.groups) g observed)

@@ -2,7 +2,7 @@
 -- Internal: no public contract cites it.
 use Rattle.std.specs.Prelude.{ℕ, ◌<◌, List, length, None, Some}
 use Rattle.std.specs.List.{AllByRecursion}
-use Rattle.far_extrema.specs.Live.{with_reserved}
+use Rattle.far_extrema.specs.Live.{after_reserve}
 use Rattle.far_aggregates.specs.declared.aggregate.Accumulator.{Accumulator}
 use Rattle.far_aggregates.specs.declared.aggregate.Accumulator.TheVariants as accumulator
 use Rattle.far_aggregates.specs.Accumulators.{RegistryEntry}
@@ -22,11 +22,11 @@ abbrev pub AreReserved : ℕ → List RegistryEntry → Type 0
 AreReserved g registry = AllByRecursion (IsReserved g) registry
 
 -- an accumulator that is reserved for a row group
-abbrev pub accumulator_reserved : ℕ → Accumulator → Accumulator
-accumulator_reserved g (accumulator.Totals live) = accumulator.Totals live
-accumulator_reserved g (accumulator.Extrema live) = accumulator.Extrema (record live { groups = with_reserved g live.groups })
+abbrev pub accumulator_after_reserve : ℕ → Accumulator → Accumulator
+accumulator_after_reserve g (accumulator.Totals live) = accumulator.Totals live
+accumulator_after_reserve g (accumulator.Extrema live) = accumulator.Extrema (record live { groups = after_reserve g live.groups })
 
 -- an entry of the registry once it is reserved for a row group
-abbrev pub reserved : ℕ → RegistryEntry → RegistryEntry
-reserved g None = None
-reserved g (Some a) = Some (record a { accumulator = accumulator_reserved g a.accumulator })
+abbrev pub after_reserve : ℕ → RegistryEntry → RegistryEntry
+after_reserve g None = None
+after_reserve g (Some a) = Some (record a { accumulator = accumulator_after_reserve g a.accumulator })

@@ -3,7 +3,7 @@ use Rattle.std.specs.Prelude.{◌≡◌, ℕ, List, None, Some, slice_get, slice
 use Rattle.std.specs.FinMap as fin
 use Rattle.far_types.specs.declared.spec.Spec.{Spec}
 use Rattle.far_types.specs.Answers.{extrema}
-use Rattle.far_types.specs.Effects.{without_pair, widened}
+use Rattle.far_types.specs.Effects.{without_pair, min_max_with}
 use Rattle.far_types.specs.Pairs.{Pair}
 use Rattle.far_types.specs.Table.{Place}
 use Rattle.far_extrema.specs.Live.{group_at}
@@ -19,16 +19,16 @@ accumulator_less spec g here (accumulator.Totals live) pair = accumulator.Totals
 accumulator_less spec g here (accumulator.Extrema live) pair = accumulator.Extrema (record live { groups = slice_set live.groups g (put_min_max (group_at live.groups g) pair.0 (fin.get (extrema (pairs_here spec here)) pair.0)) })
 
 -- an entry of the registry with its pair retracted, if both are there
-abbrev pub retracted : ℕ → List Place → RegistryEntry → Change → RegistryEntry
-retracted g here None change = None
-retracted g here (Some a) None = Some a
-retracted g here (Some a) (Some pair) = Some (record a { accumulator = accumulator_less a.spec g here a.accumulator pair })
+abbrev pub after_retract : ℕ → List Place → RegistryEntry → Change → RegistryEntry
+after_retract g here None change = None
+after_retract g here (Some a) None = Some a
+after_retract g here (Some a) (Some pair) = Some (record a { accumulator = accumulator_less a.spec g here a.accumulator pair })
 
 -- a pair may be retracted. Totals have it (`CanRetract`). In extrema the min-max under its key is that of the rows that are left, widened
 -- by its value
 abbrev pub AccumulatorMayRetract : Spec → ℕ → List Place → Accumulator → Pair → Type 0
 AccumulatorMayRetract spec g here (accumulator.Totals live) pair = CanRetract pair.1 (fin.get live.totals pair.0)
-AccumulatorMayRetract spec g here (accumulator.Extrema live) pair = fin.get (group_at live.groups g) pair.0 ≡ Some (widened pair.1 (fin.get (extrema (pairs_here spec here)) pair.0))
+AccumulatorMayRetract spec g here (accumulator.Extrema live) pair = fin.get (group_at live.groups g) pair.0 ≡ Some (min_max_with pair.1 (fin.get (extrema (pairs_here spec here)) pair.0))
 
 -- the pair of an entry may be retracted
 abbrev pub MayRetract : ℕ → List Place → RegistryEntry → Change → Type 0

@@ -5,12 +5,12 @@ use Rattle.far_types.specs.declared.spec.Spec.{Spec}
 use Rattle.far_types.specs.Answers.{totals, extrema}
 use Rattle.far_types.specs.Effects.{joined_totals}
 use Rattle.far_types.specs.Table.{Place, Registered, in_group, is_pending}
-use Rattle.far_extrema.specs.Live.{with_reserved, group_at}
+use Rattle.far_extrema.specs.Live.{after_reserve, group_at}
 use Rattle.far_groups.specs.Live.{CanJoin}
 use Rattle.far_aggregates.specs.declared.aggregate.Accumulator.{Accumulator}
 use Rattle.far_aggregates.specs.declared.aggregate.Accumulator.TheVariants as accumulator
 use Rattle.far_aggregates.specs.Accumulators.{RegistryEntry, pairs_here, KeepsEntry}
-use Rattle.far_aggregates.specs.Aggregates.{scanned_in}
+use Rattle.far_aggregates.specs.Aggregates.{after_scan}
 
 -- whether a row group is pending in a registry entry
 abbrev pub has_pending : ℕ → RegistryEntry → Bool
@@ -18,15 +18,15 @@ has_pending g None = false
 has_pending g (Some a) = is_pending a.pending g
 
 -- an entry of the registry once a row group is scanned into its aggregate
-abbrev pub scanned_entry : ℕ → Option Registered → Option Registered
-scanned_entry g None = None
-scanned_entry g (Some aggregate) = Some (scanned_in g aggregate)
+abbrev pub entry_after_scan : ℕ → Option Registered → Option Registered
+entry_after_scan g None = None
+entry_after_scan g (Some aggregate) = Some (after_scan g aggregate)
 
 -- the rows of one row group more, at these places, are scanned. Which keys are reserved is left open
 abbrev pub IsScanned : Spec → ℕ → List Place → Accumulator → Accumulator → Type 0
 IsScanned spec g here (accumulator.Totals live) new = new ≡ accumulator.Totals (record { left = live.left - 1; totals = joined_totals live.totals (totals (pairs_here spec here)) })
 IsScanned spec g here (accumulator.Extrema live) (accumulator.Totals new) = ⊥
-IsScanned spec g here (accumulator.Extrema live) (accumulator.Extrema new) = (new.left ≡ live.left - 1) × (new.groups ≡ slice_set (with_reserved g live.groups) g (extrema (pairs_here spec here)))
+IsScanned spec g here (accumulator.Extrema live) (accumulator.Extrema new) = (new.left ≡ live.left - 1) × (new.groups ≡ slice_set (after_reserve g live.groups) g (extrema (pairs_here spec here)))
 
 -- the same rows are scanned. Which keys are reserved is left open
 abbrev pub IsSame : Accumulator → Accumulator → Type 0

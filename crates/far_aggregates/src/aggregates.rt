@@ -80,8 +80,8 @@ impl Aggregates {
     ghost use Rattle.far_aggregates.specs.Accumulators.{Keeps, PlacesFit, registered_of};
     ghost use Rattle.far_aggregates.specs.Lending.{EntryIsServed, AreServed};
     ghost use Rattle.far_aggregates.specs.Readings.{plain_in};
-    ghost use Rattle.far_aggregates.specs.Scans.{scanned_entry};
-    ghost use Rattle.far_aggregates.specs.Pending.{AreUpToDate, KeepsAsBefore, IsAliveAt, MayUndoAll, all_undone, UndoesAll, MayRetractAll, all_retracted, RetractsAll};
+    ghost use Rattle.far_aggregates.specs.Scans.{entry_after_scan};
+    ghost use Rattle.far_aggregates.specs.Pending.{AreUpToDate, KeepsAsBefore, IsAliveAt, MayUndoAll, after_undo_all, UndoesAll, MayRetractAll, after_retract_all, RetractsAll};
 
     /// Returns a registry without an aggregate. Allocates nothing.
     pub fn new(alloc: Global) -> Aggregates
@@ -235,7 +235,7 @@ impl Aggregates {
         requires pending { is_pending_in (aggregate_in self.old a) number ≡ true }
         requires served { EntryIsServed (G.has group.now) (aggregate_in self.old a) }
         requires kept { (places : List Place) × (G.places group.now ≡ in_group size number places) × AreUpToDate size places self.old }
-        ensures registered { OnOk result (registered_of self.new ≡ slice_set (registered_of self.old) a (scanned_entry number (aggregate_in self.old a))) }
+        ensures registered { OnOk result (registered_of self.new ≡ slice_set (registered_of self.old) a (entry_after_scan number (aggregate_in self.old a))) }
         ensures kept { (places : List Place) → G.places group.now ≡ in_group size number places → Keeps size places self.old → Keeps size places self.new }
         ensures unchanged { OnErr result (registered_of self.new ≡ registered_of self.old) }
         ensures memory { IfErr result (λ e. e ≡ Refusal.NoMemory) }
@@ -386,7 +386,7 @@ impl Aggregates {
     /// Undoes the deltas of an edit that the rows refused. Allocates nothing.
     pub fn undo(&mut self, pending: Pending)
         requires { MayUndoAll self.old pending }
-        ensures undo { self.new ≡ all_undone self.old pending }
+        ensures undo { self.new ≡ after_undo_all self.old pending }
         ensures registered { registered_of self.new ≡ registered_of self.old }
     {
         undo_all(
@@ -411,7 +411,7 @@ impl Aggregates {
     pub fn retract<G: LendGroup>(&mut self, group: &G, pending: Pending)
         requires may { MayRetractAll (G.places group.now) self.old pending }
         requires served { AreServed (G.has group.now) (registered_of self.old) }
-        ensures retracted { self.new ≡ all_retracted (G.places group.now) self.old pending }
+        ensures retracted { self.new ≡ after_retract_all (G.places group.now) self.old pending }
         ensures registered { registered_of self.new ≡ registered_of self.old }
     {
         retract_all(
@@ -435,7 +435,7 @@ impl Aggregates {
     pub fn retract_totals(&mut self, pending: Pending)
         requires may { (here : List Place) × MayRetractAll here self.old pending }
         requires plain { EachIsPlain self.old pending.to_retract.items }
-        ensures retracted { (here : List Place) → self.new ≡ all_retracted here self.old pending }
+        ensures retracted { (here : List Place) → self.new ≡ after_retract_all here self.old pending }
         ensures registered { registered_of self.new ≡ registered_of self.old }
     {
         retract_totals(self.registry.as_mut_slice(), pending.to_retract.as_slice());

@@ -14,7 +14,7 @@ use std::alloc::Global;
 /// Returns the lines of live totals.
 fn lines_of(alloc: Global, live: &LiveTotals) -> Result<TotalLines, Refusal>
     ensures ok { IfOk result (λ lines. lines ≡ total_lines live.now.totals) }
-    ensures built { OnOk result (live.now.left ≡ 0) }
+    ensures all_scanned { OnOk result (live.now.left ≡ 0) }
     ensures building { live.now.left ≢ 0 → result ≡ Err (Refusal.Building live.now.left) }
     ensures memory { live.now.left ≡ 0 → IfErr result (λ e. e ≡ Refusal.NoMemory) }
 {

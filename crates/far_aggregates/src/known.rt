@@ -1,7 +1,7 @@
 // Live extrema that note the min-max of no key.
 ghost use Rattle.std.specs.Prelude.{◌≡◌, ◌≢◌, ◌-◌, ◌<◌, [], None, Some, Err, OnOk, OnErr, IfOk, IfErr, IfSome, IsTrue, ℤ, ◌≤ℤ◌, length, slice_get, slice_set};
 ghost use Rattle.std.specs.FinMap as fin;
-ghost use Rattle.far_types.specs.Effects.{widened, with_observed};
+ghost use Rattle.far_types.specs.Effects.{min_max_with, with_observed};
 ghost use Rattle.far_extrema.specs.Live.{all_groups, group_at};
 ghost use Rattle.far_aggregates.specs.Known.{IsNoted};
 
@@ -53,7 +53,7 @@ fn note(plain: &mut Vec<Option<MinMax>>, group: usize, min_max: Option<MinMax>)
     }
 }
 
-/// Returns what is noted under no key in a row group. The min-max is taken apart and made anew, so that its numbers are passed
+/// Returns what is noted under no key in a row group. The min-max is built anew from its parts, so that its numbers are passed
 /// in registers.
 #[inline(always)]
 fn noted_in(plain: &[Option<MinMax>], group: usize) -> Option<MinMax>
@@ -103,7 +103,7 @@ fn observe_noted(
 /// Returns the least and the greatest with one more value.
 #[inline(always)]
 fn wider(value: i64, previous: Option<MinMax>) -> MinMax
-    ensures { result ≡ widened value previous }
+    ensures { result ≡ min_max_with value previous }
 {
     match previous {
         Some((least, greatest)) => (value.min(least), value.max(greatest)),
@@ -113,7 +113,7 @@ fn wider(value: i64, previous: Option<MinMax>) -> MinMax
 
 impl KnownExtrema {
     ghost use Rattle.far_types.specs.Answers.{extrema_lines};
-    ghost use Rattle.far_extrema.specs.Live.{with_reserved, IsReservedFor};
+    ghost use Rattle.far_extrema.specs.Live.{after_reserve, IsReservedFor};
     ghost use Rattle.far_extrema.specs.MinMaxes.{put_min_max};
 
     /// Does what `LiveExtrema::new` does.
@@ -129,7 +129,7 @@ impl KnownExtrema {
 
     /// Does what `LiveExtrema::make_room` does.
     pub fn reserve(&mut self, group: u32)
-        ensures { self.new ≡ record self.old { groups = with_reserved group self.old.groups } }
+        ensures { self.new ≡ record self.old { groups = after_reserve group self.old.groups } }
     {
         self.live.make_room(group);
     }
@@ -137,7 +137,7 @@ impl KnownExtrema {
     /// Does what `LiveExtrema::reserve_for` does.
     pub fn reserve_for(&mut self, group: u32, extrema: &GroupExtrema) -> Result<(), Refusal>
         ensures left { self.new.left ≡ self.old.left }
-        ensures groups { OnOk result (self.new.groups ≡ with_reserved group self.old.groups) }
+        ensures groups { OnOk result (self.new.groups ≡ after_reserve group self.old.groups) }
         ensures reserved { OnOk result (IsReservedFor extrema.now self.new) }
         ensures err { OnErr result (self.new.groups ≡ self.old.groups) }
         ensures memory { IfErr result (λ e. e ≡ Refusal.NoMemory) }
@@ -207,7 +207,7 @@ impl KnownExtrema {
     fn shrink_plain<R: RowsLeft>(&mut self, group: u32, value: i64, rows: &R)
         requires reserved { group < length self.old.groups }
         requires at_hand { R.at_hand rows.now }
-        requires previous { fin.get (group_at self.old.groups group) None ≡ Some (widened value (R.extremes rows.now)) }
+        requires previous { fin.get (group_at self.old.groups group) None ≡ Some (min_max_with value (R.extremes rows.now)) }
         ensures { self.new ≡ record self.old { groups = slice_set self.old.groups group (put_min_max (group_at self.old.groups group) None (R.extremes rows.now)) } }
     {
         if let Some(min_max) = noted_in(self.plain.as_slice(), group as usize) {
@@ -223,7 +223,7 @@ impl KnownExtrema {
     pub fn shrink<R: RowsLeft>(&mut self, group: u32, key: &Option<Key>, value: i64, rows: &R)
         requires reserved { group < length self.old.groups }
         requires at_hand { R.at_hand rows.now }
-        requires previous { fin.get (group_at self.old.groups group) key.now ≡ Some (widened value (R.extremes rows.now)) }
+        requires previous { fin.get (group_at self.old.groups group) key.now ≡ Some (min_max_with value (R.extremes rows.now)) }
         ensures { self.new ≡ record self.old { groups = slice_set self.old.groups group (put_min_max (group_at self.old.groups group) key.now (R.extremes rows.now)) } }
     {
         match key {
@@ -251,7 +251,7 @@ impl KnownExtrema {
     /// Does what `LiveExtrema::answer` does.
     pub fn answer(&self, alloc: Global) -> Result<Answer, Refusal>
         ensures ok { IfOk result (λ answer. answer ≡ Answer.Extrema (extrema_lines (all_groups self.now.groups))) }
-        ensures built { OnOk result (self.now.left ≡ 0) }
+        ensures all_scanned { OnOk result (self.now.left ≡ 0) }
         ensures building { self.now.left ≢ 0 → result ≡ Err (Refusal.Building self.now.left) }
         ensures memory { self.now.left ≡ 0 → IfErr result (λ e. e ≡ Refusal.NoMemory) }
     {

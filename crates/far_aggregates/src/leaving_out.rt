@@ -1,6 +1,6 @@
 // Pairs that need not be retracted from extrema.
 ghost use Rattle.std.specs.Prelude.{◌≡◌, Some, IsTrue, length};
-ghost use Rattle.far_types.specs.Effects.{widened};
+ghost use Rattle.far_types.specs.Effects.{min_max_with};
 ghost use Rattle.far_aggregates.specs.LeavingOut.{NeedNotRetract, IsLeftOut, EachLeftOut};
 
 use super::deltas::Delta;
@@ -24,7 +24,7 @@ fn are_same(key: &Option<Key>, other: &Option<Key>) -> bool
 
 /// Returns the min-max under a key with one more value.
 fn wide(min_max: MinMax, pair: &Pair) -> MinMax
-    ensures { result ≡ widened pair.now.1 (Some min_max) }
+    ensures { result ≡ min_max_with pair.now.1 (Some min_max) }
 {
     (pair.1.min(min_max.0), pair.1.max(min_max.1))
 }

@@ -51,7 +51,7 @@ pub fn group_count(size: u32, places: usize) -> usize
 }
 
 /// Returns the accumulator of no row, while `left` row groups are pending.
-fn nothing_kept(alloc: Global, fold: Fold, left: u32) -> Accumulator
+fn empty_accumulator(alloc: Global, fold: Fold, left: u32) -> Accumulator
     ensures fold { fold_of result ≡ fold }
     ensures nothing { KeepsNothing left result }
 {
@@ -80,7 +80,7 @@ pub fn new_aggregate(
     Ok(Aggregate {
         registration,
         pending,
-        accumulator: nothing_kept(alloc, spec.fold, groups as u32),
+        accumulator: empty_accumulator(alloc, spec.fold, groups as u32),
         spec,
     })
 }

@@ -2,12 +2,12 @@
 ghost use Rattle.std.specs.Prelude.{◌≡◌, ◌≤◌, ◌<◌, [], Some, false, length, map, slice_get, slice_set};
 ghost use Rattle.std.specs.FinMap as fin;
 ghost use Rattle.far_types.specs.Answers.{extrema};
-ghost use Rattle.far_types.specs.Effects.{widened};
+ghost use Rattle.far_types.specs.Effects.{min_max_with};
 ghost use Rattle.far_extrema.specs.Live.{group_at};
 ghost use Rattle.far_extrema.specs.MinMaxes.{put_min_max};
 ghost use Rattle.far_aggregates.specs.Accumulators.{pairs_here, registered_in};
 ghost use Rattle.far_aggregates.specs.Lending.{IsServed, EntryIsServed, AreServed};
-ghost use Rattle.far_aggregates.specs.Retract.{retracted, MayRetract, EachMayRetract, IsPlain, EachIsPlain};
+ghost use Rattle.far_aggregates.specs.Retract.{after_retract, MayRetract, EachMayRetract, IsPlain, EachIsPlain};
 ghost use Rattle.far_aggregates.specs.Until.{zip_all};
 
 use super::aggregate::{Accumulator, Aggregate};
@@ -56,7 +56,7 @@ impl<'a, G: LendGroup> RowsLeft for Left<'a, G> {
 /// greatest under its key.
 fn shrink<G: LendGroup>(live: &mut KnownExtrema, spec: &Spec, group: &G, number: u32, pair: &Pair)
     requires served { IsServed (G.has group.now) spec.now }
-    requires observed { fin.get (group_at live.old.groups number) pair.now.0 ≡ Some (widened pair.now.1 (fin.get (extrema (pairs_here spec.now (G.places group.now))) pair.now.0)) }
+    requires observed { fin.get (group_at live.old.groups number) pair.now.0 ≡ Some (min_max_with pair.now.1 (fin.get (extrema (pairs_here spec.now (G.places group.now))) pair.now.0)) }
     ensures { live.new ≡ record live.old { groups = slice_set live.old.groups number (put_min_max (group_at live.old.groups number) pair.now.0 (fin.get (extrema (pairs_here spec.now (G.places group.now))) pair.now.0)) } }
 {
     let left = Left {
@@ -76,7 +76,7 @@ fn retract_one<G: LendGroup>(
 )
     requires served { EntryIsServed (G.has group.now) (registered_in entry.old) }
     requires may { MayRetract number (G.places group.now) entry.old to_retract.now }
-    ensures { entry.new ≡ retracted number (G.places group.now) entry.old to_retract.now }
+    ensures { entry.new ≡ after_retract number (G.places group.now) entry.old to_retract.now }
 {
     if let Some(aggregate) = entry {
         if let Some(pair) = to_retract {
@@ -98,7 +98,7 @@ pub fn retract_all<G: LendGroup>(
     requires served { AreServed (G.has group.now) (map registered_in registry.old) }
     requires len { length to_retract.now ≤ length registry.old }
     requires may { EachMayRetract number (G.places group.now) registry.old to_retract.now }
-    ensures { registry.new ≡ zip_all (retracted number (G.places group.now)) registry.old to_retract.now }
+    ensures { registry.new ≡ zip_all (after_retract number (G.places group.now)) registry.old to_retract.now }
 {
     for i in 0..to_retract.len() {
         retract_one(&mut registry[i], group, number, &to_retract[i]);
@@ -136,7 +136,7 @@ pub fn needs_rows(registry: &[Option<Aggregate>], to_retract: &[Option<Pair>]) -
 fn retract_plain(entry: &mut Option<Aggregate>, to_retract: &Option<Pair>)
     requires plain { IsPlain entry.old to_retract.now }
     requires may { MayRetract 0 [] entry.old to_retract.now }
-    ensures { entry.new ≡ retracted 0 [] entry.old to_retract.now }
+    ensures { entry.new ≡ after_retract 0 [] entry.old to_retract.now }
 {
     if let Some(aggregate) = entry {
         if let Some(pair) = to_retract {
@@ -152,7 +152,7 @@ pub fn retract_totals(registry: &mut [Option<Aggregate>], pairs: &[Option<Pair>]
     requires len { length pairs.now ≤ length registry.old }
     requires plain { EachIsPlain registry.old pairs.now }
     requires may { EachMayRetract 0 [] registry.old pairs.now }
-    ensures { registry.new ≡ zip_all (retracted 0 []) registry.old pairs.now }
+    ensures { registry.new ≡ zip_all (after_retract 0 []) registry.old pairs.now }
 {
     for i in 0..pairs.len() {
         retract_plain(&mut registry[i], &pairs[i]);

@@ -8,7 +8,7 @@ ghost use Rattle.far_groups.specs.Live.{CanJoin};
 ghost use Rattle.far_offload.specs.Partials.{partial_of};
 ghost use Rattle.far_aggregates.specs.Accumulators.{KeepsEntry, Keeps, fold_of, pairs_here, registered_in, registered_of};
 ghost use Rattle.far_aggregates.specs.Lending.{IsServed, EntryIsServed};
-ghost use Rattle.far_aggregates.specs.Scans.{scanned_entry, has_pending, IsScanned, IsSame, AccumulatorMayScan, EntryMayScan};
+ghost use Rattle.far_aggregates.specs.Scans.{entry_after_scan, has_pending, IsScanned, IsSame, AccumulatorMayScan, EntryMayScan};
 ghost use Rattle.far_aggregates.specs.Aggregates.{flattened};
 ghost use Rattle.far_aggregates.specs.Recounting.{AccumulatorMayMerge, IsMerged};
 
@@ -132,7 +132,7 @@ fn scan_in<G: LendGroup>(
     requires pending { has_pending number entry.old ≡ true }
     requires served { EntryIsServed (G.has group.now) (registered_in entry.old) }
     requires may { EntryMayScan size number (G.places group.now) entry.old }
-    ensures registered { OnOk result (registered_in entry.new ≡ scanned_entry number (registered_in entry.old)) }
+    ensures registered { OnOk result (registered_in entry.new ≡ entry_after_scan number (registered_in entry.old)) }
     ensures kept { (places : List Place) → G.places group.now ≡ in_group size number places → KeepsEntry size places entry.old → KeepsEntry size places entry.new }
     ensures unchanged { OnErr result (registered_in entry.new ≡ registered_in entry.old) }
     ensures memory { IfErr result (λ e. e ≡ Refusal.NoMemory) }
@@ -164,7 +164,7 @@ pub fn scan_at<G: LendGroup>(
     requires pending { has_pending number (flattened (slice_get registry.old.items a)) ≡ true }
     requires served { EntryIsServed (G.has group.now) (registered_in (flattened (slice_get registry.old.items a))) }
     requires may { EntryMayScan size number (G.places group.now) (flattened (slice_get registry.old.items a)) }
-    ensures registered { OnOk result (registered_of registry.new.items ≡ slice_set (registered_of registry.old.items) a (scanned_entry number (registered_in (flattened (slice_get registry.old.items a))))) }
+    ensures registered { OnOk result (registered_of registry.new.items ≡ slice_set (registered_of registry.old.items) a (entry_after_scan number (registered_in (flattened (slice_get registry.old.items a))))) }
     ensures kept { (places : List Place) → G.places group.now ≡ in_group size number places → Keeps size places registry.old.items → Keeps size places registry.new.items }
     ensures unchanged { OnErr result (registered_of registry.new.items ≡ registered_of registry.old.items) }
     ensures memory { IfErr result (λ e. e ≡ Refusal.NoMemory) }

@@ -5,4 +5,4 @@
 
 mod byte_log;
 
-pub use byte_log::{ByteLog, LogKey, LogFull};
+pub use byte_log::{ByteLog, LogFull, LogKey};

@@ -12,9 +12,9 @@ use Rattle.far_codec.specs.Reading.{ints_meaning, numbers_of, IsIntsForm}
 use Rattle.far_codec.specs.ReadingLaws.{length-mask_of, numbers_again}
 use Rattle.far_codec.specs.TextForm.{texts_meaning, IsTextsForm}
 use Rattle.far_codec.specs.Lent.{IsForm}
-use Rattle.far_codec.proofs.Heads.{HeadCells, head_cells}
-use Rattle.far_codec.proofs.IntForms.{ints_form_is, words_from_fields, numbers_of_at, number_at, length-numbers_of}
-use Rattle.far_codec.proofs.Meaning.{lies_so}
+use Rattle.far_codec.proofs.FarFormHeads.{HeadCells, head_cells}
+use Rattle.far_codec.proofs.FarFormNumbers.{ints_form_is, words_from_fields, numbers_of_at, number_at, length-numbers_of}
+use Rattle.far_codec.proofs.FormsMeaning.{lies_so}
 
 pub record IntsLieSo (form : List ℕ) (numbers : List (Option ℤ)) : Type 0 where
   pub cells : HeadCells form 0 (map is_none numbers) (flat_map number_bytes numbers)

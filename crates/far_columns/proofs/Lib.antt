@@ -1,5 +1,5 @@
 pub mod NumbersTogether
-pub mod NumbersPushed
-pub mod NumbersBegun
+pub mod NumbersTogetherAppends
+pub mod NumbersTogetherBeginning
 pub mod NumbersUndo
-mod Flags
+mod NumbersFlags

@@ -15,13 +15,13 @@ use Rattle.far_scopes.specs.declared.object_record.ObjectRecord.{ObjectRecord}
 use Rattle.far_scopes.specs.Memory.{at_of}
 use Rattle.far_scopes.specs.Movement.{Movement, ChangesObject}
 use Rattle.far_scopes.specs.Refusing.{absent, written_out, write_refusal, no_space}
-use Rattle.far_scopes.proofs.Pins.{length-with}
+use Rattle.far_scopes.proofs.EnteringPins.{length-with}
 use Rattle.far_vector.specs.Vector.{Vector, IsShaped, AreDisjoint, object_at}
-use Rattle.far_vector.specs.Effects.{is_full, after_push, pushed_in}
+use Rattle.far_vector.specs.Effects.{is_full, after_push, objects_after_push}
 use Rattle.far_vector.specs.Refusing.{push_refusal}
-use Rattle.far_scopes.proofs.FirstCases.{first-append, two-free}
+use Rattle.far_scopes.proofs.FirstOfCases.{first-append, two-free}
 use Rattle.far_scopes.proofs.Alike.{none-pass}
-use Rattle.far_columns.specs.NumbersTogether.{NumberLists, NumberColumns, AreNumberColumns, all_begin, all_pushed, absents, some_written_out, no_space_for_groups, push_numbers_refusal}
+use Rattle.far_columns.specs.NumbersTogether.{NumberLists, NumberColumns, AreNumberColumns, all_begin, after_push_all, absents, some_written_out, no_space_for_groups, push_numbers_refusal}
 
 pub pairs-head : {X : Type 0} (R : X → X → Type 0) (x : X) (xs : List X) → AllPairs R (x ∷ xs) → All (R x) xs
 pairs-head R x xs pairs k d below = pairs 0 (suc k) d (omega arith) (omega (arith, below))
@@ -66,11 +66,11 @@ write-other old new o p changes same disjoint =
     ∙ ap (λ object_record. writing (slice_get old.memory.words p) object_record new.max_writes) (changes.records p disjoint)
     ∙ ap (writing (slice_get old.memory.words p) (slice_get old.records p)) same
 
-pub changes-same : {K : Type 0} (m : Movement (Option ℤ) K) (v : Vector (Option ℤ)) (x : Option ℤ) → (pushed_in m v x).max_writes ≡ m.max_writes
+pub changes-same : {K : Type 0} (m : Movement (Option ℤ) K) (v : Vector (Option ℤ)) (x : Option ℤ) → (objects_after_push m v x).max_writes ≡ m.max_writes
 changes-same m v x = elim (cases_Bool (is_full v)) [ inl full ↦ rw full refl | inr begun ↦ rw begun refl ]
 
 -- a number more in a row group that is begun makes no object
-pub count-same : {K : Type 0} (m : Movement (Option ℤ) K) (v : Vector (Option ℤ)) (x : Option ℤ) → is_full v ≡ false → length (pushed_in m v x).records ≡ length m.records
+pub count-same : {K : Type 0} (m : Movement (Option ℤ) K) (v : Vector (Option ℤ)) (x : Option ℤ) → is_full v ≡ false → length (objects_after_push m v x).records ≡ length m.records
 count-same m v x begun = rw begun (length-with m.records (object_at v v.len) (λ object_record. record object_record { version = object_record.version + 1 }))
 
 -- disjoint either way
@@ -100,9 +100,9 @@ pub begun-object : (c c' : Vector (Option ℤ)) (n : ℕ) → is_full c ≡ fals
 begun-object c c' n begun is = rw (is, begun) refl
 
 -- the columns with a number more each, the first and then the rest
-pub pushed-first : (n k : ℕ) (c c' : Vector (Option ℤ)) (rest rest' columns : NumberColumns) → columns ≡ c ∷ rest → c' ≡ after_push c n → rest' ≡ all_pushed k rest → k ≡ n + 1 → c' ∷ rest' ≡ all_pushed n columns
+pub pushed-first : (n k : ℕ) (c c' : Vector (Option ℤ)) (rest rest' columns : NumberColumns) → columns ≡ c ∷ rest → c' ≡ after_push c n → rest' ≡ after_push_all k rest → k ≡ n + 1 → c' ∷ rest' ≡ after_push_all n columns
 pushed-first n k c c' rest rest' columns is first others step =
-    ap (λ d. d ∷ rest') first ∙ ap (λ l. after_push c n ∷ l) (others ∙ ap (λ i. all_pushed i rest) step) ∙ ap (all_pushed n) (sym is)
+    ap (λ d. d ∷ rest') first ∙ ap (λ l. after_push c n ∷ l) (others ∙ ap (λ i. after_push_all i rest) step) ∙ ap (after_push_all n) (sym is)
 
 -- columns of one table, which all begin row groups or none
 module _ (lists : NumberLists) (columns : NumberColumns) (are : AreNumberColumns lists columns) (shaped : All IsShaped columns) where
@@ -119,18 +119,18 @@ pushed-size c n = elim (cases_Bool (is_full c)) [ inl full ↦ rw full refl | in
 pub pushed-len : (c : Vector (Option ℤ)) (n : ℕ) → (after_push c n).len ≡ c.len + 1
 pushed-len c n = elim (cases_Bool (is_full c)) [ inl full ↦ rw full refl | inr begun ↦ rw begun refl ]
 
-same_length-all_disjoint : (c : Vector (Option ℤ)) (k n : ℕ) (rest : NumberColumns) → All (λ d. (c.size ≡ d.size) × (c.len ≡ d.len)) rest → All (λ d. ((after_push c k).size ≡ d.size) × ((after_push c k).len ≡ d.len)) (all_pushed n rest)
+same_length-all_disjoint : (c : Vector (Option ℤ)) (k n : ℕ) (rest : NumberColumns) → All (λ d. (c.size ≡ d.size) × (c.len ≡ d.len)) rest → All (λ d. ((after_push c k).size ≡ d.size) × ((after_push c k).len ≡ d.len)) (after_push_all n rest)
 same_length-all_disjoint c k n [] same_length = All-nil (λ d. ((after_push c k).size ≡ d.size) × ((after_push c k).len ≡ d.len))
 same_length-all_disjoint c k n (d ∷ rest) same_length =
     let pair = All-head (λ d. (c.size ≡ d.size) × (c.len ≡ d.len)) d rest same_length in
-    All-cons (λ d. ((after_push c k).size ≡ d.size) × ((after_push c k).len ≡ d.len)) (after_push d n) (all_pushed (n + 1) rest)
+    All-cons (λ d. ((after_push c k).size ≡ d.size) × ((after_push c k).len ≡ d.len)) (after_push d n) (after_push_all (n + 1) rest)
     (pushed-size c k ∙ pair.0 ∙ sym (pushed-size d n), pushed-len c k ∙ ap (λ l. l + 1) pair.1 ∙ sym (pushed-len d n))
     (same_length-all_disjoint c k (n + 1) rest (All-tail (λ d. (c.size ≡ d.size) × (c.len ≡ d.len)) d rest same_length))
 
-pub same_length-pushed : (n : ℕ) (columns : NumberColumns) → AllPairs (λ c d. (c.size ≡ d.size) × (c.len ≡ d.len)) columns → AllPairs (λ c d. (c.size ≡ d.size) × (c.len ≡ d.len)) (all_pushed n columns)
+pub same_length-pushed : (n : ℕ) (columns : NumberColumns) → AllPairs (λ c d. (c.size ≡ d.size) × (c.len ≡ d.len)) columns → AllPairs (λ c d. (c.size ≡ d.size) × (c.len ≡ d.len)) (after_push_all n columns)
 same_length-pushed n [] same_length = same_length
 same_length-pushed n (c ∷ rest) same_length =
-    AllPairs-cons (λ c d. (c.size ≡ d.size) × (c.len ≡ d.len)) (after_push c n) (all_pushed (n + 1) rest)
+    AllPairs-cons (λ c d. (c.size ≡ d.size) × (c.len ≡ d.len)) (after_push c n) (after_push_all (n + 1) rest)
     (same_length-all_disjoint c n (n + 1) rest (pairs-head (λ c d. (c.size ≡ d.size) × (c.len ≡ d.len)) c rest same_length))
     (same_length-pushed (n + 1) rest (pairs-tail (λ c d. (c.size ≡ d.size) × (c.len ≡ d.len)) c rest same_length))
 

@@ -13,11 +13,11 @@ use Rattle.far_scopes.specs.Movement.{Movement, ChangesObject, is_local, pins_of
 use Rattle.far_scopes.specs.Effects.{after_uncreate}
 use Rattle.far_vector.specs.Vector.{Vector, IsShaped, IsVector, AreDisjoint, IsUntouched, elements, object_at}
 use Rattle.far_vector.specs.Vectors.{AreVectors, ChangesVector}
-use Rattle.far_vector.specs.Effects.{is_full, after_push, pushed_in, after_unpush}
+use Rattle.far_vector.specs.Effects.{is_full, after_push, objects_after_push, after_unpush}
 use Rattle.far_columns.specs.NumbersTogether.{NumberLists, NumberColumns, KeepsNumbers}
 use Rattle.far_columns.specs.NumbersUndo.{KeepsBelow, IsNewGroup, AreBegunFrom, AreBegunLast, after_uncreate_all}
 use Rattle.far_columns.proofs.NumbersTogether.{pairs-head, pairs-tail, disjoint-turned}
-use Rattle.far_columns.proofs.NumbersBegun.{one-more, alone, last}
+use Rattle.far_columns.proofs.NumbersTogetherBeginning.{one-more, alone, last}
 
 -- all but the first
 pub all_disjoint-tail : (lists : NumberLists) (c : Vector (Option ℤ)) (rest : NumberColumns) → AreVectors lists (c ∷ rest) → AreVectors lists rest
@@ -40,20 +40,20 @@ module _ (old mid new : NumberLists) (c c' : Vector (Option ℤ)) (rest rest' : 
     other : (k : ℕ) (d : Vector (Option ℤ)) → k < length rest' → IsUntouched mid new c' (get_or rest' k d)
     other k d below = first.others (get_or rest' k d) (after.each k d below) (disjoint-turned (get_or rest' k d) c (keeps.disjoint c (All-head (IsVector old) c rest all_disjoint.each) disjoint-first k d below))
 
-    pub all_disjoint-back : AreVectors new (c' ∷ rest')
-    all_disjoint-back = record {
+    pub all_disjoint-undone : AreVectors new (c' ∷ rest')
+    all_disjoint-undone = record {
       each = All-cons (IsVector new) c' rest' first.is (λ k d below. (other k d below).is);
       disjoint = AllPairs-cons AreDisjoint c' rest' (λ k d below. (other k d below).disjoint) after.disjoint;
     }
 
     -- the numbers but the last of each
-    pub numbers-back : elements new c' ≡ take (c.len - 1) (elements mid c) → map (elements mid) rest' ≡ map (λ d. take (d.len - 1) (elements old d)) rest → map (elements new) (c' ∷ rest') ≡ map (λ d. take (d.len - 1) (elements old d)) (c ∷ rest)
-    numbers-back here others =
+    pub numbers-undone : elements new c' ≡ take (c.len - 1) (elements mid c) → map (elements mid) rest' ≡ map (λ d. take (d.len - 1) (elements old d)) rest → map (elements new) (c' ∷ rest') ≡ map (λ d. take (d.len - 1) (elements old d)) (c ∷ rest)
+    numbers-undone here others =
         ap (λ l. l ∷ map (elements new) rest') (here ∙ ap (take (c.len - 1)) (keeps.numbers c (All-head (IsVector old) c rest all_disjoint.each) disjoint-first))
         ∙ ap (λ l. take (c.len - 1) (elements old c) ∷ l) (map-same (elements mid) (elements new) rest' (λ k d below. (other k d below).elements) ∙ others)
 
-    pub keeps-back : KeepsNumbers old new (c ∷ rest) (c' ∷ rest')
-    keeps-back = record {
+    pub keeps-undone : KeepsNumbers old new (c ∷ rest) (c' ∷ rest')
+    keeps-undone = record {
       is = λ w is disjoint. (first-of w is disjoint).is;
       numbers = λ w is disjoint. (first-of w is disjoint).elements ∙ keeps.numbers w is (All-tail (λ r. AreDisjoint r w) c rest disjoint);
       disjoint = λ w is disjoint. All-cons (λ r. AreDisjoint r w) c' rest' (first-of w is disjoint).disjoint (keeps.disjoint w is (All-tail (λ r. AreDisjoint r w) c rest disjoint));
@@ -63,12 +63,12 @@ module _ (old mid new : NumberLists) (c c' : Vector (Option ℤ)) (rest rest' : 
         first-of w is disjoint = first.others w (keeps.is w is (All-tail (λ r. AreDisjoint r w) c rest disjoint)) (All-head (λ r. AreDisjoint r w) c rest disjoint)
 
 -- with a number less each they are of one length and one size still
-pub same_length-back : (columns : NumberColumns) → AllPairs (λ c d. (c.size ≡ d.size) × (c.len ≡ d.len)) columns → AllPairs (λ c d. (c.size ≡ d.size) × (c.len ≡ d.len)) (map after_unpush columns)
-same_length-back [] same_length = same_length
-same_length-back (c ∷ rest) same_length =
+pub same_length-undone : (columns : NumberColumns) → AllPairs (λ c d. (c.size ≡ d.size) × (c.len ≡ d.len)) columns → AllPairs (λ c d. (c.size ≡ d.size) × (c.len ≡ d.len)) (map after_unpush columns)
+same_length-undone [] same_length = same_length
+same_length-undone (c ∷ rest) same_length =
     AllPairs-cons (λ c d. (c.size ≡ d.size) × (c.len ≡ d.len)) (after_unpush c) (map after_unpush rest)
     (All-map (λ d. (c.size ≡ d.size) × (c.len - 1 ≡ d.len)) after_unpush rest (λ k d below. let pair = pairs-head (λ c d. (c.size ≡ d.size) × (c.len ≡ d.len)) c rest same_length k d below in (pair.0, ap (λ l. l - 1) pair.1)))
-    (same_length-back rest (pairs-tail (λ c d. (c.size ≡ d.size) × (c.len ≡ d.len)) c rest same_length))
+    (same_length-undone rest (pairs-tail (λ c d. (c.size ≡ d.size) × (c.len ≡ d.len)) c rest same_length))
 
 module _ {K : Type 0} where
   pub length-uncreated : (n : ℕ) (m : Movement (Option ℤ) K) → length (after_uncreate_all n m).records ≡ length m.records - n
@@ -78,15 +78,15 @@ module _ {K : Type 0} where
       omega (arith, length-uncreated n m, length-take-le (length records - 1) records (omega arith))
 
   module _ (n : ℕ) (m mid : Movement (Option ℤ) K) (keeps : KeepsBelow n m mid) (p : ℕ) (below : p < n) where
-    local-kept : is_local mid p ≡ is_local m p
-    local-kept = ap (λ word. is_some (option_and_then at_of word)) (keeps.words p below)
+    local-unchanged : is_local mid p ≡ is_local m p
+    local-unchanged = ap (λ word. is_some (option_and_then at_of word)) (keeps.words p below)
 
-    pins-kept : pins_of mid p ≡ pins_of m p
-    pins-kept = ap (λ object_record. option_map_or (λ e. e.pins) object_record 0) (keeps.records p below)
+    pins-unchanged : pins_of mid p ≡ pins_of m p
+    pins-unchanged = ap (λ object_record. option_map_or (λ e. e.pins) object_record 0) (keeps.records p below)
 
     -- a row group that is begun stays so, if its object keeps its word and its record
-    pub begun-kept : (c : Vector (Option ℤ)) → IsNewGroup m p c → IsNewGroup mid p c
-    begun-kept c begun = record { alone = begun.alone; last = begun.last; local = local-kept ∙ begun.local; unpinned = pins-kept ∙ begun.unpinned }
+    pub begun-unchanged : (c : Vector (Option ℤ)) → IsNewGroup m p c → IsNewGroup mid p c
+    begun-unchanged c begun = record { alone = begun.alone; last = begun.last; local = local-unchanged ∙ begun.local; unpinned = pins-unchanged ∙ begun.unpinned }
 
   pub begun-count : (m : Movement (Option ℤ) K) (o : ℕ) (columns : NumberColumns) → AreBegunFrom m o columns → o + length columns ≡ length m.records
   begun-count m o [] is = omega (arith, is)
@@ -109,7 +109,7 @@ module _ {K : Type 0} where
         let all = begun-count m (length m.records - length (c ∷ rest)) (c ∷ rest) begun in
         let left : length mid.records ≡ length m.records - length rest = ap (λ w. length w.records) is ∙ length-uncreated (length rest) m in
         let number : length m.records - length (c ∷ rest) ≡ length mid.records - 1 = omega (arith, all, left) in
-        begun-kept (length mid.records) m mid keeps (length mid.records - 1) (omega (arith, all, left)) c (subst (λ o. IsNewGroup m o c) number begun.0)
+        begun-unchanged (length mid.records) m mid keeps (length mid.records - 1) (omega (arith, all, left)) c (subst (λ o. IsNewGroup m o c) number begun.0)
 
 -- the object of a row group that is begun
 pub object-begun : (c : Vector (Option ℤ)) (n : ℕ) → IsShaped c → is_full c ≡ true → object_at (after_push c n) c.len ≡ n
@@ -118,7 +118,7 @@ object-begun c n shaped full =
     let group : length c.objects ≡ c.len / c.size = sym (ap (λ l. l / c.size) places ∙ div-mul-add (length c.objects) c.size 0 shaped.some) in
     rw full (get_or_push c.objects n 0 (c.len / c.size) group)
 
-module _ {K : Type 0} (m mid new : Movement (Option ℤ) K) (c c' : Vector (Option ℤ)) (x : Option ℤ) (shaped : IsShaped c) (full : is_full c ≡ true) (is : c' ≡ after_push c (length m.records)) (written : mid ≡ pushed_in m c x) (others : ChangesObject m mid (object_at c' c.len)) (keeps : KeepsBelow (length mid.records) mid new) where
+module _ {K : Type 0} (m mid new : Movement (Option ℤ) K) (c c' : Vector (Option ℤ)) (x : Option ℤ) (shaped : IsShaped c) (full : is_full c ≡ true) (is : c' ≡ after_push c (length m.records)) (written : mid ≡ objects_after_push m c x) (others : ChangesObject m mid (object_at c' c.len)) (keeps : KeepsBelow (length mid.records) mid new) where
   more : length mid.records ≡ length m.records + 1
   more = one-more m mid c c' x full is written
 
@@ -137,7 +137,7 @@ module _ {K : Type 0} (m mid new : Movement (Option ℤ) K) (c c' : Vector (Opti
   begun-all rest' local unpinned begun =
       let number : length mid.records - 1 ≡ length m.records = omega (arith, more) in
       let first : IsNewGroup mid (length m.records) c' = record { alone = alone m mid c c' x full is written; last = last m mid c c' x full is written ∙ ap Some number; local = local; unpinned = unpinned } in
-      (begun-kept (length mid.records) mid new keeps (length m.records) (omega (arith, more)) c' first, subst (λ o. AreBegunFrom new o rest') more begun)
+      (begun-unchanged (length mid.records) mid new keeps (length m.records) (omega (arith, more)) c' first, subst (λ o. AreBegunFrom new o rest') more begun)
 
   -- taking all back gives what was there
   pub undone-all : (rest rest' : NumberColumns) → (after_unpush c' ≡ c) × (after_uncreate mid ≡ m) → (map after_unpush rest' ≡ rest) × (after_uncreate_all (length rest) new ≡ mid) → (map after_unpush (c' ∷ rest') ≡ c ∷ rest) × (after_uncreate_all (length (c ∷ rest)) new ≡ m)

@@ -9,7 +9,7 @@ use Rattle.far_scopes.specs.Movement.{Movement}
 use Rattle.far_scopes.specs.Refusing.{absent, written_out}
 use Rattle.far_vector.specs.Vector.{Vector, IsVector, AreDisjoint, elements, object_at}
 use Rattle.far_vector.specs.Vectors.{AreVectors}
-use Rattle.far_vector.specs.Effects.{is_full, after_push, pushed_in}
+use Rattle.far_vector.specs.Effects.{is_full, after_push, objects_after_push}
 use Rattle.far_columns.specs.Numbers.{Numbers}
 
 -- a list for each object that has one, by its number
@@ -30,9 +30,9 @@ abbrev pub all_begin : NumberColumns → Bool
 all_begin columns = list_all is_full columns
 
 -- the columns with a number more each; n is the number of the first new object
-abbrev pub all_pushed : ℕ → NumberColumns → NumberColumns
-all_pushed n [] = []
-all_pushed n (c ∷ columns) = after_push c n ∷ all_pushed (n + 1) columns
+abbrev pub after_push_all : ℕ → NumberColumns → NumberColumns
+after_push_all n [] = []
+after_push_all n (c ∷ columns) = after_push c n ∷ after_push_all (n + 1) columns
 
 -- the numbers of each column with one more behind them
 abbrev pub all_numbers_with : NumberLists → NumberColumns → Numbers → List Numbers
@@ -48,10 +48,10 @@ pub record KeepsNumbers (old new : NumberLists) (columns becoming : NumberColumn
 
 module _ {K : Type 0} where
   -- the objects once each column has got a number, one after the other
-  abbrev pub all_pushed_in : Movement (Option ℤ) K → NumberColumns → Numbers → Movement (Option ℤ) K
-  all_pushed_in m [] numbers = m
-  all_pushed_in m (c ∷ columns) [] = m
-  all_pushed_in m (c ∷ columns) (number ∷ numbers) = all_pushed_in (pushed_in m c number) columns numbers
+  abbrev pub objects_after_push_all : Movement (Option ℤ) K → NumberColumns → Numbers → Movement (Option ℤ) K
+  objects_after_push_all m [] numbers = m
+  objects_after_push_all m (c ∷ columns) [] = m
+  objects_after_push_all m (c ∷ columns) (number ∷ numbers) = objects_after_push_all (objects_after_push m c number) columns numbers
 
   module _ (m : Movement (Option ℤ) K) (columns : NumberColumns) where
     -- the last row groups of these columns, in order: its object is away

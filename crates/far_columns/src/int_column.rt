@@ -7,7 +7,7 @@ ghost use Rattle.far_scopes.specs.Effects.{after_uncreate};
 ghost use Rattle.far_scopes.specs.Refusing.{refusal_in, lend_refusal, write_refusal};
 ghost use Rattle.far_codec.specs.Reading.{ints_meaning};
 ghost use Rattle.far_vector.specs.Vector.{Vector, IsShaped, IsVector, AreDisjoint, IsUntouched, KeepsOthers, object_at};
-ghost use Rattle.far_vector.specs.Effects.{is_full, after_push, pushed_in, after_unpush, range_written};
+ghost use Rattle.far_vector.specs.Effects.{is_full, after_push, objects_after_push, after_unpush, after_write_range};
 ghost use Rattle.far_vector.specs.Pieces.{pieces_of};
 ghost use Rattle.far_vector.specs.Refusing.{get_refusal, set_refusal, push_refusal, pieces_refusal};
 ghost use Rattle.far_columns.specs.Numbers.{Numbers, number_lists, numbers_in, with_flags};
@@ -124,7 +124,7 @@ impl IntColumn {
         requires is { IsVector (number_lists S.content objects.old) self.old }
         requires few { is_full self.old ≡ true → length objects.old.records < 2 ^ 28 }
         ensures pushed { OnOk result (self.new ≡ after_push self.old (length objects.old.records)) }
-        ensures written { OnOk result (objects.new ≡ pushed_in objects.old self.old number) }
+        ensures written { OnOk result (objects.new ≡ objects_after_push objects.old self.old number) }
         ensures undone { OnOk result (is_full self.old ≡ true → (after_unpush self.new ≡ self.old) × (after_uncreate objects.new ≡ objects.old)) }
         ensures last { OnOk result (is_full self.old ≡ true → (is_local objects.new (length objects.old.records) ≡ true) × (pins_of objects.new (length objects.old.records) ≡ 0)) }
         ensures next { OnOk result (is_full self.old ≡ true → (lens : List ℕ) → fit_in_order (spaces_of objects.old.memory.state) (self.old.size ∷ lens) ≡ fit_in_order (spaces_of objects.new.memory.state) lens) }
@@ -179,7 +179,7 @@ impl IntColumn {
     ) -> Result<(), Refusal>
         requires { IsVector (number_lists S.content objects.old) self.old }
         ensures kept { self.new ≡ self.old }
-        ensures written { OnOk result (objects.new ≡ range_written objects.old self.old place (number ∷ [])) }
+        ensures written { OnOk result (objects.new ≡ after_write_range objects.old self.old place (number ∷ [])) }
         ensures numbers { OnOk result (numbers_in S.content objects.new self.new ≡ slice_set (numbers_in S.content objects.old self.old) place number) }
         ensures is { IsVector (number_lists S.content objects.new) self.new }
         ensures disjoint { (w : Vector (Option ℤ)) → IsVector (number_lists S.content objects.old) w → AreDisjoint self.old w → IsUntouched (number_lists S.content objects.old) (number_lists S.content objects.new) self.new w }
@@ -205,7 +205,7 @@ impl IntColumn {
         requires is { IsVector (number_lists S.content objects.old) self.now }
         requires group { group ≡ place / self.now.size }
         requires free { set_refusal objects.old self.now place ≡ None }
-        ensures written { objects.new ≡ range_written objects.old self.now place (number ∷ []) }
+        ensures written { objects.new ≡ after_write_range objects.old self.now place (number ∷ []) }
         ensures numbers { numbers_in S.content objects.new self.now ≡ slice_set (numbers_in S.content objects.old self.now) place number }
         ensures is { IsVector (number_lists S.content objects.new) self.now }
         ensures disjoint { (w : Vector (Option ℤ)) → IsVector (number_lists S.content objects.old) w → AreDisjoint self.now w → IsUntouched (number_lists S.content objects.old) (number_lists S.content objects.new) self.now w }

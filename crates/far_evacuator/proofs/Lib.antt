@@ -1,2 +1,2 @@
-pub mod CopyLaws
-pub mod CommitLaws
+pub mod MovementCopies
+pub mod SpellingCommits

@@ -34,9 +34,9 @@ module _ {X K : Type 0} (m : Movement X K) where
   IsWanted Coldest = Unit {0}
 
   -- the object that an evacuation would take
-  abbrev pub taken : Want → Option ℕ
-  taken (Object o) = Some o
-  taken Coldest = coldest m
+  abbrev pub wanted_object : Want → Option ℕ
+  wanted_object (Object o) = Some o
+  wanted_object Coldest = coldest m
 
   -- why no evacuation is begun: the object that is named is away, or there is no coldest object
   abbrev pub begin_refusal : Want → Option Refusal

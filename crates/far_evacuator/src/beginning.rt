@@ -5,7 +5,7 @@ ghost use Rattle.far_scopes.specs.Memory.{list_in};
 ghost use Rattle.far_scopes.specs.Movement.{AreHere, AreTracked};
 ghost use Rattle.far_scopes.specs.Refusing.{refusal_in, lend_refusal};
 ghost use Rattle.far_evacuator.specs.Jobs.{IsFormOf};
-ghost use Rattle.far_evacuator.specs.Beginning.{IsWanted, taken, begin_refusal, IsBegunEvac, IsFetch, fetch_refusal};
+ghost use Rattle.far_evacuator.specs.Beginning.{IsWanted, wanted_object, begin_refusal, IsBegunEvac, IsFetch, fetch_refusal};
 
 use crate::evacuation::{EvacForm, EvacJob};
 use crate::far_form::FarForm;
@@ -52,8 +52,8 @@ pub fn begin_evac<T: Elem, S: FarTickets>(
 ) -> Result<EvacJob<T, S>, Refusal>
     requires within { IsWanted objects.now want }
     requires here { AreHere S.is_of (S.store_id store.now) objects.now }
-    requires spelled { IfSome (taken objects.now want) (λ o. IfSome (list_in objects.now.memory o) T.has_spelling) }
-    ensures begun { IfOk result (λ job. IsSomeAnd (taken objects.now want) (λ o. IsBegunEvac T.spelling objects.now o job)) }
+    requires spelled { IfSome (wanted_object objects.now want) (λ o. IfSome (list_in objects.now.memory o) T.has_spelling) }
+    ensures begun { IfOk result (λ job. IsSomeAnd (wanted_object objects.now want) (λ o. IsBegunEvac T.spelling objects.now o job)) }
     ensures here { IfOk result (λ job. IsFormOf S.is_of (S.store_id store.now) job.form) }
     ensures free { OnOk result (begin_refusal objects.now want ≡ None) }
     ensures refused { IfErr result (λ e. (begin_refusal objects.now want ≡ Some e) ⊎ ((begin_refusal objects.now want ≡ None) × (e ≡ Refusal.NoMemory))) }
@@ -82,7 +82,7 @@ pub fn begin_evac<T: Elem, S: FarTickets>(
 fn chosen<T: Elem, S: FarTickets>(objects: &Objects<T, S>, want: Want) -> Result<u32, Refusal>
     requires within { IsWanted objects.now want }
     requires tracked { AreTracked T.meaning S.content (IsSpelled T.in_range T.has_spelling T.spelling) objects.now }
-    ensures taken { IfOk result (λ o. taken objects.now want ≡ Some o) }
+    ensures taken { IfOk result (λ o. wanted_object objects.now want ≡ Some o) }
     ensures within { IfOk result (λ o. o < length objects.now.records) }
     ensures local { IfOk result (λ o. begin_refusal objects.now want ≡ lend_refusal objects.now o) }
     ensures refused { IfErr result (λ e. (begin_refusal objects.now want ≡ Some e)) }

@@ -1,7 +1,7 @@
-pub mod GoneLaws
-pub mod GroupLaws
-pub mod HolderLaws
-pub mod ReserveLaws
-pub mod BlockLaws
-pub mod SpreadLaws
-pub mod TournamentLaws
+pub mod MinMaxesRemoval
+pub mod LiveGroups
+pub mod HoldersLaws
+pub mod HoldersReserve
+pub mod BlocksLaws
+pub mod SpreadsLaws
+pub mod TournamentsLaws

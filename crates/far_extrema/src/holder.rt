@@ -1,6 +1,6 @@
 // The row groups of one key.
 ghost use Rattle.std.specs.Prelude.{◌≡◌, ◌≢◌, ◌∷◌, [], None, Some, true, false, IsTrue, OnOk, OnErr, IfOk, IfErr};
-ghost use Rattle.far_types.specs.Effects.{widened};
+ghost use Rattle.far_types.specs.Effects.{min_max_with};
 ghost use Rattle.far_extrema.specs.Spreads.{at, IsSet, IsTopOf};
 
 use super::min_maxes::{MinMax, is_strictly_within, is_within, merge_two};
@@ -113,7 +113,7 @@ impl Holder {
     /// Observes a value in a row group whose min-max is known. A value within it changes nothing. Allocates nothing.
     fn widen(&mut self, group: u32, previous: MinMax, value: i64)
         requires { at self.old.min_maxes group ≡ Some previous }
-        ensures min_maxes { IsSet self.old.min_maxes group (Some (widened value (Some previous))) self.new.min_maxes }
+        ensures min_maxes { IsSet self.old.min_maxes group (Some (min_max_with value (Some previous))) self.new.min_maxes }
         ensures reserved { self.new.reserved ≡ self.old.reserved }
     {
         if is_within(value, previous) {
@@ -134,7 +134,7 @@ impl Holder {
         value: i64,
     ) -> Result<Option<MinMax>, Refusal>
         ensures previous { IfOk result (λ previous. previous ≡ at self.old.min_maxes group) }
-        ensures ok { OnOk result (IsSet self.old.min_maxes group (Some (widened value (at self.old.min_maxes group))) self.new.min_maxes) }
+        ensures ok { OnOk result (IsSet self.old.min_maxes group (Some (min_max_with value (at self.old.min_maxes group))) self.new.min_maxes) }
         ensures reserved { self.new.reserved ≡ self.old.reserved }
         ensures err { OnErr result (self.new ≡ self.old) }
         ensures only_new { OnErr result (at self.old.min_maxes group ≡ None) }
@@ -211,7 +211,7 @@ impl Holder {
     /// Returns the min-max that is left, or `None` if the key no longer occurs there. Allocates nothing.
     pub fn shrink<R: RowsLeft>(&mut self, group: u32, value: i64, rows: &R) -> Option<MinMax>
         requires at_hand { R.at_hand rows.now }
-        requires previous { at self.old.min_maxes group ≡ Some (widened value (R.extremes rows.now)) }
+        requires previous { at self.old.min_maxes group ≡ Some (min_max_with value (R.extremes rows.now)) }
         ensures left { result ≡ R.extremes rows.now }
         ensures min_maxes { IsSet self.old.min_maxes group (R.extremes rows.now) self.new.min_maxes }
         ensures reserved { self.new.reserved ≡ self.old.reserved }

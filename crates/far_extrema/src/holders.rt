@@ -5,7 +5,7 @@ ghost use Rattle.std.specs.List.{AllByRecursion, filter_map};
 ghost use Rattle.std.specs.Ordering.{eq_by_cmp};
 ghost use Rattle.std.specs.FinMap as fin;
 ghost use Rattle.far_types.specs.declared.key.Key.{Key};
-ghost use Rattle.far_types.specs.Effects.{widened};
+ghost use Rattle.far_types.specs.Effects.{min_max_with};
 ghost use Rattle.far_types.specs.Keys.{line_cmp};
 ghost use Rattle.far_extrema.specs.MinMaxes.{extrema_of};
 ghost use Rattle.far_extrema.specs.Holders.{holders_of, min_max_at, reserved_at, line_of, IsPut, IsTopped, HaveSameReserved, HaveSameMinMaxes, KeepsReserved, AreReservedFor, IsGroup, IsCleared};
@@ -43,7 +43,7 @@ pub fn observe_in(
     value: i64,
 ) -> Result<Option<MinMax>, Refusal>
     ensures previous { IfOk result (λ previous. previous ≡ min_max_at (holders_of holders.old.entries) group key.now) }
-    ensures ok { OnOk result (IsPut (holders_of holders.old.entries) group key.now (Some (widened value (min_max_at (holders_of holders.old.entries) group key.now))) (holders_of holders.new.entries)) }
+    ensures ok { OnOk result (IsPut (holders_of holders.old.entries) group key.now (Some (min_max_with value (min_max_at (holders_of holders.old.entries) group key.now))) (holders_of holders.new.entries)) }
     ensures reserved { OnOk result (HaveSameReserved (holders_of holders.old.entries) (holders_of holders.new.entries)) }
     ensures err { OnErr result (holders_of holders.new.entries ≡ holders_of holders.old.entries) }
     ensures only_new { OnErr result (min_max_at (holders_of holders.old.entries) group key.now ≡ None) }
@@ -100,7 +100,7 @@ pub fn shrink_in<R: RowsLeft>(
     rows: &R,
 ) -> Option<MinMax>
     requires at_hand { R.at_hand rows.now }
-    requires previous { min_max_at (holders_of holders.old.entries) group key.now ≡ Some (widened value (R.extremes rows.now)) }
+    requires previous { min_max_at (holders_of holders.old.entries) group key.now ≡ Some (min_max_with value (R.extremes rows.now)) }
     ensures left { result ≡ R.extremes rows.now }
     ensures min_maxes { IsPut (holders_of holders.old.entries) group key.now (R.extremes rows.now) (holders_of holders.new.entries) }
     ensures reserved { HaveSameReserved (holders_of holders.old.entries) (holders_of holders.new.entries) }

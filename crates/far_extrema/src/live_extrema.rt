@@ -55,8 +55,8 @@ impl Model for LiveExtrema {
 impl LiveExtrema {
     ghost use Rattle.std.specs.FinMap as fin;
     ghost use Rattle.far_types.specs.Answers.{extrema_lines};
-    ghost use Rattle.far_types.specs.Effects.{with_observed, widened};
-    ghost use Rattle.far_extrema.specs.Live.{with_reserved, group_at, IsReservedFor};
+    ghost use Rattle.far_types.specs.Effects.{with_observed, min_max_with};
+    ghost use Rattle.far_extrema.specs.Live.{after_reserve, group_at, IsReservedFor};
     ghost use Rattle.far_extrema.specs.MinMaxes.{put_min_max};
 
     /// Makes extrema without a reserved row group, with `left` row groups pending. Allocates nothing.
@@ -81,7 +81,7 @@ impl LiveExtrema {
 
     /// Reserves the row groups up to this one. New ones have no row. Allocates nothing.
     pub fn make_room(&mut self, group: u32)
-        ensures { self.new ≡ record self.old { groups = with_reserved group self.old.groups } }
+        ensures { self.new ≡ record self.old { groups = after_reserve group self.old.groups } }
     {
         self.reserved_groups = self.reserved_groups.max(group as usize + 1);
     }
@@ -92,7 +92,7 @@ impl LiveExtrema {
     /// Refused with `NoMemory` (1) alone. Then no other row group is reserved, but some of the keys may be.
     pub fn reserve_for(&mut self, group: u32, extrema: &GroupExtrema) -> Result<(), Refusal>
         ensures left { self.new.left ≡ self.old.left }
-        ensures groups { OnOk result (self.new.groups ≡ with_reserved group self.old.groups) }
+        ensures groups { OnOk result (self.new.groups ≡ after_reserve group self.old.groups) }
         ensures reserved { OnOk result (IsReservedFor extrema.now self.new) }
         ensures err { OnErr result (self.new.groups ≡ self.old.groups) }
         ensures memory { IfErr result (λ e. e ≡ Refusal.NoMemory) }
@@ -171,7 +171,7 @@ impl LiveExtrema {
     ) -> Option<MinMax>
         requires reserved { group < length self.old.groups }
         requires at_hand { R.at_hand rows.now }
-        requires previous { fin.get (group_at self.old.groups group) key.now ≡ Some (widened value (R.extremes rows.now)) }
+        requires previous { fin.get (group_at self.old.groups group) key.now ≡ Some (min_max_with value (R.extremes rows.now)) }
         ensures left { result ≡ R.extremes rows.now }
         ensures shrunk { self.new ≡ record self.old { groups = slice_set self.old.groups group (put_min_max (group_at self.old.groups group) key.now (R.extremes rows.now)) } }
     {
@@ -212,7 +212,7 @@ impl LiveExtrema {
     /// - else `NoMemory` (1) alone.
     pub fn answer(&self, alloc: Global) -> Result<Answer, Refusal>
         ensures ok { IfOk result (λ answer. answer ≡ Answer.Extrema (extrema_lines (all_groups self.now.groups))) }
-        ensures built { OnOk result (self.now.left ≡ 0) }
+        ensures all_scanned { OnOk result (self.now.left ≡ 0) }
         ensures building { self.now.left ≢ 0 → result ≡ Err (Refusal.Building self.now.left) }
         ensures memory { self.now.left ≡ 0 → IfErr result (λ e. e ≡ Refusal.NoMemory) }
     {

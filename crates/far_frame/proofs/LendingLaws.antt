@@ -24,7 +24,7 @@ use Rattle.far_types.specs.Bounds.{AreLimits}
 use Rattle.far_types.specs.Table.{Table, Place, column as column_of, part}
 use Rattle.far_scopes.specs.Refusing.{refusal_in}
 use Rattle.far_vector.specs.Pieces.{pieces_of, overlapped_groups, overlapped_count}
-use Rattle.far_vector.proofs.PieceLaws.{none-pieces, pieces-step, joined-pieces, end, further, ends}
+use Rattle.far_vector.proofs.PiecesLaws.{none-pieces, pieces-step, joined-pieces, end, further, ends}
 use Rattle.far_columns.specs.Numbers.{Numbers, with_flags}
 use Rattle.far_rows.specs.declared.column_index.ColumnIndex.{ColumnIndex}
 use Rattle.far_rows.specs.declared.column_index.ColumnIndex.TheVariants as column_index
@@ -33,8 +33,8 @@ use Rattle.far_rows.specs.Rows.{Rows, AreRows, all_numbers, all_texts, all_cells
 use Rattle.far_rows.specs.Places.{places_in, row_at}
 use Rattle.far_rows.specs.Refusing.{no_column, no_range, no_row, of_numbers, absent_in, absent_at, ints_refusal, text_refusal, texts_refusal}
 use Rattle.far_rows.specs.Lending.{lent_ints, numbers_of}
-use Rattle.far_rows.proofs.CellsLong.{column-long}
-use Rattle.far_rows.proofs.LentNumbers.{range-map}
+use Rattle.far_rows.proofs.RowsSameLength.{column-long}
+use Rattle.far_rows.proofs.LendingNumbers.{range-map}
 use Rattle.far_rows.proofs.Places.{length-places, places-column, placed}
 use Rattle.far_frame.specs.declared.piece.TextPiece.{TextPiece}
 use Rattle.far_frame.specs.declared.step.Reply.{Reply}

@@ -1,18 +1,18 @@
-mod RunLaws
-mod PinLaws
-mod PinRows
-mod PinAway
-mod PinRuns
-mod RenewedPins
-mod ViewLaws
-mod FrameLaws
+mod StepsLaws
+mod MovementPins
+mod PinsRows
+mod PinsRefusals
+mod PinsRuns
+mod PinsRenewal
+mod ViewsLaws
+mod EffectsLaws
 mod WaitingLaws
-mod WorldLaws
+mod WorldsLaws
 pub mod LendingLaws
-mod GivenLaws
-mod ObservedLaws
-mod SpentLaws
-mod NumberLaws
-pub mod FirstLaws
-pub mod PlainLaws
-mod StaleLaws
+mod LendingReplies
+mod LendingAccesses
+mod WaitingSpentNumbers
+mod WaitingNumbers
+pub mod FirstOfLaws
+pub mod PlainEditsLaws
+mod JobsAcceptance

@@ -67,8 +67,8 @@ IsReplyOf of pieces (reply.Texts copies) = (of ≡ Some kind.Text) × (map text_
 IsReplyOf of pieces _ = ⊥
 
 -- the access histories, once some row groups of a column were accessed, in order
-abbrev pub all_observed : List (List ℕ) → ℕ → List ℕ → List (List ℕ)
-all_observed accesses column lent = fold (λ histories g. slice_set histories column (with_access (history_of histories column) g)) accesses lent
+abbrev pub after_access_all : List (List ℕ) → ℕ → List ℕ → List (List ℕ)
+after_access_all accesses column lent = fold (λ histories g. slice_set histories column (with_access (history_of histories column) g)) accesses lent
 
 -- there is no such column
 abbrev pub prefetch_refusal : Table → ℕ → Option Refusal
@@ -80,8 +80,8 @@ next_groups table accesses column = proposed (groups table.limits.group (length 
 
 module _ {K : Type 0} where
   -- the objects of some row groups of a column are marked as recently used, in order
-  abbrev pub all_used : Rows K → ℕ → List ℕ → Rows K
-  all_used r column lent = fold (λ rows g. option_map_or (after_touch rows) (object_at rows column g) rows) r lent
+  abbrev pub after_touch_all : Rows K → ℕ → List ℕ → Rows K
+  after_touch_all r column lent = fold (λ rows g. option_map_or (after_touch rows) (object_at rows column g) rows) r lent
 
   -- why a part of a column is not lent. There is no such column. The places are not all there. The object of a row group that has some
   -- of them is away, and the first such is named
@@ -91,8 +91,8 @@ module _ {K : Type 0} where
   -- row groups of a column are accessed, in order: their objects are marked as recently used, and the history has them
   pub record AreObserved (column : ℕ) (lent : List ℕ) (old new : State K) : Type 0 where
     pub table : new.table ≡ old.table
-    pub rows : new.rows ≡ all_used old.rows column lent
-    pub accesses : new.accesses ≡ all_observed old.accesses column lent
+    pub rows : new.rows ≡ after_touch_all old.rows column lent
+    pub accesses : new.accesses ≡ after_access_all old.accesses column lent
 
   -- a part of a column is lent
   pub record IsLent (column from to : ℕ) (old : State K) (given : Reply) (new : State K) : Type 0 where

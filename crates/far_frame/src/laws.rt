@@ -8,7 +8,7 @@ ghost use Rattle.far_types.specs.declared.edit.Edit.{Edit};
 ghost use Rattle.far_types.specs.declared.limits.Limits.{Limits};
 ghost use Rattle.far_types.specs.declared.refusal.Refusal.{Refusal};
 ghost use Rattle.far_types.specs.declared.refusal.Refusal.TheVariants as refusal;
-ghost use Rattle.far_types.specs.Edits.{edited, edit_refusal};
+ghost use Rattle.far_types.specs.Edits.{after_edit, edit_refusal};
 ghost use Rattle.far_types.specs.MayRefuse.{MayRefuse};
 ghost use Rattle.far_types.specs.Bounds.{AreLimits};
 ghost use Rattle.far_types.specs.Table.{Registered, Table, left, answer_now, column as column_of, part};
@@ -22,7 +22,7 @@ ghost use Rattle.far_rows.specs.Opening.{empty_rows};
 ghost use Rattle.far_table.specs.Edits.{edit_due};
 ghost use Rattle.far_table.specs.Offloading.{Build};
 ghost use Rattle.far_table.specs.Recounting.{IsAnswerNow};
-ghost use Rattle.far_table.specs.Watching.{aggregate_at, scanned_at};
+ghost use Rattle.far_table.specs.Watching.{aggregate_at, after_scan_at};
 ghost use Rattle.far_frame.specs.declared.job.JobPhase.TheVariants as work;
 ghost use Rattle.far_frame.specs.declared.step.Reply.{Reply};
 ghost use Rattle.far_frame.specs.declared.step.Reply.TheVariants as reply;
@@ -52,7 +52,7 @@ pub fn rows_are_those_of_the_plain_list<S: FarTickets>()
 /// it. To ask changes nothing.
 pub fn an_answer_is_over_the_rows_now<S: FarTickets>()
     ensures answer { (old : World S.Ticket) → (a : ℕ) → (answer : Answer) → (new : World S.Ticket) → IsStep S.content S.number_of old (step.Ask a) (reply.Answer answer) new → IsAnswerNow old.state.table a answer }
-    ensures built { (old : World S.Ticket) → (a : ℕ) → (answer : Answer) → (new : World S.Ticket) → IsStep S.content S.number_of old (step.Ask a) (reply.Answer answer) new → IsSomeAnd (aggregate_at old.state.table a) (λ aggregate. left aggregate.pending ≡ 0) }
+    ensures all_scanned { (old : World S.Ticket) → (a : ℕ) → (answer : Answer) → (new : World S.Ticket) → IsStep S.content S.number_of old (step.Ask a) (reply.Answer answer) new → IsSomeAnd (aggregate_at old.state.table a) (λ aggregate. left aggregate.pending ≡ 0) }
     ensures same { (old : World S.Ticket) → (a : ℕ) → (answer : Answer) → (new : World S.Ticket) → IsStep S.content S.number_of old (step.Ask a) (reply.Answer answer) new → new ≡ old }
 {}
 
@@ -61,10 +61,10 @@ pub fn an_answer_is_over_the_rows_now<S: FarTickets>()
 /// A refused edit is refused as there, or because an object is away or does not fit. If none of these holds, the plain list
 /// accepts it, and memory ran out.
 pub fn an_edit_is_that_of_the_plain_list<S: FarTickets>()
-    ensures inserted { (old : World S.Ticket) → (e : Edit) → (place : ℕ) → (new : World S.Ticket) → IsStep S.content S.number_of old (step.Edit e) (reply.Place place) new → new.state.table ≡ edited e old.state.table }
-    ensures done { (old : World S.Ticket) → (e : Edit) → (new : World S.Ticket) → IsStep S.content S.number_of old (step.Edit e) reply.Done new → new.state.table ≡ edited e old.state.table }
+    ensures inserted { (old : World S.Ticket) → (e : Edit) → (place : ℕ) → (new : World S.Ticket) → IsStep S.content S.number_of old (step.Edit e) (reply.Place place) new → new.state.table ≡ after_edit e old.state.table }
+    ensures done { (old : World S.Ticket) → (e : Edit) → (new : World S.Ticket) → IsStep S.content S.number_of old (step.Edit e) reply.Done new → new.state.table ≡ after_edit e old.state.table }
     ensures placed { (old : World S.Ticket) → (e : Edit) → (place : ℕ) → (new : World S.Ticket) → IsStep S.content S.number_of old (step.Edit e) (reply.Place place) new → reply.Place place ≡ edit_reply old.state.table e }
-    ensures told { (old : World S.Ticket) → (e : Edit) → (new : World S.Ticket) → IsStep S.content S.number_of old (step.Edit e) reply.Done new → reply.Done ≡ edit_reply old.state.table e }
+    ensures returned { (old : World S.Ticket) → (e : Edit) → (new : World S.Ticket) → IsStep S.content S.number_of old (step.Edit e) reply.Done new → reply.Done ≡ edit_reply old.state.table e }
     ensures accepted { (old : World S.Ticket) → (e : Edit) → (given : Reply) → (new : World S.Ticket) → is_refused given ≡ false → IsStep S.content S.number_of old (step.Edit e) given new → edit_refusal old.state.table e ≡ None }
     ensures refused { (old : World S.Ticket) → (e : Edit) → (given : Refusal) → (new : World S.Ticket) → IsStep S.content S.number_of old (step.Edit e) (reply.Refused given) new → MayRefuse (edit_due (live old.state) e) true given }
     ensures plain { (old : World S.Ticket) → (e : Edit) → (given : Refusal) → (new : World S.Ticket) → IsStep S.content S.number_of old (step.Edit e) (reply.Refused given) new → IsPlainRefusal old.state.table e given }
@@ -74,7 +74,7 @@ pub fn an_edit_is_that_of_the_plain_list<S: FarTickets>()
 /// answer of `Frame::recount`: whichever row groups are still pending, whichever objects are away, and for every number of
 /// workers.
 ///
-/// So two recounts of the same table give the same, and so does `Ask` once the aggregate is built: as long as the rows and the
+/// So two recounts of the same table give the same, and so does `Ask` once the aggregate has no pending row group: as long as the rows and the
 /// specification stay.
 pub fn a_recount_is_over_the_rows_now<S: FarTickets>()
     ensures answer { (table : Table) → (a : ℕ) → (answer : Answer) → (aggregate : Registered) → aggregate_at table a ≡ Some aggregate → IsAnswerNow table a answer → answer ≡ answer_now aggregate.spec table }
@@ -136,7 +136,7 @@ pub fn a_pinned_object_stays<S: FarTickets, N: FarTickets>()
 
 /// An accepted merge does to the table exactly what a scan of its row group does, and changes no row and no object.
 pub fn a_merge_is_a_scan<S: FarTickets>()
-    ensures table { (old : World S.Ticket) → (n : ℕ) → (job : JobRecord S.Ticket) → (build : Build S.Ticket) → job_at old.jobs n ≡ Some job → job.work ≡ work.Offloaded build → (new : World S.Ticket) → IsStep S.content S.number_of old (step.Merge n) reply.Done new → new.state ≡ record old.state { table = scanned_at build.aggregate build.group old.state.table } }
+    ensures table { (old : World S.Ticket) → (n : ℕ) → (job : JobRecord S.Ticket) → (build : Build S.Ticket) → job_at old.jobs n ≡ Some job → job.work ≡ work.Offloaded build → (new : World S.Ticket) → IsStep S.content S.number_of old (step.Merge n) reply.Done new → new.state ≡ record old.state { table = after_scan_at build.aggregate build.group old.state.table } }
     ensures scan { (old : World S.Ticket) → (n : ℕ) → (job : JobRecord S.Ticket) → (build : Build S.Ticket) → job_at old.jobs n ≡ Some job → job.work ≡ work.Offloaded build → (new : World S.Ticket) → IsStep S.content S.number_of old (step.Merge n) reply.Done new → (scanned : World S.Ticket) → IsStep S.content S.number_of old (step.ScanGroup build.aggregate build.group) reply.Done scanned → new.state ≡ scanned.state }
 {}
 

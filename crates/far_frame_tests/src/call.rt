@@ -110,7 +110,7 @@ pub enum Call {
     MayEvac(u32, u32),
     /// Looks whether a row group can be scanned into an aggregate: `StaleJob` says no.
     MayScan(u32, u32),
-    /// Looks whether it can be built from the store.
+    /// Checks whether it can be scanned in the store.
     MayOffload(u32, u32),
     /// Looks which object goes away first.
     Coldest,

@@ -7,7 +7,7 @@ use crate::script::{Calls, Script, answered, play_all};
 use far_types::{Kind, Refusal};
 use std::test::Fail;
 
-/// Two row groups, both away, with an aggregate into which neither is built.
+/// Two row groups, both away, with an aggregate into which neither is scanned.
 const ALL_AWAY: Opening = Opening {
     kinds: &[Kind::Int],
     limits: A_SEGMENT_EACH,

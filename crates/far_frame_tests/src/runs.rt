@@ -11,7 +11,7 @@ use far_types::{Kind, Refusal};
 use std::alloc::Global;
 use std::sync::Wait;
 
-/// Two row groups go away, and are built from the store into an aggregate that was registered after that.
+/// Two row groups go away, and are scanned in the store into an aggregate that was registered after that.
 const BUILT: Calls = &[
     (Call::Insert(&[Int(1)]), Due::Place(0)),
     (Call::Insert(&[Int(2)]), Due::Place(1)),

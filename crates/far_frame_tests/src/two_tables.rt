@@ -64,7 +64,7 @@ pub fn watch_totals<S: FarTickets>(alloc: Global, frame: &mut Frame<S>) -> Resul
     }
 }
 
-/// Gives a table a row, and an aggregate into which it is still to be built.
+/// Gives a table a row, and an aggregate into which its row group is not yet scanned.
 fn fill<S: FarTickets>(alloc: Global, frame: &mut Frame<S>) -> Result<(), Refusal>
     ensures { (id : List ℕ) → AreAt S.is_of id frame.old.rows → AreAt S.is_of id frame.new.rows }
 {
@@ -253,7 +253,7 @@ fn is_told_apart<S: FarStore>(
     both(is_stale, is_told_at_its_end(alloc, own, other, store, end))
 }
 
-/// The same of jobs of each kind: both objects go away, and one is built from the store and comes back.
+/// The same of jobs of each kind: both objects go away, and one is scanned in the store and comes back.
 fn all_are_told_apart<S: FarStore>(
     alloc: Global,
     own: &mut Frame<S>,

@@ -271,7 +271,7 @@ const STRIDE: Calls = &[
     (Call::Lend(0, 8, 10), Due::Refused(Refusal::OutOfRange)),
 ];
 
-/// A row group that is away is built from the store, as a scan builds the other.
+/// A row group that is away is scanned in the store, and the other in place.
 const BUILT: Calls = &[
     (Call::Watch(TOTALS), Due::Aggregate(1)),
     (Call::Offload(1, 0), Due::Refused(Refusal::StaleJob)),

@@ -12,8 +12,8 @@ use Rattle.std.proofs.lemmas.Bool.Decides.{nat_tests}
 use Rattle.far_types.specs.declared.key.Key.{Key}
 use Rattle.far_types.specs.Keys.{line_cmp}
 use Rattle.far_types.specs.KeyOrder.{line_total}
-use Rattle.far_types.proofs.Grouping.{same_key, own_key}
-use Rattle.far_types.proofs.ByKeyMaps.{Entries, at, IsSet}
+use Rattle.far_types.proofs.AnswersGrouping.{same_key, own_key}
+use Rattle.far_types.proofs.AnswersByKeyMaps.{Entries, at, IsSet}
 use Rattle.far_groups.specs.Numbers.{numbered}
 use Rattle.far_groups.specs.Dense.{place_key, standing, entries_from}
 

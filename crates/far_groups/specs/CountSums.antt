@@ -40,12 +40,12 @@ without_less totals key less (Some count_sum) = cond (count_sum.0 == less.0) (fi
 abbrev pub without_count_sum : Totals → Option Key → ℕ × ℤ → Totals
 without_count_sum totals key less = without_less totals key less (fin.get totals key)
 
--- the entries of another map can be taken one after another
+-- the entries of another map can be retracted one after another
 abbrev pub CanRetractAll : Totals → List (Option Key × (ℕ × ℤ)) → Type 0
 CanRetractAll totals [] = Unit {0}
 CanRetractAll totals (entry ∷ entries) = LeavesCountSum entry.1 (fin.get totals entry.0) × CanRetractAll (without_count_sum totals entry.0 entry.1) entries
 
--- the totals once they are taken
+-- the totals once they are retracted
 abbrev pub without_all : Totals → List (Option Key × (ℕ × ℤ)) → Totals
 without_all totals [] = totals
 without_all totals (entry ∷ entries) = without_all (without_count_sum totals entry.0 entry.1) entries

@@ -17,7 +17,7 @@ pub record TotalsState : Type 0 where
 abbrev pub coded_totals_state : Coded TotalsState
 coded_totals_state = code_by (ℕ × Totals) (coded× coded_ℕ coded_totals) (λ live. (live.left, live.totals)) (λ p. record { left = p.0; totals = p.1 }) (λ _. refl)
 
--- a value can be taken from a count and a sum if the sum that is left is one that the pairs left can have
+-- a value can be retracted from a count and a sum if the sum that is left is one that the pairs left can have
 abbrev pub CanRetract : ℤ → Option (ℕ × ℤ) → Type 0
 CanRetract value None = ⊥
 CanRetract value (Some count_sum) = (1 ≤ count_sum.0) × IsSumOf (count_sum.0 - 1) (count_sum.1 -ℤ value)

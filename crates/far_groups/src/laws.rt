@@ -11,7 +11,7 @@ ghost use Rattle.far_groups.specs.Live.{CanRetract, CanJoin};
 ghost use Rattle.far_groups.specs.CountSums.{IsCountSum};
 
 /// If the totals are those of some pairs, whose values are numbers of 64 bits:
-/// - A pair that is in can be taken out.
+/// - A pair that was added can be retracted.
 /// - No more values stand under a key than there are pairs.
 /// - The totals of at most 2^26 pairs can be joined.
 pub fn pairs_meet_the_conditions()

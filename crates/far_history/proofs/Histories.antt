@@ -1,20 +1,20 @@
 -- Histories with one entry more.
 use Rattle.std.proofs.Common.{◌≡◌, ◌≢◌, ℕ, ◌+◌, ◌<◌, ◌≤◌, List, [], ◌∷◌, ◌++◌, None, Bool, true, false, cond, nat_eq, refl, ap, ◌∙◌, arith}
 use Rattle.far_types.specs.declared.edit.Edit.{Edit}
-use Rattle.far_types.specs.Edits.{edited, edit_refusal}
+use Rattle.far_types.specs.Edits.{after_edit, edit_refusal}
 use Rattle.far_types.specs.Table.{Table}
 use Rattle.far_history.specs.Histories.{replay_on, IsLegalOn, by_session, AllBelow}
 use Rattle.far_history.specs.Rule.{entry}
 use Rattle.far_history.specs.declared.view.Entry.{Entry}
 use Rattle.far_history.proofs.Lists.{cond_eq, cond_ne}
 
-pub replay_on-push : (table : Table) (log : List Entry) (e : Entry) → replay_on table (log ++ e ∷ []) ≡ edited e.edit (replay_on table log)
+pub replay_on-push : (table : Table) (log : List Entry) (e : Entry) → replay_on table (log ++ e ∷ []) ≡ after_edit e.edit (replay_on table log)
 replay_on-push table [] e = refl
-replay_on-push table (x ∷ log) e = replay_on-push (edited x.edit table) log e
+replay_on-push table (x ∷ log) e = replay_on-push (after_edit x.edit table) log e
 
 pub legal-push : (table : Table) (log : List Entry) (e : Entry) → IsLegalOn table log → edit_refusal (replay_on table log) e.edit ≡ None → IsLegalOn table (log ++ e ∷ [])
 legal-push table [] e legal may = (may, tt)
-legal-push table (x ∷ log) e legal may = (legal.0, legal-push (edited x.edit table) log e legal.1 may)
+legal-push table (x ∷ log) e legal may = (legal.0, legal-push (after_edit x.edit table) log e legal.1 may)
 
 pub below-push : (n : ℕ) (log : List Entry) (e : Entry) → AllBelow n log → e.by < n → AllBelow n (log ++ e ∷ [])
 below-push n [] e all lt = (lt, tt)

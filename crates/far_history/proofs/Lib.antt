@@ -1,4 +1,4 @@
 pub mod Histories
-pub mod Legal
+pub mod HistoriesLegality
 pub mod Lists
-pub mod Moves
+pub mod RuleLaws

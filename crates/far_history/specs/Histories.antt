@@ -5,7 +5,7 @@ use Rattle.far_types.specs.declared.limits.Limits.{Limits}
 use Rattle.far_types.specs.declared.spec.Spec.{Spec}
 use Rattle.far_types.specs.declared.spec.Fold.TheVariants as fold
 use Rattle.far_types.specs.Answers.{count_sum}
-use Rattle.far_types.specs.Edits.{edited, edit_refusal}
+use Rattle.far_types.specs.Edits.{after_edit, edit_refusal}
 use Rattle.far_types.specs.Pairs.{Pair, pairs_of}
 use Rattle.far_types.specs.Table.{Place, Table, empty_table, rows_of}
 use Rattle.far_history.specs.declared.reading.Reading.{Reading}
@@ -21,7 +21,7 @@ pub record Planned : Type 0 where
 -- the table once the edits of a history are made in this one
 abbrev pub replay_on : Table → List Entry → Table
 replay_on table [] = table
-replay_on table (entry ∷ log) = replay_on (edited entry.edit table) log
+replay_on table (entry ∷ log) = replay_on (after_edit entry.edit table) log
 
 -- the table after a history
 abbrev pub replay : Planned → List Entry → Table
@@ -30,7 +30,7 @@ replay p log = replay_on (empty_table p.schema p.limits) log
 -- the plain table accepts each edit of the history, one after the other
 abbrev pub IsLegalOn : Table → List Entry → Type 0
 IsLegalOn table [] = Unit {0}
-IsLegalOn table (entry ∷ log) = (edit_refusal table entry.edit ≡ None) × IsLegalOn (edited entry.edit table) log
+IsLegalOn table (entry ∷ log) = (edit_refusal table entry.edit ≡ None) × IsLegalOn (after_edit entry.edit table) log
 
 -- the empty table of a plan accepts each edit of the history, one after the other
 abbrev pub IsLegal : Planned → List Entry → Type 0

@@ -28,8 +28,8 @@ abbrev pub session_part : PassView → PassView
 session_part v = with_session_of no_part v
 
 -- the keeper once it has given out one more session
-abbrev pub one_given : PassView → PassView
-one_given v = record { keeps = v.keeps; all = v.all; given = v.given + 1; has_session = false; by = 0; seen = []; mine = [] }
+abbrev pub after_give : PassView → PassView
+after_give v = record { keeps = v.keeps; all = v.all; given = v.given + 1; has_session = false; by = 0; seen = []; mine = [] }
 
 -- the session that a keeper gives out next
 abbrev pub new_session : PassView → PassView

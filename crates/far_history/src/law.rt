@@ -86,9 +86,9 @@ impl<E: EditTag> Outcome<[u64; 4], PassView> for Add<E> {
 pub struct Give;
 
 impl Split<PassView> for Give {
-    ghost use Rattle.far_history.specs.Views.{one_given, new_session};
+    ghost use Rattle.far_history.specs.Views.{after_give, new_session};
 
-    ghost left = { one_given };
+    ghost left = { after_give };
 
     ghost right = { new_session };
 }

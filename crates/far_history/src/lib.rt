@@ -12,6 +12,6 @@ pub mod reading;
 pub mod steps;
 pub mod view;
 
-pub use law::{HistoryCell, EditTag, Pass, PlanTag};
+pub use law::{EditTag, HistoryCell, Pass, PlanTag};
 pub use reading::Reading;
 pub use view::{Entry, PassView};

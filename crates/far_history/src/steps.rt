@@ -4,9 +4,9 @@ ghost use Rattle.crossbeam_utils.specs.Seq.{cell_view, IsSamePass};
 ghost use Rattle.far_types.specs.Edits.{edit_refusal};
 ghost use Rattle.far_history.specs.Histories.{replay};
 ghost use Rattle.far_history.specs.Rule.{IsReadingAfter, Looks, with_edit};
-ghost use Rattle.far_history.specs.Views.{keeper, with_session_of, keeper_part, session_part, one_given, new_session};
+ghost use Rattle.far_history.specs.Views.{keeper, with_session_of, keeper_part, session_part, after_give, new_session};
 
-use crate::law::{Add, HistoryCell, EditTag, Give, JoinSession, Look, Pass, PlanTag, SplitSession};
+use crate::law::{Add, EditTag, Give, HistoryCell, JoinSession, Look, Pass, PlanTag, SplitSession};
 use far_types::Edit;
 use std::alloc::{AllocError, Global};
 use std::marker::Brand;
@@ -91,7 +91,7 @@ pub fn give<N: PlanTag>(cell: &HistoryCell<N>, pass: &mut Pass) -> Pass
     requires cell { pass.old.table_id ≡ cell.now.table.shared.table_id }
     requires keeps { (cell_view pass.old).keeps ≡ true }
     ensures same { IsSamePass pass.old pass.new }
-    ensures left { cell_view pass.new ≡ one_given (cell_view pass.old) }
+    ensures left { cell_view pass.new ≡ after_give (cell_view pass.old) }
     ensures given { (result.table_id ≡ pass.old.table_id) × (cell_view result ≡ new_session (cell_view pass.old)) × (result.me.1 ≡ []) }
 {
     cell.split_pass::<Give>(pass)

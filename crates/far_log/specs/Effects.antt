@@ -30,22 +30,22 @@ module _ {X : Type 0} where
   written_over xs i ws = take (length xs) (take i xs ++ (ws ++ drop (i + length ws) xs))
 
   -- a part once ws is written over the elements of its segment from offset `from` on
-  abbrev pub overwritten : ℕ → List X → Part X → Part X
-  overwritten from ws p =
+  abbrev pub after_overwrite : ℕ → List X → Part X → Part X
+  after_overwrite from ws p =
       record p { list = written_over p.list (from - p.offset) (drop (p.offset - from) ws) }
 
   -- a segment with ws written over its elements from offset `from` on
-  abbrev pub written : SegmentState X → ℕ → List X → SegmentState X
-  written s from ws = record s { parts = map (overwritten from ws) s.parts }
+  abbrev pub after_write : SegmentState X → ℕ → List X → SegmentState X
+  after_write s from ws = record s { parts = map (after_overwrite from ws) s.parts }
 
   -- the region with another segment under this number
   abbrev pub with_segment : RegionState X → ℕ → SegmentState X → RegionState X
   with_segment state number s = slice_set state number s
 
   -- the region with ws written over its elements from the i-th behind a location on
-  abbrev pub written_at : RegionState X → At → ℕ → List X → RegionState X
-  written_at state at i ws =
-      with_segment state at.segment (written (segment_of state at.segment) (at.offset + i) ws)
+  abbrev pub after_write_at : RegionState X → At → ℕ → List X → RegionState X
+  after_write_at state at i ws =
+      with_segment state at.segment (after_write (segment_of state at.segment) (at.offset + i) ws)
 
   -- the region in which this list lies at a location
   abbrev pub with_list_at : RegionState X → At → List X → RegionState X

@@ -5,9 +5,9 @@ use Rattle.std.specs.Option.{option_map_or}
 use Rattle.far_log.specs.RegionState.{lowest_for}
 
 -- the waiting lengths once a segment has taken those that fit, in their order: each that it took is 0
-abbrev pub once_filled : ℕ → List ℕ → List ℕ
-once_filled space [] = []
-once_filled space (n ∷ ns) = if nat_le n space then 0 ∷ once_filled (space - n) ns else n ∷ once_filled space ns
+abbrev pub after_fill : ℕ → List ℕ → List ℕ
+after_fill space [] = []
+after_fill space (n ∷ ns) = if nat_le n space then 0 ∷ after_fill (space - n) ns else n ∷ after_fill space ns
 
 -- whether the waiting lengths, those that are not 0, can be placed one after the other
 abbrev pub waiting_fit : List ℕ → List ℕ → Bool

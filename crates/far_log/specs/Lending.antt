@@ -3,7 +3,7 @@ use Rattle.std.specs.Prelude.{ℕ, List, ◌++◌, length, take, drop}
 use Rattle.std.specs.Borrow.{Lends, Fml, RattleType, MutBor, Array}
 use Rattle.std.specs.Vec.{with_items}
 use Rattle.far_log.specs.RegionState.{RegionState}
-use Rattle.far_log.specs.Effects.{written_over, written_at}
+use Rattle.far_log.specs.Effects.{written_over, after_write_at}
 use Rattle.far_log.specs.Stacking.{Stacked, stack_of, with_stack}
 use Rattle.far_pointer.specs.declared.pointer.At.{At}
 use Rattle.far_log.specs.declared.block.Block.{Block}
@@ -33,8 +33,8 @@ module _ (T : RattleType) (s : MutBor (Stacked T.Denot)) where
 module _ (T : RattleType) (s : MutBor (RegionState T.Denot)) where
   -- internal: what the borrow r leaves is written over the elements from the i-th behind a location on
   abbrev pub lends_range : At → ℕ → MutBor (List T.Denot) → Fml
-  lends_range at i r = Lends (segments.the_row T) (Array T 0) s r (written_at s.now at i)
+  lends_range at i r = Lends (segments.the_row T) (Array T 0) s r (after_write_at s.now at i)
 
   -- what the borrow r leaves is written over the elements from the i-th behind a location on
   abbrev pub lends_part : At → ℕ → MutBor (List T.Denot) → Fml
-  lends_part at i r = Lends (region.the_row T) (Array T 0) s r (written_at s.now at i)
+  lends_part at i r = Lends (region.the_row T) (Array T 0) s r (after_write_at s.now at i)

@@ -1,11 +1,11 @@
 // Whether several lists fit, one after the other.
 ghost use Rattle.std.specs.Prelude.{◌≡◌, ◌==◌};
 ghost use Rattle.std.specs.List.{list_all};
-ghost use Rattle.far_log.specs.Fitting.{once_filled};
+ghost use Rattle.far_log.specs.Fitting.{after_fill};
 
 /// Gives the space of a segment to the waiting lengths, in their order. Each length that fits is then 0.
 pub fn fill(space: usize, waiting: &mut [usize])
-    ensures { waiting.new ≡ once_filled space waiting.old }
+    ensures { waiting.new ≡ after_fill space waiting.old }
 {
     let mut free = space;
     for len in waiting.iter_mut() {

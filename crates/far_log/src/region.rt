@@ -3,7 +3,7 @@ ghost use Rattle.std.specs.Prelude.{◌≡◌, ◌≢◌, ℕ, ◌+◌, ◌-◌,
 ghost use Rattle.std.specs.Borrow.{sem};
 ghost use Rattle.far_log.specs.RegionState.{part_of, used_of, spaces_of, space_of, capacity_of, fits_in, target_of, fit_in_order, segment_of, IsRegion};
 ghost use Rattle.far_log.specs.Skipping.{IsSkip};
-ghost use Rattle.far_log.specs.Effects.{ChangesOnly, WritesPart, written_at, IsPlaced, IsEmptyOther, HasNoEmptyOther, IsOrder, Compacts, with_segment, without_part};
+ghost use Rattle.far_log.specs.Effects.{ChangesOnly, WritesPart, after_write_at, IsPlaced, IsEmptyOther, HasNoEmptyOther, IsOrder, Compacts, with_segment, without_part};
 
 use super::compaction::Moved;
 use super::fitting::{fill, none_waits};
@@ -302,7 +302,7 @@ impl<T: Copy + Drop> Region<T> {
         requires { IsSome (part_of self.old at) }
         ensures* writes_back { sem 𝓛 (lends_part T.row self.entry at 0 result) }
         ensures lent { part_of self.old at ≡ Some result.now }
-        ensures alone { (list : List T) → length list ≡ length result.now → WritesPart self.old (written_at self.old at 0 list) at list }
+        ensures alone { (list : List T) → length list ≡ length result.now → WritesPart self.old (after_write_at self.old at 0 list) at list }
     {
         let len = self.part(at).len();
         self.part_long_mut(at, len)
@@ -315,7 +315,7 @@ impl<T: Copy + Drop> Region<T> {
         requires { IsSomeAnd (part_of self.old at) (λ list. length list ≡ len) }
         ensures* writes_back { sem 𝓛 (lends_part T.row self.entry at 0 result) }
         ensures lent { part_of self.old at ≡ Some result.now }
-        ensures alone { (list : List T) → length list ≡ length result.now → WritesPart self.old (written_at self.old at 0 list) at list }
+        ensures alone { (list : List T) → length list ≡ length result.now → WritesPart self.old (after_write_at self.old at 0 list) at list }
     {
         self.segments.range_mut(at, 0, len)
     }
@@ -326,7 +326,7 @@ impl<T: Copy + Drop> Region<T> {
         requires within { IsSomeAnd (part_of self.old at) (λ list. to ≤ length list) }
         ensures* writes_back { sem 𝓛 (lends_part T.row self.entry at from result) }
         ensures lent { IsSomeAnd (part_of self.old at) (λ list. result.now ≡ slice_range list from to) }
-        ensures alone { IsSomeAnd (part_of self.old at) (λ list. (range : List T) → length range ≡ to - from → WritesPart self.old (written_at self.old at from range) at (take from list ++ (range ++ drop to list))) }
+        ensures alone { IsSomeAnd (part_of self.old at) (λ list. (range : List T) → length range ≡ to - from → WritesPart self.old (after_write_at self.old at from range) at (take from list ++ (range ++ drop to list))) }
     {
         self.segments.range_mut(at, from, to)
     }

@@ -1,6 +1,6 @@
-pub mod CellLaws
-pub mod ColumnLaws
-pub mod FoldLaws
-pub mod HandLaws
-pub mod ObserveLaws
-pub mod UnderLaws
+pub mod LentCells
+pub mod JobsColumns
+pub mod PartialsLaws
+pub mod AtHandLaws
+pub mod PartialsObservation
+pub mod PartialsExtrema

@@ -1,1 +1,1 @@
-pub mod LastFour
+pub mod StridesLaws

@@ -8,7 +8,7 @@ use Rattle.std.proofs.Math.ListN.{get_or-map}
 use Rattle.far_types.specs.declared.cell.Cell.{Cell}
 use Rattle.far_types.specs.declared.cell.Cell.TheVariants as cell
 use Rattle.far_types.specs.Cells.{cell_at, text_in}
-use Rattle.far_types.specs.Edits.{with_cell, removed, changed_at}
+use Rattle.far_types.specs.Edits.{with_cell, after_remove, change_at}
 use Rattle.far_types.specs.Table.{Place, column, in_group}
 use Rattle.far_types.specs.Lent.{text_cell}
 use Rattle.far_rows.specs.Places.{row_at, places_of}
@@ -39,36 +39,36 @@ cell-set : (c : ℕ) (row : List Cell) (new : Cell) → c < length row → cell_
 cell-set c row new within = unwrap_or-slice_get (set row c new) c cell.Missing ∙ get_or-set_same row c new cell.Missing within
 
 -- one cell of a column is another
-changed-column : (rows : ℕ → List Cell) (c : ℕ) (new : Cell) → ((i : ℕ) → c < length (rows i)) → (n p : ℕ) (flags : List Bool) → column c (changed_at (with_cell c new) p (placed rows n flags)) ≡ set (column c (placed rows n flags)) p new
+changed-column : (rows : ℕ → List Cell) (c : ℕ) (new : Cell) → ((i : ℕ) → c < length (rows i)) → (n p : ℕ) (flags : List Bool) → column c (change_at (with_cell c new) p (placed rows n flags)) ≡ set (column c (placed rows n flags)) p new
 changed-column rows c new wide n p [] = refl
 changed-column rows c new wide n zero (flag ∷ flags) = let here = cell-set c (rows n) new (wide n) in λ i. here i ∷ column c (placed rows (n + 1) flags)
 changed-column rows c new wide n (suc p) (flag ∷ flags) = ap (λ (cells : List Cell). cell_at c (rows n) ∷ cells) (changed-column rows c new wide (n + 1) p flags)
 
-pub set-column : (columns : List (List Cell)) (flags : List Bool) (c p : ℕ) (new : Cell) → c < length columns → length (get_or columns c []) ≡ length flags → column c (changed_at (with_cell c new) p (places_of columns flags)) ≡ set (get_or columns c []) p new
+pub set-column : (columns : List (List Cell)) (flags : List Bool) (c p : ℕ) (new : Cell) → c < length columns → length (get_or columns c []) ≡ length flags → column c (change_at (with_cell c new) p (places_of columns flags)) ≡ set (get_or columns c []) p new
 set-column columns flags c p new within count =
     changed-column (row_at columns) c new (λ i. omega (arith, within, length-map columns (λ (cells : List Cell). get_or cells i cell.Missing))) 0 p flags
     ∙ ap (λ (cells : List Cell). set cells p new) (places-column columns flags c count)
 
 -- texts that were made cells are texts again
-text-back : (text : Option (List ℕ)) → text_in (text_cell text) ≡ text
-text-back None = refl
-text-back (Some text) = refl
+text-round_trip : (text : Option (List ℕ)) → text_in (text_cell text) ≡ text
+text-round_trip None = refl
+text-round_trip (Some text) = refl
 
-texts-back : (texts : List (Option (List ℕ))) → map text_in (map text_cell texts) ≡ texts
-texts-back [] = refl
-texts-back (text ∷ texts) = let here = text-back text in let rest = texts-back texts in λ i. here i ∷ rest i
+texts-round_trip : (texts : List (Option (List ℕ))) → map text_in (map text_cell texts) ≡ texts
+texts-round_trip [] = refl
+texts-round_trip (text ∷ texts) = let here = text-round_trip text in let rest = texts-round_trip texts in λ i. here i ∷ rest i
 
-pub group-back : (size g : ℕ) (texts : List (Option (List ℕ))) → map text_in (in_group size g (map text_cell texts)) ≡ in_group size g texts
-group-back size g texts =
+pub group-round_trip : (size g : ℕ) (texts : List (Option (List ℕ))) → map text_in (in_group size g (map text_cell texts)) ≡ in_group size g texts
+group-round_trip size g texts =
     ap (λ (cells : List Cell). map text_in (take size cells)) (drop-map text_cell (g * size) texts)
     ∙ ap (map text_in) (take-map text_cell size (drop (g * size) texts))
-    ∙ texts-back (in_group size g texts)
+    ∙ texts-round_trip (in_group size g texts)
 
-pub placed-clear : (rows : ℕ → List Cell) (n p : ℕ) (flags : List Bool) → placed rows n (set flags p false) ≡ changed_at removed p (placed rows n flags)
+pub placed-clear : (rows : ℕ → List Cell) (n p : ℕ) (flags : List Bool) → placed rows n (set flags p false) ≡ change_at after_remove p (placed rows n flags)
 placed-clear rows n p [] = refl
 placed-clear rows n zero (flag ∷ flags) = refl
 placed-clear rows n (suc p) (flag ∷ flags) = ap (λ (places : List Place). record { cells = rows n; alive = flag } ∷ places) (placed-clear rows (n + 1) p flags)
 
 -- a place is removed
-pub places-clear : (columns : List (List Cell)) (flags : List Bool) (p : ℕ) → places_of columns (set flags p false) ≡ changed_at removed p (places_of columns flags)
+pub places-clear : (columns : List (List Cell)) (flags : List Bool) (p : ℕ) → places_of columns (set flags p false) ≡ change_at after_remove p (places_of columns flags)
 places-clear columns flags p = placed-clear (row_at columns) 0 p flags

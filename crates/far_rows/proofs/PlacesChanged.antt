@@ -7,7 +7,7 @@ use Rattle.std.proofs.lemmas.List.Elements.{All-head, All-tail}
 use Rattle.std.proofs.Math.ListN.{get_or-map}
 use Rattle.far_types.specs.declared.cell.Cell.{Cell}
 use Rattle.far_types.specs.declared.cell.Cell.TheVariants as cell
-use Rattle.far_types.specs.Edits.{with_cell, changed_at}
+use Rattle.far_types.specs.Edits.{with_cell, change_at}
 use Rattle.far_types.specs.Table.{Place}
 use Rattle.far_rows.specs.ColumnIndexes.{with_row}
 use Rattle.far_rows.specs.Setting.{with_cell_at}
@@ -65,7 +65,7 @@ placed-push f n (first ∷ flags) flag =
     ap (λ (places : List Place). record { cells = f n; alive = first } ∷ places) (placed-push f (n + 1) flags flag)
     ∙ (λ i. record { cells = f n; alive = first } ∷ (placed f (n + 1) flags ++ record { cells = f (e i); alive = flag } ∷ []))
 
-placed-set : (f g : ℕ → List Cell) (c : ℕ) (new : Cell) (n p at : ℕ) (flags : List Bool) → n + p ≡ at → g at ≡ set (f at) c new → ((i : ℕ) → i ≢ at → g i ≡ f i) → placed g n flags ≡ changed_at (with_cell c new) p (placed f n flags)
+placed-set : (f g : ℕ → List Cell) (c : ℕ) (new : Cell) (n p at : ℕ) (flags : List Bool) → n + p ≡ at → g at ≡ set (f at) c new → ((i : ℕ) → i ≢ at → g i ≡ f i) → placed g n flags ≡ change_at (with_cell c new) p (placed f n flags)
 placed-set f g c new n p at [] e here there = refl
 placed-set f g c new n zero at (flag ∷ flags) e here there =
     let first : g n ≡ set (f n) c new = let m : at ≡ n = omega arith in rw m at here in
@@ -84,13 +84,13 @@ places-push columns row flags flag long width =
     let rest : placed (row_at (with_row columns row)) 0 flags ≡ placed (row_at columns) 0 flags = placed-same (row_at (with_row columns row)) (row_at columns) 0 flags (λ i low high. row_at-with columns row (length flags) i long (omega arith)) in
     placed-push (row_at (with_row columns row)) 0 flags flag ∙ (λ i. rest i ++ record { cells = new i; alive = flag } ∷ [])
 
-changed-past : (change : Place → Place) (p : ℕ) (places : List Place) → length places ≤ p → changed_at change p places ≡ places
+changed-past : (change : Place → Place) (p : ℕ) (places : List Place) → length places ≤ p → change_at change p places ≡ places
 changed-past change p [] past = refl
 changed-past change zero (place ∷ places) past = absurd (omega (arith, past))
 changed-past change (suc p) (place ∷ places) past = ap (λ (rest : List Place). place ∷ rest) (changed-past change p places (omega (arith, past)))
 
 -- a cell is another; past the places nothing is
-pub places-set : (columns : List (List Cell)) (flags : List Bool) (c p : ℕ) (new : Cell) → length (get_or columns c []) ≡ length flags → places_of (with_cell_at columns c p new) flags ≡ changed_at (with_cell c new) p (places_of columns flags)
+pub places-set : (columns : List (List Cell)) (flags : List Bool) (c p : ℕ) (new : Cell) → length (get_or columns c []) ≡ length flags → places_of (with_cell_at columns c p new) flags ≡ change_at (with_cell c new) p (places_of columns flags)
 places-set columns flags c p new count = elim (cases_lt p (length (get_or columns c []))) [
   | inl within ↦ placed-set (row_at columns) (row_at (with_cell_at columns c p new)) c new 0 p p flags (omega arith) (row_at-set columns c p new within) (λ i other. row_at-set_other columns c p new i other)
   | inr past ↦

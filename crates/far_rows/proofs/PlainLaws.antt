@@ -18,17 +18,17 @@ use Rattle.far_texts.specs.RefusingTogether.{absents as texts_absent}
 use Rattle.far_columns.specs.NumbersTogether.{NumberColumns, all_begin as all_numbers_begin, absents as numbers_absent}
 use Rattle.far_vector.specs.Vector.{Vector, IsShaped, object_at}
 use Rattle.far_vector.specs.Effects.{is_full}
-use Rattle.far_rows.proofs.Versions.{last-there}
+use Rattle.far_rows.proofs.EffectsVersions.{last-there}
 use Rattle.far_rows.specs.declared.column_index.ColumnIndex.{ColumnIndex}
 use Rattle.far_rows.specs.declared.column_index.ColumnIndex.TheVariants as column_index
 use Rattle.far_rows.specs.ColumnIndexes.{Values}
 use Rattle.far_rows.specs.Rows.{Rows, AreRows, object_of}
-use Rattle.far_rows.specs.Refusing.{told_at, absents, absents_from, append_tests, push_refusal}
+use Rattle.far_rows.specs.Refusing.{away_at, absents, absents_from, append_tests, push_refusal}
 use Rattle.far_rows.specs.Places.{AreOf}
 use Rattle.far_rows.specs.Plain.{insert_refusal}
-use Rattle.far_rows.proofs.Beginning.{texts-begin, text-begun, are-texts, numbers-begin, number-begun, are-numbers}
-use Rattle.far_rows.proofs.TextsNamed.{true-not}
-use Rattle.far_rows.proofs.Overfull.{insert-full, insert-parts}
+use Rattle.far_rows.proofs.RowsGroupStarts.{texts-begin, text-begun, are-texts, numbers-begin, number-begun, are-numbers}
+use Rattle.far_rows.proofs.NamingTexts.{true-not}
+use Rattle.far_rows.proofs.PlacesTextSize.{insert-full, insert-parts}
 
 not-due : (b : Bool) (e : Refusal) (later : Option Refusal) → cond b (Some e) later ≡ None → (b ≡ false) × (later ≡ None)
 not-due true e later free = absurd cc
@@ -41,10 +41,10 @@ skip (case ∷ cases) more none = ap (λ (b : Bool). cond b (Some case.1) (first
 
 module _ {K : Type 0} (r : Rows K) (g : ℕ) where
   -- no object of the row group is away
-  pub none-away : (n : ℕ) (column_indexes : List ColumnIndex) → first_of (absents_from r g n column_indexes) ≡ None → (k : ℕ) (s : ColumnIndex) → slice_get column_indexes k ≡ Some s → (told_at r g s).0 ≡ false
+  pub none-away : (n : ℕ) (column_indexes : List ColumnIndex) → first_of (absents_from r g n column_indexes) ≡ None → (k : ℕ) (s : ColumnIndex) → slice_get column_indexes k ≡ Some s → (away_at r g s).0 ≡ false
   none-away n [] free k s at = absurd (none-some s at)
-  none-away n (t ∷ column_indexes) free zero s at = let same = same_Some t s at in subst (λ (u : ColumnIndex). (told_at r g u).0 ≡ false) same (not-due (told_at r g t).0 (refusal.Absent n g) (first_of (absents_from r g (n + 1) column_indexes)) free).0
-  none-away n (t ∷ column_indexes) free (suc k) s at = none-away (n + 1) column_indexes (not-due (told_at r g t).0 (refusal.Absent n g) (first_of (absents_from r g (n + 1) column_indexes)) free).1 k s at
+  none-away n (t ∷ column_indexes) free zero s at = let same = same_Some t s at in subst (λ (u : ColumnIndex). (away_at r g u).0 ≡ false) same (not-due (away_at r g t).0 (refusal.Absent n g) (first_of (absents_from r g (n + 1) column_indexes)) free).0
+  none-away n (t ∷ column_indexes) free (suc k) s at = none-away (n + 1) column_indexes (not-due (away_at r g t).0 (refusal.Absent n g) (first_of (absents_from r g (n + 1) column_indexes)) free).1 k s at
 
 -- the last row group of a column that begins none is the one of the next place
 pub last-group : (c : Texts) → HasGroups c → begins_group c ≡ false → slice_get c.objects (c.len / c.size) ≡ Some (last_object c)
@@ -81,9 +81,9 @@ module _ {K : Type 0} (content : K → List ℕ) (r : Rows K) (are : AreRows con
         let same_length = subst (λ (d : Texts). (d.size ≡ r.size) × (d.len ≡ length r.alive)) same (are.same_length_texts i c within) in
         let last = last-group c (subst HasGroups same (are.grouped i c within)) (subst (λ (d : Texts). begins_group d ≡ false) same (not i c within)) in
         let lies = are.placed_texts i c.column (slice_get-map (λ (d : Texts). d.column) r.texts i ∙ ap (option_map (λ (d : Texts). d.column)) at) in
-        let told = none-away r g 0 r.column_indexes free c.column (column_index.Text i) lies in
+        let returned = none-away r g 0 r.column_indexes free c.column (column_index.Text i) lies in
         let object : object_of r (column_index.Text i) g ≡ Some (last_object c) = ap (option_and_then (λ (d : Texts). slice_get d.objects g)) at ∙ (λ k. slice_get c.objects (sym same_length.1 k / sym same_length.0 k)) ∙ last in
-        sym (ap (λ (o : Option ℕ). (option_map_or (absent r.text_objects) o (false, refusal.StaleJob)).0) object) ∙ told
+        sym (ap (λ (o : Option ℕ). (option_map_or (absent r.text_objects) o (false, refusal.StaleJob)).0) object) ∙ returned
 
     from : (columns : List Texts) → ((i : ℕ) (c : Texts) → slice_get columns i ≡ Some c → (absent r.text_objects (last_object c)).0 ≡ false) → All (λ (case : Bool × Refusal). case.0 ≡ false) (texts_absent r.text_objects columns)
     from [] each = All-nil (λ (case : Bool × Refusal). case.0 ≡ false)
@@ -107,9 +107,9 @@ module _ {K : Type 0} (content : K → List ℕ) (r : Rows K) (are : AreRows con
         let same_length = subst (λ (d : Vector (Option ℤ)). (d.size ≡ r.size) × (d.len ≡ length r.alive)) same (are.same_length_numbers i c within) in
         let begun = last-there c (subst IsShaped same (are.shaped i c within)) (subst (λ (d : Vector (Option ℤ)). is_full d ≡ false) same (not i c within)) in
         let lies = are.placed_numbers i c.column (slice_get-map (λ (d : Vector (Option ℤ)). d.column) r.numbers i ∙ ap (option_map (λ (d : Vector (Option ℤ)). d.column)) at) in
-        let told = none-away r g 0 r.column_indexes free c.column (column_index.Number i) lies in
+        let returned = none-away r g 0 r.column_indexes free c.column (column_index.Number i) lies in
         let object : object_of r (column_index.Number i) g ≡ Some (object_at c c.len) = ap (option_and_then (λ (d : Vector (Option ℤ)). slice_get d.objects g)) at ∙ (λ k. slice_get c.objects (sym same_length.1 k / sym same_length.0 k)) ∙ slice_get-get_or c.objects (c.len / c.size) 0 begun in
-        sym (ap (λ (o : Option ℕ). (option_map_or (absent r.number_objects) o (false, refusal.StaleJob)).0) object) ∙ told
+        sym (ap (λ (o : Option ℕ). (option_map_or (absent r.number_objects) o (false, refusal.StaleJob)).0) object) ∙ returned
 
     from : (columns : NumberColumns) → ((i : ℕ) (c : Vector (Option ℤ)) → slice_get columns i ≡ Some c → (absent r.number_objects (object_at c c.len)).0 ≡ false) → All (λ (case : Bool × Refusal). case.0 ≡ false) (numbers_absent r.number_objects columns)
     from [] each = All-nil (λ (case : Bool × Refusal). case.0 ≡ false)

@@ -37,8 +37,8 @@ use Rattle.far_rows.specs.Moving.{object_in, object_at}
 use Rattle.far_rows.specs.Refusing.{absents}
 use Rattle.far_rows.specs.Places.{places_in, AreOf}
 use Rattle.far_rows.specs.Plain.{is_too_full, no_space_alone, writes_used, cell_set_refusal}
-use Rattle.far_rows.proofs.Overfull.{found-at, set-long, set-full}
-use Rattle.far_scopes.proofs.FirstCases.{first-append}
+use Rattle.far_rows.proofs.PlacesTextSize.{found-at, set-long, set-full}
+use Rattle.far_scopes.proofs.FirstOfCases.{first-append}
 use Rattle.far_rows.proofs.PlainLaws.{skip, none-away}
 
 same-length : (text : Option (List ℕ)) → is_too_long (text_cell text) ≡ false → (text_too_long text).0 ≡ false

@@ -1,8 +1,8 @@
 -- What edits do to rows.
 use Rattle.std.specs.Prelude.{◌≡◌, ℕ, ◌+◌, ◌≤◌, List, [], ◌∷◌, ◌++◌, true, IfSome, length, slice_get}
 use Rattle.far_scopes.specs.Movement.{AreHere, version_of}
-use Rattle.far_columns.specs.NumbersTogether.{all_pushed, all_pushed_in}
-use Rattle.far_texts.specs.Together.{all_pushed as all_texts_pushed}
+use Rattle.far_columns.specs.NumbersTogether.{after_push_all, objects_after_push_all}
+use Rattle.far_texts.specs.Together.{after_push_all as all_texts_pushed}
 use Rattle.far_rows.specs.declared.new_cell.NewCell.{NewCell}
 use Rattle.far_rows.specs.ColumnIndexes.{Values, row_of, with_row}
 use Rattle.far_rows.specs.Rows.{Rows, TextsMoved, all_cells}
@@ -19,8 +19,8 @@ module _ {K : Type 0} (content : K → List ℕ) (old : Rows K) where
     -- each column has a cell more
     pub cells : all_cells content new ≡ with_row (all_cells content old) (row_of old.column_indexes values)
     -- each column has an element more: the last objects are written, or new ones are made if a row group begins
-    pub numbers : new.numbers ≡ all_pushed (length old.number_objects.records) old.numbers
-    pub number_objects : new.number_objects ≡ all_pushed_in old.number_objects old.numbers values.numbers
+    pub numbers : new.numbers ≡ after_push_all (length old.number_objects.records) old.numbers
+    pub number_objects : new.number_objects ≡ objects_after_push_all old.number_objects old.numbers values.numbers
     pub texts : new.texts ≡ all_texts_pushed (length old.text_objects.records) old.texts
     pub text_objects : TextsMoved content old values.texts new.text_objects
 

@@ -5,7 +5,7 @@ use Rattle.far_types.specs.declared.refusal.Refusal.{Refusal}
 use Rattle.far_types.specs.declared.refusal.Refusal.TheVariants as refusal
 use Rattle.far_types.specs.FirstOf.{first_of}
 use Rattle.far_scopes.specs.Movement.{AreHere}
-use Rattle.far_scopes.specs.Effects.{after_pin as pinned_in, after_unpin as unpinned_in, after_touch as touched_in}
+use Rattle.far_scopes.specs.Effects.{after_pin as after_pin_in, after_unpin as after_unpin_in, after_touch as after_touch_in}
 use Rattle.far_scopes.specs.Refusing.{pins_used_up, unpin_refusal as unpin_refusal_in}
 use Rattle.far_rows.specs.declared.column_index.ColumnIndex.{ColumnIndex}
 use Rattle.far_rows.specs.declared.column_index.ColumnIndex.TheVariants as column_index
@@ -31,18 +31,18 @@ module _ {K : Type 0} where
 
   -- an object is pinned once more
   abbrev pub after_pin : Rows K → Object → Rows K
-  after_pin r (object.Number o) = record r { number_objects = pinned_in r.number_objects o }
-  after_pin r (object.Text o) = record r { text_objects = pinned_in r.text_objects o }
+  after_pin r (object.Number o) = record r { number_objects = after_pin_in r.number_objects o }
+  after_pin r (object.Text o) = record r { text_objects = after_pin_in r.text_objects o }
 
   -- it is pinned once less
   abbrev pub after_unpin : Rows K → Object → Rows K
-  after_unpin r (object.Number o) = record r { number_objects = unpinned_in r.number_objects o }
-  after_unpin r (object.Text o) = record r { text_objects = unpinned_in r.text_objects o }
+  after_unpin r (object.Number o) = record r { number_objects = after_unpin_in r.number_objects o }
+  after_unpin r (object.Text o) = record r { text_objects = after_unpin_in r.text_objects o }
 
   -- it is marked as recently used: hot, and used last, if it is local
   abbrev pub after_touch : Rows K → Object → Rows K
-  after_touch r (object.Number o) = record r { number_objects = touched_in r.number_objects o }
-  after_touch r (object.Text o) = record r { text_objects = touched_in r.text_objects o }
+  after_touch r (object.Number o) = record r { number_objects = after_touch_in r.number_objects o }
+  after_touch r (object.Text o) = record r { text_objects = after_touch_in r.text_objects o }
 
   -- what a pin, an unpin, a use and a compaction keep, accepted or not: the cells, and whose tickets the objects have
   pub record KeepsCells (content : K → List ℕ) (is_of : K → List ℕ → Type 0) (old new : Rows K) : Type 0 where

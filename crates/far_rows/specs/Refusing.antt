@@ -19,13 +19,13 @@ use Rattle.far_rows.specs.Rows.{Rows, object_of}
 
 module _ {K : Type 0} (r : Rows K) where
   -- the object of a row group of an index's column is away; the refusal has the object's own name
-  abbrev pub told_at : ℕ → ColumnIndex → Bool × Refusal
-  told_at g (column_index.Number i) = option_map_or (absent r.number_objects) (object_of r (column_index.Number i) g) (false, refusal.StaleJob)
-  told_at g (column_index.Text i) = option_map_or (absent r.text_objects) (object_of r (column_index.Text i) g) (false, refusal.StaleJob)
+  abbrev pub away_at : ℕ → ColumnIndex → Bool × Refusal
+  away_at g (column_index.Number i) = option_map_or (absent r.number_objects) (object_of r (column_index.Number i) g) (false, refusal.StaleJob)
+  away_at g (column_index.Text i) = option_map_or (absent r.text_objects) (object_of r (column_index.Text i) g) (false, refusal.StaleJob)
 
   -- the object of a row group of a column, which has this index, is away: the refusal says the column and the row group
   abbrev pub absent_at : ℕ → ℕ → ColumnIndex → Bool × Refusal
-  absent_at column g s = ((told_at g s).0, refusal.Absent column g)
+  absent_at column g s = ((away_at g s).0, refusal.Absent column g)
 
   -- the columns of these indexes, in order, of which the first is the n-th of the table
   abbrev pub absents_from : ℕ → ℕ → List ColumnIndex → List (Bool × Refusal)

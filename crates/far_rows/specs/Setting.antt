@@ -6,7 +6,7 @@ use Rattle.far_types.specs.declared.cell.Kind.{Kind}
 use Rattle.far_types.specs.declared.cell.Kind.TheVariants as kind
 use Rattle.far_types.specs.declared.refusal.Refusal.{Refusal}
 use Rattle.far_types.specs.FirstOf.{first_of}
-use Rattle.far_vector.specs.Effects.{range_written}
+use Rattle.far_vector.specs.Effects.{after_write_range}
 use Rattle.far_vector.specs.Refusing.{set_refusal as number_refusal}
 use Rattle.far_texts.specs.Effects.{set_in as text_set_in}
 use Rattle.far_texts.specs.Refusing.{set_refusal as text_refusal}
@@ -45,6 +45,6 @@ module _ {K : Type 0} (content : K → List ℕ) (r : Rows K) where
 
   -- the rows once a value is put at a place: the object of its row group is written
   abbrev pub set_in : ColumnIndex → ℕ → NewCell → Rows K
-  set_in (column_index.Number i) place (new.Number number) = record r { number_objects = option_map_or (λ c. range_written r.number_objects c place (number ∷ [])) (slice_get r.numbers i) r.number_objects }
+  set_in (column_index.Number i) place (new.Number number) = record r { number_objects = option_map_or (λ c. after_write_range r.number_objects c place (number ∷ [])) (slice_get r.numbers i) r.number_objects }
   set_in (column_index.Text i) place (new.Text text) = record r { text_objects = option_map_or (λ c. text_set_in content r.text_objects c place text) (slice_get r.texts i) r.text_objects }
   set_in s place value = r

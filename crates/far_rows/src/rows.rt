@@ -4,7 +4,7 @@ ghost use Rattle.far_types.specs.Bounds.{AreLimits};
 ghost use Rattle.far_scopes.specs.Movement.{AreHere};
 ghost use Rattle.far_rows.specs.ColumnIndexes.{column_indexes_from, kind_of};
 ghost use Rattle.far_rows.specs.Rows.{AreRows};
-ghost use Rattle.far_types.specs.Edits.{changed_at, removed};
+ghost use Rattle.far_types.specs.Edits.{change_at, after_remove};
 ghost use Rattle.far_rows.specs.Places.{places_in};
 ghost use Rattle.far_rows.specs.Opening.{empty_rows};
 
@@ -122,7 +122,7 @@ impl<S: FarTickets> Rows<S> {
     pub fn clear(&mut self, place: usize)
         requires { place < length self.old.alive }
         ensures cleared { self.new ≡ record self.old { alive = slice_set self.old.alive place false } }
-        ensures places { places_in S.content self.new ≡ changed_at removed place (places_in S.content self.old) }
+        ensures places { places_in S.content self.new ≡ change_at after_remove place (places_in S.content self.old) }
     {
         self.alive.clear(place);
     }

@@ -1,2 +1,2 @@
 mod Outcomes
-mod Found
+mod MovingObjects

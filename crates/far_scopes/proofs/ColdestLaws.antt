@@ -13,10 +13,10 @@ use Rattle.far_scopes.specs.Memory.{place_of}
 use Rattle.far_scopes.specs.Movement.{Movement, hot, pins_of, is_local, AreTracked}
 use Rattle.far_scopes.specs.Cool.{cool_in}
 use Rattle.far_scopes.specs.Coldest.{is_unpinned, is_cold, coldest}
-use Rattle.far_scopes.proofs.Places.{cases_option}
+use Rattle.far_scopes.proofs.MemoryPlaces.{cases_option}
 use Rattle.far_scopes.proofs.RecencyLaws.{has-cons_same}
-use Rattle.far_scopes.proofs.WordPlaces.{place-within, some-true}
-use Rattle.far_scopes.proofs.Found.{has-reverse, found-is, found-none}
+use Rattle.far_scopes.proofs.MemoryWordPlaces.{place-within, some-true}
+use Rattle.far_scopes.proofs.RecencySearch.{has-reverse, found-is, found-none}
 use Rattle.far_scopes.proofs.CoolLaws.{all-hot}
 
 module _ {X K : Type 0} (m : Movement X K) where
@@ -98,15 +98,15 @@ module _ {X K : Type 0} (m : Movement X K) where
     coldest-exactly found is = subst (λ (f : Option ℕ). (f ≡ None) ↔ ((o : ℕ) → is_local m o ≡ true → pins_of m o ≢ 0)) is exactly
 
   -- the last of the part of the order that is left
-  module _ (left rest : List (ℕ × Unit {0})) (seen : List ℕ) (pair : ℕ × Unit {0}) (step : left ≡ rest ++ pair ∷ []) where
+  module _ (left rest : List (ℕ × Unit {0})) (visited : List ℕ) (pair : ℕ × Unit {0}) (step : left ≡ rest ++ pair ∷ []) where
     pub keys-step : keys_of left ≡ keys_of rest ++ pair.0 ∷ []
     keys-step = ap keys_of step ∙ map_push (λ (p : ℕ × Unit {0}). p.0) rest pair
 
-    pub order-step : m.order ≡ keys_of left ++ seen → m.order ≡ keys_of rest ++ pair.0 ∷ seen
-    order-step is = is ∙ ap (λ l. l ++ seen) keys-step ∙ append_assoc (keys_of rest) (pair.0 ∷ []) seen
+    pub order-step : m.order ≡ keys_of left ++ visited → m.order ≡ keys_of rest ++ pair.0 ∷ visited
+    order-step is = is ∙ ap (λ l. l ++ visited) keys-step ∙ append_assoc (keys_of rest) (pair.0 ∷ []) visited
 
     -- it has a number
-    pub last-within : {meaning : List ℕ → List X} {content : K → List ℕ} {spelled : List X → List ℕ → Type 0} → AreTracked meaning content spelled m → m.order ≡ keys_of left ++ seen → pair.0 < length m.records
+    pub last-within : {meaning : List ℕ → List X} {content : K → List ℕ} {spelled : List X → List ℕ → Type 0} → AreTracked meaning content spelled m → m.order ≡ keys_of left ++ visited → pair.0 < length m.records
     last-within tracked is =
-        let there : has m.order pair.0 ≡ true = ap (λ l. has l pair.0) (order-step is) ∙ list_any-append (λ p. nat_eq pair.0 p) (keys_of rest) (pair.0 ∷ seen) ∙ ap (λ b. has (keys_of rest) pair.0 || b) (has-cons_same seen pair.0) ∙ or_comm (has (keys_of rest) pair.0) true in
+        let there : has m.order pair.0 ≡ true = ap (λ l. has l pair.0) (order-step is) ∙ list_any-append (λ p. nat_eq pair.0 p) (keys_of rest) (pair.0 ∷ visited) ∙ ap (λ b. has (keys_of rest) pair.0 || b) (has-cons_same visited pair.0) ∙ or_comm (has (keys_of rest) pair.0) true in
         subst (λ n. pair.0 < n) (sym tracked.same_length) (place-within m.memory.words pair.0 (some-true (place_of m.memory.words pair.0) (sym (tracked.ordered pair.0) ∙ there)))

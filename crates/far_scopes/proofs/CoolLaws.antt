@@ -11,7 +11,7 @@ use Rattle.far_pointer.specs.Layout.{is_hot, with_hot, with_at}
 use Rattle.far_scopes.specs.Memory.{at_of, place_of}
 use Rattle.far_scopes.specs.Renewal.{renewed_word}
 use Rattle.far_scopes.specs.Cool.{cool_of, cool_in}
-use Rattle.far_scopes.proofs.Places.{cases_option}
+use Rattle.far_scopes.proofs.MemoryPlaces.{cases_option}
 
 -- a word that says that its object is hot is not counted
 pub none-hot : (word : Pointer) → cool_of (with_hot word true) ≡ 0

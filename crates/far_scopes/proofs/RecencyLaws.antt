@@ -1,7 +1,7 @@
 -- Who is in an order of use that changed.
 use Rattle.std.proofs.Common.{◌≡◌, ◌≢◌, ℕ, ◌||◌, Bool, true, false, inl, inr, List, [], ◌∷◌, nat_eq, cond, refl, sym, ap, ◌∙◌}
 use Rattle.std.proofs.lemmas.Bool.{cases_eq, cases_Bool, eq-eqb, ne_eqb}
-use Rattle.far_scopes.specs.Recency.{has, without, used, Once}
+use Rattle.far_scopes.specs.Recency.{has, without, after_use, Once}
 
 pub has-cons_same : (order : List ℕ) (o : ℕ) → has (o ∷ order) o ≡ true
 has-cons_same order o = rw (eq-eqb o o refl) refl
@@ -48,8 +48,8 @@ once-without (q ∷ order) o once = elim (cases_eq o q) [
 ]
 
 -- an object is used again
-pub has-used : (order : List ℕ) (o p : ℕ) → has (used order o) p ≡ has order p
-has-used order o p = elim (cases_Bool (has order o)) [
+pub has-after_use : (order : List ℕ) (o p : ℕ) → has (after_use order o) p ≡ has order p
+has-after_use order o p = elim (cases_Bool (has order o)) [
   | inl there ↦ ap (λ b. has (cond b (o ∷ without order o) order) p) there ∙ elim (cases_eq p o) [
     | inl same ↦ ap (has (o ∷ without order o)) same ∙ has-cons_same (without order o) o ∙ sym there ∙ ap (has order) (sym same)
     | inr ne ↦ has-cons_other (without order o) o p ne ∙ has-without_other order o p ne
@@ -57,8 +57,8 @@ has-used order o p = elim (cases_Bool (has order o)) [
   | inr gone ↦ ap (λ b. has (cond b (o ∷ without order o) order) p) gone
 ]
 
-pub once-used : (order : List ℕ) (o : ℕ) → Once order → Once (used order o)
-once-used order o once = elim (cases_Bool (has order o)) [
+pub once-after_use : (order : List ℕ) (o : ℕ) → Once order → Once (after_use order o)
+once-after_use order o once = elim (cases_Bool (has order o)) [
   | inl there ↦ rw there (has-without_same order o once, once-without order o once)
   | inr gone ↦ rw gone once
 ]
@@ -68,5 +68,5 @@ pub without-cons : (order : List ℕ) (o : ℕ) → without (o ∷ order) o ≡ 
 without-cons order o = rw (eq-eqb o o refl) refl
 
 -- an object that is first already
-pub used-first : (order : List ℕ) (o : ℕ) → used (o ∷ order) o ≡ o ∷ order
-used-first order o = rw (eq-eqb o o refl) refl
+pub after_use-first : (order : List ℕ) (o : ℕ) → after_use (o ∷ order) o ≡ o ∷ order
+after_use-first order o = rw (eq-eqb o o refl) refl

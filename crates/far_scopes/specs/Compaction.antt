@@ -42,8 +42,8 @@ module _ {X : Type 0} where
   moved_word parts order from to Remote = Remote
 
   -- the memory once segment `from` is compacted into segment `to`
-  abbrev pub compacted_into : Memory X → ℕ → ℕ → Memory X
-  compacted_into memory from to =
+  abbrev pub after_compact : Memory X → ℕ → ℕ → Memory X
+  after_compact memory from to =
       let order : List ℕ = hot_first memory from
       in record {
         words = map (moved_word (segment_of memory.state from).parts order from to) memory.words;
@@ -54,4 +54,4 @@ module _ {X : Type 0} where
   pub record IsCompacted (old new : Memory X) (from : ℕ) : Type 0 where
     pub to : ℕ
     pub target : IsEmptyOther old.state from to
-    pub memory : new ≡ compacted_into old from to
+    pub memory : new ≡ after_compact old from to

@@ -3,8 +3,8 @@ use Rattle.std.specs.Prelude.{ℕ, ◌+◌, ◌-◌, List, [], ◌∷◌, ◌++�
 use Rattle.std.specs.Option.{option_map_or}
 use Rattle.far_types.specs.declared.name.Name.{Name}
 use Rattle.far_scopes.specs.declared.object_record.ObjectRecord.{ObjectRecord}
-use Rattle.far_scopes.specs.Recency.{without, used}
-use Rattle.far_scopes.specs.Placing.{with_object, removed, marked, heated, sent_away, brought, replaced as replaced_in, overwritten as overwritten_in}
+use Rattle.far_scopes.specs.Recency.{without, after_use}
+use Rattle.far_scopes.specs.Placing.{with_object, after_remove_last, after_mark, after_heat, after_send_away, after_bring, replaced as replaced_in, after_overwrite as after_overwrite_in}
 use Rattle.far_scopes.specs.declared.replacement.Replacement.{Replacement}
 use Rattle.far_scopes.specs.Movement.{Movement}
 use Rattle.far_scopes.specs.Replacing.{replaced_all as replaced_all_in}
@@ -29,30 +29,30 @@ module _ {X K : Type 0} where
   -- the objects without the last one
   abbrev pub after_uncreate : Movement X K → Movement X K
   after_uncreate m = record m {
-    memory = removed m.memory;
+    memory = after_remove_last m.memory;
     records = take (length m.records - 1) m.records;
     order = without m.order (length m.records - 1);
   }
 
   -- object o is marked as recently used, if it is local: it is hot, and used last
   abbrev pub after_touch : Movement X K → ℕ → Movement X K
-  after_touch m o = record m { memory = heated m.memory o; order = used m.order o }
+  after_touch m o = record m { memory = after_heat m.memory o; order = after_use m.order o }
 
   -- object o, which is local, counts as written: it is dirty, hot and used last, and written once more
-  abbrev pub written : Movement X K → ℕ → Movement X K
-  written m o = record m {
-    memory = marked m.memory o;
+  abbrev pub after_write : Movement X K → ℕ → Movement X K
+  after_write m o = record m {
+    memory = after_mark m.memory o;
     records = with_record m.records o (λ object_record. record object_record { version = object_record.version + 1 });
-    order = used m.order o;
+    order = after_use m.order o;
   }
 
   -- ws is written over the elements of object o from the i-th on
-  abbrev pub overwritten : Movement X K → ℕ → ℕ → List X → Movement X K
-  overwritten m o i ws = record m { memory = overwritten_in m.memory o i ws }
+  abbrev pub after_overwrite : Movement X K → ℕ → ℕ → List X → Movement X K
+  after_overwrite m o i ws = record m { memory = after_overwrite_in m.memory o i ws }
 
   -- object o has another list
   abbrev pub after_replace : Movement X K → ℕ → List X → Movement X K
-  after_replace m o list = written (record m {
+  after_replace m o list = after_write (record m {
     memory = replaced_in m.memory o list;
     records = with_record m.records o (λ object_record. record object_record { len = length list });
   }) o
@@ -65,7 +65,7 @@ module _ {X K : Type 0} where
   -- the listed objects count as written, one after the other
   abbrev pub after_write_all : Movement X K → List (Replacement X) → Movement X K
   after_write_all m [] = m
-  after_write_all m (r ∷ rs) = after_write_all (written m r.object) rs
+  after_write_all m (r ∷ rs) = after_write_all (after_write m r.object) rs
 
   -- each listed object has its new list
   abbrev pub after_replace_all : Movement X K → List (Replacement X) → Movement X K
@@ -82,11 +82,11 @@ module _ {X K : Type 0} where
   -- object o goes away; its newest far copy has this ticket
   abbrev pub after_leave : Movement X K → ℕ → K → Movement X K
   after_leave m o ticket = record m {
-    memory = sent_away m.memory o;
+    memory = after_send_away m.memory o;
     records = with_record m.records o (λ object_record. record object_record { leavings = object_record.leavings + 1; ticket = Some ticket });
     order = without m.order o;
   }
 
-  -- object o comes back, with this list
+  -- object o arrives, with this list
   abbrev pub after_arrive : Movement X K → ℕ → List X → Movement X K
-  after_arrive m o list = record m { memory = brought m.memory o list; order = o ∷ m.order }
+  after_arrive m o list = record m { memory = after_bring m.memory o list; order = o ∷ m.order }

@@ -6,7 +6,7 @@ use Rattle.far_pointer.specs.declared.pointer.Pointer.{Pointer}
 use Rattle.far_pointer.specs.declared.pointer.Pointer.TheVariants.{Local, Remote}
 use Rattle.far_pointer.specs.Layout.{with_dirty, with_hot, with_at}
 use Rattle.far_log.specs.RegionState.{RegionState, segment_of, fill_of, target_of}
-use Rattle.far_log.specs.Effects.{with_segment, with_part, without_part, written_at}
+use Rattle.far_log.specs.Effects.{with_segment, with_part, without_part, after_write_at}
 use Rattle.far_scopes.specs.Memory.{Memory, place_of}
 
 module _ {X : Type 0} where
@@ -35,8 +35,8 @@ module _ {X : Type 0} where
   }
 
   -- the memory without the last object
-  abbrev pub removed : Memory X → Memory X
-  removed memory =
+  abbrev pub after_remove_last : Memory X → Memory X
+  after_remove_last memory =
       let last : ℕ = length memory.words - 1
       in record { words = take last memory.words; state = without_at memory.state (place_of memory.words last) }
 
@@ -45,31 +45,31 @@ module _ {X : Type 0} where
   with_word memory o change = record memory { words = option_map_or (λ word. slice_set memory.words o (change word)) (slice_get memory.words o) memory.words }
 
   -- object o is written: dirty and hot
-  abbrev pub marked : Memory X → ℕ → Memory X
-  marked memory o = with_word memory o (λ word. with_hot (with_dirty word) true)
+  abbrev pub after_mark : Memory X → ℕ → Memory X
+  after_mark memory o = with_word memory o (λ word. with_hot (with_dirty word) true)
 
   -- object o is used: hot
-  abbrev pub heated : Memory X → ℕ → Memory X
-  heated memory o = with_word memory o (λ word. with_hot word true)
+  abbrev pub after_heat : Memory X → ℕ → Memory X
+  after_heat memory o = with_word memory o (λ word. with_hot word true)
 
   -- object o is away, and its part is dropped
-  abbrev pub sent_away : Memory X → ℕ → Memory X
-  sent_away memory o = record {
+  abbrev pub after_send_away : Memory X → ℕ → Memory X
+  after_send_away memory o = record {
     words = slice_set memory.words o Remote;
     state = without_at memory.state (place_of memory.words o);
   }
 
   -- object o, which was away, is local with this list: clean and hot
-  abbrev pub brought : Memory X → ℕ → List X → Memory X
-  brought memory o list = record {
+  abbrev pub after_bring : Memory X → ℕ → List X → Memory X
+  after_bring memory o list = record {
     words = slice_set memory.words o (Local (spot memory.state (length list)) false true true);
     state = with_new memory.state list;
   }
 
   -- ws is written over the elements of object o from the i-th on
-  abbrev pub overwritten : Memory X → ℕ → ℕ → List X → Memory X
-  overwritten memory o i ws = record memory {
-    state = option_map_or (λ at. written_at memory.state at i ws) (place_of memory.words o) memory.state;
+  abbrev pub after_overwrite : Memory X → ℕ → ℕ → List X → Memory X
+  after_overwrite memory o i ws = record memory {
+    state = option_map_or (λ at. after_write_at memory.state at i ws) (place_of memory.words o) memory.state;
   }
 
   -- object o, which is local, has another list, placed while the old one was still there

@@ -12,8 +12,8 @@ without [] o = []
 without (p ∷ order) o = if o == p then order else p ∷ without order o
 
 -- an order of use once an object in it is used again: that object goes first
-abbrev pub used : List ℕ → ℕ → List ℕ
-used order o = if has order o then o ∷ without order o else order
+abbrev pub after_use : List ℕ → ℕ → List ℕ
+after_use order o = if has order o then o ∷ without order o else order
 
 -- no object is in an order of use twice
 abbrev pub Once : List ℕ → Type 0

@@ -62,8 +62,8 @@ module _ {X : Type 0} where
   }
 
   -- the memory without the last object, whose part is now that of object o
-  abbrev pub taken_over : Memory X → ℕ → Memory X
-  taken_over memory o =
+  abbrev pub after_take_over : Memory X → ℕ → Memory X
+  after_take_over memory o =
       let last : ℕ = length memory.words - 1
       in record {
         words = option_map_or (with_place (take last memory.words) o) (place_of memory.words last) memory.words;

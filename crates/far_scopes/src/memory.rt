@@ -7,7 +7,7 @@ ghost use Rattle.far_scopes.specs.Memory.{at_of as word_at, place_of, list_in, C
 ghost use Rattle.far_scopes.specs.Cool.{cool_of, cool_in};
 ghost use Rattle.far_pointer.specs.declared.pointer.Pointer.{Pointer};
 ghost use Rattle.std.specs.Prelude.{not};
-ghost use Rattle.far_scopes.specs.Placing.{with_object, removed, marked, heated, sent_away, brought, replaced};
+ghost use Rattle.far_scopes.specs.Placing.{with_object, after_remove_last, after_mark, after_heat, after_send_away, after_bring, replaced};
 
 mod compaction;
 mod lending;
@@ -96,7 +96,7 @@ impl<T: Elem> LocalMemory<T> {
         requires some { 0 < length items.now }
         ensures ok { OnOk result (self.new ≡ with_object self.old items.now) }
         ensures list { OnOk result (ChangesList (list_in self.old) (list_in self.new) (length self.old.words) (Some items.now)) }
-        ensures undone { OnOk result (removed self.new ≡ self.old) }
+        ensures undone { OnOk result (after_remove_last self.new ≡ self.old) }
         ensures full { IsErrOf result Refusal.RegionFull ↔ (fits_in self.old.state (length items.now) ≡ false) }
         ensures refused { IfErr result (λ e. (e ≡ Refusal.RegionFull) ⊎ (e ≡ Refusal.NoMemory)) }
         ensures err { OnErr result (self.new ≡ self.old) }
@@ -113,7 +113,7 @@ impl<T: Elem> LocalMemory<T> {
     /// Sends object `o` away, and drops its part.
     pub fn send_away(&mut self, o: usize)
         requires { IsSome (place_of self.old.words o) }
-        ensures away { self.new ≡ sent_away self.old o }
+        ensures away { self.new ≡ after_send_away self.old o }
         ensures list { ChangesList (list_in self.old) (list_in self.new) o None }
     {
         let word = self.words[o];
@@ -126,7 +126,7 @@ impl<T: Elem> LocalMemory<T> {
     /// Removes the last object, which is local.
     pub fn remove_last(&mut self)
         requires { IsSome (place_of self.old.words (length self.old.words - 1)) }
-        ensures removed { self.new ≡ removed self.old }
+        ensures removed { self.new ≡ after_remove_last self.old }
         ensures list { ChangesList (list_in self.old) (list_in self.new) (length self.old.words - 1) None }
     {
         let Some(word) = self.words.pop() else {
@@ -140,7 +140,7 @@ impl<T: Elem> LocalMemory<T> {
     pub fn bring(&mut self, o: usize, items: &[T]) -> Result<(), Refusal>
         requires some { 0 < length items.now }
         requires away { slice_get self.old.words o ≡ Some Pointer.Remote }
-        ensures ok { OnOk result (self.new ≡ brought self.old o items.now) }
+        ensures ok { OnOk result (self.new ≡ after_bring self.old o items.now) }
         ensures list { OnOk result (ChangesList (list_in self.old) (list_in self.new) o (Some items.now)) }
         ensures full { IsErrOf result Refusal.RegionFull ↔ (fits_in self.old.state (length items.now) ≡ false) }
         ensures refused { IfErr result (λ e. (e ≡ Refusal.RegionFull) ⊎ (e ≡ Refusal.NoMemory)) }
@@ -203,7 +203,7 @@ impl<T: Elem> LocalMemory<T> {
     /// Sets the hot bit of object `o`, if it is local.
     pub fn heat(&mut self, o: usize)
         requires { o < length self.old.words }
-        ensures heated { self.new ≡ heated self.old o }
+        ensures heated { self.new ≡ after_heat self.old o }
         ensures lists { (p : ℕ) → list_in self.new p ≡ list_in self.old p }
     {
         let word = self.words[o];
@@ -214,7 +214,7 @@ impl<T: Elem> LocalMemory<T> {
     /// Sets the dirty bit and the hot bit of object `o`, if it is local.
     pub fn mark(&mut self, o: usize)
         requires { o < length self.old.words }
-        ensures marked { self.new ≡ marked self.old o }
+        ensures marked { self.new ≡ after_mark self.old o }
         ensures lists { (p : ℕ) → list_in self.new p ≡ list_in self.old p }
     {
         let word = self.words[o];

@@ -1,7 +1,7 @@
 // The order in which objects were used.
 ghost use Rattle.std.specs.Prelude.{◌≡◌, [], ◌∷◌, length, IfOk, IfErr, IsTrue, OnOk, OnErr, false};
 ghost use Rattle.std.specs.Map.{keys_of};
-ghost use Rattle.far_scopes.specs.Recency.{has, without, used};
+ghost use Rattle.far_scopes.specs.Recency.{has, without, after_use};
 
 use far_types::Refusal;
 use lru::{Iter, LruCache};
@@ -66,7 +66,7 @@ impl Recency {
     /// Moves an object that is in the order to the front. Allocates nothing. It is inlined, since mostly nothing moves.
     #[inline(always)]
     pub fn touch(&mut self, o: u32)
-        ensures { self.new ≡ used self.old o }
+        ensures { self.new ≡ after_use self.old o }
     {
         if !self.is_first(o) {
             self.promote(o);
@@ -77,14 +77,14 @@ impl Recency {
     // registers for it.
     #[inline(never)]
     fn promote(&mut self, o: u32)
-        ensures { self.new ≡ used self.old o }
+        ensures { self.new ≡ after_use self.old o }
     {
         self.cache.promote(&o);
     }
 
     // Returns whether an object was used last. Then another use leaves the order as it is. Most objects that are used again were used last.
     fn is_first(&self, o: u32) -> bool
-        ensures { IsTrue result → used self.now o ≡ self.now }
+        ensures { IsTrue result → after_use self.now o ≡ self.now }
     {
         match self.cache.peek_mru() {
             Some((first, _)) => *first == o,

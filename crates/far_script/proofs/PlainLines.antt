@@ -11,7 +11,7 @@ use Rattle.csv.proofs.RoundTrip.{record-same, start-same}
 use Rattle.far_script.specs.Lines.{is_line_feed}
 use Rattle.far_script.specs.OneRecord.{begins_as_order_mark, is_comma}
 use Rattle.far_script.specs.PlainLines.{is_break, line_of, lines_behind}
-use Rattle.far_script.proofs.PlainRecords.{behind, behind-nothing, behind-onto, copies, ends-field, keeps-order-mark, or-left, or-right, split-comma, split-other}
+use Rattle.far_script.proofs.OneRecordPlainTexts.{behind, behind-nothing, behind-onto, copies, ends-field, keeps-order-mark, or-left, or-right, split-comma, split-other}
 
 -- the first line, by the first byte of the text
 one-place : (n : ℕ) → 1 + n ≡ suc n

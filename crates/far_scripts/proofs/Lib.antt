@@ -1,3 +1,3 @@
 pub mod SaidLaws
-pub mod ScriptLaws
-pub mod BreakLaws
+pub mod ScriptsLaws
+pub mod BreaksLaws

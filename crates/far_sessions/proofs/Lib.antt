@@ -1,1 +1,1 @@
-mod Sessions
+mod ClosingSessions

@@ -11,7 +11,7 @@ use crate::stripe_cell::{CellsTag, StripeCell};
 use crossbeam_utils::atomic::seq_cell::Doing;
 use far_history::reading::{reading_of, words_of};
 use far_history::steps::{add, join_session, look, split_session};
-use far_history::{PlanTag, Reading, PassView};
+use far_history::{PassView, PlanTag, Reading};
 use far_kept::Kept;
 use far_types::Edit;
 use std::marker::{Model, PhantomData};

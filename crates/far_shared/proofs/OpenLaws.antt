@@ -30,10 +30,10 @@ of-ok P (Ok y) x same holds = subst P same holds
 of-ok P (Err e) x same holds = absurd same
 
 -- what holds of a value once the work on it was done holds of what was kept
-pub kept-done : {T U E F : Type 0} (P : T → Type 0) (value : T) (kept : Result T E) (done : Result U F) → IfOk kept (λ x. (x ≡ value) × IsOk done) → OnOk done (P value) → IfOk kept P
-kept-done P value (Ok x) (Ok u) same holds = subst P (sym same.0) holds
-kept-done P value (Ok x) (Err f) same holds = absurd (true≢false (sym same.1))
-kept-done P value (Err e) done same holds = tt
+pub value-done : {T U E F : Type 0} (P : T → Type 0) (value : T) (kept : Result T E) (done : Result U F) → IfOk kept (λ x. (x ≡ value) × IsOk done) → OnOk done (P value) → IfOk kept P
+value-done P value (Ok x) (Ok u) same holds = subst P (sym same.0) holds
+value-done P value (Ok x) (Err f) same holds = absurd (true≢false (sym same.1))
+value-done P value (Err e) done same holds = tt
 
 -- why the work was not done is why nothing was kept
 pub why-done : {T U E : Type 0} (Q : E → Type 0) (kept : Result T E) (done : Result U E) → IfErr kept (IsErrOf done) → IfErr done Q → IfErr kept Q

@@ -42,6 +42,6 @@ pub record IsAsked (p : Planned) (a : ℕ) (result : Result Answer Refusal) : Ty
   pub three : Table
   pub left : IsLeft p zero × IsLeft p one × IsLeft p two × IsLeft p three
   pub alike : OnOk result (AreAlike a zero one two three)
-  pub built : OnOk result (pending_in_all a zero one two three ≡ 0)
+  pub scanned : OnOk result (pending_in_all a zero one two three ≡ 0)
   pub answer : IfOk result (λ answer. IfSome (spec_at zero a) (λ spec. answer ≡ answer_over spec (all_rows zero one two three)))
   pub refused : IfErr result (AskRefusal a zero one two three)

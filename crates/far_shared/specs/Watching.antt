@@ -5,7 +5,7 @@ use Rattle.far_types.specs.declared.refusal.Refusal.{Refusal}
 use Rattle.far_types.specs.declared.refusal.Refusal.TheVariants as refusal
 use Rattle.far_types.specs.declared.spec.Spec.{Spec}
 use Rattle.far_types.specs.Bounds.{spec_refusal}
-use Rattle.far_table.specs.Watching.{registered_at, with_aggregate}
+use Rattle.far_table.specs.Watching.{after_register_at, with_aggregate}
 use Rattle.far_shared.specs.Stripes.{StripeState}
 
 -- it cannot be had over the schema; or there are too many, or they have not the same number in all four, or memory ran out
@@ -15,12 +15,12 @@ WatchRefusal schema spec given = (spec_refusal schema spec ≡ Some given)
 
 module _ {K : Type 0} where
   -- a stripe whose table has an aggregate more, under a number
-  abbrev pub registered : ℕ → Spec → StripeState K → StripeState K
-  registered a spec h = record h { state = record h.state { table = registered_at a spec h.state.table } }
+  abbrev pub after_register : ℕ → Spec → StripeState K → StripeState K
+  after_register a spec h = record h { state = record h.state { table = after_register_at a spec h.state.table } }
 
   -- a stripe whose table has no aggregate under a number
-  abbrev pub unregistered : ℕ → StripeState K → StripeState K
-  unregistered a h = record h { state = record h.state { table = with_aggregate a None h.state.table } }
+  abbrev pub after_unregister : ℕ → StripeState K → StripeState K
+  after_unregister a h = record h { state = record h.state { table = with_aggregate a None h.state.table } }
 
   -- a stripe but for how many registrations were made: its history, rows, objects, pins and aggregates
   abbrev pub uncounted : StripeState K → StripeState K

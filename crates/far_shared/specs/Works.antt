@@ -79,7 +79,7 @@ pub record KeepsRows (old new : Table) : Type 0 where
   pub places : new.places ≡ old.places
   pub edits : new.edits ≡ old.edits
   pub aggregates : length new.aggregates ≡ length old.aggregates
-  pub built : (a : ℕ) → pending_in (aggregate_at old a) ≡ 0 → aggregate_at new a ≡ aggregate_at old a
+  pub scanned : (a : ℕ) → pending_in (aggregate_at old a) ≡ 0 → aggregate_at new a ≡ aggregate_at old a
   pub fewer : (a : ℕ) → pending_in (aggregate_at new a) ≤ pending_in (aggregate_at old a)
 
 module _ {K : Type 0} (s : State K) where
@@ -87,12 +87,12 @@ module _ {K : Type 0} (s : State K) where
   abbrev pub IsAllScanned : Type 0
   IsAllScanned = (a g : ℕ) → is_pending_in (aggregate_at s.table a) g ≡ false
 
-  -- a pending row group is built by a job, or none is pending
+  -- a pending row group is scanned by a job, or none is pending
   abbrev pub IsBuildJob : Option (JobRecord K) → Type 0
   IsBuildJob None = IsAllScanned
   IsBuildJob (Some job) = (a : ℕ) × (g : ℕ) × (is_pending_in (aggregate_at s.table a) g ≡ true) × IsOffloadJob s a g job
 
-  -- why a pending row group is not built by a job: the far store does not have what it needs, or memory ran out
+  -- why a pending row group is not scanned by a job: the far store does not have what it needs, or memory ran out
   abbrev pub BuildRefusal : Refusal → Type 0
   BuildRefusal given = (a : ℕ) × (g : ℕ) × (is_pending_in (aggregate_at s.table a) g ≡ true) × MayRefuse (offload_refusal (live s) (aggregate_at s.table a) g) true given
 
@@ -108,7 +108,7 @@ module _ {K : Type 0} (s : State K) where
   BeginRefusal (work.Fetch stripe name) given = fetch_refusal s.rows name.column name.group ≡ Some given
   BeginRefusal (work.Build stripe) given = BuildRefusal given
 
-  -- a pending row group is built by a scan if it can be, otherwise by a job
+  -- a pending row group is scanned in place if it can be, otherwise by a job
   abbrev pub BeginsBuild : Building (JobRecord K) → Type 0
   BeginsBuild building.Nothing = IsAllScanned
   BeginsBuild (building.Scan a g) = (is_pending_in (aggregate_at s.table a) g ≡ true) × (scan_refusal (live s) (aggregate_at s.table a) g ≡ None)

@@ -1,6 +1,6 @@
 // Edits of the table of a stripe, and what its gauge reads afterwards.
 ghost use Rattle.std.specs.Prelude.{◌≡◌, ◌+◌, ◌<◌, ◌^◌, ℕ, List, length, Some, None, IfOk, IfErr, OnOk, OnErr};
-ghost use Rattle.far_types.specs.Edits.{edited, edit_refusal};
+ghost use Rattle.far_types.specs.Edits.{after_edit, edit_refusal};
 ghost use Rattle.far_rows.specs.Jobs.{AreAt};
 ghost use Rattle.far_table.specs.Watching.{aggregate_at};
 ghost use Rattle.far_frame.specs.Effects.{Accepts, edit_reply};
@@ -27,7 +27,7 @@ pub(crate) struct EditOutcome {
 fn make<S: FarTickets>(frame: &mut Frame<S>, edit: Edit) -> Result<u32, Refusal>
     requires column_indexes { length frame.old.rows.column_indexes ≡ length frame.old.table.schema }
     ensures may { OnOk result (edit_refusal frame.old.table edit ≡ None) }
-    ensures made { OnOk result (frame.new.table ≡ edited edit frame.old.table) }
+    ensures made { OnOk result (frame.new.table ≡ after_edit edit frame.old.table) }
     ensures accepted { OnOk result (Accepts S.content frame.old (step.Edit edit) (edit_reply frame.old.table edit) frame.new) }
     ensures place { IfOk result (λ place. place ≡ place_of frame.old.table edit) }
     ensures refused { IfErr result (WhyNot frame.old.table edit) }
@@ -75,7 +75,7 @@ pub(crate) fn change<N: PlanTag, S: FarTickets>(
     requires column_indexes { length frame.old.rows.column_indexes ≡ length frame.old.table.schema }
     requires few { edits < 2 ^ 63 }
     ensures may { OnOk result (edit_refusal frame.old.table edit ≡ None) }
-    ensures made { OnOk result (frame.new.table ≡ edited edit frame.old.table) }
+    ensures made { OnOk result (frame.new.table ≡ after_edit edit frame.old.table) }
     ensures accepted { OnOk result (Accepts S.content frame.old (step.Edit edit) (edit_reply frame.old.table edit) frame.new) }
     ensures place { IfOk result (λ changed. changed.place ≡ place_of frame.old.table edit) }
     ensures after { IfOk result (λ changed. changed.after ≡ record { edits = edits + 1; count = (folded N.plan.gauge frame.new.table.places).0; sum = (folded N.plan.gauge frame.new.table.places).1 }) }

@@ -102,12 +102,12 @@ fn none_left(one: u32, two: u32, three: u32, four: u32) -> Result<(), Refusal>
     Ok(())
 }
 
-/// Returns all four if they are built. Refused as the building was; else with `NoMemory` (1) if one is missing.
+/// Returns all four if their row groups are scanned. Refused as the scan was; otherwise with `NoMemory` (1) if one is missing.
 ///
 /// It takes values of any type. For the proof: answers that live where a function may return are long to prove, and here they
 /// cost nothing.
-fn all_built<T: Drop>(
-    built: Result<(), Refusal>,
+fn all_scanned<T: Drop>(
+    scanned: Result<(), Refusal>,
     zero: Option<T>,
     one: Option<T>,
     two: Option<T>,
@@ -117,10 +117,10 @@ fn all_built<T: Drop>(
     ensures one { IfOk result (λ four. one ≡ Some four.one) }
     ensures two { IfOk result (λ four. two ≡ Some four.two) }
     ensures three { IfOk result (λ four. three ≡ Some four.three) }
-    ensures built { OnOk result (IsOk built) }
-    ensures refused { IfErr result (λ e. IsErrOf built e ⊎ (IsOk built × (e ≡ Refusal.NoMemory))) }
+    ensures scanned { OnOk result (IsOk scanned) }
+    ensures refused { IfErr result (λ e. IsErrOf scanned e ⊎ (IsOk scanned × (e ≡ Refusal.NoMemory))) }
 {
-    match built {
+    match scanned {
         Ok(()) => match (zero, one, two, three) {
             (Some(zero), Some(one), Some(two), Some(three)) => Ok(Four {
                 zero,
@@ -211,15 +211,15 @@ fn answer_alike<S: FarTickets>(
     requires three { spec_at three.now.table a ≡ Some spec.now }
     requires four { spec_at four.now.table a ≡ Some spec.now }
     ensures answer { IfOk result (λ answer. answer ≡ answer_over spec.now (all_rows one.now.table two.now.table three.now.table four.now.table)) }
-    ensures built { OnOk result (pending_in_all a one.now.table two.now.table three.now.table four.now.table ≡ 0) }
+    ensures scanned { OnOk result (pending_in_all a one.now.table two.now.table three.now.table four.now.table ≡ 0) }
     ensures refused { IfErr result (AnyRefusal (pending_in_all a one.now.table two.now.table three.now.table four.now.table)) }
 {
     let (left_one, answer_one) = asked(one, spec, a);
     let (left_two, answer_two) = asked(two, spec, a);
     let (left_three, answer_three) = asked(three, spec, a);
     let (left_four, answer_four) = asked(four, spec, a);
-    let built = none_left(left_one, left_two, left_three, left_four);
-    match all_built(built, answer_one, answer_two, answer_three, answer_four) {
+    let scanned = none_left(left_one, left_two, left_three, left_four);
+    match all_scanned(scanned, answer_one, answer_two, answer_three, answer_four) {
         Ok(all) => merge(alloc, spec, all.zero, all.one, all.two, all.three),
         Err(refusal) => Err(refusal),
     }
@@ -243,7 +243,7 @@ pub fn answer_four<S: FarTickets>(
 ) -> Result<Answer, Refusal>
     ensures answer { IfOk result (λ answer. IfSome (spec_at one.now.table a) (λ spec. answer ≡ answer_over spec (all_rows one.now.table two.now.table three.now.table four.now.table))) }
     ensures alike { OnOk result (AreAlike a one.now.table two.now.table three.now.table four.now.table) }
-    ensures built { OnOk result (pending_in_all a one.now.table two.now.table three.now.table four.now.table ≡ 0) }
+    ensures scanned { OnOk result (pending_in_all a one.now.table two.now.table three.now.table four.now.table ≡ 0) }
     ensures refused { IfErr result (FourRefusal a one.now.table two.now.table three.now.table four.now.table) }
 {
     if !are_alike(one, two, three, four, a) {

@@ -2,7 +2,7 @@
 ghost use Rattle.std.specs.Prelude.{◌≡◌, ◌≢◌, ◌<◌, length, is_none, Some, None, IfOk, IfErr, IfSome, IsTrue, OnOk, OnErr};
 ghost use Rattle.far_types.specs.Bounds.{spec_refusal};
 ghost use Rattle.far_table.specs.Watching.{aggregate_at, lowest_free};
-ghost use Rattle.far_shared.specs.Watching.{WatchRefusal, registered, uncounted, unregistered};
+ghost use Rattle.far_shared.specs.Watching.{WatchRefusal, after_register, uncounted, after_unregister};
 
 use crate::shared::Shared;
 use crate::stripe::{Stripe, TableTag};
@@ -61,7 +61,7 @@ impl<N: PlanTag, B: TableTag, S: FarTickets, const I: usize> Stripe<N, B, S, I> 
 
     /// Registers an aggregate under the next number. A refused call changes nothing.
     fn watch(&mut self, spec: Spec) -> Result<u32, Refusal>
-        ensures ok { IfOk result (λ a. (lowest_free self.old.state.table ≡ Some a) × (self.new ≡ registered a spec self.old)) }
+        ensures ok { IfOk result (λ a. (lowest_free self.old.state.table ≡ Some a) × (self.new ≡ after_register a spec self.old)) }
         ensures err { OnErr result (self.new ≡ self.old) }
         ensures refused { IfErr result (WatchRefusal N.plan.schema spec) }
     {
@@ -73,7 +73,7 @@ impl<N: PlanTag, B: TableTag, S: FarTickets, const I: usize> Stripe<N, B, S, I> 
     /// Forgets the aggregate of a number, if there is one.
     fn unwatch(&mut self, a: u32)
         requires { a ≢ 0 }
-        ensures { self.new ≡ unregistered a self.old }
+        ensures { self.new ≡ after_unregister a self.old }
     {
         let _done = self.frame.unwatch(a);
     }
@@ -90,7 +90,7 @@ fn watch_two<N: PlanTag, B: TableTag, S: FarTickets, const I: usize, const J: us
     requires allowed { spec_refusal N.plan.schema spec.now ≡ None }
     requires one { lowest_free one.old.state.table ≡ Some a }
     requires other { lowest_free other.old.state.table ≡ Some a }
-    ensures both { OnOk result ((one.new ≡ registered a spec.now one.old) × (other.new ≡ registered a spec.now other.old)) }
+    ensures both { OnOk result ((one.new ≡ after_register a spec.now one.old) × (other.new ≡ after_register a spec.now other.old)) }
     ensures none { OnErr result ((uncounted one.new ≡ uncounted one.old) × (uncounted other.new ≡ uncounted other.old)) }
     ensures refused { IfErr result (WatchRefusal N.plan.schema spec.now) }
 {
@@ -140,7 +140,7 @@ fn watch_four<N: PlanTag, B: TableTag, S: FarTickets>(
 ) -> Result<u32, Refusal>
     ensures number { IfOk result (λ a. (a ≢ 0) × (a < 32)) }
     ensures allowed { OnOk result (spec_refusal N.plan.schema spec.now ≡ None) }
-    ensures all { IfOk result (λ a. (zero.new ≡ registered a spec.now zero.old) × (one.new ≡ registered a spec.now one.old) × (two.new ≡ registered a spec.now two.old) × (three.new ≡ registered a spec.now three.old)) }
+    ensures all { IfOk result (λ a. (zero.new ≡ after_register a spec.now zero.old) × (one.new ≡ after_register a spec.now one.old) × (two.new ≡ after_register a spec.now two.old) × (three.new ≡ after_register a spec.now three.old)) }
     ensures none { OnErr result ((uncounted zero.new ≡ uncounted zero.old) × (uncounted one.new ≡ uncounted one.old) × (uncounted two.new ≡ uncounted two.old) × (uncounted three.new ≡ uncounted three.old)) }
     ensures refused { IfErr result (WatchRefusal N.plan.schema spec.now) }
 {

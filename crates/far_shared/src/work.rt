@@ -69,7 +69,7 @@ pub struct Report {
     pub refused: u64,
 }
 
-/// How a pending row group is built into its aggregate. The parameter is a job.
+/// How a pending row group is scanned into its aggregate. The parameter is a job.
 ///
 /// ```
 /// match building_under(rt, lock, store)? {

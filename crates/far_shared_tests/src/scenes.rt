@@ -50,7 +50,7 @@ pub enum Works {
     Two,
     // The numbers of stripe 1 are brought back.
     Fetch,
-    // Stripe 1 is built.
+    // The row groups of stripe 1 are scanned.
     Build,
     // A fifth stripe, a column that is not there, and nothing to build.
     Refused,

@@ -77,7 +77,7 @@ static STRIPES: &[Scene] = &[
         ])],
         end: End::Leaves(&[ROW_OF_5, ROW_OF_6, ROW_OF_7, ROW_OF_8]),
     },
-    // Extrema are built by scans on each stripe, and others from the far store's copies.
+    // Extrema are scanned in place on each stripe, and others from the far store's copies.
     Scene {
         name: "an_aggregate_answers_over_four_stripes_once_each_is_built",
         table: Table::Numbers,

@@ -1,4 +1,4 @@
-// What is done beside sessions that edit: objects move, aggregates are registered and built, gauges are read.
+// What is done beside sessions that edit: objects move, aggregates are registered and scanned, gauges are read.
 use crate::scenes::{Replied, Reply, Step};
 use crate::signals::Signals;
 use far_shared::Work;

@@ -1,3 +1,3 @@
-pub mod ScriptLaws
-pub mod BreakLaws
-pub mod SessionLaws
+pub mod SessionsScripts
+pub mod BreaksLaws
+pub mod SessionsLaws

@@ -1,1 +1,1 @@
-pub mod Tickets
+pub mod StoreStateTickets

@@ -140,7 +140,12 @@ impl<E: Engine, R: Sync + Drop> FarRead for EngineStore<E, R> {
 }
 
 impl<E: Engine, R: Sync + Drop + Wait> FarStore for EngineStore<E, R> {
-    fn put(&self, alloc: Global, meter: &mut Meter, bytes: &[u8]) -> Result<EngineTicket<E>, Refusal>
+    fn put(
+        &self,
+        alloc: Global,
+        meter: &mut Meter,
+        bytes: &[u8],
+    ) -> Result<EngineTicket<E>, Refusal>
         requires few { meter.old < 2 ^ 63 }
         ensures here { IfOk result (λ ticket. IsOf ticket self.now.id) }
         ensures content { IfOk result (λ ticket. E.written ticket.value ≡ bytes.now) }

@@ -10,7 +10,7 @@ use Rattle.far_types.specs.declared.edit.Edit.TheVariants as edit
 use Rattle.far_types.specs.declared.limits.Limits.{Limits}
 use Rattle.far_types.specs.declared.refusal.Refusal.{Refusal}
 use Rattle.far_types.specs.declared.refusal.Refusal.TheVariants as refusal
-use Rattle.far_types.specs.Edits.{edit_faults, edited, is_dead, is_of_other_kind, places_after, removed, with_cell}
+use Rattle.far_types.specs.Edits.{edit_faults, after_edit, is_dead, is_of_other_kind, places_after, after_remove, with_cell}
 use Rattle.far_types.specs.Bounds.{AreLimits}
 use Rattle.far_types.specs.Cells.{is_too_long}
 use Rattle.far_types.specs.FirstOf.{first_of}
@@ -27,15 +27,15 @@ use Rattle.far_aggregates.specs.Pairs.{alive_with}
 use Rattle.far_aggregates.specs.declared.pending.Pending.{Pending}
 use Rattle.far_aggregates.specs.Accumulators.{RegistryEntry, Keeps, PlacesFit, registered_of}
 use Rattle.far_aggregates.specs.Pending.{AreUpToDate, RetractsAll}
-use Rattle.far_aggregates.proofs.GroupLaws.{length-changed}
+use Rattle.far_aggregates.proofs.TableGroups.{length-changed}
 use Rattle.far_table.specs.State.{LiveState, AreChecked}
 use Rattle.far_table.specs.TableRows.{TableRows, asked}
 use Rattle.far_table.specs.Edits.{edit_due, IsMade, IsAppended, IsPut}
 use Rattle.far_table.specs.Live.{IsLive, IsEdited, Refuses, state_of}
-use Rattle.far_table.proofs.First.{free-head}
-use Rattle.far_table.proofs.Faultless.{remove-right, faultless, all-here}
+use Rattle.far_table.proofs.FirstOfLaws.{free-head}
+use Rattle.far_table.proofs.EditsAcceptance.{remove-right, faultless, all-here}
 use Rattle.far_table.proofs.Places.{flag-there, cells-get}
-use Rattle.far_table.proofs.DueSet.{found-at}
+use Rattle.far_table.proofs.EditsSetRefusals.{found-at}
 
 abbrev no_aggregate : Option Registered
 no_aggregate = None
@@ -53,27 +53,27 @@ module _ {K : Type 0} where
   pub same-live : (t : TableRows K) (r : ℕ) (was now : List RegistryEntry) → registered_of now ≡ registered_of was → IsLive t r was → Keeps t.limits.group t.places now → IsLive t r now
   same-live t r was now same live kept = record { registrations_few = live.registrations_few; kept = kept; checked = subst (AreChecked t.schema) (sym same) live.checked }
 
-  -- another row is taken
-  pub taken-state : (old new : TableRows K) (r : ℕ) (registry : List RegistryEntry) → new ≡ record old { new_row = new.new_row } → state_of new r registry ≡ state_of old r registry
-  taken-state old new r registry stays = ap (λ (t : TableRows K). state_of t r registry) stays
+  -- another row is loaded
+  pub loaded-state : (old new : TableRows K) (r : ℕ) (registry : List RegistryEntry) → new ≡ record old { new_row = new.new_row } → state_of new r registry ≡ state_of old r registry
+  loaded-state old new r registry stays = ap (λ (t : TableRows K). state_of t r registry) stays
 
-  pub taken-live : (old new : TableRows K) (r : ℕ) (registry : List RegistryEntry) → new ≡ record old { new_row = new.new_row } → IsLive old r registry → IsLive new r registry
-  taken-live old new r registry stays live = subst (λ (t : TableRows K). IsLive t r registry) (sym stays) record { registrations_few = live.registrations_few; kept = live.kept; checked = live.checked }
+  pub loaded-live : (old new : TableRows K) (r : ℕ) (registry : List RegistryEntry) → new ≡ record old { new_row = new.new_row } → IsLive old r registry → IsLive new r registry
+  loaded-live old new r registry stays live = subst (λ (t : TableRows K). IsLive t r registry) (sym stays) record { registrations_few = live.registrations_few; kept = live.kept; checked = live.checked }
 
-  -- a call is refused with what is due, and the state that is seen stays
-  pub refuses-due : (shown seen after : LiveState K) (e : Edit) (r : Refusal) → shown ≡ seen → after ≡ shown → Some r ≡ edit_due shown e → Refuses (edit_due seen e) true seen r after
-  refuses-due shown seen after e r same stays is = (stays ∙ same, subst (λ (s : LiveState K). MayRefuse (edit_due s e) true r) same (subst (λ (o : Option Refusal). MayRefuse o true r) is refl))
+  -- a call is refused with what is due, and the observed state stays
+  pub refuses-due : (shown observed after : LiveState K) (e : Edit) (r : Refusal) → shown ≡ observed → after ≡ shown → Some r ≡ edit_due shown e → Refuses (edit_due observed e) true observed r after
+  refuses-due shown observed after e r same stays is = (stays ∙ same, subst (λ (s : LiveState K). MayRefuse (edit_due s e) true r) same (subst (λ (o : Option Refusal). MayRefuse o true r) is refl))
 
   -- likewise if nothing is due, for lack of memory
-  pub refuses-memory : (shown seen after : LiveState K) (e : Edit) (r : Refusal) → shown ≡ seen → after ≡ shown → None ≡ edit_due shown e → r ≡ refusal.NoMemory → Refuses (edit_due seen e) true seen r after
-  refuses-memory shown seen after e r same stays free is = (stays ∙ same, subst (λ (s : LiveState K). MayRefuse (edit_due s e) true r) same (subst (λ (o : Option Refusal). MayRefuse o true r) free (is, refl)))
+  pub refuses-memory : (shown observed after : LiveState K) (e : Edit) (r : Refusal) → shown ≡ observed → after ≡ shown → None ≡ edit_due shown e → r ≡ refusal.NoMemory → Refuses (edit_due observed e) true observed r after
+  refuses-memory shown observed after e r same stays free is = (stays ∙ same, subst (λ (s : LiveState K). MayRefuse (edit_due s e) true r) same (subst (λ (o : Option Refusal). MayRefuse o true r) free (is, refl)))
 
   -- what is kept is that of the places, as the aggregates' calls ask for it
-  pub kept-fit : (t : TableRows K) (r : ℕ) (registry : List RegistryEntry) (limits : Limits) → limits ≡ t.limits → AreLimits t.limits → length t.places ≤ t.limits.places → PlacesFit t.places → IsLive t r registry → AreUpToDate limits.group t.places registry
-  kept-fit t r registry limits same bounds few fit live = record { kept = subst (λ (l : Limits). Keeps l.group t.places registry) (sym same) live.kept; few = omega (arith, few, bounds.places_high); fit = fit }
+  pub keeps-fit : (t : TableRows K) (r : ℕ) (registry : List RegistryEntry) (limits : Limits) → limits ≡ t.limits → AreLimits t.limits → length t.places ≤ t.limits.places → PlacesFit t.places → IsLive t r registry → AreUpToDate limits.group t.places registry
+  keeps-fit t r registry limits same bounds few fit live = record { kept = subst (λ (l : Limits). Keeps l.group t.places registry) (sym same) live.kept; few = omega (arith, few, bounds.places_high); fit = fit }
 
   -- an edit is made
-  pub made-table : (old new : TableRows K) (e : Edit) (r : ℕ) (was now : List RegistryEntry) → IsMade old new e → registered_of now ≡ registered_of was → (state_of new r now).table ≡ edited e (state_of old r was).table
+  pub made-table : (old new : TableRows K) (e : Edit) (r : ℕ) (was now : List RegistryEntry) → IsMade old new e → registered_of now ≡ registered_of was → (state_of new r now).table ≡ after_edit e (state_of old r was).table
   made-table old new e r was now made same = λ i. record { schema = made.schema i; limits = made.limits i; places = made.places i; edits = made.edits i; registrations = r; aggregates = same i }
 
   pub made-checked : (old new : TableRows K) (e : Edit) (r : ℕ) (was now : List RegistryEntry) → IsMade old new e → registered_of now ≡ registered_of was → IsLive old r was → AreChecked new.schema (registered_of now)
@@ -88,22 +88,22 @@ module _ {K : Type 0} where
       let bounds : limits ≡ new.limits = same ∙ sym made.limits in
       subst (λ (l : Limits). RetractsAll l.group (p / l.group) new.places now pending) bounds (subst (λ (ps : List Place). RetractsAll limits.group (p / limits.group) ps now pending) (sym made.places) retracts)
 
--- the row that was taken is appended
-module _ {K : Type 0} (content : K → List ℕ) (old mid new : TableRows K) (row : List Cell) (stays : mid ≡ record old { new_row = mid.new_row }) (taken : row_of mid.held.column_indexes mid.new_row ≡ row) (appended : IsAppended content mid new) where
+-- the loaded row is appended
+module _ {K : Type 0} (content : K → List ℕ) (old mid new : TableRows K) (row : List Cell) (stays : mid ≡ record old { new_row = mid.new_row }) (loaded : row_of mid.held.column_indexes mid.new_row ≡ row) (appended : IsAppended content mid new) where
   made : IsMade mid new (edit.Insert row)
-  made = subst (λ (cells : List Cell). IsMade mid new (edit.Insert cells)) taken appended.made
+  made = subst (λ (cells : List Cell). IsMade mid new (edit.Insert cells)) loaded appended.made
 
   pub inserted : (r : ℕ) (was now : List RegistryEntry) → None ≡ edit_due (asked old) (edit.Insert row) → registered_of now ≡ registered_of was → IsEdited content (state_of old r was) (edit.Insert row) (state_of new r now)
   inserted r was now free same = record {
     due = sym free;
-    table = made-table mid new (edit.Insert row) r was now made same ∙ ap (λ (s : LiveState K). edited (edit.Insert row) s.table) (taken-state old mid r was stays);
-    rows = subst (λ (t : TableRows K). (values : Values) × (row_of t.held.column_indexes values ≡ row) × IsPushed content t.held values new.held) stays (mid.new_row, taken, appended.held);
+    table = made-table mid new (edit.Insert row) r was now made same ∙ ap (λ (s : LiveState K). after_edit (edit.Insert row) s.table) (loaded-state old mid r was stays);
+    rows = subst (λ (t : TableRows K). (values : Values) × (row_of t.held.column_indexes values ≡ row) × IsPushed content t.held values new.held) stays (mid.new_row, loaded, appended.held);
   }
 
   pub inserted-live : (r : ℕ) (was now : List RegistryEntry) → registered_of now ≡ registered_of was → IsLive old r was → Keeps mid.limits.group (places_after (edit.Insert row) mid.places) now → IsLive new r now
   inserted-live r was now same live kept =
       let bounds : Keeps new.limits.group (places_after (edit.Insert row) mid.places) now = subst (λ (l : Limits). Keeps l.group (places_after (edit.Insert row) mid.places) now) (sym made.limits) kept in
-      made-live mid new (edit.Insert row) r was now made same (taken-live old mid r was stays live) (subst (λ (ps : List Place). Keeps new.limits.group ps now) (sym made.places) bounds)
+      made-live mid new (edit.Insert row) r was now made same (loaded-live old mid r was stays live) (subst (λ (ps : List Place). Keeps new.limits.group ps now) (sym made.places) bounds)
 
 -- a value is put in a column of a place
 module _ {K : Type 0} (old new : TableRows K) (p c : ℕ) where
@@ -186,7 +186,7 @@ module _ {K : Type 0} (t : TableRows K) (p : ℕ) (free : None ≡ edit_due (ask
   remove-here = all-here (asked t) (edit.Remove p) (sym free)
 
   pub remove-inside : (new : TableRows K) → IsMade t new (edit.Remove p) → p < length new.places
-  remove-inside new made = let same = ap length made.places ∙ length-changed removed p t.places in omega (arith, remove-below, same)
+  remove-inside new made = let same = ap length made.places ∙ length-changed after_remove p t.places in omega (arith, remove-below, same)
 
 -- the place and the column of a set that is not refused
 module _ {K : Type 0} (t : TableRows K) (p c : ℕ) (cell : Cell) (free : None ≡ edit_due (asked t) (edit.Set p c cell)) where

@@ -44,7 +44,7 @@ module _ {K : Type 0} (s : LiveState K) where
   edit_due e = first_of (edit_faults s.table.schema s.table.limits s.table.places e ++ obstacles e)
 
 module _ {K : Type 0} (old new : TableRows K) where
-  -- the edit is made: the places are those of the plain table, and it counts. The row that was taken stays where it is
+  -- the edit is made: the places are those of the plain table, and it counts. The loaded row stays where it is
   pub record IsMade (e : Edit) : Type 0 where
     pub schema : new.schema ≡ old.schema
     pub limits : new.limits ≡ old.limits
@@ -53,7 +53,7 @@ module _ {K : Type 0} (old new : TableRows K) where
     pub new_row : new.new_row ≡ old.new_row
 
 module _ {K : Type 0} (content : K → List ℕ) where
-  -- the row that was taken may be appended: nothing refuses it, and its objects say the same
+  -- the loaded row may be appended: nothing refuses it, and its objects say the same
   pub record MayPush (t : TableRows K) : Type 0 where
     pub due : edit_due (asked t) (edit.Insert (row_of t.held.column_indexes t.new_row)) ≡ None
     pub objects : push_refusal content t.held t.new_row ≡ None
@@ -65,7 +65,7 @@ module _ {K : Type 0} (content : K → List ℕ) where
     pub objects : set_refusal content t.held column place value ≡ None
 
   module _ (old new : TableRows K) where
-    -- the row that was taken is appended
+    -- the loaded row is appended
     pub record IsAppended : Type 0 where
       pub made : IsMade old new (edit.Insert (row_of old.held.column_indexes old.new_row))
       pub held : IsPushed content old.held old.new_row new.held

@@ -3,7 +3,7 @@ use Rattle.std.specs.Prelude.{◌≡◌, ℕ, ◌≤◌, ◌^◌, Bool, List, No
 use Rattle.far_types.specs.declared.edit.Edit.{Edit}
 use Rattle.far_types.specs.declared.edit.Edit.TheVariants as edit
 use Rattle.far_types.specs.declared.refusal.Refusal.{Refusal}
-use Rattle.far_types.specs.Edits.{edited}
+use Rattle.far_types.specs.Edits.{after_edit}
 use Rattle.far_types.specs.MayRefuse.{MayRefuse}
 use Rattle.far_aggregates.specs.Accumulators.{RegistryEntry, Keeps, registered_of}
 use Rattle.far_rows.specs.declared.new_cell.NewCell.{NewCell}
@@ -43,5 +43,5 @@ module _ {K : Type 0} where
   -- an edit is made
   pub record IsEdited (content : K → List ℕ) (old : LiveState K) (e : Edit) (new : LiveState K) : Type 0 where
     pub due : edit_due old e ≡ None
-    pub table : new.table ≡ edited e old.table
+    pub table : new.table ≡ after_edit e old.table
     pub rows : Moves content old.rows e new.rows

@@ -12,7 +12,7 @@ use Rattle.far_rows.specs.declared.column_index.ColumnIndex.{ColumnIndex}
 use Rattle.far_rows.specs.Rows.{Rows}
 use Rattle.far_rows.specs.Copies.{copy_of}
 use Rattle.far_table.specs.State.{LiveState}
-use Rattle.far_table.specs.Watching.{aggregate_at, group_count, scanned_at}
+use Rattle.far_table.specs.Watching.{aggregate_at, group_count, after_scan_at}
 
 -- a build as it was begun: the number of the table, the aggregate, how many registrations were made before its own, and the row group.
 -- The job is what is to be folded: the specification, a ticket for each column that it needs, and the flags of the row group's places
@@ -79,7 +79,7 @@ module _ {K : Type 0} where
     abbrev pub IsMergeable : Type 0
     IsMergeable = IsSomeAnd (aggregate_at s.table build.aggregate) HoldsStill
 
-    -- and then its row group is built into its aggregate
+    -- and then its row group is scanned into its aggregate
     pub record IsMerged (new : LiveState K) : Type 0 where
       pub accepted : IsMergeable
-      pub state : new ≡ record s { table = scanned_at build.aggregate build.group s.table }
+      pub state : new ≡ record s { table = after_scan_at build.aggregate build.group s.table }

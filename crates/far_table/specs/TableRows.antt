@@ -13,7 +13,7 @@ use Rattle.far_rows.specs.Rows.{Rows}
 use Rattle.far_rows.specs.Places.{AreOf, places_in}
 use Rattle.far_rows.specs.Opening.{empty_rows}
 
--- the columns' kinds, the limits, the places, and how many edits were accepted. The new row is the one taken last, which may be appended.
+-- the columns' kinds, the limits, the places, and how many edits were accepted. The new row is the one loaded last, which may be appended.
 -- Behind it are the rows over objects that hold the places
 pub record TableRows (K : Type 0) : Type 0 where
   pub schema : List Kind

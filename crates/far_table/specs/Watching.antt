@@ -8,10 +8,10 @@ use Rattle.far_types.specs.Bounds.{needs, spec_refusal}
 use Rattle.far_types.specs.FirstOf.{first_of}
 use Rattle.far_types.specs.Table.{Table, Registered, groups, all_pending, is_pending}
 use Rattle.far_aggregates.specs.Aggregates.{flattened, free_from}
-use Rattle.far_aggregates.specs.Scans.{scanned_entry}
+use Rattle.far_aggregates.specs.Scans.{entry_after_scan}
 use Rattle.far_rows.specs.declared.column_index.ColumnIndex.{ColumnIndex}
 use Rattle.far_rows.specs.Rows.{Rows}
-use Rattle.far_rows.specs.Refusing.{told_at}
+use Rattle.far_rows.specs.Refusing.{away_at}
 use Rattle.far_table.specs.State.{LiveState}
 
 -- the aggregate that is registered under a number
@@ -43,7 +43,7 @@ module _ {K : Type 0} where
   -- the row group is away
   abbrev pub needed_from : Rows K → Spec → ℕ → ℕ → List ColumnIndex → List (Bool × Refusal)
   needed_from r spec g n [] = []
-  needed_from r spec g n (s ∷ column_indexes) = (needs spec n && (told_at r g s).0, refusal.Absent n g) ∷ needed_from r spec g (n + 1) column_indexes
+  needed_from r spec g n (s ∷ column_indexes) = (needs spec n && (away_at r g s).0, refusal.Absent n g) ∷ needed_from r spec g (n + 1) column_indexes
 
   -- a row group is scanned if it has a place, is still pending, and the columns that the aggregate needs are local
   abbrev pub scan_refusal : LiveState K → Option Registered → ℕ → Option Refusal
@@ -62,26 +62,26 @@ abbrev pub registered_now : Spec → Table → Registered
 registered_now spec table = record { spec = spec; registration = table.registrations; pending = all_pending table.limits.group table.places }
 
 -- the table once an aggregate is registered under this number
-abbrev pub registered_at : ℕ → Spec → Table → Table
-registered_at a spec table = record (with_aggregate a (Some (registered_now spec table)) table) { registrations = table.registrations + 1 }
+abbrev pub after_register_at : ℕ → Spec → Table → Table
+after_register_at a spec table = record (with_aggregate a (Some (registered_now spec table)) table) { registrations = table.registrations + 1 }
 
 -- a row group less is still pending in the aggregate of a number
-abbrev pub scanned_at : ℕ → ℕ → Table → Table
-scanned_at a g table = with_aggregate a (scanned_entry g (aggregate_at table a)) table
+abbrev pub after_scan_at : ℕ → ℕ → Table → Table
+after_scan_at a g table = with_aggregate a (entry_after_scan g (aggregate_at table a)) table
 
 module _ {K : Type 0} (old new : LiveState K) where
   -- an aggregate is registered under the lowest free number
   pub record IsWatched (spec : Spec) (a : ℕ) : Type 0 where
     pub due : watch_refusal old.table spec ≡ None
     pub number : lowest_free old.table ≡ Some a
-    pub state : new ≡ record old { table = registered_at a spec old.table }
+    pub state : new ≡ record old { table = after_register_at a spec old.table }
 
   -- the aggregate of a number is forgotten
   pub record IsUnwatched (a : ℕ) : Type 0 where
     pub due : unwatch_refusal (aggregate_at old.table a) ≡ None
     pub state : new ≡ record old { table = with_aggregate a None old.table }
 
-  -- a row group is built into the aggregate of a number
+  -- a row group is scanned into the aggregate of a number
   pub record IsScanned (a g : ℕ) : Type 0 where
     pub due : scan_refusal old (aggregate_at old.table a) g ≡ None
-    pub state : new ≡ record old { table = scanned_at a g old.table }
+    pub state : new ≡ record old { table = after_scan_at a g old.table }

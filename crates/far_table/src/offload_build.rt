@@ -1,4 +1,4 @@
-// Offloaded builds: a row group is built into an aggregate from the far store's copies of its columns.
+// Offloaded builds: a row group is scanned into an aggregate from the far store's copies of its columns.
 ghost use Rattle.std.specs.Prelude.{◌≡◌, ◌+◌, ◌<◌, ◌^◌, [], ◌∷◌, IfOk, IfErr};
 ghost use Rattle.far_store.specs.Faults.{faults_in, outcome, RefusedBy};
 ghost use Rattle.far_table.specs.Offloading.{AreTicketsOf};

@@ -22,8 +22,8 @@ abbrev pub group_with_next : Lists → Texts → Option (List ℕ) → List (Opt
 group_with_next lists c text = (if begins_group c then [] else texts_at lists (last_object c)) ++ text ∷ []
 
 -- a column with a text more; o is the number of a new object, which is made if a row group begins
-abbrev pub pushed : Texts → ℕ → Texts
-pushed c o = record c { objects = if begins_group c then c.objects ++ o ∷ [] else c.objects; len = c.len + 1 }
+abbrev pub after_push : Texts → ℕ → Texts
+after_push c o = record c { objects = if begins_group c then c.objects ++ o ∷ [] else c.objects; len = c.len + 1 }
 
 module _ {K : Type 0} (content : K → List ℕ) (m : Movement ℕ K) (c : Texts) where
   -- the object of the next place: the next that is made, if the place begins a row group
@@ -35,7 +35,7 @@ module _ {K : Type 0} (content : K → List ℕ) (m : Movement ℕ K) (c : Texts
   set_in place text = after_replace m (object_at c place) (texts_form (group_with (lists_of content m) c place text))
 
   -- the objects once there is a text more
-  abbrev pub pushed_in : Option (List ℕ) → Movement ℕ K
-  pushed_in text =
+  abbrev pub objects_after_push : Option (List ℕ) → Movement ℕ K
+  objects_after_push text =
       let form : List ℕ = texts_form (group_with_next (lists_of content m) c text)
       in if begins_group c then after_create m record { column = c.column; group = length c.objects } form else after_replace m (last_object c) form

@@ -7,7 +7,7 @@ use Rattle.far_scopes.specs.Movement.{Movement}
 use Rattle.far_scopes.specs.Effects.{after_create, after_replace_all}
 use Rattle.far_texts.specs.Texts.{Texts, Lists, IsTextColumn, AreDisjoint, texts_in}
 use Rattle.far_texts.specs.Columns.{AreTextColumns}
-use Rattle.far_texts.specs.Effects.{begins_group, last_object, group_with_next, pushed}
+use Rattle.far_texts.specs.Effects.{begins_group, last_object, group_with_next, after_push}
 
 -- columns of one table: they lie in these lists, and have one length and one size of row groups
 pub record AreColumns (lists : Lists) (columns : List Texts) : Type 0 where
@@ -40,9 +40,9 @@ abbrev pub AreNextForms : Lists → List Texts → List (Option (List ℕ)) → 
 AreNextForms lists columns texts = (k : ℕ) (c : Texts) (text : Option (List ℕ)) → slice_get columns k ≡ Some c → slice_get texts k ≡ Some text → IsNextForm lists c text
 
 -- the columns with a text more each
-abbrev pub all_pushed : ℕ → List Texts → List Texts
-all_pushed n [] = []
-all_pushed n (c ∷ columns) = pushed c n ∷ all_pushed (n + 1) columns
+abbrev pub after_push_all : ℕ → List Texts → List Texts
+after_push_all n [] = []
+after_push_all n (c ∷ columns) = after_push c n ∷ after_push_all (n + 1) columns
 
 -- the texts of each column with one more behind them
 abbrev pub all_texts_with : Lists → List Texts → List (Option (List ℕ)) → List (List (Option (List ℕ)))
@@ -61,8 +61,8 @@ pub record KeepsColumns (old new : Lists) (columns : List Texts) : Type 0 where
   pub texts : (d : Texts) → IsTextColumn old d → All (λ c. AreDisjoint c d) columns → texts_in new d ≡ texts_in old d
 
 -- replacements as pairs: the object, and its new list
-abbrev pub given_forms : List (Replacement ℕ) → List (ℕ × List ℕ)
-given_forms lists = map (λ r. (r.object, r.list.items)) lists
+abbrev pub forms_of : List (Replacement ℕ) → List (ℕ × List ℕ)
+forms_of lists = map (λ r. (r.object, r.list.items)) lists
 
 module _ {K : Type 0} where
   -- the objects once one is made for each column, of the form paired with it
@@ -73,4 +73,4 @@ module _ {K : Type 0} where
 
   -- the objects once these have those forms, all of which were placed before an old one was dropped
   abbrev pub AreReplaced : Movement ℕ K → List (ℕ × List ℕ) → Movement ℕ K → Type 0
-  AreReplaced old forms new = (lists : List (Replacement ℕ)) × (given_forms lists ≡ forms) × (new ≡ after_replace_all old lists)
+  AreReplaced old forms new = (lists : List (Replacement ℕ)) × (forms_of lists ≡ forms) × (new ≡ after_replace_all old lists)

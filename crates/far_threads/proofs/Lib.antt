@@ -1,6 +1,6 @@
-mod MakingLaws
-mod ReadingLaws
-mod HistoryLaws
-mod GaugeLaws
-mod RunLaws
-mod TotalLaws
+mod WorkingInserts
+mod WorkingReadings
+mod HistoriesOneSession
+mod RunsGauge
+mod RunsLaws
+mod RunsTotals

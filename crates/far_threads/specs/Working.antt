@@ -59,7 +59,7 @@ pub record IsGauged (p : Planned) (s n : ℕ) (me : Known) (reading : Reading) :
 -- that holds of all sessions of a plan, in order
 pub record AreGauged (p : Planned) (n : ℕ) (sessions : List Known) (readings : List Reading) : Type 0 where
   pub count : length sessions ≡ p.sessions
-  pub told : length readings ≡ p.sessions
+  pub returned : length readings ≡ p.sessions
   pub each : (s : ℕ) (me : Known) (reading : Reading) → slice_get sessions s ≡ Some me → slice_get readings s ≡ Some reading → IsGauged p s n me reading
 
 -- what is read when all sessions of a plan have ended. Whose rows the answer is over is not yet known

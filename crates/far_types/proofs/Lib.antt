@@ -1,8 +1,8 @@
-pub mod ByKeyMaps
-pub mod Computed
-pub mod Grouping
+pub mod AnswersByKeyMaps
+pub mod AnswersComputation
+pub mod AnswersGrouping
 pub mod LentLaws
-pub mod LineLaws
-pub mod PlaceLaws
-pub mod TotalLaws
-pub mod Values
+pub mod AnswersLines
+pub mod TablePairs
+pub mod EffectsLaws
+pub mod AnswersValues

@@ -7,7 +7,7 @@ use Rattle.far_types.specs.declared.edit.Edit.{Edit}
 use Rattle.far_types.specs.declared.edit.Edit.TheVariants as edit
 use Rattle.far_types.specs.declared.refusal.Refusal.TheVariants as refusal
 use Rattle.far_types.specs.Table.{Table, empty_table, rows_of, part, in_group, groups, all_pending, is_pending, left}
-use Rattle.far_types.specs.Edits.{edited, edit_refusal}
+use Rattle.far_types.specs.Edits.{after_edit, edit_refusal}
 use Rattle.far_types.specs.Examples.{row, a, b}
 
 -- a column of numbers and one of texts, in row groups of 4 places or of another size; a text object may have 64 bytes
@@ -20,27 +20,27 @@ letters number count = edit.Insert (row number (replicate count 97))
 
 -- the rows 5 a, 6 b, 7 a
 abbrev pub three : Table
-three = edited (edit.Insert (row (pos 7) a)) (edited (edit.Insert (row (pos 6) b)) (edited (edit.Insert (row (pos 5) a)) (in_groups_of 4)))
+three = after_edit (edit.Insert (row (pos 7) a)) (after_edit (edit.Insert (row (pos 6) b)) (after_edit (edit.Insert (row (pos 5) a)) (in_groups_of 4)))
 
 -- a set replaces one cell of one place, and a removed row's cells stay in the columns
 abbrev pub WhatEditsDo : Type 0
 WhatEditsDo =
-    (rows_of (edited (edit.Set 1 0 cell.Missing) three).places ≡ row (pos 5) a ∷ (cell.Missing ∷ cell.Text b ∷ []) ∷ row (pos 7) a ∷ [])
-    × (rows_of (edited (edit.Remove 1) three).places ≡ row (pos 5) a ∷ row (pos 7) a ∷ [])
-    × (part 0 1 3 (edited (edit.Remove 1) three).places ≡ cell.Int (pos 6) ∷ cell.Int (pos 7) ∷ [])
-    × ((edited (edit.Remove 1) three).edits ≡ 4)
+    (rows_of (after_edit (edit.Set 1 0 cell.Missing) three).places ≡ row (pos 5) a ∷ (cell.Missing ∷ cell.Text b ∷ []) ∷ row (pos 7) a ∷ [])
+    × (rows_of (after_edit (edit.Remove 1) three).places ≡ row (pos 5) a ∷ row (pos 7) a ∷ [])
+    × (part 0 1 3 (after_edit (edit.Remove 1) three).places ≡ cell.Int (pos 6) ∷ cell.Int (pos 7) ∷ [])
+    × ((after_edit (edit.Remove 1) three).edits ≡ 4)
 
 -- a row of 54 letters, whose text object has just 64 bytes
 abbrev pub one_text : Table
-one_text = edited (letters (pos 1) 54) (in_groups_of 4)
+one_text = after_edit (letters (pos 1) 54) (in_groups_of 4)
 
 -- b in place of the 54 letters, and then a row of c. In a third row 44 letters fit, and 45 do not
 abbrev pub two_texts : Table
-two_texts = edited (edit.Insert (row (pos 2) (codes "c"))) (edited (edit.Set 0 1 (cell.Text b)) one_text)
+two_texts = after_edit (edit.Insert (row (pos 2) (codes "c"))) (after_edit (edit.Set 0 1 (cell.Text b)) one_text)
 
 -- the same 54 letters in a row group of one place
 abbrev pub one_alone : Table
-one_alone = edited (letters (pos 1) 54) (in_groups_of 1)
+one_alone = after_edit (letters (pos 1) 54) (in_groups_of 1)
 
 -- a set may make an object too long, in a column of texts alone. A removed text keeps its bytes. Each row group has its own text object.
 -- A text may be too long for any object
@@ -50,20 +50,20 @@ SpaceForTexts =
     × (edit_refusal two_texts (letters (pos 3) 44) ≡ None)
     × (edit_refusal one_text (edit.Set 0 1 (cell.Text (replicate 55 97))) ≡ Some refusal.ChunkFull)
     × (edit_refusal one_text (edit.Set 0 0 cell.Missing) ≡ None)
-    × (edit_refusal (edited (edit.Remove 0) one_text) (letters (pos 2) 0) ≡ Some refusal.ChunkFull)
+    × (edit_refusal (after_edit (edit.Remove 0) one_text) (letters (pos 2) 0) ≡ Some refusal.ChunkFull)
     × (edit_refusal one_alone (letters (pos 2) 54) ≡ None)
     × (edit_refusal one_alone (letters (pos 2) 55) ≡ Some refusal.ChunkFull)
-    × (edit_refusal (edited (letters (pos 2) 1) one_alone) (edit.Set 1 1 (cell.Text (replicate 55 97))) ≡ Some refusal.ChunkFull)
+    × (edit_refusal (after_edit (letters (pos 2) 1) one_alone) (edit.Set 1 1 (cell.Text (replicate 55 97))) ≡ Some refusal.ChunkFull)
     × (edit_refusal one_text (letters (pos 2) 4096) ≡ Some refusal.ChunkFull)
     × (edit_refusal one_text (letters (pos 2) 4097) ≡ Some refusal.TextTooLong)
 
 -- a table for one row of 54 letters, and for as many edits
 abbrev pub with_edits : ℕ → Table
-with_edits edits = edited (letters (pos 1) 54) (empty_table (kind.Int ∷ kind.Text ∷ []) (record { group = 4; places = 1; edits = edits; int_segments = 1; int_size = 4; text_segments = 2; text_size = 64 }))
+with_edits edits = after_edit (letters (pos 1) 54) (empty_table (kind.Int ∷ kind.Text ∷ []) (record { group = 4; places = 1; edits = edits; int_segments = 1; int_size = 4; text_segments = 2; text_size = 64 }))
 
 -- the row is removed, and no place and no edit are left: so every refusal applies to an edit
 abbrev pub used_up : Table
-used_up = edited (edit.Remove 0) (with_edits 2)
+used_up = after_edit (edit.Remove 0) (with_edits 2)
 
 -- a text that is too long for a cell
 abbrev pub long : Cell

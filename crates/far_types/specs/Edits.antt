@@ -41,24 +41,24 @@ abbrev pub with_cell : ℕ → Cell → Place → Place
 with_cell c cell place = record place { cells = slice_set place.cells c cell }
 
 -- a removed place keeps its cells
-abbrev pub removed : Place → Place
-removed place = record place { alive = false }
+abbrev pub after_remove : Place → Place
+after_remove place = record place { alive = false }
 
 -- one place is changed, and the others stay
-abbrev pub changed_at : (Place → Place) → ℕ → List Place → List Place
-changed_at change p [] = []
-changed_at change zero (place ∷ places) = change place ∷ places
-changed_at change (suc p) (place ∷ places) = place ∷ changed_at change p places
+abbrev pub change_at : (Place → Place) → ℕ → List Place → List Place
+change_at change p [] = []
+change_at change zero (place ∷ places) = change place ∷ places
+change_at change (suc p) (place ∷ places) = place ∷ change_at change p places
 
 -- the places after an accepted edit
 abbrev pub places_after : Edit → List Place → List Place
 places_after (edit.Insert row) places = places ++ record { cells = row; alive = true } ∷ []
-places_after (edit.Set p c cell) places = changed_at (with_cell c cell) p places
-places_after (edit.Remove p) places = changed_at removed p places
+places_after (edit.Set p c cell) places = change_at (with_cell c cell) p places
+places_after (edit.Remove p) places = change_at after_remove p places
 
 -- the table after an accepted edit; a Set to the old value counts too
-abbrev pub edited : Edit → Table → Table
-edited e table = record table { places = places_after e table.places; edits = table.edits + 1 }
+abbrev pub after_edit : Edit → Table → Table
+after_edit e table = record table { places = places_after e table.places; edits = table.edits + 1 }
 
 -- whether a text object that the edit writes would be too long: an insert writes each column's, a set its own
 abbrev pub overfills : List Kind → Limits → Edit → List Place → Bool

@@ -8,27 +8,27 @@ use Rattle.far_types.specs.Pairs.{Pair}
 use Rattle.far_types.specs.Answers.{ByKey, Totals, Extrema}
 
 -- the count and the sum with one value more
-abbrev pub added : ℤ → Option (ℕ × ℤ) → ℕ × ℤ
-added value None = (1, value)
-added value (Some count_sum) = (count_sum.0 + 1, count_sum.1 +ℤ value)
+abbrev pub count_sum_with : ℤ → Option (ℕ × ℤ) → ℕ × ℤ
+count_sum_with value None = (1, value)
+count_sum_with value (Some count_sum) = (count_sum.0 + 1, count_sum.1 +ℤ value)
 
 -- the count and the sum with one value less; the count is at least 1
-abbrev pub subtracted : ℤ → ℕ × ℤ → ℕ × ℤ
-subtracted value count_sum = (count_sum.0 - 1, count_sum.1 -ℤ value)
+abbrev pub count_sum_without : ℤ → ℕ × ℤ → ℕ × ℤ
+count_sum_without value count_sum = (count_sum.0 - 1, count_sum.1 -ℤ value)
 
 -- the min-max with one value more
-abbrev pub widened : ℤ → Option (ℤ × ℤ) → ℤ × ℤ
-widened value None = (value, value)
-widened value (Some min_max) = (int_min value min_max.0, int_max value min_max.1)
+abbrev pub min_max_with : ℤ → Option (ℤ × ℤ) → ℤ × ℤ
+min_max_with value None = (value, value)
+min_max_with value (Some min_max) = (int_min value min_max.0, int_max value min_max.1)
 
 -- totals with one pair more
 abbrev pub with_pair : Totals → Pair → Totals
-with_pair totals pair = fin.insert totals pair.0 (added pair.1 (fin.get totals pair.0))
+with_pair totals pair = fin.insert totals pair.0 (count_sum_with pair.1 (fin.get totals pair.0))
 
 -- totals with one value less under a key that has this count and this sum. A key whose last value goes is listed no more
 abbrev pub without_value : Totals → Option Key → ℤ → Option (ℕ × ℤ) → Totals
 without_value totals key value None = totals
-without_value totals key value (Some count_sum) = cond (count_sum.0 == 1) (fin.remove totals key) (fin.insert totals key (subtracted value count_sum))
+without_value totals key value (Some count_sum) = cond (count_sum.0 == 1) (fin.remove totals key) (fin.insert totals key (count_sum_without value count_sum))
 
 -- totals with one pair less
 abbrev pub without_pair : Totals → Pair → Totals
@@ -36,7 +36,7 @@ without_pair totals pair = without_value totals pair.0 pair.1 (fin.get totals pa
 
 -- extrema with one pair more
 abbrev pub with_observed : Extrema → Pair → Extrema
-with_observed extrema pair = fin.insert extrema pair.0 (widened pair.1 (fin.get extrema pair.0))
+with_observed extrema pair = fin.insert extrema pair.0 (min_max_with pair.1 (fin.get extrema pair.0))
 
 -- two values merged, if both are there; else the one that is there
 abbrev pub merge_two : {V : Type 0} → (V → V → V) → Option V → Option V → Option V

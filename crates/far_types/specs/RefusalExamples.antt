@@ -6,7 +6,7 @@ use Rattle.far_types.specs.declared.edit.Edit.{Edit}
 use Rattle.far_types.specs.declared.edit.Edit.TheVariants as edit
 use Rattle.far_types.specs.declared.refusal.Refusal.TheVariants as refusal
 use Rattle.far_types.specs.Table.{Table, empty_table, rows_of}
-use Rattle.far_types.specs.Edits.{edited, edit_refusal}
+use Rattle.far_types.specs.Edits.{after_edit, edit_refusal}
 use Rattle.far_types.specs.Examples.{a}
 
 -- a table of numbers with space for 2 places and 3 edits
@@ -19,15 +19,15 @@ number n = edit.Insert (cell.Int n ∷ [])
 
 -- the places are used, and one edit is left
 abbrev pub full : Table
-full = edited (number (pos 2)) (edited (number (pos 1)) small)
+full = after_edit (number (pos 2)) (after_edit (number (pos 1)) small)
 
 -- a full table refuses a row, takes a cell equal to the old one, and then no edit more
 abbrev pub UsedUp : Type 0
 UsedUp =
     (edit_refusal full (number (pos 3)) ≡ Some refusal.TableFull)
     × (edit_refusal full (edit.Set 0 0 (cell.Int (pos 1))) ≡ None)
-    × (edit_refusal (edited (edit.Set 0 0 (cell.Int (pos 1))) full) (edit.Set 0 0 (cell.Int (pos 1))) ≡ Some refusal.EditsUsedUp)
-    × (rows_of (edited (edit.Remove 1) full).places ≡ (cell.Int (pos 1) ∷ []) ∷ [])
+    × (edit_refusal (after_edit (edit.Set 0 0 (cell.Int (pos 1))) full) (edit.Set 0 0 (cell.Int (pos 1))) ≡ Some refusal.EditsUsedUp)
+    × (rows_of (after_edit (edit.Remove 1) full).places ≡ (cell.Int (pos 1) ∷ []) ∷ [])
 
 -- the order of refusals: kinds before the width, the column before the place, the place before its flag
 abbrev pub FirstRefusal : Type 0
@@ -36,7 +36,7 @@ FirstRefusal =
     × (edit_refusal small (edit.Insert (cell.Int (pos 1) ∷ cell.Int (pos 2) ∷ [])) ≡ Some refusal.RowWidth)
     × (edit_refusal small (edit.Set 0 7 (cell.Int (pos 1))) ≡ Some refusal.NoColumn)
     × (edit_refusal small (edit.Set 0 0 (cell.Int (pos 1))) ≡ Some refusal.NoRow)
-    × (edit_refusal (edited (edit.Remove 0) full) (edit.Remove 0) ≡ Some refusal.RemovedRow)
+    × (edit_refusal (after_edit (edit.Remove 0) full) (edit.Remove 0) ≡ Some refusal.RemovedRow)
 
 -- a table of texts whose objects may have 64 bytes: a head of 6, 4 for each text's end, and the texts
 abbrev pub texts : Table
@@ -51,6 +51,6 @@ abbrev pub OverLength : Type 0
 OverLength =
     (edit_refusal texts (text_of 54) ≡ None)
     × (edit_refusal texts (text_of 55) ≡ Some refusal.ChunkFull)
-    × (edit_refusal (edited (text_of 54) texts) (text_of 0) ≡ Some refusal.ChunkFull)
-    × (edit_refusal (edited (text_of 50) texts) (text_of 0) ≡ None)
-    × (edit_refusal (edited (text_of 50) texts) (edit.Insert (cell.Missing ∷ [])) ≡ Some refusal.ChunkFull)
+    × (edit_refusal (after_edit (text_of 54) texts) (text_of 0) ≡ Some refusal.ChunkFull)
+    × (edit_refusal (after_edit (text_of 50) texts) (text_of 0) ≡ None)
+    × (edit_refusal (after_edit (text_of 50) texts) (edit.Insert (cell.Missing ∷ [])) ≡ Some refusal.ChunkFull)

@@ -6,7 +6,7 @@ use Rattle.std.proofs.lemmas.Option.{slice_get-get_or}
 use Rattle.std.proofs.lemmas.List.{get_or-take, get_or_append_left, length-take-le, length-drop, take-take, drop-take, take-append-le, drop-append-le}
 use Rattle.std.proofs.Math.Seq.{get_or-append-add, drop-append-add}
 use Rattle.far_vector.specs.Vector.{Vector, IsShaped, IsVector, places, elements, object_at}
-use Rattle.far_vector.proofs.PlacesLaws.{list_at, length-places, places-split, length-own, length-before}
+use Rattle.far_vector.proofs.VectorPlaces.{list_at, length-places, places-split, length-own, length-before}
 
 module _ {X : Type 0} (v : Vector X) (shaped : IsShaped v) (i : ℕ) (there : i < length v.objects * v.size) where
   pub group-within : i / v.size < length v.objects

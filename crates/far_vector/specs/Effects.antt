@@ -2,7 +2,7 @@
 use Rattle.std.specs.Prelude.{ℕ, ◌+◌, ◌-◌, ◌*◌, ◌%◌, ◌==◌, if◌then◌else◌, Bool, List, [], ◌∷◌, ◌++◌, length, take, replicate}
 use Rattle.far_types.specs.declared.name.Name.{Name}
 use Rattle.far_scopes.specs.Movement.{Movement}
-use Rattle.far_scopes.specs.Effects.{written, overwritten, after_create}
+use Rattle.far_scopes.specs.Effects.{after_write, after_overwrite, after_create}
 use Rattle.far_vector.specs.Vector.{Vector, object_at}
 
 module _ {X : Type 0} where
@@ -28,9 +28,9 @@ module _ {X : Type 0} where
 
   module _ {K : Type 0} where
     -- the objects once a range is written over the elements from the i-th on, all of one row group
-    abbrev pub range_written : Movement X K → Vector X → ℕ → List X → Movement X K
-    range_written m v i range = overwritten (written m (object_at v i)) (object_at v i) (i % v.size) range
+    abbrev pub after_write_range : Movement X K → Vector X → ℕ → List X → Movement X K
+    after_write_range m v i range = after_overwrite (after_write m (object_at v i)) (object_at v i) (i % v.size) range
 
     -- the objects once an element is pushed
-    abbrev pub pushed_in : Movement X K → Vector X → X → Movement X K
-    pushed_in m v x = if is_full v then after_create m (next_name v) (next_group v x) else range_written m v v.len (x ∷ [])
+    abbrev pub objects_after_push : Movement X K → Vector X → X → Movement X K
+    objects_after_push m v x = if is_full v then after_create m (next_name v) (next_group v x) else after_write_range m v v.len (x ∷ [])

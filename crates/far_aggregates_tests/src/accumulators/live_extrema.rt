@@ -1,6 +1,6 @@
 // Extrema by key of several row groups.
 ghost use Rattle.std.specs.Prelude.{◌≡◌, ◌≢◌, ◌-◌, [], OnOk};
-ghost use Rattle.far_extrema.specs.Live.{with_reserved, IsReservedFor};
+ghost use Rattle.far_extrema.specs.Live.{after_reserve, IsReservedFor};
 
 use crate::accumulators::extrema::observe_all;
 use crate::cases::{NamedCase, all_are_right, must_be};
@@ -30,7 +30,7 @@ fn extrema_are_refused_while_a_row_group_is_pending(rt: HostRuntime) {
 /// Reserves a row group and its keys, by a second call if the first runs out of memory.
 fn reserve_for(live: &mut LiveExtrema, group: u32, extrema: &GroupExtrema) -> Result<(), Refusal>
     ensures left { live.new.left ≡ live.old.left }
-    ensures groups { OnOk result (live.new.groups ≡ with_reserved group live.old.groups) }
+    ensures groups { OnOk result (live.new.groups ≡ after_reserve group live.old.groups) }
     ensures keys { OnOk result (IsReservedFor extrema.now live.new) }
 {
     match live.reserve_for(group, extrema) {
@@ -48,7 +48,7 @@ fn make_ready(
     rows: &[Row],
 ) -> Result<(), Refusal>
     ensures left { live.new.left ≡ live.old.left }
-    ensures groups { OnOk result (live.new.groups ≡ with_reserved number live.old.groups) }
+    ensures groups { OnOk result (live.new.groups ≡ after_reserve number live.old.groups) }
     ensures keys { OnOk result (IsReservedFor group.new live.new) }
 {
     observe_all(alloc, group, rows)?;

@@ -5,7 +5,7 @@ ghost use Rattle.far_scopes.specs.Movement.{AreClean, AreHere};
 ghost use Rattle.far_scopes.specs.Refusing.{refusal_in};
 ghost use Rattle.far_vector.specs.Effects.{after_unpush};
 ghost use Rattle.far_columns.specs.Numbers.{number_lists, numbers_in};
-ghost use Rattle.far_columns.specs.NumbersTogether.{AreNumberColumns, all_begin, all_pushed, all_numbers_with, KeepsNumbers, all_pushed_in, push_numbers_refusal};
+ghost use Rattle.far_columns.specs.NumbersTogether.{AreNumberColumns, all_begin, after_push_all, all_numbers_with, KeepsNumbers, objects_after_push_all, push_numbers_refusal};
 ghost use Rattle.far_columns.specs.NumbersUndo.{AreBegunLast, after_uncreate_all};
 
 mod checking;
@@ -72,8 +72,8 @@ pub fn push_numbers<S: FarTickets>(
     requires are { AreNumberColumns (number_lists S.content objects.old) columns.old }
     requires same_length { length numbers.now ≡ length columns.old }
     requires few { all_begin columns.old ≡ true → length objects.old.records + length columns.old ≤ 2 ^ 28 }
-    ensures pushed { OnOk result (columns.new ≡ all_pushed (length objects.old.records) columns.old) }
-    ensures moved { OnOk result (objects.new ≡ all_pushed_in objects.old columns.old numbers.now) }
+    ensures pushed { OnOk result (columns.new ≡ after_push_all (length objects.old.records) columns.old) }
+    ensures moved { OnOk result (objects.new ≡ objects_after_push_all objects.old columns.old numbers.now) }
     ensures numbers { OnOk result (map (numbers_in S.content objects.new) columns.new ≡ all_numbers_with (number_lists S.content objects.old) columns.old numbers.now) }
     ensures are { AreNumberColumns (number_lists S.content objects.new) columns.new }
     ensures last { OnOk result (all_begin columns.old ≡ true → AreBegunLast objects.new columns.new) }
@@ -107,8 +107,8 @@ pub fn fill_numbers<S: FarTickets>(
     requires same_length { length numbers.now ≡ length columns.old }
     requires begun { all_begin columns.old ≡ false }
     requires free { push_numbers_refusal objects.old columns.old ≡ None }
-    ensures pushed { columns.new ≡ all_pushed (length objects.old.records) columns.old }
-    ensures moved { objects.new ≡ all_pushed_in objects.old columns.old numbers.now }
+    ensures pushed { columns.new ≡ after_push_all (length objects.old.records) columns.old }
+    ensures moved { objects.new ≡ objects_after_push_all objects.old columns.old numbers.now }
     ensures numbers { map (numbers_in S.content objects.new) columns.new ≡ all_numbers_with (number_lists S.content objects.old) columns.old numbers.now }
     ensures are { AreNumberColumns (number_lists S.content objects.new) columns.new }
     ensures count { length objects.new.records ≡ length objects.old.records }

@@ -1,4 +1,4 @@
-// Row groups that are built into aggregates from the far store's copies of their columns.
+// Row groups that are scanned into aggregates from the far store's copies of their columns.
 ghost use Rattle.std.specs.Prelude.{◌≡◌, is_none, true, IfOk, IfErr, OnOk, OnErr};
 ghost use Rattle.far_types.specs.MayRefuse.{MayRefuse};
 ghost use Rattle.far_scopes.specs.Refusing.{refusal_in};

@@ -7,7 +7,7 @@ ghost use Rattle.far_vector.specs.Pieces.{pieces_of, overlapped_groups};
 ghost use Rattle.far_columns.specs.Numbers.{with_flags};
 ghost use Rattle.far_types.specs.Lent.{int_cell, text_cell};
 ghost use Rattle.far_rows.specs.Rows.{all_cells};
-ghost use Rattle.far_rows.specs.Refusing.{no_range, told_at, ints_refusal, texts_refusal};
+ghost use Rattle.far_rows.specs.Refusing.{no_range, away_at, ints_refusal, texts_refusal};
 ghost use Rattle.far_rows.specs.Lending.{lent_ints, lent_texts, numbers_of, texts_of};
 
 use super::Rows;
@@ -50,7 +50,7 @@ impl<S: FarTickets> Rows<S> {
         ensures joined { IfOk result (λ lents. flat_map (λ lent. lent.0) lents ≡ slice_range (numbers_of S.content self.now (ColumnIndex.Number number)) from to) }
         ensures alive { IfOk result (λ lents. flat_map (λ lent. lent.1) lents ≡ slice_range self.now.alive from to) }
         ensures same_length { IfOk result (λ lents. All (λ lent. length lent.1 ≡ length lent.0) lents) }
-        ensures refused { refusal_in result ≡ first_of (no_range self.now from to ∷ map (λ g. told_at self.now g (ColumnIndex.Number number)) (overlapped_groups self.now.size from to)) }
+        ensures refused { refusal_in result ≡ first_of (no_range self.now from to ∷ map (λ g. away_at self.now g (ColumnIndex.Number number)) (overlapped_groups self.now.size from to)) }
     {
         let column = &self.numbers[number];
         // For the proof: gives how many numbers there are.
@@ -88,7 +88,7 @@ impl<S: FarTickets> Rows<S> {
         ensures lent { IfOk result (λ lent. lent ≡ zip (slice_range (texts_of S.content self.now (ColumnIndex.Text text)) from to) (slice_range self.now.alive from to)) }
         ensures texts { IfOk result (λ lent. map (λ t. t.0) lent ≡ slice_range (texts_of S.content self.now (ColumnIndex.Text text)) from to) }
         ensures alive { IfOk result (λ lent. map (λ t. t.1) lent ≡ slice_range self.now.alive from to) }
-        ensures refused { refusal_in result ≡ first_of (no_range self.now from to ∷ map (λ g. told_at self.now g (ColumnIndex.Text text)) (overlapped_groups self.now.size from to)) }
+        ensures refused { refusal_in result ≡ first_of (no_range self.now from to ∷ map (λ g. away_at self.now g (ColumnIndex.Text text)) (overlapped_groups self.now.size from to)) }
     {
         let column = &self.texts[text];
         // For the proof: gives that a row group is begun for each place.

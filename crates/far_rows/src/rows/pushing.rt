@@ -5,8 +5,8 @@ ghost use Rattle.far_scopes.specs.Movement.{AreClean, AreHere, version_of};
 ghost use Rattle.far_vector.specs.Vector.{IsShaped};
 ghost use Rattle.far_texts.specs.Texts.{HasGroups, lists_of, texts_in};
 ghost use Rattle.far_columns.specs.Numbers.{number_lists, numbers_in};
-ghost use Rattle.far_columns.specs.NumbersTogether.{AreNumberColumns, all_begin, all_pushed, all_pushed_in, all_numbers_with, push_numbers_refusal};
-ghost use Rattle.far_texts.specs.Together.{AreColumns, AreReplaced, all_begin as all_texts_begin, after_create_all, all_pushed as all_texts_pushed, all_texts_with, next_forms};
+ghost use Rattle.far_columns.specs.NumbersTogether.{AreNumberColumns, all_begin, after_push_all, objects_after_push_all, all_numbers_with, push_numbers_refusal};
+ghost use Rattle.far_texts.specs.Together.{AreColumns, AreReplaced, all_begin as all_texts_begin, after_create_all, after_push_all as all_texts_pushed, all_texts_with, next_forms};
 ghost use Rattle.far_texts.specs.RefusingTogether.{push_texts_refusal};
 ghost use Rattle.far_rows.specs.ColumnIndexes.{row_of, with_row};
 ghost use Rattle.far_rows.specs.Rows.{all_cells, TextsMoved};
@@ -95,8 +95,8 @@ fn push_values<S: FarTickets>(
     requires texts_few { all_texts_begin texts.old ≡ true → length text_objects.old.records + length texts.old ≤ 2 ^ 28 }
     requires numbers_free { push_numbers_refusal number_objects.old numbers.old ≡ None }
     requires texts_free { push_texts_refusal S.content text_objects.old texts.old row.now.texts ≡ None }
-    ensures numbers_pushed { OnOk result (numbers.new ≡ all_pushed (length number_objects.old.records) numbers.old) }
-    ensures numbers_moved { OnOk result (number_objects.new ≡ all_pushed_in number_objects.old numbers.old row.now.numbers) }
+    ensures numbers_pushed { OnOk result (numbers.new ≡ after_push_all (length number_objects.old.records) numbers.old) }
+    ensures numbers_moved { OnOk result (number_objects.new ≡ objects_after_push_all number_objects.old numbers.old row.now.numbers) }
     ensures numbers_count { OnOk result (length number_objects.new.records ≡ length number_objects.old.records + (if all_begin numbers.old then length numbers.old else 0)) }
     ensures numbers { OnOk result (map (numbers_in S.content number_objects.new) numbers.new ≡ all_numbers_with (number_lists S.content number_objects.old) numbers.old row.now.numbers) }
     ensures numbers_are { AreNumberColumns (number_lists S.content number_objects.new) numbers.new }
@@ -164,8 +164,8 @@ impl<S: FarTickets> Rows<S> {
         ensures alive { OnOk result (self.new.alive ≡ self.old.alive ++ true ∷ []) }
         ensures column_indexes { self.new.column_indexes ≡ self.old.column_indexes }
         ensures size { self.new.size ≡ self.old.size }
-        ensures numbers { OnOk result (self.new.numbers ≡ all_pushed (length self.old.number_objects.records) self.old.numbers) }
-        ensures number_objects { OnOk result (self.new.number_objects ≡ all_pushed_in self.old.number_objects self.old.numbers row.now.numbers) }
+        ensures numbers { OnOk result (self.new.numbers ≡ after_push_all (length self.old.number_objects.records) self.old.numbers) }
+        ensures number_objects { OnOk result (self.new.number_objects ≡ objects_after_push_all self.old.number_objects self.old.numbers row.now.numbers) }
         ensures texts { OnOk result (self.new.texts ≡ all_texts_pushed (length self.old.text_objects.records) self.old.texts) }
         ensures text_objects { OnOk result (TextsMoved S.content self.old row.now.texts self.new.text_objects) }
         ensures number_store { (id : List ℕ) → AreHere S.is_of id self.old.number_objects → AreHere S.is_of id self.new.number_objects }

@@ -12,7 +12,7 @@ ghost use Rattle.far_types.specs.Lent.{int_cell, text_cell, lent_cell};
 ghost use Rattle.far_rows.specs.ColumnIndexes.{IsColumnIn, column_in};
 ghost use Rattle.far_rows.specs.Places.{row_at};
 ghost use Rattle.far_rows.specs.Rows.{all_numbers, all_texts, all_cells};
-ghost use Rattle.far_rows.specs.Refusing.{told_at, absent_at, absents, cell_refusal, text_refusal};
+ghost use Rattle.far_rows.specs.Refusing.{away_at, absent_at, absents, cell_refusal, text_refusal};
 
 use super::Rows;
 use crate::column_index::ColumnIndex;
@@ -59,7 +59,7 @@ impl<S: FarTickets> Rows<S> {
     // Checks that the object of a row group of a column is local, if there is one.
     pub(super) fn is_here(&self, column_index: ColumnIndex, group: u32) -> Result<(), Refusal>
         requires { IsColumnIn (length self.now.numbers) (length self.now.texts) column_index }
-        ensures { refusal_in result ≡ first_of (told_at self.now group column_index ∷ []) }
+        ensures { refusal_in result ≡ first_of (away_at self.now group column_index ∷ []) }
     {
         match column_index {
             ColumnIndex::Number(number) => {

@@ -12,7 +12,7 @@ ghost use Rattle.far_rows.specs.ColumnIndexes.{kind_of};
 ghost use Rattle.far_rows.specs.Places.{AreOf, places_in};
 ghost use Rattle.far_rows.specs.Plain.{cell_set_refusal};
 ghost use Rattle.far_rows.specs.Rows.{all_numbers, all_texts, all_cells};
-ghost use Rattle.far_types.specs.Edits.{changed_at, with_cell};
+ghost use Rattle.far_types.specs.Edits.{change_at, with_cell};
 ghost use Rattle.far_rows.specs.Refusing.{absents};
 ghost use Rattle.far_rows.specs.Effects.{IsSet, KeepsObjects};
 ghost use Rattle.far_rows.specs.Setting.{cell_of, kind_in, set_in, set_refusal, value_refusal, with_cell_at};
@@ -145,7 +145,7 @@ impl<S: FarTickets> Rows<S> {
         requires of_kind { option_map kind_of (slice_get self.old.column_indexes column) ≡ Some (kind_in value.now) }
         requires free { set_refusal S.content self.old column place value.now ≡ None }
         ensures set { OnOk result (IsSet S.content self.old column place value.now self.new) }
-        ensures places { OnOk result (places_in S.content self.new ≡ changed_at (with_cell column (cell_of value.now)) place (places_in S.content self.old)) }
+        ensures places { OnOk result (places_in S.content self.new ≡ change_at (with_cell column (cell_of value.now)) place (places_in S.content self.old)) }
         ensures here { (g : ℕ) → absents self.new g ≡ absents self.old g }
         ensures kept { KeepsObjects S.is_of self.old self.new }
         ensures number { kind_in value.now ≡ Kind.Int → IsOk result }

@@ -2,7 +2,7 @@
 ghost use Rattle.std.specs.Prelude.{◌≡◌, ℕ, ◌-◌, ◌≤◌, ◌++◌, List, length, take, drop, slice_range, Some, IsSome, IfSome, IsSomeAnd};
 ghost use Rattle.std.specs.Borrow.{sem};
 ghost use Rattle.far_scopes.specs.Memory.{place_of, list_in, ChangesList};
-ghost use Rattle.far_scopes.specs.Placing.{overwritten};
+ghost use Rattle.far_scopes.specs.Placing.{after_overwrite};
 ghost use Rattle.far_scopes.specs.Lending.{lends_part};
 
 use super::{LocalMemory, at_of};
@@ -15,7 +15,7 @@ impl<T: Elem> LocalMemory<T> {
         requires long { IfSome (list_in self.old o) (λ list. length list ≡ len) }
         ensures* writes_back { sem 𝓛 (lends_part T.row self.entry o 0 result) }
         ensures lent { list_in self.old o ≡ Some result.now }
-        ensures alone { (list : List T) → length list ≡ length result.now → ChangesList (list_in self.old) (list_in (overwritten self.old o 0 list)) o (Some list) }
+        ensures alone { (list : List T) → length list ≡ length result.now → ChangesList (list_in self.old) (list_in (after_overwrite self.old o 0 list)) o (Some list) }
     {
         let at = at_of(self.words[o]);
         let region = &mut self.region;
@@ -28,7 +28,7 @@ impl<T: Elem> LocalMemory<T> {
         requires within { IsSomeAnd (list_in self.old o) (λ list. to ≤ length list) }
         ensures* writes_back { sem 𝓛 (lends_part T.row self.entry o from result) }
         ensures lent { IsSomeAnd (list_in self.old o) (λ list. result.now ≡ slice_range list from to) }
-        ensures alone { IsSomeAnd (list_in self.old o) (λ list. (range : List T) → length range ≡ to - from → ChangesList (list_in self.old) (list_in (overwritten self.old o from range)) o (Some (take from list ++ (range ++ drop to list)))) }
+        ensures alone { IsSomeAnd (list_in self.old o) (λ list. (range : List T) → length range ≡ to - from → ChangesList (list_in self.old) (list_in (after_overwrite self.old o from range)) o (Some (take from list ++ (range ++ drop to list)))) }
     {
         let at = at_of(self.words[o]);
         let region = &mut self.region;

@@ -4,7 +4,7 @@ ghost use Rattle.std.specs.Option.{option_or};
 ghost use Rattle.far_types.specs.FirstOf.{first_of};
 ghost use Rattle.far_scopes.specs.Memory.{place_of, list_in};
 ghost use Rattle.far_scopes.specs.Refusing.{refusal_in};
-ghost use Rattle.far_scopes.specs.Replacing.{AreListedOnce, ChangesLists, no_space_for_all, first_fits, replaced_all, taken_over};
+ghost use Rattle.far_scopes.specs.Replacing.{AreListedOnce, ChangesLists, no_space_for_all, first_fits, replaced_all, after_take_over};
 
 use super::{LocalMemory, at_of, cool_of};
 use crate::replacement::Replacement;
@@ -48,7 +48,7 @@ impl<T: Elem> LocalMemory<T> {
         requires other { o < length self.old.words - 1 }
         requires local { IsSome (place_of self.old.words o) }
         requires last { IsSome (place_of self.old.words (length self.old.words - 1)) }
-        ensures taken { self.new ≡ taken_over self.old o }
+        ensures effect { self.new ≡ after_take_over self.old o }
         ensures here { list_in self.new o ≡ list_in self.old (length self.old.words - 1) }
         ensures others { (p : ℕ) → p ≢ o → p ≢ length self.old.words - 1 → list_in self.new p ≡ list_in self.old p }
     {

@@ -5,7 +5,7 @@ ghost use Rattle.far_scopes.specs.Memory.{list_in, ChangesList};
 ghost use Rattle.far_scopes.specs.Movement.{list_of, dirty, is_local, AreClean, AreHere, ChangesObject};
 ghost use Rattle.std.specs.Prelude.{not};
 ghost use Rattle.far_scopes.specs.Refusing.{refusal_in, absent, lend_refusal, write_refusal};
-ghost use Rattle.far_scopes.specs.Effects.{written, overwritten};
+ghost use Rattle.far_scopes.specs.Effects.{after_write, after_overwrite};
 ghost use Rattle.far_scopes.specs.ObjectsLending.{lends_written};
 
 use super::Objects;
@@ -65,10 +65,10 @@ impl<T: Elem, S: FarTickets> Objects<T, S> {
         requires free { write_refusal self.old o ≡ None }
         ensures* writes_back { sem 𝓛 (lends_written T.row S.row S.Ticket.row T.Elem S.FarTickets self.entry o 0 result) }
         ensures lent { list_in self.old.memory o ≡ Some result.now }
-        ensures alone { (list : List T) → length list ≡ length result.now → ChangesList (list_of T.meaning S.content self.old) (list_of T.meaning S.content (overwritten (written self.old o) o 0 list)) o (Some list) }
-        ensures clean { (list : List T) → length list ≡ length result.now → AreClean T.meaning S.content self.old → AreClean T.meaning S.content (overwritten (written self.old o) o 0 list) }
-        ensures others { (list : List T) → ChangesObject self.old (overwritten (written self.old o) o 0 list) o }
-        ensures store { (list : List T) (id : List ℕ) → AreHere S.is_of id self.old → AreHere S.is_of id (overwritten (written self.old o) o 0 list) }
+        ensures alone { (list : List T) → length list ≡ length result.now → ChangesList (list_of T.meaning S.content self.old) (list_of T.meaning S.content (after_overwrite (after_write self.old o) o 0 list)) o (Some list) }
+        ensures clean { (list : List T) → length list ≡ length result.now → AreClean T.meaning S.content self.old → AreClean T.meaning S.content (after_overwrite (after_write self.old o) o 0 list) }
+        ensures others { (list : List T) → ChangesObject self.old (after_overwrite (after_write self.old o) o 0 list) o }
+        ensures store { (list : List T) (id : List ℕ) → AreHere S.is_of id self.old → AreHere S.is_of id (after_overwrite (after_write self.old o) o 0 list) }
     {
         self.mark(o);
         let len = self.records[o as usize].len;
@@ -86,10 +86,10 @@ impl<T: Elem, S: FarTickets> Objects<T, S> {
         requires there { IsSomeAnd (list_in self.old.memory o) (λ list. to ≤ length list) }
         ensures* writes_back { sem 𝓛 (lends_written T.row S.row S.Ticket.row T.Elem S.FarTickets self.entry o from result) }
         ensures lent { IsSomeAnd (list_in self.old.memory o) (λ list. result.now ≡ slice_range list from to) }
-        ensures alone { IsSomeAnd (list_in self.old.memory o) (λ list. (range : List T) → length range ≡ to - from → ChangesList (list_of T.meaning S.content self.old) (list_of T.meaning S.content (overwritten (written self.old o) o from range)) o (Some (take from list ++ (range ++ drop to list)))) }
-        ensures clean { (range : List T) → length range ≡ to - from → AreClean T.meaning S.content self.old → AreClean T.meaning S.content (overwritten (written self.old o) o from range) }
-        ensures others { (range : List T) → ChangesObject self.old (overwritten (written self.old o) o from range) o }
-        ensures store { (range : List T) (id : List ℕ) → AreHere S.is_of id self.old → AreHere S.is_of id (overwritten (written self.old o) o from range) }
+        ensures alone { IsSomeAnd (list_in self.old.memory o) (λ list. (range : List T) → length range ≡ to - from → ChangesList (list_of T.meaning S.content self.old) (list_of T.meaning S.content (after_overwrite (after_write self.old o) o from range)) o (Some (take from list ++ (range ++ drop to list)))) }
+        ensures clean { (range : List T) → length range ≡ to - from → AreClean T.meaning S.content self.old → AreClean T.meaning S.content (after_overwrite (after_write self.old o) o from range) }
+        ensures others { (range : List T) → ChangesObject self.old (after_overwrite (after_write self.old o) o from range) o }
+        ensures store { (range : List T) (id : List ℕ) → AreHere S.is_of id self.old → AreHere S.is_of id (after_overwrite (after_write self.old o) o from range) }
     {
         self.mark(o);
         let memory = &mut self.memory;
@@ -100,7 +100,7 @@ impl<T: Elem, S: FarTickets> Objects<T, S> {
     pub(super) fn mark(&mut self, o: u32)
         requires within { o < length self.old.records }
         requires free { write_refusal self.old o ≡ None }
-        ensures written { self.new ≡ written self.old o }
+        ensures written { self.new ≡ after_write self.old o }
         ensures dirty { dirty self.new o ≡ true }
         ensures local { is_local self.new o ≡ true }
         ensures parts { (p : ℕ) → list_in self.new.memory p ≡ list_in self.old.memory p }

@@ -1,4 +1,4 @@
-// Offloaded builds: row groups are built into aggregates from the far store's copies of their columns.
+// Offloaded builds: row groups are scanned into aggregates from the far store's copies of their columns.
 ghost use Rattle.std.specs.Prelude.{◌≡◌, ◌↔◌, ◌⊎◌, true, None, is_none, IsTrue, IsSome, OnOk, OnErr, IfOk, IfErr, IsErrOf};
 ghost use Rattle.far_types.specs.MayRefuse.{MayRefuse};
 ghost use Rattle.far_scopes.specs.Refusing.{refusal_in};

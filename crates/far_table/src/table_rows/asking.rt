@@ -26,7 +26,7 @@ impl<S: FarTickets> TableRows<S> {
     /// - `ChunkFull` (11), `RegionFull` (17), `EditsUsedUp` (24)
     pub fn may_insert(&mut self, row: Row) -> Result<(), Refusal>
         ensures refused { refusal_in result ≡ edit_due (asked self.old) (edit.Insert row) }
-        ensures taken { OnOk result (row_of self.new.held.column_indexes self.new.new_row ≡ row) }
+        ensures loaded { OnOk result (row_of self.new.held.column_indexes self.new.new_row ≡ row) }
         ensures free { OnOk result (MayPush S.content self.new) }
         ensures stays { self.new ≡ record self.old { new_row = self.new.new_row } }
     {

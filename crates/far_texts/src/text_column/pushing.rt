@@ -8,7 +8,7 @@ ghost use Rattle.far_scopes.specs.Movement.{AreClean, AreHere};
 ghost use Rattle.far_scopes.specs.Effects.{after_create, after_replace};
 ghost use Rattle.far_scopes.specs.Refusing.{refusal_in, replace_refusal};
 ghost use Rattle.far_texts.specs.Texts.{Texts, lists_of, texts_in, HasGroups, IsTextColumn, AreDisjoint, KeepsOthers};
-ghost use Rattle.far_texts.specs.Effects.{begins_group, last_object, next_object, group_with_next, pushed, pushed_in};
+ghost use Rattle.far_texts.specs.Effects.{begins_group, last_object, next_object, group_with_next, after_push, objects_after_push};
 ghost use Rattle.far_texts.specs.Refusing.{next_length_refusal, push_refusal};
 
 use super::TextColumn;
@@ -92,7 +92,7 @@ impl TextColumn {
         requires few { length objects.old.records < 2 ^ 28 }
         requires groups { length self.old.objects ≤ length objects.old.records }
         requires some { 0 < length form.now }
-        ensures pushed { OnOk result (self.new ≡ pushed self.old (length objects.old.records)) }
+        ensures pushed { OnOk result (self.new ≡ after_push self.old (length objects.old.records)) }
         ensures created { OnOk result (objects.new ≡ after_create objects.old record { column = self.old.column; group = length self.old.objects } form.now) }
         ensures list { OnOk result (ChangesList (lists_of S.content objects.old) (lists_of S.content objects.new) (length objects.old.records) (Some form.now)) }
         ensures clean { AreClean (λ bytes. bytes) S.content objects.old → AreClean (λ bytes. bytes) S.content objects.new }
@@ -122,7 +122,7 @@ impl TextColumn {
         requires begun { begins_group self.old ≡ false }
         requires is { IsTextColumn (lists_of S.content objects.old) self.old }
         requires some { 0 < length form.now }
-        ensures pushed { OnOk result (self.new ≡ pushed self.old (length objects.old.records)) }
+        ensures pushed { OnOk result (self.new ≡ after_push self.old (length objects.old.records)) }
         ensures replaced { OnOk result (objects.new ≡ after_replace objects.old (last_object self.old) form.now) }
         ensures list { OnOk result (ChangesList (lists_of S.content objects.old) (lists_of S.content objects.new) (last_object self.old) (Some form.now)) }
         ensures clean { AreClean (λ bytes. bytes) S.content objects.old → AreClean (λ bytes. bytes) S.content objects.new }
@@ -158,8 +158,8 @@ impl TextColumn {
     ) -> Result<(), Refusal>
         requires is { IsTextColumn (lists_of S.content objects.old) self.old }
         requires few { begins_group self.old ≡ true → length objects.old.records < 2 ^ 28 }
-        ensures pushed { OnOk result (self.new ≡ pushed self.old (length objects.old.records)) }
-        ensures moved { OnOk result (objects.new ≡ pushed_in S.content objects.old self.old text.now) }
+        ensures pushed { OnOk result (self.new ≡ after_push self.old (length objects.old.records)) }
+        ensures moved { OnOk result (objects.new ≡ objects_after_push S.content objects.old self.old text.now) }
         ensures list { OnOk result (ChangesList (lists_of S.content objects.old) (lists_of S.content objects.new) (next_object S.content objects.old self.old) (Some (texts_form (group_with_next (lists_of S.content objects.old) self.old text.now)))) }
         ensures is { IsTextColumn (lists_of S.content objects.new) self.new }
         ensures texts { OnOk result (texts_in (lists_of S.content objects.new) self.new ≡ texts_in (lists_of S.content objects.old) self.old ++ text.now ∷ []) }

@@ -3,7 +3,7 @@ ghost use Rattle.std.specs.Prelude.{◌≡◌, if◌then◌else◌, ◌⊎◌, �
 ghost use Rattle.far_types.specs.FirstOf.{first_of};
 ghost use Rattle.far_scopes.specs.Movement.{AreClean, AreHere};
 ghost use Rattle.far_texts.specs.Texts.{Texts, IsTextColumn, AreDisjoint, lists_of, texts_in};
-ghost use Rattle.far_texts.specs.Together.{AreColumns, all_begin, next_forms, all_pushed, all_texts_with, ChangesTo, KeepsColumns, after_create_all, AreReplaced};
+ghost use Rattle.far_texts.specs.Together.{AreColumns, all_begin, next_forms, after_push_all, all_texts_with, ChangesTo, KeepsColumns, after_create_all, AreReplaced};
 ghost use Rattle.far_texts.specs.RefusingTogether.{first_tests, push_texts_refusal};
 
 mod asking;
@@ -49,7 +49,7 @@ pub fn push_texts<S: FarTickets>(
     requires are { AreColumns (lists_of S.content objects.old) columns.old }
     requires same_length { length texts.now ≡ length columns.old }
     requires few { all_begin columns.old ≡ true → length objects.old.records + length columns.old ≤ 2 ^ 28 }
-    ensures pushed { OnOk result (columns.new ≡ all_pushed (length objects.old.records) columns.old) }
+    ensures pushed { OnOk result (columns.new ≡ after_push_all (length objects.old.records) columns.old) }
     ensures begun { OnOk result (all_begin columns.old ≡ true → objects.new ≡ after_create_all objects.old columns.old (next_forms (lists_of S.content objects.old) (length objects.old.records) columns.old texts.now)) }
     ensures replaced { OnOk result (all_begin columns.old ≡ false → AreReplaced objects.old (next_forms (lists_of S.content objects.old) (length objects.old.records) columns.old texts.now) objects.new) }
     ensures count { OnOk result (length objects.new.records ≡ length objects.old.records + (if all_begin columns.old then length columns.old else 0)) }
@@ -83,7 +83,7 @@ pub fn fill_texts<S: FarTickets>(
     requires same_length { length texts.now ≡ length columns.old }
     requires few { all_begin columns.old ≡ true → length objects.old.records + length columns.old ≤ 2 ^ 28 }
     requires free { push_texts_refusal S.content objects.old columns.old texts.now ≡ None }
-    ensures pushed { OnOk result (columns.new ≡ all_pushed (length objects.old.records) columns.old) }
+    ensures pushed { OnOk result (columns.new ≡ after_push_all (length objects.old.records) columns.old) }
     ensures begun { OnOk result (all_begin columns.old ≡ true → objects.new ≡ after_create_all objects.old columns.old (next_forms (lists_of S.content objects.old) (length objects.old.records) columns.old texts.now)) }
     ensures replaced { OnOk result (all_begin columns.old ≡ false → AreReplaced objects.old (next_forms (lists_of S.content objects.old) (length objects.old.records) columns.old texts.now) objects.new) }
     ensures count { OnOk result (length objects.new.records ≡ length objects.old.records + (if all_begin columns.old then length columns.old else 0)) }

@@ -6,7 +6,7 @@ ghost use Rattle.far_scopes.specs.Effects.{after_create, after_uncreate};
 ghost use Rattle.far_scopes.specs.Refusing.{refusal_in, lend_refusal, no_space, write_refusal};
 ghost use Rattle.far_types.specs.FirstOf.{first_of};
 ghost use Rattle.far_vector.specs.Vector.{Vector, IsVector, IsUntouched, AreDisjoint, KeepsOthers, elements, object_at};
-ghost use Rattle.far_vector.specs.Effects.{is_full, next_name, next_group, after_push, pushed_in, after_unpush, range_written};
+ghost use Rattle.far_vector.specs.Effects.{is_full, next_name, next_group, after_push, objects_after_push, after_unpush, after_write_range};
 ghost use Rattle.far_vector.specs.Refusing.{push_refusal};
 
 use super::FarVector;
@@ -66,7 +66,7 @@ impl<T: Elem> FarVector<T> {
         requires is { IsVector (list_of T.meaning S.content objects.old) self.old }
         requires few { is_full self.old ≡ true → length objects.old.records < 2 ^ 28 }
         ensures pushed { OnOk result (self.new ≡ after_push self.old (length objects.old.records)) }
-        ensures written { OnOk result (objects.new ≡ pushed_in objects.old self.old x) }
+        ensures written { OnOk result (objects.new ≡ objects_after_push objects.old self.old x) }
         ensures undone { OnOk result (is_full self.old ≡ true → (after_unpush self.new ≡ self.old) × (after_uncreate objects.new ≡ objects.old)) }
         ensures last { OnOk result (is_full self.old ≡ true → (is_local objects.new (length objects.old.records) ≡ true) × (pins_of objects.new (length objects.old.records) ≡ 0)) }
         ensures next { OnOk result (is_full self.old ≡ true → (lens : List ℕ) → fit_in_order (spaces_of objects.old.memory.state) (self.old.size ∷ lens) ≡ fit_in_order (spaces_of objects.new.memory.state) lens) }
@@ -140,7 +140,7 @@ impl<T: Elem> FarVector<T> {
         requires space { is_full self.old ≡ false }
         requires is { IsVector (list_of T.meaning S.content objects.old) self.old }
         ensures pushed { OnOk result (self.new ≡ record self.old { len = self.old.len + 1 }) }
-        ensures written { OnOk result (objects.new ≡ range_written objects.old self.old self.old.len (x ∷ [])) }
+        ensures written { OnOk result (objects.new ≡ after_write_range objects.old self.old self.old.len (x ∷ [])) }
         ensures elements { OnOk result (elements (list_of T.meaning S.content objects.new) self.new ≡ elements (list_of T.meaning S.content objects.old) self.old ++ x ∷ []) }
         ensures is { IsVector (list_of T.meaning S.content objects.new) self.new }
         ensures disjoint { (w : Vector T) → IsVector (list_of T.meaning S.content objects.old) w → AreDisjoint self.old w → IsUntouched (list_of T.meaning S.content objects.old) (list_of T.meaning S.content objects.new) self.new w }

@@ -6,7 +6,7 @@ ghost use Rattle.far_scopes.specs.Movement.{list_of, AreClean, AreHere, ChangesO
 ghost use Rattle.far_scopes.specs.Refusing.{refusal_in, write_refusal};
 ghost use Rattle.far_scopes.specs.ObjectsLending.{lends_written};
 ghost use Rattle.far_vector.specs.Vector.{Vector, IsVector, IsUntouched, AreDisjoint, KeepsOthers, WritesPlaces, elements, object_at};
-ghost use Rattle.far_vector.specs.Effects.{range_written};
+ghost use Rattle.far_vector.specs.Effects.{after_write_range};
 ghost use Rattle.far_vector.specs.Refusing.{set_refusal, write_part_refusal};
 
 use super::{FarVector, Position};
@@ -32,7 +32,7 @@ impl<T: Elem> FarVector<T> {
         x: T,
     ) -> Result<(), Refusal>
         requires { IsVector (list_of T.meaning S.content objects.old) self.now }
-        ensures written { OnOk result (objects.new ≡ range_written objects.old self.now i (x ∷ [])) }
+        ensures written { OnOk result (objects.new ≡ after_write_range objects.old self.now i (x ∷ [])) }
         ensures elements { OnOk result (elements (list_of T.meaning S.content objects.new) self.now ≡ slice_set (elements (list_of T.meaning S.content objects.old) self.now) i x) }
         ensures is { IsVector (list_of T.meaning S.content objects.new) self.now }
         ensures disjoint { (w : Vector T) → IsVector (list_of T.meaning S.content objects.old) w → AreDisjoint self.now w → IsUntouched (list_of T.meaning S.content objects.old) (list_of T.meaning S.content objects.new) self.now w }
@@ -64,7 +64,7 @@ impl<T: Elem> FarVector<T> {
         requires is { IsVector (list_of T.meaning S.content objects.old) self.now }
         requires group { group ≡ i / self.now.size }
         requires free { set_refusal objects.old self.now i ≡ None }
-        ensures written { objects.new ≡ range_written objects.old self.now i (x ∷ []) }
+        ensures written { objects.new ≡ after_write_range objects.old self.now i (x ∷ []) }
         ensures elements { elements (list_of T.meaning S.content objects.new) self.now ≡ slice_set (elements (list_of T.meaning S.content objects.old) self.now) i x }
         ensures is { IsVector (list_of T.meaning S.content objects.new) self.now }
         ensures disjoint { (w : Vector T) → IsVector (list_of T.meaning S.content objects.old) w → AreDisjoint self.now w → IsUntouched (list_of T.meaning S.content objects.old) (list_of T.meaning S.content objects.new) self.now w }
@@ -128,13 +128,13 @@ impl<T: Elem> FarVector<T> {
         requires free { write_part_refusal objects.old vector.now from to ≡ None }
         ensures* writes_back { sem 𝓛 (lends_written T.row S.row S.Ticket.row T.Elem S.FarTickets objects.entry (object_at vector.now from) (from % vector.now.size) result) }
         ensures lent { result.now ≡ slice_range (elements (list_of T.meaning S.content objects.old) vector.now) from to }
-        ensures elements { (range : List T) → length range ≡ to - from → let now = list_of T.meaning S.content (range_written objects.old vector.now from range) in let was = elements (list_of T.meaning S.content objects.old) vector.now in elements now vector.now ≡ take from was ++ (range ++ drop to was) }
-        ensures is { (range : List T) → length range ≡ to - from → IsVector (list_of T.meaning S.content (range_written objects.old vector.now from range)) vector.now }
-        ensures disjoint { (range : List T) → length range ≡ to - from → (w : Vector T) → IsVector (list_of T.meaning S.content objects.old) w → AreDisjoint vector.now w → IsUntouched (list_of T.meaning S.content objects.old) (list_of T.meaning S.content (range_written objects.old vector.now from range)) vector.now w }
-        ensures lists { (range : List T) → length range ≡ to - from → KeepsOthers (list_of T.meaning S.content objects.old) (list_of T.meaning S.content (range_written objects.old vector.now from range)) (object_at vector.now from) }
-        ensures others { (range : List T) → ChangesObject objects.old (range_written objects.old vector.now from range) (object_at vector.now from) }
-        ensures clean { (range : List T) → length range ≡ to - from → AreClean T.meaning S.content objects.old → AreClean T.meaning S.content (range_written objects.old vector.now from range) }
-        ensures store { (range : List T) (id : List ℕ) → AreHere S.is_of id objects.old → AreHere S.is_of id (range_written objects.old vector.now from range) }
+        ensures elements { (range : List T) → length range ≡ to - from → let now = list_of T.meaning S.content (after_write_range objects.old vector.now from range) in let was = elements (list_of T.meaning S.content objects.old) vector.now in elements now vector.now ≡ take from was ++ (range ++ drop to was) }
+        ensures is { (range : List T) → length range ≡ to - from → IsVector (list_of T.meaning S.content (after_write_range objects.old vector.now from range)) vector.now }
+        ensures disjoint { (range : List T) → length range ≡ to - from → (w : Vector T) → IsVector (list_of T.meaning S.content objects.old) w → AreDisjoint vector.now w → IsUntouched (list_of T.meaning S.content objects.old) (list_of T.meaning S.content (after_write_range objects.old vector.now from range)) vector.now w }
+        ensures lists { (range : List T) → length range ≡ to - from → KeepsOthers (list_of T.meaning S.content objects.old) (list_of T.meaning S.content (after_write_range objects.old vector.now from range)) (object_at vector.now from) }
+        ensures others { (range : List T) → ChangesObject objects.old (after_write_range objects.old vector.now from range) (object_at vector.now from) }
+        ensures clean { (range : List T) → length range ≡ to - from → AreClean T.meaning S.content objects.old → AreClean T.meaning S.content (after_write_range objects.old vector.now from range) }
+        ensures store { (range : List T) (id : List ℕ) → AreHere S.is_of id objects.old → AreHere S.is_of id (after_write_range objects.old vector.now from range) }
     {
         let begin = from % vector.size;
         let o = vector.writable_at(objects, from);
@@ -152,7 +152,7 @@ impl<T: Elem> FarVector<T> {
         requires made { at.object < length objects.old.records }
         requires list { IsSomeAnd (list_of T.meaning S.content objects.old at.object) (λ list. length list ≡ self.now.size) }
         requires free { write_refusal objects.old at.object ≡ None }
-        ensures written { objects.new ≡ range_written objects.old self.now at.place (x ∷ []) }
+        ensures written { objects.new ≡ after_write_range objects.old self.now at.place (x ∷ []) }
         ensures places { WritesPlaces (list_of T.meaning S.content objects.old) (list_of T.meaning S.content objects.new) self.now at.place (x ∷ []) }
         ensures lists { KeepsOthers (list_of T.meaning S.content objects.old) (list_of T.meaning S.content objects.new) (object_at self.now at.place) }
         ensures others { ChangesObject objects.old objects.new (object_at self.now at.place) }

@@ -9,7 +9,7 @@ use Rattle.far_aggregates.specs.Reserve.{IsReserved}
 use Rattle.far_aggregates.specs.Until.{zip_until, zip_all}
 use Rattle.far_aggregates.proofs.ListLaws.{all-get, get-map, set_same}
 use Rattle.far_aggregates.proofs.UntilLaws.{zip_until-here, zip_until-next, zip_until-all, length-zip_until}
-use Rattle.far_aggregates.proofs.DeltaLaws.{next-may_undo, next-undone, applied-may_undo, applied-undone}
+use Rattle.far_aggregates.proofs.DeltasLaws.{next-may_undo, next-undone, applied-may_undo, applied-undone}
 use Rattle.far_aggregates.proofs.deltas.apply_deltas.Goals as goal
 
 pub apply_next-requires-clause-folds : goal.apply_next-requires-clause-folds

@@ -1,6 +1,6 @@
 use Rattle.std.proofs.Common.{Option, subst, ℕ}
 use Rattle.far_aggregates.specs.Lending.{IsLent}
-use Rattle.far_aggregates.proofs.LendLaws.{test-at_hand, at_hand}
+use Rattle.far_aggregates.proofs.LendingLaws.{test-at_hand, at_hand}
 use Rattle.far_aggregates.proofs.needed.needed_columns.Goals as goal
 
 pub lent-requires-3 : goal.lent-requires-3

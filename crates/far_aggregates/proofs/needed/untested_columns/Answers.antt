@@ -1,4 +1,4 @@
-use Rattle.far_aggregates.proofs.LendLaws.{untested-at_hand}
+use Rattle.far_aggregates.proofs.LendingLaws.{untested-at_hand}
 use Rattle.far_aggregates.proofs.needed.untested_columns.Goals as goal
 
 pub returns : goal.returns

@@ -1,6 +1,6 @@
 use Rattle.std.proofs.Common.{refl, ◌≡◌, Some, true, sym, ap, ◌∙◌, Option, None, ℕ}
 use Rattle.std.specs.Prelude.{Bool, is_none, is_some, not}
-use Rattle.far_aggregates.proofs.ReadLaws.{plain-now}
+use Rattle.far_aggregates.proofs.ReadingsLaws.{plain-now}
 use Rattle.far_aggregates.proofs.readings.plain.Goals as goal
 
 none_of : (o : Option ℕ) (b : Bool) → is_some o ≡ not b → b ≡ true → is_none o ≡ true

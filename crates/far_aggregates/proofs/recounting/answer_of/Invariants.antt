@@ -1,6 +1,6 @@
 use Rattle.std.proofs.Common.{◌≡◌, length}
 use Rattle.std.specs.Vec.Iter.{into_iter_items, into_iter_len}
-use Rattle.far_aggregates.proofs.RecountLaws.{AreMerged}
+use Rattle.far_aggregates.proofs.RecountingLaws.{AreMerged}
 use Rattle.far_aggregates.proofs.recounting.answer_of.Given as goal
 
 abbrev pub invariant-loop-partial : goal.invariant-loop-partial

@@ -1,5 +1,5 @@
 use Rattle.std.proofs.Common.{None}
-use Rattle.far_aggregates.proofs.RegisterLaws.{registered-set}
+use Rattle.far_aggregates.proofs.AccumulatorsRegistry.{registered-set}
 use Rattle.far_aggregates.proofs.registrations.forget.Goals as goal
 
 pub returns-clause-registered : goal.returns-clause-registered

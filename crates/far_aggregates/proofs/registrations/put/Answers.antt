@@ -1,6 +1,6 @@
 use Rattle.std.proofs.Common.{◌≡◌, Some, ap, ◌∙◌, arith, length, slice_set}
 use Rattle.far_aggregates.specs.Accumulators.{registered_in, registered_of}
-use Rattle.far_aggregates.proofs.RegisterLaws.{registered-set, registered-push}
+use Rattle.far_aggregates.proofs.AccumulatorsRegistry.{registered-set, registered-push}
 use Rattle.far_aggregates.proofs.registrations.put.Goals as goal
 
 pub returns-in_ok-push-clause-registered : goal.returns-in_ok-push-clause-registered

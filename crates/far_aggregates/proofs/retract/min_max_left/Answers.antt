@@ -1,7 +1,7 @@
 use Rattle.std.proofs.Common.{ap, ◌∙◌}
 use Rattle.std.specs.FinMap as fin
 use Rattle.far_types.specs.Answers.{extrema}
-use Rattle.far_aggregates.proofs.ScanLaws.{pairs-lent}
+use Rattle.far_aggregates.proofs.ScansLaws.{pairs-lent}
 use Rattle.far_aggregates.proofs.retract.min_max_left.Goals as goal
 
 pub returns-then-has_no_test : goal.returns-then-has_no_test

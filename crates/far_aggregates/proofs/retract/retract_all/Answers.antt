@@ -1,6 +1,6 @@
 use Rattle.std.proofs.Common.{sym, ap, ◌∙◌, subst, arith, slice_get, slice_set, refl}
 use Rattle.std.proofs.lemmas.Option.{slice_get_read}
-use Rattle.far_aggregates.specs.Retract.{retracted, MayRetract}
+use Rattle.far_aggregates.specs.Retract.{after_retract, MayRetract}
 use Rattle.far_aggregates.specs.Accumulators.{RegistryEntry, registered_in}
 use Rattle.far_aggregates.specs.Lending.{EntryIsServed}
 use Rattle.far_aggregates.specs.Until.{zip_until}
@@ -10,7 +10,7 @@ use Rattle.far_aggregates.proofs.retract.retract_all.Goals as goal
 
 pub retract_one-requires-clause-may : goal.retract_one-requires-clause-may
 retract_one-requires-clause-may g c =
-    let f = retracted c.args.number (g.G.LendGroup.places c.args.group.now) in
+    let f = after_retract c.args.number (g.G.LendGroup.places c.args.group.now) in
     let here = slice_get_read c.loop-i.registry _ c.loop-i.i c.index-registry-i.result refl (omega arith) c.index-registry-i.is in
     let there = slice_get_read c.args.to_retract.now _ c.loop-i.i c.index-to_retract-i.result refl (omega arith) c.index-to_retract-i.is in
     let was = sym (zip_until-here f c.loop-i.i c.args.registry.now c.args.to_retract.now) ∙ ap (λ l. slice_get l c.loop-i.i) (sym c.loop-i.invariant) ∙ here in
@@ -18,7 +18,7 @@ retract_one-requires-clause-may g c =
 
 pub loop-i-preserved : goal.loop-i-preserved
 loop-i-preserved g c =
-    let f = retracted c.args.number (g.G.LendGroup.places c.args.group.now) in
+    let f = after_retract c.args.number (g.G.LendGroup.places c.args.group.now) in
     let here = slice_get_read c.loop-i.registry _ c.loop-i.i c.index-registry-i.result refl (omega arith) c.index-registry-i.is in
     let there = slice_get_read c.args.to_retract.now _ c.loop-i.i c.index-to_retract-i.result refl (omega arith) c.index-to_retract-i.is in
     let was = sym (zip_until-here f c.loop-i.i c.args.registry.now c.args.to_retract.now) ∙ ap (λ l. slice_get l c.loop-i.i) (sym c.loop-i.invariant) ∙ here in
@@ -27,11 +27,11 @@ loop-i-preserved g c =
     ∙ zip_until-next f c.loop-i.i c.args.registry.now c.args.to_retract.now c.index-registry-i.result c.index-to_retract-i.result was there
 
 pub returns : goal.returns
-returns g c = c.loop-i.invariant ∙ zip_until-short (retracted c.args.number (g.G.LendGroup.places c.args.group.now)) c.loop-i.i c.args.registry.now c.args.to_retract.now (omega arith)
+returns g c = c.loop-i.invariant ∙ zip_until-short (after_retract c.args.number (g.G.LendGroup.places c.args.group.now)) c.loop-i.i c.args.registry.now c.args.to_retract.now (omega arith)
 
 pub retract_one-requires-clause-served : goal.retract_one-requires-clause-served
 retract_one-requires-clause-served g c =
-    let f = retracted c.args.number (g.G.LendGroup.places c.args.group.now) in
+    let f = after_retract c.args.number (g.G.LendGroup.places c.args.group.now) in
     let has = g.G.LendGroup.has c.args.group.now in
     let here = slice_get_read c.loop-i.registry _ c.loop-i.i c.index-registry-i.result refl (omega arith) c.index-registry-i.is in
     let was = sym (zip_until-here f c.loop-i.i c.args.registry.now c.args.to_retract.now) ∙ ap (λ l. slice_get l c.loop-i.i) (sym c.loop-i.invariant) ∙ here in

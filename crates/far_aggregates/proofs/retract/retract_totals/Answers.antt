@@ -1,6 +1,6 @@
 use Rattle.std.proofs.Common.{sym, ap, ◌∙◌, subst, arith, slice_get, slice_set, refl, []}
 use Rattle.std.proofs.lemmas.Option.{slice_get_read}
-use Rattle.far_aggregates.specs.Retract.{retracted, MayRetract, IsPlain}
+use Rattle.far_aggregates.specs.Retract.{after_retract, MayRetract, IsPlain}
 use Rattle.far_aggregates.specs.Accumulators.{RegistryEntry}
 use Rattle.far_aggregates.specs.Until.{zip_until}
 use Rattle.far_aggregates.proofs.UntilLaws.{zip_until-here, zip_until-next, zip_until-short}
@@ -8,7 +8,7 @@ use Rattle.far_aggregates.proofs.retract.retract_totals.Goals as goal
 
 pub retract_plain-requires-clause-plain : goal.retract_plain-requires-clause-plain
 retract_plain-requires-clause-plain c =
-    let f = retracted 0 [] in
+    let f = after_retract 0 [] in
     let here = slice_get_read c.loop-i.registry _ c.loop-i.i c.index-registry-i.result refl (omega arith) c.index-registry-i.is in
     let there = slice_get_read c.args.pairs.now _ c.loop-i.i c.index-pairs-i.result refl (omega arith) c.index-pairs-i.is in
     let was = sym (zip_until-here f c.loop-i.i c.args.registry.now c.args.pairs.now) ∙ ap (λ l. slice_get l c.loop-i.i) (sym c.loop-i.invariant) ∙ here in
@@ -16,7 +16,7 @@ retract_plain-requires-clause-plain c =
 
 pub retract_plain-requires-clause-may : goal.retract_plain-requires-clause-may
 retract_plain-requires-clause-may c =
-    let f = retracted 0 [] in
+    let f = after_retract 0 [] in
     let here = slice_get_read c.loop-i.registry _ c.loop-i.i c.index-registry-i.result refl (omega arith) c.index-registry-i.is in
     let there = slice_get_read c.args.pairs.now _ c.loop-i.i c.index-pairs-i.result refl (omega arith) c.index-pairs-i.is in
     let was = sym (zip_until-here f c.loop-i.i c.args.registry.now c.args.pairs.now) ∙ ap (λ l. slice_get l c.loop-i.i) (sym c.loop-i.invariant) ∙ here in
@@ -24,7 +24,7 @@ retract_plain-requires-clause-may c =
 
 pub loop-i-preserved : goal.loop-i-preserved
 loop-i-preserved c =
-    let f = retracted 0 [] in
+    let f = after_retract 0 [] in
     let here = slice_get_read c.loop-i.registry _ c.loop-i.i c.index-registry-i.result refl (omega arith) c.index-registry-i.is in
     let there = slice_get_read c.args.pairs.now _ c.loop-i.i c.index-pairs-i.result refl (omega arith) c.index-pairs-i.is in
     let was = sym (zip_until-here f c.loop-i.i c.args.registry.now c.args.pairs.now) ∙ ap (λ l. slice_get l c.loop-i.i) (sym c.loop-i.invariant) ∙ here in
@@ -33,4 +33,4 @@ loop-i-preserved c =
     ∙ zip_until-next f c.loop-i.i c.args.registry.now c.args.pairs.now c.index-registry-i.result c.index-pairs-i.result was there
 
 pub returns : goal.returns
-returns c = c.loop-i.invariant ∙ zip_until-short (retracted 0 []) c.loop-i.i c.args.registry.now c.args.pairs.now (omega arith)
+returns c = c.loop-i.invariant ∙ zip_until-short (after_retract 0 []) c.loop-i.i c.args.registry.now c.args.pairs.now (omega arith)

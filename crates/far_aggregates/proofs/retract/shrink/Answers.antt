@@ -1,4 +1,4 @@
-use Rattle.far_aggregates.proofs.ExtremaLaws.{is-reserved}
+use Rattle.far_aggregates.proofs.AccumulatorsExtrema.{is-reserved}
 use Rattle.far_aggregates.proofs.retract.shrink.Goals as goal
 
 pub shrink-requires-clause-reserved : goal.shrink-requires-clause-reserved

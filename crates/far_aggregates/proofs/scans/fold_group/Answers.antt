@@ -1,7 +1,7 @@
 use Rattle.std.proofs.Common.{ap, ◌∙◌}
 use Rattle.std.proofs.lemmas.Result.{IfOk-weaker}
 use Rattle.far_offload.specs.Partials.{partial_of}
-use Rattle.far_aggregates.proofs.ScanLaws.{pairs-lent}
+use Rattle.far_aggregates.proofs.ScansLaws.{pairs-lent}
 use Rattle.far_aggregates.proofs.scans.fold_group.Goals as goal
 
 pub returns-clause-partial : goal.returns-clause-partial

@@ -3,7 +3,7 @@ use Rattle.std.proofs.lemmas.Result.{on_ok_weaker}
 use Rattle.far_types.specs.Answers.{extrema}
 use Rattle.far_types.specs.Effects.{joined_extrema}
 use Rattle.far_types.specs.Pairs.{Pair}
-use Rattle.far_aggregates.proofs.ScanLaws.{pairs-lent}
+use Rattle.far_aggregates.proofs.ScansLaws.{pairs-lent}
 use Rattle.far_aggregates.proofs.scans.observe_group.Goals as goal
 
 pub returns-clause-ok : goal.returns-clause-ok

@@ -1,5 +1,5 @@
 use Rattle.std.proofs.lemmas.Result.{on_ok_weaker}
-use Rattle.far_aggregates.proofs.RecountLaws.{may-merge, merged-scanned}
+use Rattle.far_aggregates.proofs.RecountingLaws.{may-merge, merged-scanned}
 use Rattle.far_aggregates.proofs.scans.scan.Goals as goal
 
 pub merge_in-requires : goal.merge_in-requires

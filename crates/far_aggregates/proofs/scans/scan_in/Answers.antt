@@ -3,7 +3,7 @@ use Rattle.far_types.specs.Table.{is_pending}
 use Rattle.far_aggregates.specs.Accumulators.{RegistryEntry, KeepsEntry, registered_in}
 use Rattle.far_aggregates.specs.Lending.{EntryIsServed}
 use Rattle.far_aggregates.specs.Scans.{has_pending, IsScanned, AccumulatorMayScan, EntryMayScan}
-use Rattle.far_aggregates.proofs.ScanLaws.{group-length, may_scan, entry-scanned, entry-same}
+use Rattle.far_aggregates.proofs.ScansLaws.{group-length, may_scan, entry-scanned, entry-same}
 use Rattle.far_aggregates.proofs.scans.scan_in.Goals as goal
 
 pub scan-requires-clause-few : goal.scan-requires-clause-few
@@ -33,9 +33,9 @@ pub returns-in_ok-scan-clause-kept : goal.returns-in_ok-scan-clause-kept
 returns-in_ok-scan-clause-kept g c = λ ps here h.
     let a = c.in-Some.aggregate in
     let there : is_pending a.pending c.args.number ≡ true = ap (has_pending c.args.number) (sym c.in-Some.is) ∙ c.requires.pending in
-    let kept = subst (KeepsEntry c.args.size ps) c.in-Some.is h in
+    let holds = subst (KeepsEntry c.args.size ps) c.in-Some.is h in
     let scanned = subst (λ l. IsScanned a.spec c.args.number l a.accumulator c.scan.new.accumulator) here c.in_ok-scan.ensures.ok in
-    entry-scanned c.args.size ps a c.args.number c.clear.new.self c.scan.new.accumulator there c.requires.size kept c.clear.ensures scanned
+    entry-scanned c.args.size ps a c.args.number c.clear.new.self c.scan.new.accumulator there c.requires.size holds c.clear.ensures scanned
 
 pub returns-in_err-scan-clause-kept : goal.returns-in_err-scan-clause-kept
 returns-in_err-scan-clause-kept g c = λ ps here h.

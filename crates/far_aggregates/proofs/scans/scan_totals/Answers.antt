@@ -4,7 +4,7 @@ use Rattle.far_types.specs.Answers.{Totals, totals}
 use Rattle.far_types.specs.Effects.{joined_totals}
 use Rattle.far_types.specs.Pairs.{Pair}
 use Rattle.far_groups.specs.Live.{TotalsState, CanJoin}
-use Rattle.far_aggregates.proofs.ScanLaws.{pairs-lent}
+use Rattle.far_aggregates.proofs.ScansLaws.{pairs-lent}
 use Rattle.far_aggregates.proofs.scans.scan_totals.Goals as goal
 
 abbrev live_of : ℕ → Totals → TotalsState

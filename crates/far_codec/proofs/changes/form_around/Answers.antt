@@ -2,12 +2,12 @@ use Rattle.std.proofs.Common.{◌≡◌, length, set, sym, ap, ◌∙◌, arith}
 use Rattle.far_codec.specs.Effects.{with_text}
 use Rattle.far_codec.specs.Reading.{flags_of}
 use Rattle.far_codec.specs.TextForm.{texts_form, texts_of, ends_in}
-use Rattle.far_codec.proofs.ChangedForms.{flags_with}
-use Rattle.far_codec.proofs.ChangedLengths.{none_is}
-use Rattle.far_codec.proofs.ChangedTexts.{are_with, form_made}
-use Rattle.far_codec.proofs.Laws.{texts_form_length}
-use Rattle.far_codec.proofs.Meaning.{is_texts_form, texts_meant}
-use Rattle.far_codec.proofs.TextForms.{length-ends_in}
+use Rattle.far_codec.proofs.TextFormChanges.{flags_with}
+use Rattle.far_codec.proofs.TextFormLengthChanges.{none_is}
+use Rattle.far_codec.proofs.EffectsLaws.{are_with, form_made}
+use Rattle.far_codec.proofs.FarFormLaws.{texts_form_length}
+use Rattle.far_codec.proofs.FormsMeaning.{is_texts_form, texts_meant}
+use Rattle.far_codec.proofs.TextFormLaws.{length-ends_in}
 use Rattle.far_codec.proofs.changes.form_around.Goals as goal
 
 spelled : (c : goal.In_ok-push_fields) → c.push_fields.new.form.items ≡ texts_form (with_text (texts_of c.args.parts.mask.now (ends_in c.args.parts.ends.now) c.args.parts.body.now) c.args.i c.args.text.now)

@@ -9,13 +9,13 @@ use Rattle.far_codec.specs.FarForm.{version, head, some_missing}
 use Rattle.far_codec.specs.MaskLaws.{no_mask}
 use Rattle.far_codec.specs.TextForm.{bytes_of, texts_form, texts_of, ends_in, AreTextParts}
 use Rattle.far_codec.specs.TextLaws.{Texts}
-use Rattle.far_codec.proofs.ChangedFields.{flat_whole, fields_next, five_written}
-use Rattle.far_codec.proofs.ChangedLengths.{tells, missing_any, bytes_next}
-use Rattle.far_codec.proofs.ChangedTexts.{are_with, with_is_next, form_made}
-use Rattle.far_codec.proofs.Heads.{front_made, head_is}
-use Rattle.far_codec.proofs.Laws.{texts_form_length}
-use Rattle.far_codec.proofs.Meaning.{is_texts_form, texts_meant}
-use Rattle.far_codec.proofs.TextForms.{length-ends_in}
+use Rattle.far_codec.proofs.TextFormFieldChanges.{flat_whole, fields_next, five_written}
+use Rattle.far_codec.proofs.TextFormLengthChanges.{tells, missing_any, bytes_next}
+use Rattle.far_codec.proofs.EffectsLaws.{are_with, with_is_next, form_made}
+use Rattle.far_codec.proofs.FarFormHeads.{front_made, head_is}
+use Rattle.far_codec.proofs.FarFormLaws.{texts_form_length}
+use Rattle.far_codec.proofs.FormsMeaning.{is_texts_form, texts_meant}
+use Rattle.far_codec.proofs.TextFormLaws.{length-ends_in}
 use Rattle.far_codec.proofs.changes.form_behind.Goals as goal
 
 -- how many texts there are, and how many bytes they have

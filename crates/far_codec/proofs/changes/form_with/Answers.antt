@@ -1,8 +1,8 @@
 use Rattle.std.proofs.Common.{sym, ap, arith}
 use Rattle.far_types.specs.FormLengths.{texts_length}
 use Rattle.far_codec.specs.TextForm.{texts_meaning}
-use Rattle.far_codec.proofs.ChangedLengths.{tells}
-use Rattle.far_codec.proofs.ChangedTexts.{with_is_set}
+use Rattle.far_codec.proofs.TextFormLengthChanges.{tells}
+use Rattle.far_codec.proofs.EffectsLaws.{with_is_set}
 use Rattle.far_codec.proofs.changes.form_with.Goals as goal
 
 pub form_around-requires-clause-there : goal.form_around-requires-clause-there

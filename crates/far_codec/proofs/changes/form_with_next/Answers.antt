@@ -3,9 +3,9 @@ use Rattle.std.specs.Prelude.{is_none}
 use Rattle.std.specs.List.{list_any}
 use Rattle.far_types.specs.FormLengths.{texts_length}
 use Rattle.far_codec.specs.TextForm.{texts_meaning}
-use Rattle.far_codec.proofs.ChangedLengths.{tells}
-use Rattle.far_codec.proofs.ChangedTexts.{with_is_next}
-use Rattle.far_codec.proofs.NextLengths.{form_head, some_none, none_next}
+use Rattle.far_codec.proofs.TextFormLengthChanges.{tells}
+use Rattle.far_codec.proofs.EffectsLaws.{with_is_next}
+use Rattle.far_codec.proofs.TextFormNextLengths.{form_head, some_none, none_next}
 use Rattle.far_codec.proofs.changes.form_with_next.Goals as goal
 
 pub bounds-form-0 : goal.bounds-form-0

@@ -5,9 +5,9 @@ use Rattle.std.proofs.lemmas.List.{drop-map}
 use Rattle.far_types.specs.FormLengths.{text_bytes}
 use Rattle.far_codec.specs.TextForm.{bytes_of, bytes_before, ends_of, ends_in, texts_of}
 use Rattle.far_codec.specs.TextLaws.{length-texts_of}
-use Rattle.far_codec.proofs.ChangedForms.{moved, behind_is}
-use Rattle.far_codec.proofs.ChangedFields.{start_is, bytes_with, ends_fit, flat_words, six_written, fields_with}
-use Rattle.far_codec.proofs.TextForms.{length-ends_in, ends_are}
+use Rattle.far_codec.proofs.TextFormChanges.{moved, behind_is}
+use Rattle.far_codec.proofs.TextFormFieldChanges.{start_is, bytes_with, ends_fit, flat_words, six_written, fields_with}
+use Rattle.far_codec.proofs.TextFormLaws.{length-ends_in, ends_are}
 use Rattle.far_codec.proofs.changes.push_fields.Goals as goal
 
 pub overflow_cast-end : goal.overflow_cast-end

@@ -4,8 +4,8 @@ use Rattle.std.specs.Int.{w32, to_le_bytes, from_le_bytes}
 use Rattle.std.proofs.lemmas.List.{get_or-map, length-map}
 use Rattle.far_codec.specs.TextForm.{ends_in}
 use Rattle.far_codec.proofs.Chunks.{written_more}
-use Rattle.far_codec.proofs.ChangedForms.{moved}
-use Rattle.far_codec.proofs.ChangedFields.{moved_more}
+use Rattle.far_codec.proofs.TextFormChanges.{moved}
+use Rattle.far_codec.proofs.TextFormFieldChanges.{moved_more}
 use Rattle.far_codec.proofs.changes.push_moved.Goals as goal
 use Rattle.std.specs.Prelude.{take}
 

@@ -2,7 +2,7 @@ use Rattle.std.proofs.Common.{◌≡◌, ◌++◌, take}
 use Rattle.std.specs.List.{flat_map}
 use Rattle.std.specs.Int.{w32, to_le_bytes}
 use Rattle.far_codec.specs.TextForm.{ends_in}
-use Rattle.far_codec.proofs.ChangedForms.{moved}
+use Rattle.far_codec.proofs.TextFormChanges.{moved}
 use Rattle.far_codec.proofs.changes.push_moved.Given as goal
 
 abbrev pub invariant-loop-word : goal.invariant-loop-word

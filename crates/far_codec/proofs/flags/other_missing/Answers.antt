@@ -8,8 +8,8 @@ use Rattle.std.proofs.lemmas.List.Folds.{list_any_more, list_any_none}
 use Rattle.far_codec.specs.FarForm.{some_missing}
 use Rattle.far_codec.specs.MaskLaws.{no_flag}
 use Rattle.far_codec.specs.Reading.{is_missing, flags_of}
-use Rattle.far_codec.proofs.Heads.{unset_without_mask}
-use Rattle.far_codec.proofs.Masks.{length-flags_of, flag_at}
+use Rattle.far_codec.proofs.FarFormHeads.{unset_without_mask}
+use Rattle.far_codec.proofs.ReadingMasks.{length-flags_of, flag_at}
 use Rattle.far_codec.proofs.flags.other_missing.Goals as goal
 
 -- flag j, if flag i does not count
@@ -43,8 +43,8 @@ returns-then-missing c =
     let mask = c.args.mask.now in
     let j = c.loop-j.j in
     let flags = set (flags_of mask c.args.count) c.args.i false in
-    let told = flag_but mask c.args.count c.args.i j (eqb j c.args.i) c.loop-j-test.true refl ∙ ap (λ b. not (eqb j c.args.i) && b) (sym c.is_set.ensures) in
-    sym (any_at flags j (told ∙ c.if-missing.true))
+    let given = flag_but mask c.args.count c.args.i j (eqb j c.args.i) c.loop-j-test.true refl ∙ ap (λ b. not (eqb j c.args.i) && b) (sym c.is_set.ensures) in
+    sym (any_at flags j (given ∙ c.if-missing.true))
 
 pub loop-j-preserved : goal.loop-j-preserved
 loop-j-preserved c =
@@ -52,8 +52,8 @@ loop-j-preserved c =
     let j = c.loop-j.j in
     let flags = set (flags_of mask c.args.count) c.args.i false in
     let more : some_missing (take (j + 1) flags) ≡ (some_missing (take j flags) || get_or flags j false) = list_any_more (λ missing. missing) flags j false (omega (arith, length-set (flags_of mask c.args.count) c.args.i false, length-flags_of mask c.args.count)) in
-    let told = flag_but mask c.args.count c.args.i j (eqb j c.args.i) c.loop-j-test.true refl ∙ ap (λ b. not (eqb j c.args.i) && b) (sym c.is_set.ensures) in
-    more ∙ ap (λ b. b || get_or flags j false) c.loop-j.invariant ∙ told ∙ c.if-missing.false
+    let given = flag_but mask c.args.count c.args.i j (eqb j c.args.i) c.loop-j-test.true refl ∙ ap (λ b. not (eqb j c.args.i) && b) (sym c.is_set.ensures) in
+    more ∙ ap (λ b. b || get_or flags j false) c.loop-j.invariant ∙ given ∙ c.if-missing.false
 
 pub returns : goal.returns
 returns c =

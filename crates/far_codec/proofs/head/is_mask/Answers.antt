@@ -1,7 +1,7 @@
 use Rattle.std.proofs.Common.{sym, ◌∙◌, arith, inl, inr}
 use Rattle.std.proofs.lemmas.Bool.{cases_Bool, false≢true}
-use Rattle.far_codec.proofs.PlainWords.{IsBytes}
-use Rattle.far_codec.proofs.Masks.{HasNoSpare, no_spare, mask_again, bit_tells, spare_zero, first_set, no_bit}
+use Rattle.far_codec.proofs.PlainNumbersWords.{IsBytes}
+use Rattle.far_codec.proofs.ReadingMasks.{HasNoSpare, no_spare, mask_again, bit_tells, spare_zero, first_set, no_bit}
 use Rattle.far_codec.proofs.head.is_mask.Goals as goal
 use Rattle.far_codec.proofs.head.is_mask.Goals.{else-spare-ne0-via-then-spare-ne0+else-mask-count-ne0, else-spare-ne0-via-else-spare-ne0}
 

@@ -2,9 +2,9 @@ use Rattle.std.proofs.Common.{◌≡◌, ◌++◌, ℕ, List, [], sym, ap, ◌�
 use Rattle.far_codec.specs.FarForm.{head}
 use Rattle.far_codec.specs.Reading.{flags_of}
 use Rattle.far_codec.specs.MaskLaws.{no_mask}
-use Rattle.far_codec.proofs.PlainWords.{IsBytes}
-use Rattle.far_codec.proofs.Masks.{length-flags_of}
-use Rattle.far_codec.proofs.Heads.{head_found, head_cells, count_below, version_1, version_2, version_either, version_of_none, version_of_some, none_missing, some_with, some_and_with}
+use Rattle.far_codec.proofs.PlainNumbersWords.{IsBytes}
+use Rattle.far_codec.proofs.ReadingMasks.{length-flags_of}
+use Rattle.far_codec.proofs.FarFormHeads.{head_found, head_cells, count_below, version_1, version_2, version_either, version_of_none, version_of_some, none_missing, some_with, some_and_with}
 use Rattle.far_codec.proofs.head.split_head.Goals as goal
 
 pub returns-then-bytes-lt6-clause-only : goal.returns-then-bytes-lt6-clause-only

@@ -4,7 +4,7 @@ use Rattle.std.proofs.lemmas.List.{take-append-drop, length-append, take_at, dro
 use Rattle.far_codec.specs.FarForm.{mask_of, some_missing}
 use Rattle.far_codec.specs.Reading.{flags_of}
 use Rattle.far_codec.specs.MaskLaws.{length-mask}
-use Rattle.far_codec.proofs.Masks.{flags_again}
+use Rattle.far_codec.proofs.ReadingMasks.{flags_again}
 use Rattle.far_codec.proofs.head.split_mask.Goals as goal
 
 -- the mask of so many flags is as long as this

@@ -4,9 +4,9 @@ use Rattle.std.specs.Int.{w32, w64, to_le_bytes}
 use Rattle.std.specs.List.{flat_map}
 use Rattle.std.proofs.lemmas.List.Elements.{All-from_recursion}
 use Rattle.far_codec.specs.FarForm.{head, number_bytes}
-use Rattle.far_codec.proofs.IntForms.{ints_form_is}
-use Rattle.far_codec.proofs.Laws.{ints_form_length}
-use Rattle.far_codec.proofs.PresentNumbers.{present_form, numbers_fit}
+use Rattle.far_codec.proofs.FarFormNumbers.{ints_form_is}
+use Rattle.far_codec.proofs.FarFormLaws.{ints_form_length}
+use Rattle.far_codec.proofs.PlainNumbersLaws.{present_form, numbers_fit}
 use Rattle.far_codec.proofs.ints.encode_ints.Goals as goal
 
 pub returns-then-all-clause-spelled : goal.returns-then-all-clause-spelled

@@ -6,7 +6,7 @@ use Rattle.std.proofs.lemmas.List.FromFn.{map-range_with_len_more}
 use Rattle.std.proofs.lemmas.Iterator.{YieldsList-from_map, YieldsList-from_slice}
 use Rattle.std.proofs.lemmas.Iterator.Adapters.{items_from_extend}
 use Rattle.far_codec.specs.Reading.{number_of, numbers_of}
-use Rattle.far_codec.proofs.IntForms.{plain_numbers, number_at}
+use Rattle.far_codec.proofs.FarFormNumbers.{plain_numbers, number_at}
 use Rattle.far_codec.proofs.ints.read_ints.Goals as goal
 
 pub returns-then-is_empty : goal.returns-then-is_empty

@@ -3,7 +3,7 @@ use Rattle.std.specs.Prelude.{is_none}
 use Rattle.std.specs.List.{flat_map}
 use Rattle.std.proofs.lemmas.Bool.Decides.{nat_tests}
 use Rattle.far_codec.specs.FarForm.{head, number_bytes}
-use Rattle.far_codec.proofs.IntForms.{ints_form_is, fields_from_words, words_from_fields, length-numbers}
+use Rattle.far_codec.proofs.FarFormNumbers.{ints_form_is, fields_from_words, words_from_fields, length-numbers}
 use Rattle.far_codec.proofs.ints.spells_masked.Goals as goal
 
 pub returns-then-is_empty-clause-found : goal.returns-then-is_empty-clause-found

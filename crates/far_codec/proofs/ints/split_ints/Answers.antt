@@ -5,8 +5,8 @@ use Rattle.std.specs.Simd.{first_chunks}
 use Rattle.std.proofs.lemmas.List.{length-map}
 use Rattle.far_codec.specs.FarForm.{mask_of, head, number_bytes, ints_form, FitsCount, AreInts}
 use Rattle.far_codec.specs.Reading.{flags_of}
-use Rattle.far_codec.proofs.IntForms.{ints_found, HasIntParts, length-numbers, zeros_in}
-use Rattle.far_codec.proofs.PlainWords.{IsBytes, IsBytes-behind}
+use Rattle.far_codec.proofs.FarFormNumbers.{ints_found, HasIntParts, length-numbers, zeros_in}
+use Rattle.far_codec.proofs.PlainNumbersWords.{IsBytes, IsBytes-behind}
 use Rattle.far_codec.proofs.ints.split_ints.Goals as goal
 
 few_flags : (numbers : List (Option ℤ)) → AreInts numbers → FitsCount (map is_none numbers)

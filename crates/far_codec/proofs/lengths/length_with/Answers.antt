@@ -5,7 +5,7 @@ use Rattle.std.proofs.lemmas.List.{length-set}
 use Rattle.far_types.specs.FormLengths.{text_bytes}
 use Rattle.far_codec.specs.FarForm.{some_missing}
 use Rattle.far_codec.specs.TextForm.{bytes_of, texts_meaning}
-use Rattle.far_codec.proofs.ChangedLengths.{tells, lent_is, one_of, missing_set, bytes_set, length_is, none_is}
+use Rattle.far_codec.proofs.TextFormLengthChanges.{tells, lent_is, one_of, missing_set, bytes_set, length_is, none_is}
 use Rattle.far_codec.proofs.lengths.length_with.Goals as goal
 
 pub overflow_sub-parts : goal.overflow_sub-parts

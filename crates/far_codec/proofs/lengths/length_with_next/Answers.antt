@@ -1,5 +1,5 @@
 use Rattle.std.proofs.Common.{length, ap, sym, ◌∙◌, arith}
-use Rattle.far_codec.proofs.NextLengths.{form_head, form_small, some_none, next_length}
+use Rattle.far_codec.proofs.TextFormNextLengths.{form_head, form_small, some_none, next_length}
 use Rattle.far_codec.proofs.lengths.length_with_next.Goals as goal
 
 pub bounds-form-0 : goal.bounds-form-0

@@ -6,8 +6,8 @@ use Rattle.far_types.specs.FormLengths.{text_bytes}
 use Rattle.far_codec.specs.FarForm.{some_missing}
 use Rattle.far_codec.specs.Reading.{flags_of}
 use Rattle.far_codec.specs.TextForm.{texts_meaning}
-use Rattle.far_codec.proofs.ChangedLengths.{tells, missing_next, bytes_next, length_is, none_is, set_past}
-use Rattle.far_codec.proofs.Masks.{length-flags_of}
+use Rattle.far_codec.proofs.TextFormLengthChanges.{tells, missing_next, bytes_next, length_is, none_is, set_past}
+use Rattle.far_codec.proofs.ReadingMasks.{length-flags_of}
 use Rattle.far_codec.proofs.lengths.parted_length_with_next.Goals as goal
 
 pub length_of-requires-clause-few : goal.length_of-requires-clause-few

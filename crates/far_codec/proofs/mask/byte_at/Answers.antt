@@ -2,7 +2,7 @@ use Rattle.std.proofs.Common.{◌≡◌, ◌-◌, ◌+◌, ◌*◌, ◌≤◌, B
 use Rattle.std.proofs.lemmas.List.{length-take, length-drop}
 use Rattle.far_codec.specs.FarForm.{mask_byte}
 use Rattle.far_codec.specs.MaskLaws.{bit}
-use Rattle.far_codec.proofs.MaskWriting.{eight, length-eight, byte_more, byte_none, byte_small}
+use Rattle.far_codec.proofs.FarFormMaskBytes.{eight, length-eight, byte_more, byte_none, byte_small}
 use Rattle.far_codec.proofs.mask.byte_at.Goals as goal
 use mir.Val.{bool_byte}
 

@@ -1,7 +1,7 @@
 use Rattle.std.proofs.Common.{◌≡◌, ◌+◌, ◌/◌, true, false, cond, length, sym, ap, ◌∙◌}
 use Rattle.std.specs.Prelude.{is_none}
 use Rattle.std.specs.List.{list_any}
-use Rattle.far_codec.proofs.MaskWriting.{missing_any, ceil_is}
+use Rattle.far_codec.proofs.FarFormMaskBytes.{missing_any, ceil_is}
 use Rattle.far_codec.proofs.mask.mask_length.Goals as goal
 
 pub returns-then-any_missing : goal.returns-then-any_missing

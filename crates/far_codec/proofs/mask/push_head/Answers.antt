@@ -3,7 +3,7 @@ use Rattle.std.specs.Int.{w32, to_le_bytes}
 use Rattle.std.proofs.lemmas.List.{append-nil}
 use Rattle.far_codec.specs.FarForm.{version, mask_bytes, some_missing}
 use Rattle.far_codec.specs.MaskLaws.{masked, no_mask}
-use Rattle.far_codec.proofs.Heads.{front_made, head_is}
+use Rattle.far_codec.proofs.FarFormHeads.{front_made, head_is}
 use Rattle.far_codec.proofs.mask.push_head.Goals as goal
 
 pub returns-in_ok-push_mask : goal.returns-in_ok-push_mask

@@ -2,7 +2,7 @@ use Rattle.std.proofs.Common.{◌≡◌, ◌+◌, ◌/◌, ◌++◌, ℕ, List, 
 use Rattle.std.specs.List.{range_with_len}
 use Rattle.std.proofs.lemmas.List.FromFn.{map-range_with_len_more}
 use Rattle.far_codec.specs.MaskLaws.{part}
-use Rattle.far_codec.proofs.MaskWriting.{mask_is_parts, ceil_is}
+use Rattle.far_codec.proofs.FarFormMaskBytes.{mask_is_parts, ceil_is}
 use Rattle.far_codec.proofs.mask.push_mask.Goals as goal
 
 pub loop-k-preserved : goal.loop-k-preserved

@@ -4,8 +4,8 @@ use Rattle.std.specs.Prelude.{is_none}
 use Rattle.far_codec.specs.FarForm.{some_missing}
 use Rattle.far_codec.specs.MaskLaws.{masked}
 use Rattle.far_codec.proofs.Compared.{same_if_not_ne, differ_if_ne}
-use Rattle.far_codec.proofs.Heads.{masked_front, head_split, head_join, some_with}
-use Rattle.far_codec.proofs.MaskWriting.{flags_in, missing_any}
+use Rattle.far_codec.proofs.FarFormHeads.{masked_front, head_split, head_join, some_with}
+use Rattle.far_codec.proofs.FarFormMaskBytes.{flags_in, missing_any}
 use Rattle.far_codec.proofs.mask.strip_head.Goals as goal
 
 pub returns-then-bytes-lt6-clause-only : goal.returns-then-bytes-lt6-clause-only

@@ -4,9 +4,9 @@ use Rattle.std.proofs.lemmas.Bool.{false≢true}
 use Rattle.std.proofs.lemmas.List.{length-append, take-append-drop}
 use Rattle.far_codec.specs.FarForm.{mask_bytes}
 use Rattle.far_codec.specs.MaskLaws.{part}
-use Rattle.far_codec.proofs.Masks.{is_set}
-use Rattle.far_codec.proofs.MaskBits.{bytes_tell}
-use Rattle.far_codec.proofs.MaskWriting.{flags_in, missing_any, mask_len, mask_same, mask_front, mask_back, front_byte}
+use Rattle.far_codec.proofs.ReadingMasks.{is_set}
+use Rattle.far_codec.proofs.FarFormMaskBits.{bytes_tell}
+use Rattle.far_codec.proofs.FarFormMaskBytes.{flags_in, missing_any, mask_len, mask_same, mask_front, mask_back, front_byte}
 use Rattle.far_codec.proofs.mask.strip_mask.Goals as goal
 use borrow.Author.Count.{below_more}
 

@@ -1,6 +1,6 @@
 use Rattle.std.proofs.Common.{◌≡◌, ℕ, ◌<◌, get_or}
 use Rattle.far_codec.specs.MaskLaws.{part}
-use Rattle.far_codec.proofs.MaskWriting.{flags_in}
+use Rattle.far_codec.proofs.FarFormMaskBytes.{flags_in}
 use Rattle.far_codec.proofs.mask.strip_mask.Given as goal
 
 abbrev pub invariant-loop-k : goal.invariant-loop-k

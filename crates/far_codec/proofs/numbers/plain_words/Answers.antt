@@ -3,7 +3,7 @@ use Rattle.std.specs.Int.{w32, to_le_bytes}
 use Rattle.std.specs.Simd.{first_chunks}
 use Rattle.std.proofs.lemmas.Bool.Decides.{nat_tests}
 use Rattle.far_codec.proofs.Compared.{same_if_not_ne, differ_if_ne}
-use Rattle.far_codec.proofs.PlainWords.{plain_parts, head_cells}
+use Rattle.far_codec.proofs.PlainNumbersWords.{plain_parts, head_cells}
 use Rattle.far_codec.proofs.numbers.plain_words.Goals as goal
 
 -- the words of so many bytes

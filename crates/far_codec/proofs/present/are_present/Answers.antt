@@ -7,7 +7,7 @@ use Rattle.far_codec.specs.FarForm.{number_bytes}
 use Rattle.far_codec.specs.PlainNumbers.{IsThere}
 use Rattle.far_codec.proofs.Chunks.{AllByRecursion-append}
 use Rattle.far_codec.proofs.Compared.{same_if_not_ne, differ_if_ne}
-use Rattle.far_codec.proofs.PresentNumbers.{is_there, tells_none}
+use Rattle.far_codec.proofs.PlainNumbersLaws.{is_there, tells_none}
 use Rattle.far_codec.proofs.present.are_present.Goals as goal
 use Rattle.far_codec.proofs.present.are_present.Goals.{then-is_none-via-then-is_none, then-is_none-via-else-is_none+then-ne}
 

@@ -4,7 +4,7 @@ use Rattle.std.proofs.lemmas.List.{take_more, append-nil}
 use Rattle.far_codec.specs.FarForm.{number_bytes}
 use Rattle.far_codec.specs.PlainNumbers.{IsThere}
 use Rattle.far_codec.proofs.Chunks.{AllByRecursion-append, written_more}
-use Rattle.far_codec.proofs.PresentNumbers.{is_there}
+use Rattle.far_codec.proofs.PlainNumbersLaws.{is_there}
 use Rattle.far_codec.proofs.present.push_few.Goals as goal
 
 pub loop-number-preserved : goal.loop-number-preserved

@@ -3,8 +3,8 @@ use Rattle.far_codec.specs.FarForm.{number_bytes, ints_form}
 use Rattle.far_codec.specs.PlainNumbers.{plain_form}
 use Rattle.far_codec.specs.Reading.{number_of}
 use Rattle.far_codec.specs.PlainLaws.{numbers_again}
-use Rattle.far_codec.proofs.PlainWords.{plain_found, IsBytes}
-use Rattle.far_codec.proofs.PresentNumbers.{values_of, all_there, none_missing, values_fit, words_of_values}
+use Rattle.far_codec.proofs.PlainNumbersWords.{plain_found, IsBytes}
+use Rattle.far_codec.proofs.PlainNumbersLaws.{values_of, all_there, none_missing, values_fit, words_of_values}
 use Rattle.far_codec.proofs.present.spells_present.Goals as goal
 
 pub returns-in-Some-clause-found : goal.returns-in-Some-clause-found

@@ -1,7 +1,7 @@
 use Rattle.std.proofs.Common.{length, sym, ap, ◌∙◌}
 use Rattle.far_codec.specs.TextForm.{ends_in}
 use Rattle.far_codec.specs.TextLaws.{length-texts_of}
-use Rattle.far_codec.proofs.TextForms.{length-ends_in}
+use Rattle.far_codec.proofs.TextFormLaws.{length-ends_in}
 use Rattle.far_codec.proofs.text_forms.count_texts.Goals as goal
 
 pub returns : goal.returns

@@ -4,8 +4,8 @@ use Rattle.std.specs.Int.{w32, to_le_bytes}
 use Rattle.std.specs.List.{flat_map}
 use Rattle.far_codec.specs.FarForm.{head}
 use Rattle.far_codec.specs.TextForm.{bytes_of, ends_of}
-use Rattle.far_codec.proofs.TextForms.{texts_form_is}
-use Rattle.far_codec.proofs.Laws.{texts_form_length}
+use Rattle.far_codec.proofs.TextFormLaws.{texts_form_is}
+use Rattle.far_codec.proofs.FarFormLaws.{texts_form_length}
 use Rattle.far_codec.proofs.text_forms.encode_texts.Goals as goal
 
 pub returns-clause-spelled : goal.returns-clause-spelled

@@ -6,8 +6,8 @@ use Rattle.std.proofs.lemmas.List.{length-append, take_at, drop_at}
 use Rattle.far_codec.specs.FarForm.{mask_of}
 use Rattle.far_codec.specs.TextForm.{bytes_of, ends_of, texts_meaning, texts_of, ends_in, IsTextsForm}
 use Rattle.far_codec.specs.TextLaws.{texts_again}
-use Rattle.far_codec.proofs.Meaning.{LiesSo, lies_so}
-use Rattle.far_codec.proofs.TextForms.{parts_of_form, HasTextParts, parts_in}
+use Rattle.far_codec.proofs.FormsMeaning.{LiesSo, lies_so}
+use Rattle.far_codec.proofs.TextFormLaws.{parts_of_form, HasTextParts, parts_in}
 use Rattle.far_codec.proofs.text_forms.form_parts.Goals as goal
 
 lies : (form : List ℕ) → IsTextsForm form → LiesSo form (texts_meaning form)

@@ -1,8 +1,8 @@
 use Rattle.std.proofs.Common.{sym, ap, ◌∙◌}
 use Rattle.std.specs.Prelude.{slice_get, option_and_then}
 use Rattle.far_codec.specs.TextForm.{texts_of, ends_in}
-use Rattle.far_codec.proofs.Heads.{some_with}
-use Rattle.far_codec.proofs.Meaning.{texts_meant, is_texts_form, lent_there}
+use Rattle.far_codec.proofs.FarFormHeads.{some_with}
+use Rattle.far_codec.proofs.FormsMeaning.{texts_meant, is_texts_form, lent_there}
 use Rattle.far_codec.proofs.text_forms.text_at.Goals as goal
 
 pub returns-clause-found : goal.returns-clause-found

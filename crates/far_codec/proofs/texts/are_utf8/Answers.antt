@@ -3,7 +3,7 @@ use Rattle.std.specs.Prelude.{slice_range}
 use Rattle.std.specs.Str.{IsUtf8}
 use Rattle.std.proofs.lemmas.Bool.{false≢true}
 use Rattle.far_codec.specs.TextForm.{ends_in}
-use Rattle.far_codec.proofs.TextForms.{end_of_word, length-ends_in}
+use Rattle.far_codec.proofs.TextFormLaws.{end_of_word, length-ends_in}
 use Rattle.far_codec.proofs.TextParts.{inside}
 use Rattle.far_codec.proofs.texts.are_utf8.Goals as goal
 use borrow.Author.Count.{below_more}

@@ -1,6 +1,6 @@
 use Rattle.std.proofs.Common.{◌≡◌, ◌+◌, ◌≤◌, ◌∷◌, suc, get_or, sym, ap, ◌∙◌, arith}
 use Rattle.far_codec.specs.TextForm.{ends_in}
-use Rattle.far_codec.proofs.TextForms.{end_of_word}
+use Rattle.far_codec.proofs.TextFormLaws.{end_of_word}
 use Rattle.far_codec.proofs.texts.ascend_to.Goals as goal
 use borrow.Author.Count.{below_more}
 

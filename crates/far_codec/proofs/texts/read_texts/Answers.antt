@@ -3,7 +3,7 @@ use Rattle.std.specs.List.{range_with_len}
 use Rattle.std.proofs.lemmas.List.FromFn.{map-range_with_len_more}
 use Rattle.far_codec.specs.TextForm.{ends_in}
 use Rattle.far_codec.specs.TextLaws.{text_at}
-use Rattle.far_codec.proofs.TextForms.{text_there, length-ends_in}
+use Rattle.far_codec.proofs.TextFormLaws.{text_there, length-ends_in}
 use Rattle.far_codec.proofs.texts.read_texts.Goals as goal
 
 pub loop-i-preserved : goal.loop-i-preserved

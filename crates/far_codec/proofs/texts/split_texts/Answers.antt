@@ -8,8 +8,8 @@ use Rattle.far_codec.specs.FarForm.{mask_of, head, FitsCount}
 use Rattle.far_codec.specs.Reading.{flags_of}
 use Rattle.far_codec.specs.TextForm.{bytes_of, ends_of, texts_form, ends_in, AreTexts, AreTextParts}
 use Rattle.far_codec.specs.TextLaws.{Texts, length-end_bytes, length-ends_of}
-use Rattle.far_codec.proofs.PlainWords.{IsBytes, IsBytes-behind, IsBytes-take}
-use Rattle.far_codec.proofs.TextForms.{texts_form_is, texts_found, parts_of_form, HasTextParts, parts_in}
+use Rattle.far_codec.proofs.PlainNumbersWords.{IsBytes, IsBytes-behind, IsBytes-take}
+use Rattle.far_codec.proofs.TextFormLaws.{texts_form_is, texts_found, parts_of_form, HasTextParts, parts_in}
 use Rattle.far_codec.proofs.texts.split_texts.Goals as goal
 
 few_flags : (texts : Texts) → AreTexts texts → FitsCount (map is_none texts)

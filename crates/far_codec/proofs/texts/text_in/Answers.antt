@@ -2,7 +2,7 @@ use Rattle.std.proofs.Common.{◌≡◌, ◌∷◌, ℕ, true, false, cond, get_
 use Rattle.std.specs.Prelude.{slice_range}
 use Rattle.far_codec.specs.Reading.{is_missing}
 use Rattle.far_codec.specs.TextForm.{ends_in}
-use Rattle.far_codec.proofs.TextForms.{text_there, text_past, end_of_word, length-ends_in}
+use Rattle.far_codec.proofs.TextFormLaws.{text_there, text_past, end_of_word, length-ends_in}
 use Rattle.far_codec.proofs.texts.text_in.Goals as goal
 
 pub returns-then-i-parts : goal.returns-then-i-parts

@@ -2,7 +2,7 @@ use Rattle.std.proofs.Common.{Some, ap, ◌∙◌}
 use Rattle.far_codec.specs.Reading.{numbers_of}
 use Rattle.far_codec.specs.TextForm.{texts_of, ends_in}
 use Rattle.far_codec.specs.declared.values.Values.TheVariants.{Ints, Texts}
-use Rattle.far_codec.proofs.Meaning.{ints_only, texts_only}
+use Rattle.far_codec.proofs.FormsMeaning.{ints_only, texts_only}
 use Rattle.far_codec.proofs.values.decode.Goals as goal
 
 pub returns-in-Some-clause-only : goal.returns-in-Some-clause-only

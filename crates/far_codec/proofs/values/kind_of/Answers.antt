@@ -1,8 +1,8 @@
 use Rattle.std.proofs.Common.{refl, sym, ◌∙◌}
 use Rattle.far_codec.specs.Reading.{numbers_of}
 use Rattle.far_codec.specs.TextForm.{texts_of, ends_in, texts_meaning}
-use Rattle.far_codec.proofs.Heads.{some_value}
-use Rattle.far_codec.proofs.Meaning.{is_ints_form, is_texts_form, not_both}
+use Rattle.far_codec.proofs.FarFormHeads.{some_value}
+use Rattle.far_codec.proofs.FormsMeaning.{is_ints_form, is_texts_form, not_both}
 use Rattle.far_codec.proofs.values.kind_of.Goals as goal
 
 pub returns-then-is_some-clause-ints : goal.returns-then-is_some-clause-ints

@@ -7,7 +7,7 @@ ghost use Rattle.far_vector.specs.Vectors.{AreVectors};
 ghost use Rattle.far_vector.specs.Effects.{is_full};
 ghost use Rattle.far_vector.specs.Refusing.{push_refusal};
 ghost use Rattle.far_columns.specs.Numbers.{number_lists, numbers_in};
-ghost use Rattle.far_columns.specs.NumbersTogether.{all_pushed, all_numbers_with, KeepsNumbers, all_pushed_in};
+ghost use Rattle.far_columns.specs.NumbersTogether.{after_push_all, all_numbers_with, KeepsNumbers, objects_after_push_all};
 
 use crate::int_column::IntColumn;
 use far_scopes::Objects;
@@ -24,8 +24,8 @@ pub(super) fn fill_places<S: FarTickets>(
     requires same_length { length numbers.now ≡ length columns.old }
     requires free { All (λ c. push_refusal objects.old c ≡ None) columns.old }
     requires shaped { All IsShaped columns.old }
-    ensures pushed { (n : ℕ) → columns.new ≡ all_pushed n columns.old }
-    ensures moved { objects.new ≡ all_pushed_in objects.old columns.old numbers.now }
+    ensures pushed { (n : ℕ) → columns.new ≡ after_push_all n columns.old }
+    ensures moved { objects.new ≡ objects_after_push_all objects.old columns.old numbers.now }
     ensures numbers { map (numbers_in S.content objects.new) columns.new ≡ all_numbers_with (number_lists S.content objects.old) columns.old numbers.now }
     ensures count { length objects.new.records ≡ length objects.old.records }
     ensures all_disjoint { AreVectors (number_lists S.content objects.new) columns.new }

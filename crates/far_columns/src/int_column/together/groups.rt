@@ -6,7 +6,7 @@ ghost use Rattle.far_scopes.specs.Movement.{AreClean, AreHere};
 ghost use Rattle.far_vector.specs.Vectors.{AreVectors};
 ghost use Rattle.far_vector.specs.Effects.{is_full, after_unpush};
 ghost use Rattle.far_columns.specs.Numbers.{number_lists, numbers_in};
-ghost use Rattle.far_columns.specs.NumbersTogether.{all_pushed, all_numbers_with, KeepsNumbers, all_pushed_in};
+ghost use Rattle.far_columns.specs.NumbersTogether.{after_push_all, all_numbers_with, KeepsNumbers, objects_after_push_all};
 ghost use Rattle.far_columns.specs.NumbersUndo.{KeepsBelow, AreBegunFrom, AreBegunLast, after_uncreate_all};
 
 use crate::int_column::IntColumn;
@@ -24,8 +24,8 @@ pub(super) fn begin_groups<S: FarTickets>(
     requires all_disjoint { AreVectors (number_lists S.content objects.old) columns.old }
     requires same_length { length numbers.now ≡ length columns.old }
     requires few { length objects.old.records + length columns.old ≤ 2 ^ 28 }
-    ensures pushed { OnOk result (columns.new ≡ all_pushed (length objects.old.records) columns.old) }
-    ensures moved { OnOk result (objects.new ≡ all_pushed_in objects.old columns.old numbers.now) }
+    ensures pushed { OnOk result (columns.new ≡ after_push_all (length objects.old.records) columns.old) }
+    ensures moved { OnOk result (objects.new ≡ objects_after_push_all objects.old columns.old numbers.now) }
     ensures numbers { OnOk result (map (numbers_in S.content objects.new) columns.new ≡ all_numbers_with (number_lists S.content objects.old) columns.old numbers.now) }
     ensures all_disjoint { OnOk result (AreVectors (number_lists S.content objects.new) columns.new) }
     ensures begun { OnOk result (AreBegunFrom objects.new (length objects.old.records) columns.new) }

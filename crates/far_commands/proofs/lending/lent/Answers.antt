@@ -2,7 +2,7 @@ use Rattle.std.proofs.Common.{◌<◌, ap, sym, ◌∙◌, arith}
 use Rattle.far_frame.specs.Lending.{lent_part}
 use Rattle.far_frame.proofs.LendingLaws.{lent-step}
 use Rattle.far_commands.specs.Pieces.{pieces_text}
-use Rattle.far_commands.proofs.LendLaws.{pieces-there}
+use Rattle.far_commands.proofs.PiecesLending.{pieces-there}
 use Rattle.far_commands.proofs.lending.lent.Goals as goal
 
 pub returns-in-Some-Int-clause-ok : goal.returns-in-Some-Int-clause-ok

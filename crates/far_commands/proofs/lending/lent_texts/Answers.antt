@@ -6,7 +6,7 @@ use Rattle.far_frame.specs.Lending.{Piece, flags_of, lent_part, piece_of}
 use Rattle.far_frame.proofs.LendingLaws.{lent-step}
 use Rattle.far_commands.specs.Pieces.{piece_text}
 use Rattle.far_script.specs.Printing.{texts_of}
-use Rattle.far_commands.proofs.LendLaws.{text-next}
+use Rattle.far_commands.proofs.PiecesLending.{text-next}
 use Rattle.far_commands.proofs.lending.lent_texts.Goals as goal
 
 pub loop-start-preserved : goal.loop-start-preserved

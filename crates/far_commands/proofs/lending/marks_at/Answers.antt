@@ -2,7 +2,7 @@ use Rattle.std.proofs.Common.{◌++◌, ◌∙◌, ap, sym}
 use Rattle.std.proofs.lemmas.Option.{slice_get-map}
 use Rattle.far_types.specs.Table.{Place}
 use Rattle.far_frame.specs.Lending.{flags_of}
-use Rattle.far_commands.proofs.LendLaws.{marks-end, marks-more}
+use Rattle.far_commands.proofs.PiecesLending.{marks-end, marks-more}
 use Rattle.far_commands.proofs.lending.marks_at.Goals as goal
 
 pub returns-in_default-clause-ok : goal.returns-in_default-clause-ok

@@ -3,7 +3,7 @@ use Rattle.std.specs.Prelude.{option_copied}
 use Rattle.csv.specs.Writing.{default_writer, field_text, fields_text}
 use Rattle.far_types.specs.Lent.{text_cell}
 use Rattle.far_commands.specs.Listings.{cell_text}
-use Rattle.far_commands.proofs.LendLaws.{field-next, fields-none}
+use Rattle.far_commands.proofs.PiecesLending.{field-next, fields-none}
 use Rattle.far_commands.proofs.lending.more_texts.Goals as goal
 
 pub loop-it-preserved : goal.loop-it-preserved

@@ -3,8 +3,8 @@ use Rattle.std.specs.Prelude.{option_copied}
 use Rattle.csv.specs.Writing.{default_writer, fields_text}
 use Rattle.far_types.specs.Lent.{text_cell}
 use Rattle.far_commands.specs.Listings.{cell_text, field_in_record, row_line}
-use Rattle.far_commands.proofs.LendLaws.{row-more}
-use Rattle.far_commands.proofs.PieceLaws.{row-empty}
+use Rattle.far_commands.proofs.PiecesLending.{row-more}
+use Rattle.far_commands.proofs.PiecesLaws.{row-empty}
 use Rattle.far_commands.proofs.lending.text_row.Goals as goal
 
 pub returns-in_default-clause-ok : goal.returns-in_default-clause-ok

@@ -1,7 +1,7 @@
 use Rattle.std.proofs.Common.{◌≡◌}
 use Rattle.far_script.specs.declared.fault.ShellFault.TheVariants as fault
-use Rattle.far_script.proofs.StopLaws.{handed-on}
-use Rattle.far_commands.proofs.DumpLaws.{cut-at-once}
+use Rattle.far_script.proofs.FlowStops.{handed-on}
+use Rattle.far_commands.proofs.ListingsRows.{cut-at-once}
 use Rattle.far_commands.proofs.listing.add_if_long.Goals as goal
 
 pub returns-in_err-add-clause-err : goal.returns-in_err-add-clause-err

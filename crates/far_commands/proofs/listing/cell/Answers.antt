@@ -1,4 +1,4 @@
-use Rattle.far_commands.proofs.PlainLaws.{missing-field}
+use Rattle.far_commands.proofs.ListingsNumbers.{missing-field}
 use Rattle.far_commands.proofs.listing.cell.Goals as goal
 
 pub returns-in-Missing-clause-ok : goal.returns-in-Missing-clause-ok

@@ -4,9 +4,9 @@ use Rattle.far_frame.specs.State.{live}
 use Rattle.far_script.specs.declared.fault.ShellFault.TheVariants as fault
 use Rattle.far_script.specs.Printing.{numbered_text, refusal_text}
 use Rattle.far_script.proofs.FlowLaws.{prints}
-use Rattle.far_script.proofs.StopLaws.{handed-on}
+use Rattle.far_script.proofs.FlowStops.{handed-on}
 use Rattle.far_commands.specs.Listings.{cells_at, listing_of, row_line}
-use Rattle.far_commands.proofs.DumpLaws.{cut-at-once, gather-cut, gather-end, gather-memory, gather-row, gather-skip, listed-refusal, rows-cut, rows-listed}
+use Rattle.far_commands.proofs.ListingsRows.{cut-at-once, gather-cut, gather-end, gather-memory, gather-row, gather-skip, listed-refusal, rows-cut, rows-listed}
 use Rattle.far_commands.proofs.listing.dump.Goals.{then-is_live+in-Ok-print_place+in_ok-add_if_long-in-Ok-print_place, else-is_live}
 use Rattle.far_commands.proofs.listing.dump.Goals as goal
 
@@ -37,14 +37,14 @@ loop-place-preserved g c =
     let v = g.W.Write.contents c.loop-place.writer in
     let places = c.args.frame.now.table.places in
     let place = c.loop-place.place in
-    let told = rw c.scope-view.ensures at (sym c.is_live.ensures) in
+    let returned = rw c.scope-view.ensures at (sym c.is_live.ensures) in
     let front = numbered_text (codes "rows") (length (rows_of places)) in
     elim c.if-is_live.branch [
       | then-is_live+in-Ok-print_place+in_ok-add_if_long-in-Ok-print_place w ↦
-          rw (w.output-is, w.writer-is) (gather-row u held front places v c.loop-place.output.page c.loop-place.output.reply place c.loop-place.invariant w.print_place.new.page (row_line (cells_at place places)) (told ∙ w.if-is_live.true)
+          rw (w.output-is, w.writer-is) (gather-row u held front places v c.loop-place.output.page c.loop-place.output.reply place c.loop-place.invariant w.print_place.new.page (row_line (cells_at place places)) (returned ∙ w.if-is_live.true)
           (rw c.scope-view.ensures at w.in-Ok-print_place.ensures.ok) refl (g.W.Write.contents w.add_if_long.new.writer) w.add_if_long.new.output.page w.add_if_long.new.output.reply w.in_ok-add_if_long-in-Ok-print_place.ensures.ok)
       | else-is_live w ↦
-          rw (w.output-is, w.writer-is) (gather-skip u held front places v c.loop-place.output.page c.loop-place.output.reply place (told ∙ w.if-is_live.false) c.loop-place.invariant)
+          rw (w.output-is, w.writer-is) (gather-skip u held front places v c.loop-place.output.page c.loop-place.output.reply place (returned ∙ w.if-is_live.false) c.loop-place.invariant)
     ]
 
 pub returns-in-Err-print_place-clause-err : goal.returns-in-Err-print_place-clause-err
@@ -60,7 +60,7 @@ pub returns-in_err-add_if_long-in-Ok-print_place-clause-err : goal.returns-in_er
 returns-in_err-add_if_long-in-Ok-print_place-clause-err g c =
     let places = c.args.frame.now.table.places in
     let place = c.loop-place.place in
-    let told = rw c.scope-view.ensures at (sym c.is_live.ensures) in
+    let returned = rw c.scope-view.ensures at (sym c.is_live.ensures) in
     let here = rw c.scope-view.ensures at c.in-Ok.ensures.refused in
     let why = c.in_err-add_if_long-in-Ok-print_place.field-0.0 in
     let u = g.W.Write.contents c.args.writer.now in
@@ -69,7 +69,7 @@ returns-in_err-add_if_long-in-Ok-print_place-clause-err g c =
     handed-on c.from_residual-in_err-add_if_long-in-Ok-print_place.result why _ c.from_residual-in_err-add_if_long-in-Ok-print_place.ensures.1
     (rows-cut (live c.args.frame.now) here why u w c.args.output.now.page c.add_if_long.new.output.page
     (gather-cut u c.args.output.now.page (numbered_text (codes "rows") (length (rows_of places))) places v c.loop-place.output.page c.loop-place.output.reply place c.loop-place.invariant
-    c.print_place.new.page (row_line (cells_at place places)) (told ∙ c.if-is_live.true) (rw c.scope-view.ensures at c.in-Ok-print_place.ensures.ok) refl why w c.add_if_long.new.output.page c.in_err-add_if_long-in-Ok-print_place.ensures.fault c.in_err-add_if_long-in-Ok-print_place.ensures.err))
+    c.print_place.new.page (row_line (cells_at place places)) (returned ∙ c.if-is_live.true) (rw c.scope-view.ensures at c.in-Ok-print_place.ensures.ok) refl why w c.add_if_long.new.output.page c.in_err-add_if_long-in-Ok-print_place.ensures.fault c.in_err-add_if_long-in-Ok-print_place.ensures.err))
 
 pub returns-in_err-add-clause-err : goal.returns-in_err-add-clause-err
 returns-in_err-add-clause-err g c =

@@ -1,7 +1,7 @@
 use Rattle.std.proofs.Common.{length, codes}
 use Rattle.far_types.specs.Table.{rows_of}
 use Rattle.far_script.specs.Printing.{numbered_text}
-use Rattle.far_commands.proofs.DumpLaws.{IsGathered}
+use Rattle.far_commands.proofs.ListingsRows.{IsGathered}
 use Rattle.far_commands.proofs.listing.dump.Given as goal
 
 abbrev pub invariant-loop-place : goal.invariant-loop-place

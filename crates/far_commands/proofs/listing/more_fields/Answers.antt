@@ -1,6 +1,6 @@
 use Rattle.std.proofs.Common.{◌∙◌, sym, ap, arith, option_map}
 use Rattle.far_types.specs.Lent.{lent_cell}
-use Rattle.far_commands.proofs.RowLaws.{field-more, fields-end, fields-past}
+use Rattle.far_commands.proofs.ListingsFields.{field-more, fields-end, fields-past}
 use Rattle.far_commands.proofs.listing.more_fields.Goals as goal
 
 pub loop-column-preserved : goal.loop-column-preserved

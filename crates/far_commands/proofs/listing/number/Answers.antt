@@ -1,5 +1,5 @@
 use Rattle.std.proofs.lemmas.Int.{to_z-of_z}
-use Rattle.far_commands.proofs.PlainLaws.{signed-field}
+use Rattle.far_commands.proofs.ListingsNumbers.{signed-field}
 use Rattle.far_commands.proofs.listing.number.Goals as goal
 
 pub returns-clause-ok : goal.returns-clause-ok

@@ -2,7 +2,7 @@ use Rattle.std.proofs.Common.{List, ◌++◌, ◌∙◌, ap, sym}
 use Rattle.far_types.specs.declared.cell.Cell.{Cell}
 use Rattle.far_commands.specs.Listings.{row_line}
 use Rattle.far_commands.proofs.ResultLaws.{on-ok}
-use Rattle.far_commands.proofs.RowLaws.{cells-there}
+use Rattle.far_commands.proofs.ListingsFields.{cells-there}
 use Rattle.far_commands.proofs.listing.print_place.Goals as goal
 
 pub returns-clause-ok : goal.returns-clause-ok

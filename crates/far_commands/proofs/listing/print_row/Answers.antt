@@ -1,6 +1,6 @@
 use Rattle.std.proofs.Common.{◌==◌, ◌∙◌, sym, ap, option_map}
 use Rattle.far_types.specs.Lent.{lent_cell}
-use Rattle.far_commands.proofs.RowLaws.{lone-by-length, row-none, row-some}
+use Rattle.far_commands.proofs.ListingsFields.{lone-by-length, row-none, row-some}
 use Rattle.far_commands.proofs.listing.print_row.Goals.{in-None+in_ok-text-in-None, in-Some+in_ok-cell-in-Some+in_ok-more_fields-in-Some}
 use Rattle.far_commands.proofs.listing.print_row.Goals as goal
 

@@ -1,6 +1,6 @@
 use Rattle.std.proofs.Common.{◌∙◌, refl}
 use Rattle.csv.specs.Records.{fields_of}
-use Rattle.far_commands.proofs.LoadLaws.{loads-none, loads-refused, loads-more}
+use Rattle.far_commands.proofs.LoadingLaws.{loads-none, loads-refused, loads-more}
 use Rattle.far_commands.proofs.loading.insert_records.Goals as goal
 
 pub loop-count-init : goal.loop-count-init

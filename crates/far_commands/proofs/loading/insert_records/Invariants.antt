@@ -1,6 +1,6 @@
 use Rattle.std.proofs.Common.{◌≡◌, ℕ, List}
 use Rattle.far_commands.specs.Loading.{Remains}
-use Rattle.far_commands.proofs.LoadLaws.{GoesTo}
+use Rattle.far_commands.proofs.LoadingLaws.{GoesTo}
 use Rattle.far_commands.proofs.loading.insert_records.Given as goal
 
 abbrev pub invariant-loop-count : goal.invariant-loop-count

@@ -2,8 +2,8 @@ use Rattle.std.proofs.Common.{◌∙◌, refl, arith, rules}
 use Rattle.std.specs.List.{slice_split}
 use Rattle.far_script.specs.OneRecord.{is_comma}
 use Rattle.far_commands.specs.Replies.{records_of}
-use Rattle.far_commands.proofs.LoadLaws.{loads-none, loads-refused, loads-more}
-use Rattle.far_commands.proofs.LoadLines.{lines-first, lines-end, lines-more, lines-skip}
+use Rattle.far_commands.proofs.LoadingLaws.{loads-none, loads-refused, loads-more}
+use Rattle.far_commands.proofs.LoadingLines.{lines-first, lines-end, lines-more, lines-skip}
 use Rattle.far_commands.proofs.loading.load_lines.Goals as goal
 
 pub loop-rest-init : goal.loop-rest-init

@@ -2,8 +2,8 @@ use Rattle.std.proofs.Common.{◌≡◌, ◌+◌, ◌≤◌, ℕ, List, length}
 use denote.Shadow.{shadow}
 use denote.Text.{Utf8}
 use Rattle.far_commands.specs.Replies.{records_of}
-use Rattle.far_commands.proofs.LoadLaws.{GoesTo}
-use Rattle.far_commands.proofs.LoadLines.{LinesLeft}
+use Rattle.far_commands.proofs.LoadingLaws.{GoesTo}
+use Rattle.far_commands.proofs.LoadingLines.{LinesLeft}
 use Rattle.far_commands.proofs.loading.load_lines.Given as goal
 
 abbrev pub invariant-loop-rest : goal.invariant-loop-rest

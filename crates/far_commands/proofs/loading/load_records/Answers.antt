@@ -1,7 +1,7 @@
 use Rattle.std.proofs.Common.{ℕ, List, Bor, Some, ◌∙◌, inr}
 use Rattle.csv.specs.Reading.{strip_bom}
 use Rattle.far_commands.specs.Replies.{records_of}
-use Rattle.far_commands.proofs.LoadLaws.{remains-first}
+use Rattle.far_commands.proofs.LoadingLaws.{remains-first}
 use Rattle.far_commands.proofs.ResultLaws.{each-ok}
 use Rattle.far_commands.proofs.loading.load_records.Goals as goal
 

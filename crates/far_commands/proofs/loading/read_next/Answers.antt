@@ -1,5 +1,5 @@
 use Rattle.csv.specs.Records.{fields_of}
-use Rattle.far_commands.proofs.LoadLaws.{remains-none, remains-some}
+use Rattle.far_commands.proofs.LoadingLaws.{remains-none, remains-some}
 use Rattle.far_commands.proofs.loading.read_next.Goals as goal
 
 pub returns-clause-none : goal.returns-clause-none

@@ -1,6 +1,6 @@
 use Rattle.std.proofs.Common.{◌++◌, ap, ◌∙◌}
 use Rattle.far_commands.specs.Pieces.{flag_text}
-use Rattle.far_commands.proofs.PieceLaws.{texts-more}
+use Rattle.far_commands.proofs.PiecesLaws.{texts-more}
 use Rattle.far_commands.proofs.pieces.marks.Goals as goal
 
 pub loop-alive-preserved : goal.loop-alive-preserved

@@ -1,7 +1,7 @@
 use Rattle.std.proofs.Common.{◌++◌, ◌∙◌, ap}
 use Rattle.csv.specs.Writing.{default_writer, field_text}
 use Rattle.far_commands.specs.Listings.{cell_text}
-use Rattle.far_commands.proofs.PieceLaws.{behind-comma, fields-as-texts, next_field, texts-end, texts-more}
+use Rattle.far_commands.proofs.PiecesLaws.{behind-comma, fields-as-texts, next_field, texts-end, texts-more}
 use Rattle.far_commands.proofs.pieces.more_values.Goals as goal
 
 pub loop-value-preserved : goal.loop-value-preserved

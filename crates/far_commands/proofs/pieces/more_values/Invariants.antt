@@ -1,6 +1,6 @@
 use Rattle.std.proofs.Common.{◌≡◌, ◌++◌, drop}
 use Rattle.far_script.specs.Printing.{texts_of}
-use Rattle.far_commands.proofs.PieceLaws.{next_field}
+use Rattle.far_commands.proofs.PiecesLaws.{next_field}
 use Rattle.far_commands.proofs.pieces.more_values.Given as goal
 
 abbrev pub invariant-loop-value : goal.invariant-loop-value

@@ -1,6 +1,6 @@
 use Rattle.std.proofs.Common.{◌∷◌, [], ◌∙◌, decimal, get_or, sym, append_assoc}
 use Rattle.far_commands.specs.Pieces.{group_text}
-use Rattle.far_commands.proofs.PieceLaws.{next-none, next-some, texts-end, texts-more}
+use Rattle.far_commands.proofs.PiecesLaws.{next-none, next-some, texts-end, texts-more}
 use Rattle.far_commands.proofs.pieces.next.Goals as goal
 
 pub returns-then-is_empty-clause-ok : goal.returns-then-is_empty-clause-ok

@@ -1,6 +1,6 @@
 use Rattle.std.proofs.Common.{◌-◌, drop, length, sym, take}
 use Rattle.std.proofs.lemmas.List.{take_rest}
-use Rattle.far_commands.proofs.PieceLaws.{row-empty, row-whole}
+use Rattle.far_commands.proofs.PiecesLaws.{row-empty, row-whole}
 use Rattle.far_commands.proofs.pieces.row.Goals as goal
 
 pub returns-in-empty-clause-ok : goal.returns-in-empty-clause-ok

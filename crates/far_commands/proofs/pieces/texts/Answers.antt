@@ -1,7 +1,7 @@
 use Rattle.std.proofs.Common.{◌++◌, ◌∙◌, ap, sym}
 use Rattle.far_frame.specs.Lending.{text_piece}
 use Rattle.far_commands.specs.Pieces.{piece_text}
-use Rattle.far_commands.proofs.PieceLaws.{pieces-none, pieces-some, texts-end, texts-more}
+use Rattle.far_commands.proofs.PiecesLaws.{pieces-none, pieces-some, texts-end, texts-more}
 use Rattle.far_commands.proofs.pieces.texts.Goals as goal
 
 pub returns-then-is_empty-clause-ok : goal.returns-then-is_empty-clause-ok

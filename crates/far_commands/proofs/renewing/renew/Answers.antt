@@ -1,4 +1,4 @@
-use Rattle.far_commands.proofs.RenewLaws.{no-fault, one-fault}
+use Rattle.far_commands.proofs.RenewingFaults.{no-fault, one-fault}
 use Rattle.far_commands.proofs.renewing.renew.Goals as goal
 
 pub returns-in-Ok-clause-faults : goal.returns-in-Ok-clause-faults

@@ -9,11 +9,11 @@ use Rattle.far_commands.specs.Listings.{listing_of}
 use Rattle.far_commands.specs.Replies.{AnswersLine}
 use Rattle.far_commands.specs.Progress.{At}
 use Rattle.far_commands.specs.Cuts.{Fails, FailsBy, IsListing}
-use Rattle.far_script.proofs.StopLaws.{each-fault, handed-on, if-input, leaves-same, stops-here, stops-more}
+use Rattle.far_script.proofs.FlowStops.{each-fault, handed-on, if-input, leaves-same, stops-here, stops-more}
 use Rattle.far_script.proofs.FlowLaws.{reads-none, prints, prints-none, range-empty, range-some}
-use Rattle.far_commands.proofs.CutLaws.{cut-more, no-input, no-output, printed-err}
+use Rattle.far_commands.proofs.CutsLaws.{cut-more, no-input, no-output, printed-err}
 use Rattle.far_commands.proofs.ResultLaws.{on-ok}
-use Rattle.far_commands.proofs.LineLaws.{answers-empty, answers-command}
+use Rattle.far_commands.proofs.RepliesLaws.{answers-empty, answers-command}
 use Rattle.far_commands.proofs.serve.answer_line.Goals as goal
 
 pub returns-then-is_empty-clause-ok : goal.returns-then-is_empty-clause-ok

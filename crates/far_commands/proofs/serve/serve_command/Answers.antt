@@ -3,8 +3,8 @@ use Rattle.far_commands.specs.declared.command.Command.TheVariants as command
 use Rattle.far_commands.specs.Listings.{listing_of}
 use Rattle.far_frame.specs.State.{live}
 use Rattle.far_script.proofs.FlowLaws.{prints, reads-none}
-use Rattle.far_script.proofs.StopLaws.{each-fault, not-input}
-use Rattle.far_commands.proofs.CutLaws.{cut-more, no-input, no-output, printed-err}
+use Rattle.far_script.proofs.FlowStops.{each-fault, not-input}
+use Rattle.far_commands.proofs.CutsLaws.{cut-more, no-input, no-output, printed-err}
 use Rattle.far_commands.proofs.ResultLaws.{on-ok, printed-ok}
 use Rattle.far_commands.proofs.serve.serve_command.Goals as goal
 

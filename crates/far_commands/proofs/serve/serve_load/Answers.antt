@@ -3,10 +3,10 @@ use Rattle.std.specs.Prelude.{⊤, IsUtf8, Some}
 use Rattle.far_script.specs.declared.fault.ShellFault.TheVariants as fault
 use Rattle.far_script.specs.Flow.{IsShort, bytes_in}
 use Rattle.far_script.proofs.FlowLaws.{prints, prints-nothing-then}
-use Rattle.far_script.proofs.StopLaws.{each-fault, handed-on, if-input, leaves-same, stops-here, stops-more, stops-then}
+use Rattle.far_script.proofs.FlowStops.{each-fault, handed-on, if-input, leaves-same, stops-here, stops-more, stops-then}
 use Rattle.far_commands.specs.declared.command.Command.TheVariants as command
 use Rattle.far_commands.specs.Cuts.{FailsBy}
-use Rattle.far_commands.proofs.CutLaws.{front-came, no-input, no-output, printed-err, prints-cut-more, prints-cut-none, take-front}
+use Rattle.far_commands.proofs.CutsLaws.{front-came, no-input, no-output, printed-err, prints-cut-more, prints-cut-none, take-front}
 use Rattle.far_commands.proofs.ResultLaws.{printed-ok}
 use Rattle.far_commands.proofs.serve.serve_load.Goals as goal
 

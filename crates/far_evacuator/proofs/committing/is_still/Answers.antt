@@ -3,8 +3,8 @@ use Rattle.std.specs.Option.{option_map_or}
 use Rattle.far_pointer.specs.Layout.{is_dirty}
 use Rattle.far_codec.specs.Spelling.{IsSpelled}
 use Rattle.far_evacuator.specs.Jobs.{IsSpelledForm, IsFormTicket}
-use Rattle.far_evacuator.proofs.CommitLaws.{spelled-here}
-use Rattle.far_evacuator.proofs.CopyLaws.{clean-spelled}
+use Rattle.far_evacuator.proofs.SpellingCommits.{spelled-here}
+use Rattle.far_evacuator.proofs.MovementCopies.{clean-spelled}
 use Rattle.far_evacuator.proofs.committing.is_still.Goals as goal
 
 pub returns-in-Dirty-clause-copied : goal.returns-in-Dirty-clause-copied

@@ -1,5 +1,5 @@
 use Rattle.std.proofs.Common.{◌<◌, length, Some, sym, ap, ◌∙◌, arith}
-use Rattle.far_evacuator.proofs.CopyLaws.{away-form}
+use Rattle.far_evacuator.proofs.MovementCopies.{away-form}
 use Rattle.far_evacuator.proofs.installing.is_installable.Goals as goal
 
 pub returns-then-leavings-job-clause-exact : goal.returns-then-leavings-job-clause-exact

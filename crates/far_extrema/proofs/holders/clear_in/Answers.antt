@@ -1,9 +1,9 @@
 use Rattle.std.proofs.Common.{rules, ◌==◌, cond, sym, ap, ◌∙◌}
 use Rattle.std.specs.FinMap as fin
 use Rattle.far_types.specs.Keys.{line_cmp}
-use Rattle.far_types.proofs.ByKeyMaps.{get_at, sorted_distinct}
+use Rattle.far_types.proofs.AnswersByKeyMaps.{get_at, sorted_distinct}
 use Rattle.far_extrema.specs.Holders.{min_max_in, reserved_in}
-use Rattle.far_extrema.proofs.ReserveLaws.{cleared-at}
+use Rattle.far_extrema.proofs.HoldersReserve.{cleared-at}
 use Rattle.far_extrema.proofs.holders.clear_in.Goals as goal
 
 pub returns-clause-min_maxes : goal.returns-clause-min_maxes

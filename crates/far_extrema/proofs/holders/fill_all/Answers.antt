@@ -1,7 +1,7 @@
 use Rattle.std.proofs.Common.{sym, subst}
-use Rattle.far_types.proofs.ByKeyMaps.{sorted_distinct}
+use Rattle.far_types.proofs.AnswersByKeyMaps.{sorted_distinct}
 use Rattle.far_extrema.specs.Holders.{holders_of}
-use Rattle.far_extrema.proofs.ReserveLaws.{IsFilling, next-reserved, next-new, filled-next, filled-none, filled-all}
+use Rattle.far_extrema.proofs.HoldersReserve.{IsFilling, next-reserved, next-new, filled-next, filled-none, filled-all}
 use Rattle.far_extrema.proofs.holders.fill_all.Goals as goal
 
 pub fill_in-requires-clause-reserved : goal.fill_in-requires-clause-reserved

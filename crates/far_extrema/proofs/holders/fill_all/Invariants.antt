@@ -1,5 +1,5 @@
 use Rattle.far_extrema.specs.Holders.{holders_of}
-use Rattle.far_extrema.proofs.ReserveLaws.{IsFilling}
+use Rattle.far_extrema.proofs.HoldersReserve.{IsFilling}
 use Rattle.far_extrema.proofs.holders.fill_all.Given as goal
 
 abbrev pub invariant-loop-key : goal.invariant-loop-key

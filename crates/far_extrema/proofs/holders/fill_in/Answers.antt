@@ -1,8 +1,8 @@
 use Rattle.std.proofs.Common.{◌∙◌, refl, IsSome, sym, ap, subst, Some}
-use Rattle.far_types.proofs.ByKeyMaps.{get_at, set_inserts}
+use Rattle.far_types.proofs.AnswersByKeyMaps.{get_at, set_inserts}
 use Rattle.far_extrema.specs.Holders.{holders_of, min_max_in, reserved_in, reserved_at, IsPut}
-use Rattle.far_extrema.proofs.HolderLaws.{put-set}
-use Rattle.far_extrema.proofs.ReserveLaws.{reserved-had, reserved-other}
+use Rattle.far_extrema.proofs.HoldersLaws.{put-set}
+use Rattle.far_extrema.proofs.HoldersReserve.{reserved-had, reserved-other}
 use Rattle.far_extrema.proofs.holders.fill_in.Goals as goal
 
 pub fill-requires-clause-reserved : goal.fill-requires-clause-reserved

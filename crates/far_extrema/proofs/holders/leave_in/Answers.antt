@@ -1,9 +1,9 @@
 use Rattle.std.proofs.Common.{◌∙◌, refl, IsSome, sym, ap, subst, None, Some, cond, true}
 use Rattle.std.specs.FinMap as fin
-use Rattle.far_types.proofs.ByKeyMaps.{get_at, set_inserts, set_removes}
+use Rattle.far_types.proofs.AnswersByKeyMaps.{get_at, set_inserts, set_removes}
 use Rattle.far_extrema.specs.Holders.{holders_of, min_max_in, reserved_in, IsPut, HaveSameReserved}
-use Rattle.far_extrema.proofs.HolderLaws.{put-set}
-use Rattle.far_extrema.proofs.ReserveLaws.{reserved-insert, reserved-vacant, put-vacant}
+use Rattle.far_extrema.proofs.HoldersLaws.{put-set}
+use Rattle.far_extrema.proofs.HoldersReserve.{reserved-insert, reserved-vacant, put-vacant}
 use Rattle.far_extrema.proofs.holders.leave_in.Goals as goal
 
 pub leave-requires : goal.leave-requires

@@ -2,7 +2,7 @@ use Rattle.std.proofs.Common.{sym, subst, ◌∙◌}
 use Rattle.std.specs.List.{AllByRecursion, filter_map}
 use Rattle.far_extrema.specs.Spreads.{IsTopOf}
 use Rattle.far_extrema.specs.Holders.{IsTopped, line_of}
-use Rattle.far_extrema.proofs.HolderLaws.{line-skipped, none_of}
+use Rattle.far_extrema.proofs.HoldersLaws.{line-skipped, none_of}
 use Rattle.far_extrema.proofs.holders.lines.Goals as goal
 
 pub loop-key-preserved : goal.loop-key-preserved

@@ -1,5 +1,5 @@
 use Rattle.std.proofs.Common.{sym, ap, ◌∙◌}
-use Rattle.far_types.proofs.ByKeyMaps.{get_at}
+use Rattle.far_types.proofs.AnswersByKeyMaps.{get_at}
 use Rattle.far_extrema.specs.Holders.{min_max_in}
 use Rattle.far_extrema.proofs.holders.min_max_in.Goals as goal
 

@@ -2,12 +2,12 @@ use Rattle.std.proofs.Common.{◌≡◌, ◌∙◌, refl, IsSome, sym, ap, subst
 use Rattle.std.specs.Prelude.{ℤ, IfOk}
 use Rattle.std.specs.FinMap as fin
 use Rattle.std.proofs.lemmas.Int.{to_z-of_z}
-use Rattle.far_types.specs.Effects.{widened}
-use Rattle.far_types.proofs.ByKeyMaps.{get_at, set_inserts}
+use Rattle.far_types.specs.Effects.{min_max_with}
+use Rattle.far_types.proofs.AnswersByKeyMaps.{get_at, set_inserts}
 use Rattle.far_extrema.specs.Spreads.{at, IsSet}
 use Rattle.far_extrema.specs.Holders.{Holders, holders_of, min_max_in, min_max_at, reserved_in, IsPut, HaveSameReserved}
-use Rattle.far_extrema.proofs.HolderLaws.{put-set, put-new, put-same}
-use Rattle.far_extrema.proofs.ReserveLaws.{reserved-insert, on_ok, on_err, ok_any, err_any}
+use Rattle.far_extrema.proofs.HoldersLaws.{put-set, put-new, put-same}
+use Rattle.far_extrema.proofs.HoldersReserve.{reserved-insert, on_ok, on_err, ok_any, err_any}
 use Rattle.far_extrema.proofs.holders.observe_in.Goals as goal
 
 pub returns-in-Some-clause-previous : goal.returns-in-Some-clause-previous
@@ -23,11 +23,11 @@ returns-in-Some-clause-ok c =
     let m = holders_of c.args.holders.now.entries in
     let entry = get_at c.args.holders.now.entries c.args.key.now ∙ sym c.in-Some.ensures.value in
     let there = sym (ap (λ o. min_max_in o c.args.group) entry) in
-    let wide = widened c.args.value (min_max_at m c.args.group c.args.key.now) in
-    on_ok c.observe.result (λ (set : IsSet c.in-Some.holder.now.min_maxes c.args.group (Some (widened c.args.value (at c.in-Some.holder.now.min_maxes c.args.group))) c.observe.new.self.min_maxes).
+    let wide = min_max_with c.args.value (min_max_at m c.args.group c.args.key.now) in
+    on_ok c.observe.result (λ (set : IsSet c.in-Some.holder.now.min_maxes c.args.group (Some (min_max_with c.args.value (at c.in-Some.holder.now.min_maxes c.args.group))) c.observe.new.self.min_maxes).
     subst (λ n. IsPut m c.args.group c.args.key.now (Some wide) n) (sym written)
     (put-set m c.args.key.now c.in-Some.holder.now c.observe.new.self c.args.group (Some wide) entry
-    (subst (λ (o : Option (ℤ × ℤ)). IsSet c.in-Some.holder.now.min_maxes c.args.group (Some (widened c.args.value o)) c.observe.new.self.min_maxes) there set)))
+    (subst (λ (o : Option (ℤ × ℤ)). IsSet c.in-Some.holder.now.min_maxes c.args.group (Some (min_max_with c.args.value o)) c.observe.new.self.min_maxes) there set)))
     (simp to_z-of_z at c.observe.ensures.ok)
 
 pub returns-in-Some-clause-reserved : goal.returns-in-Some-clause-reserved
@@ -43,8 +43,8 @@ returns-in-Some-clause-err c =
     let holds = subst IsSome c.in-Some.ensures.value refl in
     let written = set_inserts c.args.holders.now.entries (c.get_mut.follows.lender c.observe.new.self).entries c.args.key.now c.observe.new.self ((c.get_mut.follows.holds c.observe.new.self).3 holds).0 in
     let m = holders_of c.args.holders.now.entries in
-    on_err c.observe.result (λ (kept : c.observe.new.self ≡ c.in-Some.holder.now).
-    written ∙ put-same m c.args.key.now c.observe.new.self (get_at c.args.holders.now.entries c.args.key.now ∙ sym c.in-Some.ensures.value ∙ ap Some (sym kept)))
+    on_err c.observe.result (λ (unchanged : c.observe.new.self ≡ c.in-Some.holder.now).
+    written ∙ put-same m c.args.key.now c.observe.new.self (get_at c.args.holders.now.entries c.args.key.now ∙ sym c.in-Some.ensures.value ∙ ap Some (sym unchanged)))
     c.observe.ensures.err
 
 pub returns-in-Some-clause-only_new : goal.returns-in-Some-clause-only_new
@@ -65,8 +65,8 @@ returns-in_ok-insert-in-None-clause-ok c =
     let m = holders_of c.args.holders.now.entries in
     let absent = get_at c.args.holders.now.entries c.args.key.now ∙ sym c.in-None.ensures.value in
     let none = ap (λ o. min_max_in o c.args.group) absent in
-    subst (λ (n : Holders). IsPut m c.args.group c.args.key.now (Some (widened c.args.value (min_max_at m c.args.group c.args.key.now))) n) (sym inserted)
-    (subst (λ (o : Option (ℤ × ℤ)). IsPut m c.args.group c.args.key.now (Some (widened c.args.value o)) (fin.insert m c.args.key.now c.new.result)) (sym none)
+    subst (λ (n : Holders). IsPut m c.args.group c.args.key.now (Some (min_max_with c.args.value (min_max_at m c.args.group c.args.key.now))) n) (sym inserted)
+    (subst (λ (o : Option (ℤ × ℤ)). IsPut m c.args.group c.args.key.now (Some (min_max_with c.args.value o)) (fin.insert m c.args.key.now c.new.result)) (sym none)
     (put-new m c.args.key.now c.new.result c.args.group (c.args.value, c.args.value) absent (simp to_z-of_z at c.new.ensures.min_maxes)))
 
 pub returns-in_ok-insert-in-None-clause-reserved : goal.returns-in_ok-insert-in-None-clause-reserved

@@ -1,8 +1,8 @@
 use Rattle.std.proofs.Common.{refl, sym, ap, ◌∙◌}
-use Rattle.far_types.proofs.ByKeyMaps.{get_at}
-use Rattle.far_types.proofs.ByKeyMaps as map_in
+use Rattle.far_types.proofs.AnswersByKeyMaps.{get_at}
+use Rattle.far_types.proofs.AnswersByKeyMaps as map_in
 use Rattle.far_extrema.specs.Holders.{holders_of}
-use Rattle.far_extrema.proofs.ReserveLaws.{reserved-next}
+use Rattle.far_extrema.proofs.HoldersReserve.{reserved-next}
 use Rattle.far_extrema.proofs.holders.reserve_all.Goals as goal
 
 pub loop-key-init : goal.loop-key-init

@@ -1,6 +1,6 @@
 use Rattle.std.proofs.Common.{◌≢◌, ◌≡◌, None, Option}
 use Rattle.far_types.specs.declared.key.Key.{Key}
-use Rattle.far_types.proofs.ByKeyMaps as map_in
+use Rattle.far_types.proofs.AnswersByKeyMaps as map_in
 use Rattle.far_extrema.specs.Holders.{holders_of, reserved_at, HaveSameMinMaxes}
 use Rattle.far_extrema.proofs.holders.reserve_all.Given as goal
 

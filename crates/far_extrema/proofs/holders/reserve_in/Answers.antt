@@ -1,9 +1,9 @@
 use Rattle.std.proofs.Common.{◌≡◌, ◌≢◌, ◌∙◌, refl, IsSome, sym, ap, subst, None}
 use Rattle.std.specs.FinMap as fin
-use Rattle.far_types.proofs.ByKeyMaps.{get_at, set_inserts}
+use Rattle.far_types.proofs.AnswersByKeyMaps.{get_at, set_inserts}
 use Rattle.far_extrema.specs.Spreads.{at}
 use Rattle.far_extrema.specs.Holders.{Holding, Holders, holders_of, min_max_in, reserved_at, HaveSameMinMaxes, KeepsReserved}
-use Rattle.far_extrema.proofs.ReserveLaws.{min_maxes-insert, keeps-insert, reserved-made, reserved-had, either, on_ok}
+use Rattle.far_extrema.proofs.HoldersReserve.{min_maxes-insert, keeps-insert, reserved-made, reserved-had, either, on_ok}
 use Rattle.far_extrema.proofs.holders.reserve_in.Goals as goal
 
 pub returns-in-Some-clause-min_maxes : goal.returns-in-Some-clause-min_maxes

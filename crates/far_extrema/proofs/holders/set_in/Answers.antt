@@ -1,8 +1,8 @@
 use Rattle.std.proofs.Common.{◌∙◌, refl, IsSome, sym, ap, subst, Some, None, cond, true}
-use Rattle.far_types.proofs.ByKeyMaps.{get_at, set_inserts}
+use Rattle.far_types.proofs.AnswersByKeyMaps.{get_at, set_inserts}
 use Rattle.far_extrema.specs.Holders.{holders_of, min_max_in, reserved_in, IsPut, HaveSameReserved}
-use Rattle.far_extrema.proofs.HolderLaws.{put-set}
-use Rattle.far_extrema.proofs.ReserveLaws.{reserved-insert}
+use Rattle.far_extrema.proofs.HoldersLaws.{put-set}
+use Rattle.far_extrema.proofs.HoldersReserve.{reserved-insert}
 use Rattle.far_extrema.proofs.holders.set_in.Goals as goal
 
 pub put-requires : goal.put-requires

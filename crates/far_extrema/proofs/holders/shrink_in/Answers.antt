@@ -2,11 +2,11 @@ use Rattle.std.proofs.Common.{◌∙◌, refl, IsSome, sym, ap, subst, Option, N
 use Rattle.std.specs.Prelude.{ℤ}
 use Rattle.std.specs.FinMap as fin
 use Rattle.std.proofs.lemmas.Int.{to_z-of_z}
-use Rattle.far_types.proofs.ByKeyMaps.{get_at, set_inserts, set_removes}
+use Rattle.far_types.proofs.AnswersByKeyMaps.{get_at, set_inserts, set_removes}
 use Rattle.far_extrema.specs.Spreads.{IsSet}
 use Rattle.far_extrema.specs.Holders.{Holders, holders_of, min_max_in, reserved_in, IsPut, HaveSameReserved}
-use Rattle.far_extrema.proofs.HolderLaws.{put-set}
-use Rattle.far_extrema.proofs.ReserveLaws.{reserved-insert, reserved-vacant, put-vacant, none-vacant}
+use Rattle.far_extrema.proofs.HoldersLaws.{put-set}
+use Rattle.far_extrema.proofs.HoldersReserve.{reserved-insert, reserved-vacant, put-vacant, none-vacant}
 use Rattle.far_extrema.proofs.holders.shrink_in.Goals as goal
 
 pub shrink-left-requires-clause-previous : goal.shrink-left-requires-clause-previous

@@ -1,5 +1,5 @@
 use Rattle.std.proofs.Common.{sym, ◌∙◌}
-use Rattle.far_types.proofs.ByKeyMaps.{get_at}
+use Rattle.far_types.proofs.AnswersByKeyMaps.{get_at}
 use Rattle.far_extrema.proofs.min_maxes.min_max_under.Goals as goal
 
 pub returns : goal.returns

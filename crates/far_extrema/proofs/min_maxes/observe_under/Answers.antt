@@ -1,6 +1,6 @@
 use Rattle.std.proofs.Common.{sym, ◌∙◌}
 use Rattle.far_types.specs.Effects.{join_min_maxes}
-use Rattle.far_types.proofs.ByKeyMaps.{inserted_new}
+use Rattle.far_types.proofs.AnswersByKeyMaps.{inserted_new}
 use Rattle.far_extrema.proofs.min_maxes.observe_under.Goals as goal
 
 pub returns-in_ok-insert-clause-ok : goal.returns-in_ok-insert-clause-ok

@@ -1,5 +1,5 @@
 use Rattle.std.proofs.Common.{refl, IsSome, sym, ap, ◌∙◌, subst}
-use Rattle.far_types.proofs.ByKeyMaps.{get_at, set_inserts, set_removes}
+use Rattle.far_types.proofs.AnswersByKeyMaps.{get_at, set_inserts, set_removes}
 use Rattle.far_extrema.specs.MinMaxes.{extrema_of, put_min_max}
 use Rattle.far_extrema.proofs.min_maxes.put.Goals as goal
 

@@ -2,7 +2,7 @@ use Rattle.std.proofs.Common.{refl, IsSome, sym, ap, ◌∙◌, subst}
 use Rattle.std.specs.Prelude.{is_some}
 use Rattle.std.specs.FinMap as fin
 use Rattle.far_types.specs.Effects.{join_min_maxes}
-use Rattle.far_types.proofs.ByKeyMaps.{with_more, get_at, set_inserts}
+use Rattle.far_types.proofs.AnswersByKeyMaps.{with_more, get_at, set_inserts}
 use Rattle.far_extrema.specs.MinMaxes.{extrema_of}
 use Rattle.far_extrema.proofs.min_maxes.widen.Goals as goal
 

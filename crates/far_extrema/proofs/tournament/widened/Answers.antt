@@ -1,5 +1,5 @@
 use Rattle.std.proofs.Common.{◌==◌, cond, sym, ap, ◌∙◌, Some}
-use Rattle.far_extrema.proofs.BlockLaws.{one-element}
+use Rattle.far_extrema.proofs.BlocksLaws.{one-element}
 use Rattle.far_extrema.proofs.tournament.widened.Goals as goal
 
 pub invariant_of-result : goal.invariant_of-result

@@ -1,4 +1,4 @@
-use Rattle.far_frame.proofs.StaleLaws.{accepted-once, committed-stale, forgotten-refused, installed-stale, merged-stale}
+use Rattle.far_frame.proofs.JobsAcceptance.{accepted-once, committed-stale, forgotten-refused, installed-stale, merged-stale}
 use Rattle.far_frame.proofs.laws.a_job_is_stale_once_what_it_rests_on_changed.Goals as goal
 
 pub returns : goal.returns

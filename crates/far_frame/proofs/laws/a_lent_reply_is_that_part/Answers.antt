@@ -1,4 +1,4 @@
-use Rattle.far_frame.proofs.RunLaws.{lent-cells, lent-flags}
+use Rattle.far_frame.proofs.StepsLaws.{lent-cells, lent-flags}
 use Rattle.far_frame.proofs.laws.a_lent_reply_is_that_part.Goals as goal
 
 pub returns : goal.returns

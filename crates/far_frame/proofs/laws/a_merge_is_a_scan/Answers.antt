@@ -1,4 +1,4 @@
-use Rattle.far_frame.proofs.RunLaws.{merged-state, merged-scan}
+use Rattle.far_frame.proofs.StepsLaws.{merged-state, merged-scan}
 use Rattle.far_frame.proofs.laws.a_merge_is_a_scan.Goals as goal
 
 pub returns : goal.returns

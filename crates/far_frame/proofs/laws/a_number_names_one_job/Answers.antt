@@ -1,4 +1,4 @@
-use Rattle.far_frame.proofs.NumberLaws.{opened-numbered, run-numbered, accepted-spent, stale-spent, run-spent, named-stale, migrated-spent}
+use Rattle.far_frame.proofs.WaitingNumbers.{opened-numbered, run-numbered, accepted-spent, stale-spent, run-spent, named-stale, migrated-spent}
 use Rattle.far_frame.proofs.laws.a_number_names_one_job.Goals as goal
 
 pub returns : goal.returns

@@ -1,6 +1,6 @@
-use Rattle.far_frame.proofs.PinRuns.{step-stays, step-pins, run-holds, opened-holds, lent-free}
-use Rattle.far_frame.proofs.RenewedPins.{migrated-holds, migrated-pins, migrated-here}
-use Rattle.far_frame.proofs.RunLaws.{pinned-stays}
+use Rattle.far_frame.proofs.PinsRuns.{step-stays, step-pins, run-holds, opened-holds, lent-free}
+use Rattle.far_frame.proofs.PinsRenewal.{migrated-holds, migrated-pins, migrated-here}
+use Rattle.far_frame.proofs.StepsLaws.{pinned-stays}
 use Rattle.far_frame.proofs.laws.a_pinned_object_stays.Goals as goal
 
 pub returns : goal.returns

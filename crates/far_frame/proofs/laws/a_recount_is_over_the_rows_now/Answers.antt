@@ -1,4 +1,4 @@
-use Rattle.far_frame.proofs.RunLaws.{answer-recounted, recounted-answer, recounted-same}
+use Rattle.far_frame.proofs.StepsLaws.{answer-recounted, recounted-answer, recounted-same}
 use Rattle.far_frame.proofs.laws.a_recount_is_over_the_rows_now.Goals as goal
 
 pub returns : goal.returns

@@ -1,4 +1,4 @@
-use Rattle.far_frame.proofs.RunLaws.{refused-state}
+use Rattle.far_frame.proofs.StepsLaws.{refused-state}
 use Rattle.far_frame.proofs.laws.a_refused_step_changes_nothing.Goals as goal
 
 pub returns : goal.returns

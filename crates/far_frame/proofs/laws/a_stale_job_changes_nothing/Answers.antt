@@ -1,5 +1,5 @@
 use Rattle.std.proofs.Common.{ℕ, ◌+◌, ◌≡◌, ◌∙◌, ap, arith}
-use Rattle.far_frame.proofs.SpentLaws.{spent}
+use Rattle.far_frame.proofs.WaitingSpentNumbers.{spent}
 use Rattle.far_frame.proofs.laws.a_stale_job_changes_nothing.Goals as goal
 
 no-fault : (n : ℕ) → n + 0 ≡ n

@@ -1,4 +1,4 @@
-use Rattle.far_frame.proofs.RunLaws.{moved-table}
+use Rattle.far_frame.proofs.StepsLaws.{moved-table}
 use Rattle.far_frame.proofs.laws.movement_changes_no_row.Goals as goal
 
 pub returns : goal.returns

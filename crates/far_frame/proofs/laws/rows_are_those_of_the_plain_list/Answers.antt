@@ -1,4 +1,4 @@
-use Rattle.far_frame.proofs.RunLaws.{run-rows}
+use Rattle.far_frame.proofs.StepsLaws.{run-rows}
 use Rattle.far_frame.proofs.laws.rows_are_those_of_the_plain_list.Goals as goal
 
 pub returns : goal.returns

@@ -1,4 +1,4 @@
-use Rattle.far_frame.proofs.RunLaws.{runs-join}
+use Rattle.far_frame.proofs.StepsLaws.{runs-join}
 use Rattle.far_frame.proofs.laws.runs_join.Goals as goal
 
 pub returns : goal.returns

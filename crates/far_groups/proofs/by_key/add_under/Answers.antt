@@ -4,7 +4,7 @@ use Rattle.far_types.specs.Effects.{count_in}
 use Rattle.far_groups.specs.declared.by_key.Form.{Form}
 use Rattle.far_groups.specs.CountSums.{AreCountSums, with_count_sum}
 use Rattle.far_groups.specs.ByKey.{plain_totals, in_form}
-use Rattle.far_groups.proofs.PlainLaws.{get_plain, plain_valid_sums, count_sum_there, plain_added}
+use Rattle.far_groups.proofs.ByKeyLaws.{get_plain, plain_valid_sums, count_sum_there, plain_added}
 use Rattle.far_groups.proofs.by_key.add_under.Goals as goal
 
 pub merge_two-requires-clause-valid_sums : goal.merge_two-requires-clause-valid_sums

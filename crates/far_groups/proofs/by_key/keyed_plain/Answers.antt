@@ -1,6 +1,6 @@
 use Rattle.std.proofs.Common.{None, ap, ◌∙◌}
 use Rattle.std.specs.FinMap as fin
-use Rattle.far_types.proofs.ByKeyMaps.{set_inserts}
+use Rattle.far_types.proofs.AnswersByKeyMaps.{set_inserts}
 use Rattle.far_groups.specs.CountSums.{totals_of}
 use Rattle.far_groups.proofs.by_key.keyed_plain.Goals as goal
 

@@ -3,14 +3,14 @@ use Rattle.std.specs.Prelude.{ℤ}
 use Rattle.std.proofs.lemmas.Result.{IfOk-weaker}
 use Rattle.far_types.specs.declared.key.Key.{Key}
 use Rattle.far_types.specs.Answers.{total_lines}
-use Rattle.far_types.proofs.ByKeyMaps.{entries-by_key}
+use Rattle.far_types.proofs.AnswersByKeyMaps.{entries-by_key}
 use Rattle.far_groups.specs.declared.by_key.Form.{Form}
 use Rattle.far_groups.specs.Numbers.{numbered}
 use Rattle.far_groups.specs.Dense.{entries_from}
 use Rattle.far_groups.specs.ByKey.{in_form}
 use Rattle.far_groups.proofs.DenseLaws.{places_ascend}
-use Rattle.far_groups.proofs.NumberLaws.{ascend, shown}
-use Rattle.far_groups.proofs.PlainLaws.{one_line, one_ascends}
+use Rattle.far_groups.proofs.NumbersLaws.{ascend, shown}
+use Rattle.far_groups.proofs.ByKeyLaws.{one_line, one_ascends}
 use Rattle.far_groups.proofs.by_key.lines.Goals as goal
 
 pub returns-in-Plain-clause-ok : goal.returns-in-Plain-clause-ok

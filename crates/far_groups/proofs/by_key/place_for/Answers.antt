@@ -1,7 +1,7 @@
 use Rattle.std.proofs.Common.{ap, ◌∙◌}
 use Rattle.std.specs.FinMap as fin
 use Rattle.far_groups.specs.Dense.{by_place}
-use Rattle.far_groups.proofs.PlaceLaws.{get_behind, get_elsewhere}
+use Rattle.far_groups.proofs.DensePlaces.{get_behind, get_elsewhere}
 use Rattle.far_groups.proofs.by_key.place_for.Goals as goal
 
 pub returns-in-None-clause-none : goal.returns-in-None-clause-none

@@ -1,12 +1,12 @@
 use Rattle.std.proofs.Common.{ℕ, Option, None, pos, unwrap_or, refl, sym, ap, ◌∙◌}
 use Rattle.std.specs.Prelude.{ℤ}
 use Rattle.std.specs.FinMap as fin
-use Rattle.far_types.proofs.ByKeyMaps.{get_at}
+use Rattle.far_types.proofs.AnswersByKeyMaps.{get_at}
 use Rattle.far_groups.specs.declared.by_key.Form.{Form}
 use Rattle.far_groups.specs.Dense.{entries_from}
 use Rattle.far_groups.specs.ByKey.{in_form}
-use Rattle.far_groups.proofs.NumberLaws.{get_other}
-use Rattle.far_groups.proofs.PlainLaws.{get_plain}
+use Rattle.far_groups.proofs.NumbersLaws.{get_other}
+use Rattle.far_groups.proofs.ByKeyLaws.{get_plain}
 use Rattle.far_groups.proofs.by_key.plain.Goals as goal
 
 abbrev shown : Option (ℕ × ℤ) → ℕ × ℤ

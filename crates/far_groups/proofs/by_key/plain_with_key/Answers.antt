@@ -1,4 +1,4 @@
-use Rattle.far_groups.proofs.PlainLaws.{get_under_key}
+use Rattle.far_groups.proofs.ByKeyLaws.{get_under_key}
 use Rattle.far_groups.proofs.by_key.plain_with_key.Goals as goal
 
 pub returns-in_err-keys-clause-new : goal.returns-in_err-keys-clause-new

@@ -4,10 +4,10 @@ use Rattle.far_groups.specs.declared.by_key.Form.{Form}
 use Rattle.far_groups.specs.CountSums.{AreCountSums, LeavesCountSum, without_count_sum}
 use Rattle.far_groups.specs.Dense.{by_place}
 use Rattle.far_groups.specs.ByKey.{in_form, totals_in}
-use Rattle.far_groups.proofs.CountSumLaws.{AreCountSums-without}
-use Rattle.far_groups.proofs.NumberLaws.{get_other}
-use Rattle.far_groups.proofs.PlaceLaws.{get_elsewhere}
-use Rattle.far_groups.proofs.PlainLaws.{count_sum_there, taken_leaves, plain_gone, plain_subtracted}
+use Rattle.far_groups.proofs.CountSumsLaws.{AreCountSums-without}
+use Rattle.far_groups.proofs.NumbersLaws.{get_other}
+use Rattle.far_groups.proofs.DensePlaces.{get_elsewhere}
+use Rattle.far_groups.proofs.ByKeyLaws.{count_sum_there, retracted_leaves, plain_gone, plain_subtracted}
 use Rattle.far_groups.proofs.by_key.take.Goals as goal
 
 pub subtract-rest-requires-clause-valid_sums : goal.subtract-rest-requires-clause-valid_sums
@@ -16,7 +16,7 @@ subtract-rest-requires-clause-valid_sums c =
 
 pub subtract-rest-requires-clause-there : goal.subtract-rest-requires-clause-there
 subtract-rest-requires-clause-there c =
-    taken_leaves c.in-Plain.count_sum c.args.less c.args.key.now (subst (λ (form : Form). LeavesCountSum c.args.less (fin.get (in_form form) c.args.key.now)) c.in-Plain.is c.requires.there)
+    retracted_leaves c.in-Plain.count_sum c.args.less c.args.key.now (subst (λ (form : Form). LeavesCountSum c.args.less (fin.get (in_form form) c.args.key.now)) c.in-Plain.is c.requires.there)
 
 pub returns-then-rest-eq0-clause-less : goal.returns-then-rest-eq0-clause-less
 returns-then-rest-eq0-clause-less c =

@@ -1,4 +1,4 @@
-use Rattle.far_groups.proofs.NumberLaws.{get_other}
+use Rattle.far_groups.proofs.NumbersLaws.{get_other}
 use Rattle.far_groups.proofs.by_key.with_key.Goals as goal
 
 pub returns-in_err-keys-clause-new : goal.returns-in_err-keys-clause-new

@@ -1,4 +1,4 @@
-use Rattle.far_groups.proofs.PlainLaws.{plain_valid_sums}
+use Rattle.far_groups.proofs.ByKeyLaws.{plain_valid_sums}
 use Rattle.far_groups.proofs.by_key.with_new_key.Goals as goal
 
 pub returns-then-is_none-clause-valid_sums : goal.returns-then-is_none-clause-valid_sums

@@ -1,8 +1,8 @@
 use Rattle.std.proofs.Common.{refl, sym, ◌∙◌, subst}
 use Rattle.far_groups.specs.CountSums.{totals_of, AreCountSums}
-use Rattle.far_groups.proofs.CountSumLaws.{AreCountSums-with}
+use Rattle.far_groups.proofs.CountSumsLaws.{AreCountSums-with}
 use Rattle.far_types.specs.Effects.{add_count_sums}
-use Rattle.far_types.proofs.ByKeyMaps.{inserted_new}
+use Rattle.far_types.proofs.AnswersByKeyMaps.{inserted_new}
 use Rattle.far_groups.proofs.count_sums.add.Goals as goal
 
 pub returns-in_ok-insert-clause-ok : goal.returns-in_ok-insert-clause-ok

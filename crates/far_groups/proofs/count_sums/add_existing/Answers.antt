@@ -2,9 +2,9 @@ use Rattle.std.proofs.Common.{refl, ◌+◌, ◌^◌, ◌≤◌, IsSome, sym, ap
 use Rattle.std.specs.Prelude.{is_some}
 use Rattle.std.specs.FinMap as fin
 use Rattle.far_types.specs.Effects.{add_count_sums, count_in}
-use Rattle.far_types.proofs.ByKeyMaps.{with_more, get_at, set_inserts}
+use Rattle.far_types.proofs.AnswersByKeyMaps.{with_more, get_at, set_inserts}
 use Rattle.far_groups.specs.CountSums.{totals_of, AreCountSums}
-use Rattle.far_groups.proofs.CountSumLaws.{if_found, AreCountSums-insert}
+use Rattle.far_groups.proofs.CountSumsLaws.{if_found, AreCountSums-insert}
 use Rattle.far_groups.proofs.count_sums.add_existing.Goals as goal
 
 pub merge_two-requires-clause-valid_sums : goal.merge_two-requires-clause-valid_sums

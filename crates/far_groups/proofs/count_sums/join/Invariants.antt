@@ -1,8 +1,8 @@
 use Rattle.std.proofs.Common.{◌≡◌, take, drop}
 use Rattle.far_groups.specs.CountSums.{totals_of, AreCountSums}
-use Rattle.far_groups.proofs.JoinLaws.{CanAddAll}
+use Rattle.far_groups.proofs.CountSumsMerge.{CanAddAll}
 use Rattle.far_types.specs.Effects.{add_count_sums}
-use Rattle.far_types.proofs.ByKeyMaps.{with_all}
+use Rattle.far_types.proofs.AnswersByKeyMaps.{with_all}
 use Rattle.far_groups.proofs.count_sums.join.Given as goal
 
 abbrev pub invariant-loop-key : goal.invariant-loop-key

@@ -1,6 +1,6 @@
 use Rattle.std.proofs.Common.{◌-◌, take, sym, ap, ◌∙◌, subst}
 use Rattle.far_groups.specs.CountSums.{totals_of, CanRetractAll, without_all}
-use Rattle.far_groups.proofs.JoinLaws.{take_split}
+use Rattle.far_groups.proofs.CountSumsMerge.{take_split}
 use Rattle.far_groups.proofs.count_sums.retract_first.Goals as goal
 
 pub loop-key-preserved : goal.loop-key-preserved

@@ -1,5 +1,5 @@
 use Rattle.std.specs.Prelude.{Ok, Err, OnErr, Result}
-use Rattle.far_groups.proofs.PlaceLaws.{get_behind}
+use Rattle.far_groups.proofs.DensePlaces.{get_behind}
 use Rattle.far_groups.proofs.dense.add.Goals as goal
 
 on_err : {T E : Type 0} (r : Result T E) {P : Type 0} → P → OnErr r P

@@ -3,8 +3,8 @@ use Rattle.std.specs.Prelude.{IfSome}
 use Rattle.far_types.specs.Effects.{count_in}
 use Rattle.far_groups.specs.CountSums.{IsCountSum, AreCountSums}
 use Rattle.far_groups.specs.Dense.{place_key, by_place}
-use Rattle.far_groups.proofs.CountSumLaws.{AreCountSums-with}
-use Rattle.far_groups.proofs.PlaceLaws.{get_place, place_added}
+use Rattle.far_groups.proofs.CountSumsLaws.{AreCountSums-with}
+use Rattle.far_groups.proofs.DensePlaces.{get_place, place_added}
 use Rattle.far_groups.proofs.dense.add_existing.Goals as goal
 
 pub added-requires-clause-valid_sums : goal.added-requires-clause-valid_sums

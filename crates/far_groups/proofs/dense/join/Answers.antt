@@ -5,7 +5,7 @@ use Rattle.far_types.specs.Effects.{count_in, joined_totals}
 use Rattle.far_groups.specs.CountSums.{AreCountSums, with_count_sum}
 use Rattle.far_groups.specs.Numbers.{by_number}
 use Rattle.far_groups.specs.Dense.{place_key, by_place}
-use Rattle.far_groups.proofs.PlaceLaws.{next_none, next_joined, next_count_sum, next_capacity, no_places}
+use Rattle.far_groups.proofs.DensePlaces.{next_none, next_joined, next_count_sum, next_capacity, no_places}
 use Rattle.far_groups.proofs.dense.join.Goals as goal
 use Rattle.far_groups.proofs.dense.join.Goals.{then-more-ne0, else-more-ne0}
 

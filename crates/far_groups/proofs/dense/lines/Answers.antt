@@ -1,6 +1,6 @@
 use Rattle.std.proofs.Common.{◌<◌, ◌++◌, ◌∷◌, [], length, sym, ap, ◌∙◌, arith}
 use Rattle.far_groups.specs.Numbers.{number_lines}
-use Rattle.far_groups.proofs.PlaceLaws.{next_none, next_line}
+use Rattle.far_groups.proofs.DensePlaces.{next_none, next_line}
 use Rattle.far_groups.proofs.dense.lines.Goals as goal
 use Rattle.far_groups.proofs.dense.lines.Goals.{then-count_sum-ne0+in_ok-push, else-count_sum-ne0}
 

@@ -5,8 +5,8 @@ use Rattle.std.specs.FinMap as fin
 use Rattle.far_types.specs.Effects.{count_in}
 use Rattle.far_groups.specs.CountSums.{AreCountSums, with_count_sum}
 use Rattle.far_groups.specs.Numbers.{by_number, number_key}
-use Rattle.far_groups.proofs.CountSumLaws.{AreCountSums-empty}
-use Rattle.far_groups.proofs.PlaceLaws.{next_new, next_none, next_more, next_count_sum}
+use Rattle.far_groups.proofs.CountSumsLaws.{AreCountSums-empty}
+use Rattle.far_groups.proofs.DensePlaces.{next_new, next_none, next_more, next_count_sum}
 use Rattle.far_groups.proofs.dense.numbers_of.Goals as goal
 use Rattle.far_groups.proofs.dense.numbers_of.Goals.{then-count_sum-ne0+in_ok-add, else-count_sum-ne0}
 

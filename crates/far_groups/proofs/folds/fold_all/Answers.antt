@@ -7,8 +7,8 @@ use Rattle.far_types.specs.Answers.{Totals}
 use Rattle.far_types.specs.Effects.{with_pair, count_in}
 use Rattle.far_groups.specs.CountSums.{AreCountSums, with_count_sum}
 use Rattle.far_groups.specs.ByKey.{totals_in}
-use Rattle.far_groups.proofs.CountSumLaws.{with_count_sum-one}
-use Rattle.far_groups.proofs.FoldLaws.{can_at, pairs-next, first_fold}
+use Rattle.far_groups.proofs.CountSumsLaws.{with_count_sum-one}
+use Rattle.far_groups.proofs.FoldsLaws.{can_at, pairs-next, first_fold}
 use Rattle.far_groups.proofs.folds.fold_all.Goals as goal
 
 pub add_under-requires-clause-capacity : goal.add_under-requires-clause-capacity

@@ -7,7 +7,7 @@ use Rattle.far_types.specs.Answers.{Totals}
 use Rattle.far_groups.specs.CountSums.{LeavesCountSum, without_count_sum}
 use Rattle.far_groups.specs.ByKey.{totals_in}
 use Rattle.far_groups.specs.Folds.{with_pairs}
-use Rattle.far_groups.proofs.FoldLaws.{pairs-next, fewer_fold, fits_at, folded_count_sums, last_leaves, last_undone}
+use Rattle.far_groups.proofs.FoldsLaws.{pairs-next, fewer_fold, fits_at, folded_count_sums, last_leaves, last_undone}
 use Rattle.far_groups.proofs.folds.undo_first.Goals as goal
 
 pub take-requires-clause-there : goal.take-requires-clause-there

@@ -1,6 +1,6 @@
 use Rattle.std.proofs.Common.{rules, subst, sym}
-use Rattle.far_groups.proofs.WalkLaws.{Finds, finds_all}
-use Rattle.far_groups.proofs.AddLaws.{all_added}
+use Rattle.far_groups.proofs.WalksLaws.{Finds, finds_all}
+use Rattle.far_groups.proofs.WalksAddition.{all_added}
 use Rattle.far_groups.proofs.joins.add_all_existing.Goals as goal
 
 pub returns : goal.returns

@@ -1,6 +1,6 @@
 use Rattle.std.proofs.Common.{sym, subst}
 use Rattle.far_groups.specs.CountSums.{totals_of, AreCountSums}
-use Rattle.far_groups.proofs.WalkedJoin.{addends_fit, walked_join, AreCountSums-joined}
+use Rattle.far_groups.proofs.WalksMerge.{addends_fit, walked_join, AreCountSums-joined}
 use Rattle.far_groups.proofs.joins.join_walking.Goals as goal
 
 pub add_all_existing-requires : goal.add_all_existing-requires

@@ -2,7 +2,7 @@ use Rattle.std.proofs.Common.{rules, ◌≡◌, None, Option, ℕ, [], ◌∷◌
 use Rattle.std.specs.Prelude.{ℤ, pos}
 use Rattle.far_types.specs.declared.key.Key.{Key}
 use Rattle.far_groups.specs.Walks.{new_lines}
-use Rattle.far_groups.proofs.WalkLaws.{Ascend, Finds, rest_ascend, finds_rest, new_here, known_here, one_more}
+use Rattle.far_groups.proofs.WalksLaws.{Ascend, Finds, rest_ascend, finds_rest, new_here, known_here, one_more}
 use Rattle.far_groups.proofs.joins.new_lines.Goals as goal
 
 pub loop-key-preserved-in_ok-push : goal.loop-key-preserved-in_ok-push

@@ -1,6 +1,6 @@
 use Rattle.std.proofs.Common.{◌≡◌, ◌++◌}
 use Rattle.far_groups.specs.Walks.{new_lines}
-use Rattle.far_groups.proofs.WalkLaws.{Ascend, Finds}
+use Rattle.far_groups.proofs.WalksLaws.{Ascend, Finds}
 use Rattle.far_groups.proofs.joins.new_lines.Given as goal
 
 abbrev pub invariant-loop-key : goal.invariant-loop-key

@@ -1,4 +1,4 @@
-use Rattle.far_groups.proofs.PairLaws.{can_retract, counted, can_join}
+use Rattle.far_groups.proofs.LivePairs.{can_retract, counted, can_join}
 use Rattle.far_groups.proofs.laws.pairs_meet_the_conditions.Goals as goal
 
 pub returns : goal.returns

@@ -2,8 +2,8 @@ use Rattle.std.proofs.Common.{rules, ◌≡◌, to_z, of_z, sym, ◌∙◌, subs
 use Rattle.std.specs.Int.{w64}
 use Rattle.far_groups.specs.CountSums.{AreCountSums}
 use Rattle.far_groups.specs.Numbers.{by_number, number_key}
-use Rattle.far_groups.proofs.CountSumLaws.{AreCountSums-with}
-use Rattle.far_groups.proofs.NumberLaws.{number_new}
+use Rattle.far_groups.proofs.CountSumsLaws.{AreCountSums-with}
+use Rattle.far_groups.proofs.NumbersLaws.{number_new}
 use Rattle.far_groups.proofs.numbers.add.Goals as goal
 
 pub returns-in_ok-insert-clause-ok : goal.returns-in_ok-insert-clause-ok

@@ -2,11 +2,11 @@ use Rattle.std.proofs.Common.{refl, ◌+◌, ◌^◌, ◌≤◌, IsSome, sym, ap
 use Rattle.std.specs.Prelude.{is_some}
 use Rattle.std.specs.FinMap as fin
 use Rattle.far_types.specs.Effects.{add_count_sums, count_in}
-use Rattle.far_types.proofs.ByKeyMaps.{with_more}
+use Rattle.far_types.proofs.AnswersByKeyMaps.{with_more}
 use Rattle.far_groups.specs.CountSums.{AreCountSums}
 use Rattle.far_groups.specs.Numbers.{by_number, number_key}
-use Rattle.far_groups.proofs.CountSumLaws.{if_found, AreCountSums-insert}
-use Rattle.far_groups.proofs.NumberLaws.{get_number, number_inserts}
+use Rattle.far_groups.proofs.CountSumsLaws.{if_found, AreCountSums-insert}
+use Rattle.far_groups.proofs.NumbersLaws.{get_number, number_inserts}
 use Rattle.far_groups.proofs.numbers.add_existing.Goals as goal
 
 pub merge_two-requires-clause-valid_sums : goal.merge_two-requires-clause-valid_sums

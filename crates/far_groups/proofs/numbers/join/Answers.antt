@@ -1,10 +1,10 @@
 use Rattle.std.proofs.Common.{refl, take, sym, ap, ◌∙◌, subst}
-use Rattle.far_types.proofs.ByKeyMaps.{sorted_distinct, with_all, with_all-push, with_all-joined}
+use Rattle.far_types.proofs.AnswersByKeyMaps.{sorted_distinct, with_all, with_all-push, with_all-joined}
 use Rattle.far_types.specs.Effects.{add_count_sums}
 use Rattle.far_groups.specs.CountSums.{AreCountSums, with_count_sum}
 use Rattle.far_groups.specs.Numbers.{numbered, by_number, number_key}
-use Rattle.far_groups.proofs.JoinLaws.{CanAddAll, take_whole, take_more, can_add, undone}
-use Rattle.far_groups.proofs.NumberLaws.{ascend}
+use Rattle.far_groups.proofs.CountSumsMerge.{CanAddAll, take_whole, take_more, can_add, undone}
+use Rattle.far_groups.proofs.NumbersLaws.{ascend}
 use Rattle.far_groups.proofs.numbers.join.Goals as goal
 
 pub loop-number-init : goal.loop-number-init

@@ -1,9 +1,9 @@
 use Rattle.std.proofs.Common.{◌≡◌, take, drop}
 use Rattle.far_groups.specs.CountSums.{AreCountSums}
 use Rattle.far_groups.specs.Numbers.{numbered, by_number}
-use Rattle.far_groups.proofs.JoinLaws.{CanAddAll}
+use Rattle.far_groups.proofs.CountSumsMerge.{CanAddAll}
 use Rattle.far_types.specs.Effects.{add_count_sums}
-use Rattle.far_types.proofs.ByKeyMaps.{with_all}
+use Rattle.far_types.proofs.AnswersByKeyMaps.{with_all}
 use Rattle.far_groups.proofs.numbers.join.Given as goal
 
 abbrev pub invariant-loop-number : goal.invariant-loop-number

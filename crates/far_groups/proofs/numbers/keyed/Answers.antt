@@ -3,8 +3,8 @@ use Rattle.std.specs.BTreeMap.{IsFromIterResult}
 use Rattle.std.proofs.lemmas.Result.{IfOk-weaker}
 use Rattle.far_types.specs.Keys.{line_cmp}
 use Rattle.far_groups.specs.Numbers.{numbered}
-use Rattle.far_groups.proofs.NewLines.{made_of}
-use Rattle.far_groups.proofs.NumberLaws.{ascend}
+use Rattle.far_groups.proofs.WalksNewLines.{made_of}
+use Rattle.far_groups.proofs.NumbersLaws.{ascend}
 use Rattle.far_groups.proofs.numbers.keyed.Goals as goal
 
 pub returns-clause-ok : goal.returns-clause-ok

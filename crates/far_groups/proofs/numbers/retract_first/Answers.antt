@@ -1,7 +1,7 @@
 use Rattle.std.proofs.Common.{◌-◌, take, sym, ap, ◌∙◌, subst}
 use Rattle.far_groups.specs.CountSums.{CanRetractAll, without_all}
 use Rattle.far_groups.specs.Numbers.{numbered, by_number, number_key}
-use Rattle.far_groups.proofs.JoinLaws.{take_split}
+use Rattle.far_groups.proofs.CountSumsMerge.{take_split}
 use Rattle.far_groups.proofs.numbers.retract_first.Goals as goal
 
 pub loop-number-preserved : goal.loop-number-preserved

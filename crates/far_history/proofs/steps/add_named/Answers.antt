@@ -1,5 +1,5 @@
 use Rattle.std.proofs.Common.{rules}
-use Rattle.far_history.proofs.Moves.{adds}
+use Rattle.far_history.proofs.RuleLaws.{adds}
 use Rattle.far_history.proofs.steps.add_named.Goals as goal
 
 pub swap_as-requires : goal.swap_as-requires

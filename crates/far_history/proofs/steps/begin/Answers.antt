@@ -1,5 +1,5 @@
 use Rattle.std.proofs.Common.{rules, [], ◌∷◌, refl}
-use Rattle.far_history.proofs.Moves.{begins}
+use Rattle.far_history.proofs.RuleLaws.{begins}
 use Rattle.far_history.proofs.steps.begin.Goals as goal
 
 pub ruled-requires : goal.ruled-requires

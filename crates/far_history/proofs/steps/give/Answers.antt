@@ -1,5 +1,5 @@
 use Rattle.std.proofs.Common.{rules}
-use Rattle.far_history.proofs.Moves.{gives}
+use Rattle.far_history.proofs.RuleLaws.{gives}
 use Rattle.far_history.proofs.steps.give.Goals as goal
 
 pub split_pass-requires : goal.split_pass-requires

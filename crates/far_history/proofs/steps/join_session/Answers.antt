@@ -1,5 +1,5 @@
 use Rattle.std.proofs.Common.{rules, sym, ◌∙◌}
-use Rattle.far_history.proofs.Moves.{joins}
+use Rattle.far_history.proofs.RuleLaws.{joins}
 use Rattle.far_history.proofs.steps.join_session.Goals as goal
 
 pub join_pass-requires : goal.join_pass-requires

@@ -1,5 +1,5 @@
 use Rattle.std.proofs.Common.{rules}
-use Rattle.far_history.proofs.Moves.{looks}
+use Rattle.far_history.proofs.RuleLaws.{looks}
 use Rattle.far_history.proofs.steps.look.Goals as goal
 
 pub load_as-requires : goal.load_as-requires

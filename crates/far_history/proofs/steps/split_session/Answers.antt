@@ -1,5 +1,5 @@
 use Rattle.std.proofs.Common.{rules}
-use Rattle.far_history.proofs.Moves.{splits}
+use Rattle.far_history.proofs.RuleLaws.{splits}
 use Rattle.far_history.proofs.steps.split_session.Goals as goal
 
 pub split_pass-requires : goal.split_pass-requires

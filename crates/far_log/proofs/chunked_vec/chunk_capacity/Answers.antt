@@ -1,5 +1,5 @@
 use Rattle.std.proofs.Common.{◌^◌, ◌≤◌, arith, pow_mono, pow-add}
-use Rattle.far_log.proofs.Chunks.{size-64, start-size}
+use Rattle.far_log.proofs.ChunkingLayout.{size-64, start-size}
 use Rattle.far_log.proofs.chunked_vec.chunk_capacity.Goals as goal
 
 pub returns-clause-size : goal.returns-clause-size

@@ -1,6 +1,6 @@
 use Rattle.std.proofs.Common.{◌≡◌, length, ap, ◌∙◌, arith}
 use Rattle.far_log.specs.Chunking.{capacity_at, start_at}
-use Rattle.far_log.proofs.Chunks.{add-chunk, joined-add}
+use Rattle.far_log.proofs.ChunkingLayout.{add-chunk, joined-add}
 use Rattle.far_log.proofs.chunked_vec.make_chunk.Goals as goal
 
 pub returns-in_ok-push-clause-kept : goal.returns-in_ok-push-clause-kept

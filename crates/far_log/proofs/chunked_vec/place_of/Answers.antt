@@ -1,5 +1,5 @@
 use Rattle.std.proofs.Common.{◌+◌, ◌-◌, refl, arith}
-use Rattle.far_log.proofs.Chunks.{top-above, top-below, place-at, start-size}
+use Rattle.far_log.proofs.ChunkingLayout.{top-above, top-below, place-at, start-size}
 use Rattle.far_log.proofs.chunked_vec.place_of.Goals as goal
 
 pub overflow_sub-chunk : goal.overflow_sub-chunk

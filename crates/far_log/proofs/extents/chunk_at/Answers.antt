@@ -1,9 +1,9 @@
 use Rattle.std.proofs.Common.{◌≡◌, length, drop, ap, arith, length-take, length-drop}
 use Rattle.far_log.specs.Chunking.{capacity_at, start_at}
 use Rattle.far_log.specs.Storage.{extents_of}
-use Rattle.far_log.proofs.Chunks.{start-size, start-last}
-use Rattle.far_log.proofs.StoredParts.{adjacent-sorted}
-use Rattle.far_log.proofs.Entries.{chunk-behind, chunk-before}
+use Rattle.far_log.proofs.ChunkingLayout.{start-size, start-last}
+use Rattle.far_log.proofs.StorageParts.{adjacent-sorted}
+use Rattle.far_log.proofs.StorageEntries.{chunk-behind, chunk-before}
 use Rattle.far_log.proofs.extents.chunk_at.Goals as goal
 
 pub bounds-chunk-0 : goal.bounds-chunk-0

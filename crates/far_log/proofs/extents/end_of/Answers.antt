@@ -2,8 +2,8 @@ use Rattle.std.proofs.Common.{◌≡◌, length, suc, arith}
 use Rattle.std.proofs.lemmas.List.{length-map}
 use Rattle.far_log.specs.declared.part_entry.PartEntry.{PartEntry}
 use Rattle.far_log.specs.Storage.{extents_of}
-use Rattle.far_log.proofs.ExtentOf.{last-ends}
-use Rattle.far_log.proofs.Entries.{extent-is}
+use Rattle.far_log.proofs.StorageExtents.{last-ends}
+use Rattle.far_log.proofs.StorageEntries.{extent-is}
 use Rattle.far_log.proofs.extents.end_of.Goals as goal
 
 pub returns : goal.returns

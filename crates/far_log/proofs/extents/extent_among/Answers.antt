@@ -1,5 +1,5 @@
 use Rattle.std.proofs.Common.{arith}
-use Rattle.far_log.proofs.Entries.{entry-behind, entry-before}
+use Rattle.far_log.proofs.StorageEntries.{entry-behind, entry-before}
 use Rattle.far_log.proofs.extents.extent_among.Goals as goal
 use Rattle.far_log.proofs.extents.extent_among.Goals.{then-entries-middle, else-entries-middle}
 

@@ -2,9 +2,9 @@ use Rattle.std.proofs.Common.{◌≡◌, ◌-◌, Some, length, drop, ap, sym, s
 use Rattle.std.specs.Prelude.{slice_get}
 use Rattle.far_log.specs.Chunking.{capacity_at, start_at}
 use Rattle.far_log.specs.Storage.{extents_of, IsSorted}
-use Rattle.far_log.proofs.Chunks.{start-size}
-use Rattle.far_log.proofs.StoredParts.{adjacent-sorted}
-use Rattle.far_log.proofs.Entries.{part-sorted, in-part}
+use Rattle.far_log.proofs.ChunkingLayout.{start-size}
+use Rattle.far_log.proofs.StorageParts.{adjacent-sorted}
+use Rattle.far_log.proofs.StorageEntries.{part-sorted, in-part}
 use Rattle.far_log.proofs.extents.number_among.Goals as goal
 
 pub extent_among-requires-clause-some : goal.extent_among-requires-clause-some

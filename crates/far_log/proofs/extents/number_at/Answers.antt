@@ -1,7 +1,7 @@
 use Rattle.std.proofs.Common.{◌-◌, arith}
 use Rattle.far_log.specs.Storage.{extents_of}
-use Rattle.far_log.proofs.StoredParts.{adjacent-sorted, at-or-behind}
-use Rattle.far_log.proofs.Entries.{extent-is}
+use Rattle.far_log.proofs.StorageParts.{adjacent-sorted, at-or-behind}
+use Rattle.far_log.proofs.StorageEntries.{extent-is}
 use Rattle.far_log.proofs.extents.number_at.Goals as goal
 
 pub returns-then-get-offset : goal.returns-then-get-offset

@@ -2,7 +2,7 @@ use Rattle.std.proofs.Common.{◌≡◌, ◌++◌, ◌∷◌, [], length, ap, �
 use Rattle.std.proofs.lemmas.List.{length-map, map_push}
 use Rattle.far_log.specs.declared.part_entry.PartEntry.{PartEntry}
 use Rattle.far_log.specs.Storage.{extents_of, links_of}
-use Rattle.far_log.proofs.Linked.{last-named}
+use Rattle.far_log.proofs.StorageLinks.{last-named}
 use Rattle.far_log.proofs.links.push_linked.Goals as goal
 
 pub returns-then-number-gt0-clause-linked : goal.returns-then-number-gt0-clause-linked

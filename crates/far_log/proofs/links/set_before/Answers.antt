@@ -1,4 +1,4 @@
-use Rattle.far_log.proofs.Entries.{extents-relinked, links-before}
+use Rattle.far_log.proofs.StorageEntries.{extents-relinked, links-before}
 use Rattle.far_log.proofs.links.set_before.Goals as goal
 
 pub returns-clause-extents : goal.returns-clause-extents

@@ -1,4 +1,4 @@
-use Rattle.far_log.proofs.Entries.{extents-relinked, links-behind}
+use Rattle.far_log.proofs.StorageEntries.{extents-relinked, links-behind}
 use Rattle.far_log.proofs.links.set_behind.Goals as goal
 
 pub returns-clause-extents : goal.returns-clause-extents

@@ -2,8 +2,8 @@ use Rattle.std.proofs.Common.{length, refl, ap, ◌∙◌, arith}
 use Rattle.std.proofs.lemmas.List.{take_all, length-map}
 use Rattle.far_log.specs.declared.part_entry.PartEntry.{PartEntry}
 use Rattle.far_log.specs.Storage.{extents_of, links_of, emptied_at}
-use Rattle.far_log.proofs.Entries.{link-is}
-use Rattle.far_log.proofs.Linked.{as-many, length-emptied, ends-emptied, within-extents, before-within, behind-within, last-left, last-linked, rest-linked, linked-take}
+use Rattle.far_log.proofs.StorageEntries.{link-is}
+use Rattle.far_log.proofs.StorageLinks.{as-many, length-emptied, ends-emptied, within-extents, before-within, behind-within, last-left, last-linked, rest-linked, linked-take}
 use Rattle.far_log.proofs.links.unlink.Goals as goal
 use Rattle.far_log.proofs.links.unlink.Goals.{then-before-gt0, else-before-gt0}
 

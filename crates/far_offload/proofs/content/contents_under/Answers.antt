@@ -1,7 +1,7 @@
 use Rattle.std.proofs.Common.{ℕ, List, ◌∷◌, [], ◌++◌, take, sym, ap, ◌∙◌, arith}
 use Rattle.far_types.specs.declared.cell.Cell.{Cell}
 use Rattle.far_offload.specs.Jobs.{columns_under}
-use Rattle.far_offload.proofs.ColumnLaws.{columns-more}
+use Rattle.far_offload.proofs.JobsColumns.{columns-more}
 use Rattle.far_offload.proofs.content.contents_under.Goals as goal
 
 pub loop-number-preserved : goal.loop-number-preserved

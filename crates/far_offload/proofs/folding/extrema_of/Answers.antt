@@ -2,7 +2,7 @@ use Rattle.std.proofs.Common.{ap, ◌∙◌}
 use Rattle.far_types.specs.Answers.{Extrema, extrema}
 use Rattle.far_types.specs.Effects.{joined_extrema}
 use Rattle.far_offload.specs.Partials.{pairs_over}
-use Rattle.far_offload.proofs.ObserveLaws.{observed-first}
+use Rattle.far_offload.proofs.PartialsObservation.{observed-first}
 use Rattle.far_offload.proofs.folding.extrema_of.Goals as goal
 
 pub returns-clause-extrema : goal.returns-clause-extrema

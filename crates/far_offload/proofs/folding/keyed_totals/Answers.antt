@@ -14,7 +14,7 @@ use Rattle.far_types.specs.Answers.{Totals, totals}
 use Rattle.far_types.specs.Effects.{with_pair, count_in}
 use Rattle.far_groups.specs.Live.{TotalsState}
 use Rattle.far_offload.specs.Partials.{pair_at, pairs_over}
-use Rattle.far_offload.proofs.FoldLaws.{pairs-with, pairs-keyless, pairs-valueless, totals-more, few-under, over-few}
+use Rattle.far_offload.proofs.PartialsLaws.{pairs-with, pairs-keyless, pairs-valueless, totals-more, few-under, over-few}
 use Rattle.far_offload.proofs.folding.keyed_totals.Goals as goal
 use Rattle.far_offload.proofs.folding.keyed_totals.Goals.{in-Some+in_ok-key+then-is_some+in_ok-add_under, in-Some+in_ok-key+else-is_some, in_default}
 

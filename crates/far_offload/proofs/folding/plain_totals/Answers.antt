@@ -6,9 +6,9 @@ use Rattle.std.specs.List.{enumerate_from}
 use Rattle.far_types.specs.Answers.{Totals, totals}
 use Rattle.far_types.specs.Effects.{joined_totals, count_in}
 use Rattle.far_groups.specs.Live.{TotalsState}
-use Rattle.far_groups.proofs.PairLaws.{counted}
+use Rattle.far_groups.proofs.LivePairs.{counted}
 use Rattle.far_offload.specs.Partials.{values_over}
-use Rattle.far_offload.proofs.FoldLaws.{plain-pairs, added-totals, no-totals}
+use Rattle.far_offload.proofs.PartialsLaws.{plain-pairs, added-totals, no-totals}
 use Rattle.far_offload.proofs.folding.plain_totals.Goals as goal
 use Rattle.far_offload.proofs.folding.plain_totals.Goals.{then-count-ne0+in_ok-add_rows, else-count-ne0}
 

@@ -1,5 +1,5 @@
 use Rattle.far_types.specs.Table.{in_group}
-use Rattle.far_offload.proofs.HandLaws.{at-hand}
+use Rattle.far_offload.proofs.AtHandLaws.{at-hand}
 use Rattle.far_offload.proofs.laws.columns_at_hand_give_the_pairs_of_their_places.Goals as goal
 
 pub returns : goal.returns

@@ -11,8 +11,8 @@ use Rattle.far_types.specs.Answers.{Extrema, extrema}
 use Rattle.far_types.specs.Effects.{with_observed, joined_extrema}
 use Rattle.far_offload.specs.Columns.{cell_of, cells_at}
 use Rattle.far_offload.specs.Partials.{pairs_over}
-use Rattle.far_offload.proofs.FoldLaws.{pairs-with, pairs-keyless, pairs-valueless}
-use Rattle.far_offload.proofs.ObserveLaws.{observed-nothing, observed-more}
+use Rattle.far_offload.proofs.PartialsLaws.{pairs-with, pairs-keyless, pairs-valueless}
+use Rattle.far_offload.proofs.PartialsObservation.{observed-nothing, observed-more}
 use Rattle.far_offload.proofs.observing.observe_keyed.Goals as goal
 use Rattle.far_offload.proofs.observing.observe_keyed.Goals.{in-Some+in_ok-key+then-is_some+in_ok-observe_under, in-Some+in_ok-key+else-is_some, in_default}
 

@@ -8,8 +8,8 @@ use Rattle.far_types.specs.Pairs.{Pair}
 use Rattle.far_types.specs.Answers.{extrema}
 use Rattle.far_types.specs.Effects.{joined_extrema}
 use Rattle.far_offload.specs.Partials.{values_over}
-use Rattle.far_offload.proofs.FoldLaws.{plain-pairs}
-use Rattle.far_offload.proofs.ObserveLaws.{observed-plain, observed-none}
+use Rattle.far_offload.proofs.PartialsLaws.{plain-pairs}
+use Rattle.far_offload.proofs.PartialsObservation.{observed-plain, observed-none}
 use Rattle.far_offload.proofs.observing.observe_plain.Goals as goal
 
 pub returns-in-Some-clause-ok : goal.returns-in-Some-clause-ok

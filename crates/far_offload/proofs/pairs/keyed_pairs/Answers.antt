@@ -8,7 +8,7 @@ use Rattle.far_types.specs.declared.key.Key.{Key}
 use Rattle.far_types.specs.Cells.{key_in}
 use Rattle.far_types.specs.Pairs.{Pair, PairsFit}
 use Rattle.far_offload.specs.Columns.{cell_of, cells_at}
-use Rattle.far_offload.proofs.FoldLaws.{pairs-with, pairs-keyless, pairs-valueless, fits-more}
+use Rattle.far_offload.proofs.PartialsLaws.{pairs-with, pairs-keyless, pairs-valueless, fits-more}
 use Rattle.far_offload.proofs.pairs.keyed_pairs.Goals as goal
 use Rattle.far_offload.proofs.pairs.keyed_pairs.Goals.{in-Some+in_ok-key+then-is_some+in_ok-push, in-Some+in_ok-key+else-is_some+in-None-1, in-Some+in_ok-key+else-is_some+in-Some+in-Int-1, in-Some+in_ok-key+else-is_some+in-Some+in-Text-1, in_default}
 

@@ -5,7 +5,7 @@ use Rattle.std.proofs.lemmas.Int.{to_z-of_z}
 use Rattle.far_types.specs.Answers.{count_sum}
 use Rattle.far_groups.specs.CountSums.{IsSumOf}
 use Rattle.far_offload.specs.Partials.{values_over}
-use Rattle.far_offload.proofs.FoldLaws.{values-with, values-same, count_sum-more}
+use Rattle.far_offload.proofs.PartialsLaws.{values-with, values-same, count_sum-more}
 use Rattle.far_offload.proofs.plain.count_sum_of.Goals as goal
 use Rattle.far_offload.proofs.plain.count_sum_of.Goals.{in-Some, in_default}
 

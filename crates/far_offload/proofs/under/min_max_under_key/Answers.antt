@@ -4,9 +4,9 @@ use Rattle.std.specs.FinMap as fin
 use Rattle.std.proofs.lemmas.Int.{to_z-of_z}
 use Rattle.std.proofs.lemmas.Bool.{false≢true}
 use Rattle.far_types.specs.Keys.{line_cmp}
-use Rattle.far_types.specs.Effects.{widened}
+use Rattle.far_types.specs.Effects.{min_max_with}
 use Rattle.far_offload.specs.Partials.{MinMaxFits}
-use Rattle.far_offload.proofs.UnderLaws.{min_max-there, min_max-elsewhere, min_max-within}
+use Rattle.far_offload.proofs.PartialsExtrema.{min_max-there, min_max-elsewhere, min_max-within}
 use Rattle.far_offload.proofs.under.min_max_under_key.Goals as goal
 use Rattle.far_offload.proofs.under.min_max_under_key.Goals.{then-stands_under+in-Some, then-stands_under+in_default, else-stands_under}
 
@@ -27,8 +27,8 @@ loop-place-preserved c =
             min_max =
                 w.min_max-is
                 ∙ ap Some (w.widened.ensures.value
-                ∙ ap (λ (v : ℤ). widened v c.loop-place.min_max) (to_z-of_z w64 w.in-Some.value w.in-Some.ensures.fits)
-                ∙ ap (λ (s : Option (ℤ × ℤ)). widened w.in-Some.value s) c.loop-place.invariant.min_max)
+                ∙ ap (λ (v : ℤ). min_max_with v c.loop-place.min_max) (to_z-of_z w64 w.in-Some.value w.in-Some.ensures.fits)
+                ∙ ap (λ (s : Option (ℤ × ℤ)). min_max_with w.in-Some.value s) c.loop-place.invariant.min_max)
                 ∙ sym (min_max-there spec columns alive place flag key (omega arith) refl w.in-Some.value (c.stands_under.ensures.0 w.if-stands_under.true) w.in-Some.ensures.beyond);
             fits = subst MinMaxFits (sym w.min_max-is) w.widened.ensures.fits;
           }

@@ -7,10 +7,10 @@ use Rattle.far_types.specs.declared.key.Key.{Key}
 use Rattle.far_types.specs.declared.key.Key.TheVariants.{Int}
 use Rattle.far_types.specs.Keys.{line_cmp}
 use Rattle.far_types.specs.Answers.{extrema}
-use Rattle.far_types.specs.Effects.{widened}
+use Rattle.far_types.specs.Effects.{min_max_with}
 use Rattle.far_offload.specs.Partials.{MinMaxFits}
-use Rattle.far_offload.proofs.FoldLaws.{pairs-valueless}
-use Rattle.far_offload.proofs.UnderLaws.{min_max-there, min_max-elsewhere, number_under}
+use Rattle.far_offload.proofs.PartialsLaws.{pairs-valueless}
+use Rattle.far_offload.proofs.PartialsExtrema.{min_max-there, min_max-elsewhere, number_under}
 use Rattle.far_offload.proofs.under.min_max_under_number.Goals as goal
 use Rattle.far_offload.proofs.under.min_max_under_number.Goals.{then-is_at+in-Some, then-is_at+in_default, else-is_at}
 
@@ -32,8 +32,8 @@ loop-place-preserved g c =
             min_max =
                 w.min_max-is
                 ∙ ap Some (w.widened.ensures.value
-                ∙ ap (λ (v : ℤ). widened v c.loop-place.min_max) (to_z-of_z w64 w.in-Some.value w.in-Some.ensures.fits)
-                ∙ ap (λ (s : Option (ℤ × ℤ)). widened w.in-Some.value s) c.loop-place.invariant.min_max)
+                ∙ ap (λ (v : ℤ). min_max_with v c.loop-place.min_max) (to_z-of_z w64 w.in-Some.value w.in-Some.ensures.fits)
+                ∙ ap (λ (s : Option (ℤ × ℤ)). min_max_with w.in-Some.value s) c.loop-place.invariant.min_max)
                 ∙ sym (min_max-there spec columns alive place flag key (omega arith) refl w.in-Some.value (under.0 (c.is_at.ensures.0 w.if-is_at.true)) w.in-Some.ensures.value);
             fits = subst MinMaxFits (sym w.min_max-is) w.widened.ensures.fits;
           }

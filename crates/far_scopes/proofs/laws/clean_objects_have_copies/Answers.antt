@@ -1,4 +1,4 @@
-use Rattle.far_scopes.proofs.Copies.{copied}
+use Rattle.far_scopes.proofs.MovementCopies.{copied}
 use Rattle.far_scopes.proofs.laws.clean_objects_have_copies.Goals as goal
 
 pub returns : goal.returns

@@ -1,5 +1,5 @@
 use Rattle.std.proofs.Common.{take, arith, rules, refl}
-use Rattle.far_script.proofs.FieldLaws.{cells-go-on}
+use Rattle.far_script.proofs.FieldsLaws.{cells-go-on}
 use Rattle.far_script.proofs.field.cells_in.Goals as goal
 
 pub loop-more-preserved : goal.loop-more-preserved

@@ -4,7 +4,7 @@ use denote.Text.{Utf8}
 use Rattle.std.specs.List.{slice_split}
 use Rattle.far_script.specs.OneRecord.{is_comma}
 use Rattle.far_script.specs.Fields.{cells_from}
-use Rattle.far_script.proofs.FieldLaws.{cells-left, length-left}
+use Rattle.far_script.proofs.FieldsLaws.{cells-left, length-left}
 use Rattle.far_script.proofs.field.cells_in.Given as goal
 
 abbrev pub invariant-loop-more : goal.invariant-loop-more

@@ -1,8 +1,8 @@
 use Rattle.std.proofs.Common.{◌≡◌, sym, ap, ◌∙◌, option_map, Some, to_z, of_z, w64, rules, arith}
 use Rattle.far_types.specs.declared.cell.Kind.TheVariants as kind
 use Rattle.far_script.specs.Fields.{cell_of, only_field}
-use Rattle.far_script.proofs.FieldLaws.{empty-record, plain-record}
-use Rattle.far_script.proofs.NumberFields.{lone-number}
+use Rattle.far_script.proofs.FieldsLaws.{empty-record, plain-record}
+use Rattle.far_script.proofs.NumbersFields.{lone-number}
 use Rattle.far_script.proofs.PartLaws.{one-part}
 use Rattle.far_script.specs.OneRecord.{is_comma}
 use Rattle.far_script.proofs.field.lone_cell.Goals as goal

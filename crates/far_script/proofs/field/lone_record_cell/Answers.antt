@@ -1,7 +1,7 @@
 use Rattle.std.proofs.Common.{sym, ap, ◌∙◌, option_map, Some, arith}
 use Rattle.csv.specs.Records.{fields_of}
 use Rattle.far_script.specs.Fields.{cell_of}
-use Rattle.far_script.proofs.FieldLaws.{only-field, has-field_at}
+use Rattle.far_script.proofs.FieldsLaws.{only-field, has-field_at}
 use Rattle.far_script.proofs.field.lone_record_cell.Goals as goal
 
 pub returns-in_ok-cell-in-Some-clause-cell : goal.returns-in_ok-cell-in-Some-clause-cell

@@ -1,6 +1,6 @@
 use Rattle.std.proofs.Common.{arith, rules, sym}
 use Rattle.csv.specs.Records.{fields_of}
-use Rattle.far_script.proofs.FieldLaws.{fields-go-on, has-field_at}
+use Rattle.far_script.proofs.FieldsLaws.{fields-go-on, has-field_at}
 use Rattle.far_script.proofs.field.record_cells.Goals as goal
 use Rattle.far_script.proofs.field.record_cells.Goals.{in-Some+in_ok-cell+in_ok-push, in_default}
 

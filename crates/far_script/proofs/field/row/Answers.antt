@@ -1,6 +1,6 @@
 use Rattle.std.proofs.Common.{sym, ap, ◌∙◌, option_map, Some}
 use Rattle.far_script.specs.Fields.{cells_from}
-use Rattle.far_script.proofs.FieldLaws.{empty-record, plain-record}
+use Rattle.far_script.proofs.FieldsLaws.{empty-record, plain-record}
 use Rattle.far_script.proofs.field.row.Goals as goal
 
 pub returns-then-is_empty-clause-row : goal.returns-then-is_empty-clause-row

@@ -1,4 +1,4 @@
-use Rattle.far_script.proofs.Feeds.{first-feed}
+use Rattle.far_script.proofs.LinesFeeds.{first-feed}
 use Rattle.far_script.proofs.lines.first_feed.Goals as goal
 
 pub returns : goal.returns

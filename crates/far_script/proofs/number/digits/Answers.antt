@@ -1,6 +1,6 @@
 use Rattle.std.proofs.Common.{arith, sym, ◌∙◌, ap, ◌^◌, ◌≤◌, ◌*◌, ◌+◌, ◌-◌, slice_index}
 use Rattle.far_script.specs.Numbers.{below}
-use Rattle.far_script.proofs.NumberLaws.{overflows, digits_of-nonempty, whole}
+use Rattle.far_script.proofs.NumbersLaws.{overflows, digits_of-nonempty, whole}
 use Rattle.far_script.proofs.number.digits.Goals as goal
 
 pub returns-in_err-checked_mul : goal.returns-in_err-checked_mul

@@ -1,6 +1,6 @@
 use Rattle.std.proofs.Common.{◌≡◌, ◌∙◌, true, sym, slice_index, below_more, arith}
 use Rattle.std.specs.Char.{is_ascii_digit}
-use Rattle.far_script.proofs.FirstNumbers.{one-digit-more, digit-small}
+use Rattle.far_script.proofs.NumbersFirst.{one-digit-more, digit-small}
 use Rattle.far_script.proofs.number.first_digits.Goals as goal
 
 pub loop-at-preserved : goal.loop-at-preserved

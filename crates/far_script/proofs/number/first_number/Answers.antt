@@ -1,6 +1,6 @@
 use Rattle.std.proofs.Common.{◌≡◌, ◌==◌, ◌<◌, arith}
 use Rattle.std.specs.List.{position_or_len}
-use Rattle.far_script.proofs.FirstNumbers.{first-ends, first-size}
+use Rattle.far_script.proofs.NumbersFirst.{first-ends, first-size}
 use Rattle.far_script.proofs.number.first_number.Goals.{else-len-text-via-then-len-text+else-text-len, else-len-text-via-else-len-text}
 use Rattle.far_script.proofs.number.first_number.Goals as goal
 

@@ -1,5 +1,5 @@
 use Rattle.std.proofs.Common.{◌≡◌, to_z, of_z, w64, slice_index, refl, rules}
-use Rattle.far_script.proofs.FirstNumbers.{with-minus}
+use Rattle.far_script.proofs.NumbersFirst.{with-minus}
 use Rattle.far_script.proofs.number.first_signed.Goals as goal
 
 pub returns-in_ok-number-in-45 : goal.returns-in_ok-number-in-45

@@ -1,6 +1,6 @@
 use Rattle.std.proofs.Common.{lit<}
 use Rattle.std.proofs.lemmas.Str.Pattern.{split_once_first}
-use Rattle.far_script.proofs.KindLaws.{no-kind-first, no-kind-last}
+use Rattle.far_script.proofs.OpeningsKinds.{no-kind-first, no-kind-last}
 use Rattle.far_script.proofs.opening.read_kinds.Goals as goal
 
 pub returns-in-None-clause-kinds : goal.returns-in-None-clause-kinds

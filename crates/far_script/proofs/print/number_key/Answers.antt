@@ -1,5 +1,5 @@
 use Rattle.std.proofs.lemmas.Int.{to_z-of_z}
-use Rattle.far_script.proofs.PlainDigits.{number-key}
+use Rattle.far_script.proofs.PrintingNumbers.{number-key}
 use Rattle.far_script.proofs.print.number_key.Goals as goal
 
 pub returns-clause-ok : goal.returns-clause-ok

@@ -1,5 +1,5 @@
 use Rattle.far_script.specs.Printing.{total_text}
-use Rattle.far_script.proofs.PrintLaws.{texts-go-on}
+use Rattle.far_script.proofs.PrintingLaws.{texts-go-on}
 use Rattle.far_script.proofs.print.totals.Goals as goal
 
 pub loop-line-preserved : goal.loop-line-preserved

@@ -1,4 +1,4 @@
-use Rattle.far_script.proofs.TestLaws.{tests-go-on}
+use Rattle.far_script.proofs.WatchesTests.{tests-go-on}
 use Rattle.far_script.proofs.watch.read_tests.Goals as goal
 
 pub loop-words-preserved : goal.loop-words-preserved

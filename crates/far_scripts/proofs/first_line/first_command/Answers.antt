@@ -1,10 +1,10 @@
 use Rattle.std.proofs.Common.{[], ◌++◌, ◌∷◌, ◌∙◌, refl, sym, arith}
 use Rattle.far_script.specs.declared.fault.ShellFault.TheVariants as fault
 use Rattle.far_script.specs.Flow.{IsUnseen}
-use Rattle.far_script.proofs.StopLaws.{handed-on, if-unseen}
-use Rattle.far_scripts.proofs.BreakLaws.{breaks-first, no-line, no-text-last, no-text-line, rejects-first, rejects-none}
+use Rattle.far_script.proofs.FlowStops.{handed-on, if-unseen}
+use Rattle.far_scripts.proofs.BreaksLaws.{breaks-first, no-line, no-text-last, no-text-line, rejects-first, rejects-none}
 use Rattle.far_script.proofs.FlowLaws.{few-bytes, reads-none, reads-then, prints-none, prints-nothing-then, range-empty, range-some}
-use Rattle.far_scripts.proofs.ScriptLaws.{turn-more, blank-more, begins-line, begins-last}
+use Rattle.far_scripts.proofs.ScriptsLaws.{turn-more, blank-more, begins-line, begins-last}
 use Rattle.far_scripts.proofs.first_line.first_command.Goals as goal
 
 pub loop-turn-init : goal.loop-turn-init

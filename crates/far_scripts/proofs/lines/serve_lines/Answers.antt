@@ -1,10 +1,10 @@
 use Rattle.std.proofs.Common.{[], ◌∷◌, ◌++◌, refl, arith}
 use Rattle.far_script.specs.declared.fault.ShellFault.TheVariants as fault
 use Rattle.far_script.specs.Flow.{IsUnseen}
-use Rattle.far_script.proofs.StopLaws.{handed-on, if-unseen}
-use Rattle.far_scripts.proofs.BreakLaws.{breaks-between, breaks-last, breaks-line, if-short}
+use Rattle.far_script.proofs.FlowStops.{handed-on, if-unseen}
+use Rattle.far_scripts.proofs.BreaksLaws.{breaks-between, breaks-last, breaks-line, if-short}
 use Rattle.far_script.proofs.FlowLaws.{reads-none, reads-then, prints-none, prints-then-nothing, few-bytes}
-use Rattle.far_scripts.proofs.ScriptLaws.{answers-none, goes-on, comes-to-end, next-number}
+use Rattle.far_scripts.proofs.ScriptsLaws.{answers-none, goes-on, comes-to-end, next-number}
 use Rattle.far_scripts.proofs.lines.serve_lines.Goals as goal
 
 pub loop-turn-init : goal.loop-turn-init

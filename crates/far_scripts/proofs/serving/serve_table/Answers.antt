@@ -1,7 +1,7 @@
 use Rattle.std.proofs.lemmas.Result.{IfErr-weaker, on_ok_weaker}
 use Rattle.far_script.specs.Flow.{IsUnseen}
-use Rattle.far_scripts.proofs.BreakLaws.{breaks-lines, rejects-table}
-use Rattle.far_scripts.proofs.ScriptLaws.{serves-table}
+use Rattle.far_scripts.proofs.BreaksLaws.{breaks-lines, rejects-table}
+use Rattle.far_scripts.proofs.ScriptsLaws.{serves-table}
 use Rattle.far_scripts.proofs.serving.serve_table.Goals as goal
 
 pub returns-in-Ok-clause-ok : goal.returns-in-Ok-clause-ok

@@ -1,6 +1,6 @@
 use Rattle.std.proofs.Common.{◌≡◌, List, ◌∙◌, refl}
 use Rattle.far_sessions.specs.Known.{Known}
-use Rattle.far_sessions.proofs.Sessions.{all-taken}
+use Rattle.far_sessions.proofs.ClosingSessions.{all-taken}
 use Rattle.far_sessions.proofs.closing.settle.Goals as goal
 
 pub loop-session-preserved : goal.loop-session-preserved

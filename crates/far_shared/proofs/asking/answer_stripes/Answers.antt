@@ -1,4 +1,4 @@
-use Rattle.far_shared.proofs.AskLaws.{answers-told, gauge-told, refusal-told}
+use Rattle.far_shared.proofs.AskingLaws.{answers-given, gauge-given, refusal-given}
 use Rattle.far_shared.proofs.asking.answer_stripes.Goals as goal
 
 pub returns-clause-answer : goal.returns-clause-answer
@@ -7,7 +7,7 @@ returns-clause-answer g c =
     let one = c.one.inside in
     let two = c.two.inside in
     let three = c.three.inside in
-    answers-told g.N.PlanTag.plan zero.keeper one.keeper two.keeper three.keeper zero.frame.table one.frame.table two.frame.table three.frame.table
+    answers-given g.N.PlanTag.plan zero.keeper one.keeper two.keeper three.keeper zero.frame.table one.frame.table two.frame.table three.frame.table
     c.zero.invariant.0 c.one.invariant.0 c.two.invariant.0 c.three.invariant.0
     c.args.a c.answer_four.result c.known.ensures.legal c.known-2.ensures.legal c.known-3.ensures.legal c.known-4.ensures.legal
     c.answer_four.ensures.answer c.answer_four.ensures.alike
@@ -18,7 +18,7 @@ returns-clause-asked g c =
     let one = c.one.inside in
     let two = c.two.inside in
     let three = c.three.inside in
-    let told = c.answer_four.ensures in record {
+    let returned = c.answer_four.ensures in record {
       zero = zero.frame.table;
       one = one.frame.table;
       two = two.frame.table;
@@ -29,11 +29,11 @@ returns-clause-asked g c =
         record { log = two.keeper; legal = c.known-3.ensures.legal; stripe = c.two.invariant.0 },
         record { log = three.keeper; legal = c.known-4.ensures.legal; stripe = c.three.invariant.0 },
       );
-      alike = told.alike;
-      built = told.built;
-      answer = told.answer;
-      refused = refusal-told g.N.PlanTag.plan zero.keeper one.keeper two.keeper three.keeper zero.frame.table one.frame.table two.frame.table three.frame.table
-          c.zero.invariant.0 c.one.invariant.0 c.two.invariant.0 c.three.invariant.0 c.args.a c.answer_four.result told.refused;
+      alike = returned.alike;
+      scanned = returned.scanned;
+      answer = returned.answer;
+      refused = refusal-given g.N.PlanTag.plan zero.keeper one.keeper two.keeper three.keeper zero.frame.table one.frame.table two.frame.table three.frame.table
+          c.zero.invariant.0 c.one.invariant.0 c.two.invariant.0 c.three.invariant.0 c.args.a c.answer_four.result returned.refused;
     }
 
 pub returns-clause-gauge : goal.returns-clause-gauge
@@ -42,6 +42,6 @@ returns-clause-gauge g c =
     let one = c.one.inside in
     let two = c.two.inside in
     let three = c.three.inside in
-    gauge-told g.N.PlanTag.plan zero.keeper one.keeper two.keeper three.keeper zero.frame.table one.frame.table two.frame.table three.frame.table
+    gauge-given g.N.PlanTag.plan zero.keeper one.keeper two.keeper three.keeper zero.frame.table one.frame.table two.frame.table three.frame.table
     c.zero.invariant.0 c.one.invariant.0 c.two.invariant.0 c.three.invariant.0
     c.args.a c.answer_four.result c.answer_four.ensures.refused

@@ -3,9 +3,9 @@ use Rattle.std.proofs.lemmas.Result.{IfOk-weaker}
 use Rattle.far_types.specs.declared.edit.Edit.TheVariants as edit
 use Rattle.far_frame.specs.declared.step.Reply.TheVariants as reply
 use Rattle.far_frame.specs.State.{State}
-use Rattle.far_shared.proofs.ColumnLaws.{same-columns, edit-columns, either-columns}
-use Rattle.far_shared.proofs.EditLaws.{made-accepted, made-free, made-table, made-place, made-refused}
-use Rattle.far_shared.proofs.NumberLaws.{if-err}
+use Rattle.far_shared.proofs.StripesColumns.{same-columns, edit-columns, either-columns}
+use Rattle.far_shared.proofs.ApplyingEdits.{made-accepted, made-free, made-table, made-place, made-refused}
+use Rattle.far_shared.proofs.JobsRefusals.{if-err}
 use Rattle.far_shared.proofs.editing.make.Goals as goal
 
 pub returns-in-Insert-clause-may : goal.returns-in-Insert-clause-may

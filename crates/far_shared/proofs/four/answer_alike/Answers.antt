@@ -3,7 +3,7 @@ use Rattle.std.proofs.lemmas.Result.{IfOk-weaker}
 use Rattle.far_types.specs.Answers.{answer_over}
 use Rattle.far_types.specs.Table.{rows_of}
 use Rattle.far_shared.specs.Fours.{IsOf}
-use Rattle.far_shared.proofs.FourLaws.{built-none, built-refused, memory-refused, of-some, on-any, same-sum}
+use Rattle.far_shared.proofs.FoursLaws.{scanned-none, scanned-refused, memory-refused, of-some, on-any, same-sum}
 use Rattle.far_shared.proofs.four.answer_alike.Goals as goal
 
 pub merge-requires-clause-one : goal.merge-requires-clause-one
@@ -25,24 +25,24 @@ returns-in-Ok-clause-answer g c =
     let two = rows_of c.args.two.now.table.places in
     let three = rows_of c.args.three.now.table.places in
     let four = rows_of c.args.four.now.table.places in
-    IfOk-weaker c.merge.result _ _ (λ given told.
-    told one two three four
+    IfOk-weaker c.merge.result _ _ (λ given returned.
+    returned one two three four
     (of-some (λ x. x ≡ answer_over spec one) c.asked-left_one.result.1 _ c.in-Ok.ensures.zero c.asked-left_one.ensures.answer)
     (of-some (λ x. x ≡ answer_over spec two) c.asked-left_two.result.1 _ c.in-Ok.ensures.one c.asked-left_two.ensures.answer)
     (of-some (λ x. x ≡ answer_over spec three) c.asked-left_three.result.1 _ c.in-Ok.ensures.two c.asked-left_three.ensures.answer)
     (of-some (λ x. x ≡ answer_over spec four) c.asked-left_four.result.1 _ c.in-Ok.ensures.three c.asked-left_four.ensures.answer)) c.merge.ensures.ok
 
-pub returns-in-Ok-clause-built : goal.returns-in-Ok-clause-built
-returns-in-Ok-clause-built g c =
+pub returns-in-Ok-clause-scanned : goal.returns-in-Ok-clause-scanned
+returns-in-Ok-clause-scanned g c =
     let same = same-sum _ _ _ _ _ _ _ _ c.asked-left_one.ensures.left c.asked-left_two.ensures.left c.asked-left_three.ensures.left c.asked-left_four.ensures.left in
-    on-any c.merge.result (built-none _ _ same c.none_left-built.result c.none_left-built.ensures.ok c.in-Ok.ensures.built)
+    on-any c.merge.result (scanned-none _ _ same c.none_left-scanned.result c.none_left-scanned.ensures.ok c.in-Ok.ensures.scanned)
 
 pub returns-in-Ok-clause-refused : goal.returns-in-Ok-clause-refused
 returns-in-Ok-clause-refused g c =
     let same = same-sum _ _ _ _ _ _ _ _ c.asked-left_one.ensures.left c.asked-left_two.ensures.left c.asked-left_three.ensures.left c.asked-left_four.ensures.left in
-    memory-refused _ c.merge.result (built-none _ _ same c.none_left-built.result c.none_left-built.ensures.ok c.in-Ok.ensures.built) c.merge.ensures.memory
+    memory-refused _ c.merge.result (scanned-none _ _ same c.none_left-scanned.result c.none_left-scanned.ensures.ok c.in-Ok.ensures.scanned) c.merge.ensures.memory
 
 pub returns-in-Err-clause-refused : goal.returns-in-Err-clause-refused
 returns-in-Err-clause-refused g c =
     let same = same-sum _ _ _ _ _ _ _ _ c.asked-left_one.ensures.left c.asked-left_two.ensures.left c.asked-left_three.ensures.left c.asked-left_four.ensures.left in
-    built-refused _ _ same c.none_left-built.result c.in-Err.refusal c.none_left-built.ensures.ok c.none_left-built.ensures.refused c.in-Err.ensures.refused
+    scanned-refused _ _ same c.none_left-scanned.result c.in-Err.refusal c.none_left-scanned.ensures.ok c.none_left-scanned.ensures.refused c.in-Err.ensures.refused

@@ -1,7 +1,7 @@
 use Rattle.std.proofs.Common.{sym, ap, ◌∙◌}
 use Rattle.std.specs.FinMap as fin
 use Rattle.far_types.specs.Effects.{add_count_sums}
-use Rattle.far_types.proofs.ByKeyMaps.{with_more, get_at, set_inserts}
+use Rattle.far_types.proofs.AnswersByKeyMaps.{with_more, get_at, set_inserts}
 use Rattle.far_groups.specs.CountSums.{totals_of}
 use Rattle.far_shared.proofs.merging.add.Goals as goal
 

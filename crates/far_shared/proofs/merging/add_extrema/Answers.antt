@@ -1,8 +1,8 @@
 use Rattle.std.proofs.Common.{sym, ap, ◌∙◌}
 use Rattle.far_types.specs.Effects.{join_min_maxes}
-use Rattle.far_types.proofs.ByKeyMaps.{with_all}
+use Rattle.far_types.proofs.AnswersByKeyMaps.{with_all}
 use Rattle.far_shared.specs.Lines.{min_maxes_in}
-use Rattle.far_shared.proofs.MergeLaws.{nothing, with_extrema}
+use Rattle.far_shared.proofs.LinesMerge.{nothing, with_extrema}
 use Rattle.far_shared.proofs.merging.add_extrema.Goals as goal
 
 pub returns-clause-ok : goal.returns-clause-ok

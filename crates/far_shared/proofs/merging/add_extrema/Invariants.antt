@@ -1,7 +1,7 @@
 use Rattle.std.proofs.Common.{◌≡◌, length}
 use Rattle.std.specs.Vec.Iter.{into_iter_items, into_iter_len}
 use Rattle.far_types.specs.Effects.{join_min_maxes}
-use Rattle.far_types.proofs.ByKeyMaps.{with_all}
+use Rattle.far_types.proofs.AnswersByKeyMaps.{with_all}
 use Rattle.far_shared.specs.Lines.{min_maxes_in}
 use Rattle.far_shared.proofs.merging.add_extrema.Given as goal
 

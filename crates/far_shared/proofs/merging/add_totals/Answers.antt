@@ -1,9 +1,9 @@
 use Rattle.std.proofs.Common.{sym, ap, ◌∙◌}
 use Rattle.far_types.specs.Effects.{add_count_sums}
-use Rattle.far_types.proofs.ByKeyMaps.{with_all}
+use Rattle.far_types.proofs.AnswersByKeyMaps.{with_all}
 use Rattle.far_groups.specs.CountSums.{totals_of}
 use Rattle.far_shared.specs.Lines.{count_sums_in}
-use Rattle.far_shared.proofs.MergeLaws.{nothing, with_totals}
+use Rattle.far_shared.proofs.LinesMerge.{nothing, with_totals}
 use Rattle.far_shared.proofs.merging.add_totals.Goals as goal
 
 pub returns-clause-ok : goal.returns-clause-ok

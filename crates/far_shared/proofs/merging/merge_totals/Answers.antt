@@ -3,9 +3,9 @@ use Rattle.std.specs.Prelude.{ℤ}
 use Rattle.far_types.specs.declared.key.Key.{Key}
 use Rattle.far_types.specs.declared.answer.Answer.TheVariants as answer
 use Rattle.far_types.specs.Answers.{totals, total_lines, or_zero}
-use Rattle.far_types.proofs.ByKeyMaps.{entries-by_key}
+use Rattle.far_types.proofs.AnswersByKeyMaps.{entries-by_key}
 use Rattle.far_groups.specs.CountSums.{totals_of}
-use Rattle.far_shared.proofs.MergeLaws.{four_lists}
+use Rattle.far_shared.proofs.LinesMerge.{four_lists}
 use Rattle.far_shared.proofs.merging.merge_totals.Goals as goal
 
 pub returns-clause-ok : goal.returns-clause-ok

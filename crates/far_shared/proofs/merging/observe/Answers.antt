@@ -2,7 +2,7 @@ use Rattle.std.proofs.Common.{sym, ◌∙◌, Ok, Err, OnOk}
 use Rattle.std.specs.Prelude.{Result}
 use Rattle.std.proofs.lemmas.Int.{to_z-of_z}
 use Rattle.far_types.specs.Effects.{join_min_maxes}
-use Rattle.far_types.proofs.ByKeyMaps.{joined-one}
+use Rattle.far_types.proofs.AnswersByKeyMaps.{joined-one}
 use Rattle.far_shared.proofs.merging.observe.Goals as goal
 
 on_ok : {T E : Type 0} (r : Result T E) {P Q : Type 0} → (P → Q) → OnOk r P → OnOk r Q

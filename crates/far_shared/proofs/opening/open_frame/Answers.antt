@@ -2,8 +2,8 @@ use Rattle.std.proofs.Common.{◌≡◌}
 use Rattle.far_history.specs.Histories.{Planned}
 use Rattle.far_types.specs.declared.refusal.Refusal.TheVariants as refusal
 use Rattle.far_shared.specs.Opening.{IsEmpty}
-use Rattle.far_shared.proofs.OpenLaws.{kept-done, why-done}
-use Rattle.far_shared.proofs.WatchLaws.{opened-for}
+use Rattle.far_shared.proofs.OpenLaws.{value-done, why-done}
+use Rattle.far_shared.proofs.WatchingLaws.{opened-for}
 use Rattle.far_shared.proofs.opening.open_frame.Goals as goal
 
 pub watch_gauge-watched-requires-clause-fresh : goal.watch_gauge-watched-requires-clause-fresh
@@ -14,7 +14,7 @@ watch_gauge-watched-requires-clause-fresh g c κs within =
 
 pub returns-in-Ok-clause-ok : goal.returns-in-Ok-clause-ok
 returns-in-Ok-clause-ok g c =
-    kept-done (IsEmpty g.S.FarTickets.is_of c.args.plan.now c.args.number) _ c.once_done.result c.watch_gauge-watched.result c.once_done.ensures.ok c.watch_gauge-watched.ensures.ok
+    value-done (IsEmpty g.S.FarTickets.is_of c.args.plan.now c.args.number) _ c.once_done.result c.watch_gauge-watched.result c.once_done.ensures.ok c.watch_gauge-watched.ensures.ok
 
 pub returns-in-Ok-clause-memory : goal.returns-in-Ok-clause-memory
 returns-in-Ok-clause-memory g c =

@@ -1,4 +1,4 @@
-use Rattle.far_shared.proofs.RegisterLaws.{empty-stripe}
+use Rattle.far_shared.proofs.StripesRegistry.{empty-stripe}
 use Rattle.far_shared.proofs.opening.under_lock.Goals as goal
 
 pub invariant_of-new : goal.invariant_of-new

@@ -1,5 +1,5 @@
 use Rattle.far_history.specs.Histories.{Planned}
-use Rattle.far_shared.proofs.WatchLaws.{gauge-watched, gauge-refused}
+use Rattle.far_shared.proofs.WatchingLaws.{gauge-watched, gauge-refused}
 use Rattle.far_shared.proofs.opening.watch_gauge.Goals as goal
 
 pub returns-clause-ok : goal.returns-clause-ok

@@ -2,7 +2,7 @@ use Rattle.std.proofs.Common.{Bor}
 use Rattle.far_types.specs.declared.spec.Spec.{Spec}
 use Rattle.far_types.specs.Table.{Registered}
 use Rattle.far_table.specs.Watching.{aggregate_at}
-use Rattle.far_shared.proofs.UndoLaws.{none-found}
+use Rattle.far_shared.proofs.WatchingUndo.{none-found}
 use Rattle.far_shared.proofs.watching.is_free.Goals as goal
 
 pub returns : goal.returns

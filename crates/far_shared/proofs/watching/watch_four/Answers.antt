@@ -1,5 +1,5 @@
 use Rattle.std.proofs.Common.{refl}
-use Rattle.far_shared.proofs.UndoLaws.{at-err, taken-back}
+use Rattle.far_shared.proofs.WatchingUndo.{at-err, register-undone}
 use Rattle.far_shared.proofs.watching.watch_four.Goals as goal
 
 pub returns-in_err-watch_two-clause-none : goal.returns-in_err-watch_two-clause-none
@@ -12,8 +12,8 @@ pub returns-in-Err-clause-none : goal.returns-in-Err-clause-none
 returns-in-Err-clause-none g c =
     let made = c.in_ok-watch_two.ensures.both in
     let back = c.in-Err.ensures.none in (
-      taken-back c.in-Some.a c.args.spec.now c.args.zero.now _ _ c.in-Some.ensures.zero made.0 c.unwatch.ensures,
-      taken-back c.in-Some.a c.args.spec.now c.args.one.now _ _ c.in-Some.ensures.one made.1 c.unwatch-in-Err.ensures,
+      register-undone c.in-Some.a c.args.spec.now c.args.zero.now _ _ c.in-Some.ensures.zero made.0 c.unwatch.ensures,
+      register-undone c.in-Some.a c.args.spec.now c.args.one.now _ _ c.in-Some.ensures.one made.1 c.unwatch-in-Err.ensures,
       back.0,
       back.1,
     )

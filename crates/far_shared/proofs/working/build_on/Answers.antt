@@ -2,7 +2,7 @@ use Rattle.std.proofs.Common.{◌≡◌, true, rules}
 use Rattle.far_aggregates.specs.Aggregates.{is_pending_in}
 use Rattle.far_table.specs.Watching.{aggregate_at}
 use Rattle.far_frame.specs.State.{live}
-use Rattle.far_shared.proofs.WorkLaws.{offload-numbers}
+use Rattle.far_shared.proofs.WorksLaws.{offload-numbers}
 use Rattle.far_shared.proofs.working.build_on.Goals as goal
 
 pub returns-in_err-begin_offload-clause-numbers : goal.returns-in_err-begin_offload-clause-numbers

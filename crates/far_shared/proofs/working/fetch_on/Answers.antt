@@ -1,4 +1,4 @@
-use Rattle.far_shared.proofs.WorkLaws.{fetch-column, fetch-numbers}
+use Rattle.far_shared.proofs.WorksLaws.{fetch-column, fetch-numbers}
 use Rattle.far_shared.proofs.working.fetch_on.Goals as goal
 
 pub returns-clause-column : goal.returns-clause-column

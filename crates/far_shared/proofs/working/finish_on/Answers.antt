@@ -1,5 +1,5 @@
-use Rattle.far_shared.proofs.ColumnLaws.{commits-columns, either-columns, installs-columns, merges-columns}
-use Rattle.far_shared.proofs.WorkLaws.{commits-carried, commits-keeps, either-carried, either-keeps, installs-carried, installs-keeps, merges-carried, merges-keeps}
+use Rattle.far_shared.proofs.StripesColumns.{commits-columns, either-columns, installs-columns, merges-columns}
+use Rattle.far_shared.proofs.WorksLaws.{commits-carried, commits-keeps, either-carried, either-keeps, installs-carried, installs-keeps, merges-carried, merges-keeps}
 use Rattle.far_shared.proofs.working.finish_on.Goals as goal
 
 pub returns-in-Offload-clause-keeps : goal.returns-in-Offload-clause-keeps

@@ -1,7 +1,7 @@
 use Rattle.far_table.specs.Watching.{aggregate_at}
 use Rattle.far_frame.specs.State.{live}
-use Rattle.far_shared.proofs.NumberLaws.{if-err}
-use Rattle.far_shared.proofs.WorkLaws.{either-keeps, scan-keeps, scan-numbers}
+use Rattle.far_shared.proofs.JobsRefusals.{if-err}
+use Rattle.far_shared.proofs.WorksLaws.{either-keeps, scan-keeps, scan-numbers}
 use Rattle.far_shared.proofs.working.scan_on.Goals as goal
 
 pub returns-clause-numbers : goal.returns-clause-numbers

@@ -1,4 +1,4 @@
-use Rattle.far_shell.proofs.BreakLaws.{short-whole}
+use Rattle.far_shell.proofs.BreaksLaws.{short-whole}
 use Rattle.far_shell.proofs.laws.a_short_script_at_hand_comes_whole.Goals as goal
 
 pub returns : goal.returns

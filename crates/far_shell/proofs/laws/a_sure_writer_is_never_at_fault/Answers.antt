@@ -1,7 +1,7 @@
 use Rattle.std.proofs.Common.{[], ◌++◌, ◌≡◌}
 use Rattle.std.specs.Prelude.{IfSome}
 use Rattle.far_shell.specs.Breaks.{IsUnfinished}
-use Rattle.far_shell.proofs.BreakLaws.{sure-writer}
+use Rattle.far_shell.proofs.BreaksLaws.{sure-writer}
 use Rattle.far_shell.proofs.laws.a_sure_writer_is_never_at_fault.Goals as goal
 
 pub returns : goal.returns

@@ -1,10 +1,10 @@
 use Rattle.std.proofs.Common.{◌≡◌, [], subst}
 use Rattle.far_script.specs.Flow.{Gives, IsOver, IsAtEnd, IsUnseen, Prints}
 use Rattle.far_script.specs.declared.fault.ShellFault.TheVariants as fault
-use Rattle.far_script.proofs.StopLaws.{coming, handed-on, spent-rest, starts}
-use Rattle.far_shell.proofs.BreakLaws.{breaks-unwritten, breaks-written, whole-unwritten}
+use Rattle.far_script.proofs.FlowStops.{coming, handed-on, spent-rest, starts}
+use Rattle.far_shell.proofs.BreaksLaws.{breaks-unwritten, breaks-written, whole-unwritten}
 use Rattle.far_script.proofs.FlowLaws.{all-written}
-use Rattle.far_shell.proofs.SessionLaws.{answered-then}
+use Rattle.far_shell.proofs.SessionsLaws.{answered-then}
 use Rattle.far_shell.proofs.script.run_input.Goals as goal
 
 pub returns-in-Ok-clause-ok : goal.returns-in-Ok-clause-ok

@@ -1,10 +1,10 @@
 use Rattle.std.proofs.Common.{arith}
 use Rattle.far_script.specs.Flow.{IsOver, IsUnseen}
-use Rattle.far_script.proofs.StopLaws.{handed-on, unseen-later}
-use Rattle.far_scripts.proofs.BreakLaws.{breaks-serving-as}
-use Rattle.far_shell.proofs.BreakLaws.{always, breaks-start, breaks-table}
-use Rattle.far_shell.proofs.ScriptLaws.{script-whole}
-use Rattle.far_shell.proofs.SessionLaws.{sessions-stopped, sessions-whole, stopped-unwritten}
+use Rattle.far_script.proofs.FlowStops.{handed-on, unseen-later}
+use Rattle.far_scripts.proofs.BreaksLaws.{breaks-serving-as}
+use Rattle.far_shell.proofs.BreaksLaws.{always, breaks-start, breaks-table}
+use Rattle.far_shell.proofs.SessionsScripts.{script-whole}
+use Rattle.far_shell.proofs.SessionsLaws.{sessions-stopped, sessions-whole, stopped-unwritten}
 use Rattle.far_shell.proofs.script.serve.Goals as goal
 
 pub print_sessions-requires-clause-sessions : goal.print_sessions-requires-clause-sessions

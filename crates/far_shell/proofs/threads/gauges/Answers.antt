@@ -1,4 +1,4 @@
-use Rattle.far_shell.proofs.SessionLaws.{gauges-end, gauges-more}
+use Rattle.far_shell.proofs.SessionsLaws.{gauges-end, gauges-more}
 use Rattle.far_shell.proofs.threads.gauges.Goals as goal
 
 pub loop-session-preserved : goal.loop-session-preserved

@@ -1,7 +1,7 @@
 use Rattle.std.proofs.Common.{inl, refl}
 use Rattle.far_script.specs.declared.fault.ShellFault.TheVariants as fault
-use Rattle.far_script.proofs.StopLaws.{handed-on, on-printed}
-use Rattle.far_shell.proofs.SessionLaws.{outcome-of}
+use Rattle.far_script.proofs.FlowStops.{handed-on, on-printed}
+use Rattle.far_shell.proofs.SessionsLaws.{outcome-of}
 use Rattle.far_shell.proofs.threads.print_sessions.Goals as goal
 
 pub returns-in_ok-add_printed-in-Ok-clause-ok : goal.returns-in_ok-add_printed-in-Ok-clause-ok

@@ -3,8 +3,8 @@ use Rattle.std.proofs.KnownBytes.{Appends-nil}
 use Rattle.far_script.specs.declared.fault.ShellFault.TheVariants as fault
 use Rattle.far_script.specs.Flow.{Prints}
 use Rattle.far_script.proofs.FlowLaws.{all-written, prints}
-use Rattle.far_script.proofs.StopLaws.{handed-on}
-use Rattle.far_shell.proofs.SessionLaws.{cut-stopped, cut-unwritten}
+use Rattle.far_script.proofs.FlowStops.{handed-on}
+use Rattle.far_shell.proofs.SessionsLaws.{cut-stopped, cut-unwritten}
 use Rattle.far_shell.proofs.threads.run_threads.Goals as goal
 
 pub returns-clause-ok : goal.returns-clause-ok

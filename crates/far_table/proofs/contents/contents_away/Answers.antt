@@ -1,6 +1,6 @@
 use Rattle.std.proofs.Common.{◌≡◌, true, false, [], ◌∷◌, ◌++◌, ◌+◌, sym, ap, subst, ◌∙◌, arith}
 use Rattle.far_table.specs.MixedGroups.{AreReadBelow}
-use Rattle.far_table.proofs.MixedReads.{one-past, one-read, copy-read}
+use Rattle.far_table.proofs.MixedGroupsReads.{one-past, one-read, copy-read}
 use Rattle.far_table.proofs.contents.contents_away.Goals.{in-Some+in_ok-content_of+in_ok-push, in_default}
 use Rattle.far_table.proofs.contents.contents_away.Goals as goal
 

@@ -1,5 +1,5 @@
 use Rattle.std.proofs.Common.{◌<◌, length, sym, ap, ◌∙◌, arith}
-use Rattle.far_table.proofs.Tickets.{step-copied, step-dirty}
+use Rattle.far_table.proofs.OffloadingTickets.{step-copied, step-dirty}
 use Rattle.far_table.proofs.copies.are_copied.Goals as goal
 
 pub returns-then-lacks : goal.returns-then-lacks

@@ -1,7 +1,7 @@
 use Rattle.std.proofs.Common.{◌≡◌}
 use Rattle.far_types.specs.FirstOf.{first_of}
 use Rattle.far_table.specs.Offloading.{dirty_from}
-use Rattle.far_table.proofs.Tickets.{left}
+use Rattle.far_table.proofs.OffloadingTickets.{left}
 use Rattle.far_table.proofs.copies.are_copied.Given as goal
 
 abbrev pub invariant-loop-column : goal.invariant-loop-column

@@ -3,7 +3,7 @@ use Rattle.std.specs.Prelude.{IsSomeAnd}
 use Rattle.far_rows.specs.Copies.{copy_of}
 use Rattle.far_table.specs.Offloading.{HaveOneNumber, ticket_for}
 use Rattle.far_table.specs.FarGroups.{IsCopy}
-use Rattle.far_table.proofs.Tickets.{one-needed, not-needed}
+use Rattle.far_table.proofs.OffloadingTickets.{one-needed, not-needed}
 use Rattle.far_table.proofs.copies.are_still.Goals.{else-needs-via-then-needs+else-not-is_still, else-needs-via-else-needs}
 use Rattle.far_table.proofs.copies.are_still.Goals as goal
 

@@ -1,4 +1,4 @@
-use Rattle.far_table.proofs.Away.{not-at-hand}
+use Rattle.far_table.proofs.GroupsAway.{not-at-hand}
 use Rattle.far_table.proofs.copies.away_copy.Goals as goal
 
 pub returns-clause-all : goal.returns-clause-all

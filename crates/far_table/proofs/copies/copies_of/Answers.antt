@@ -5,7 +5,7 @@ use Rattle.far_codec.specs.Lent.{IsForm}
 use Rattle.far_offload.specs.Jobs.{AreForms}
 use Rattle.far_rows.specs.Copies.{copy_of}
 use Rattle.far_table.specs.Offloading.{AreTicketsOf}
-use Rattle.far_table.proofs.Tickets.{AreTicketsBelow, one-more, all-below, all-with, no-needed, with-found, if-mapped}
+use Rattle.far_table.proofs.OffloadingTickets.{AreTicketsBelow, one-more, all-below, all-with, no-needed, with-found, if-mapped}
 use Rattle.far_table.proofs.copies.copies_of.Goals as goal
 
 pub loop-column-preserved : goal.loop-column-preserved

@@ -3,7 +3,7 @@ use Rattle.far_types.specs.Bounds.{needs}
 use Rattle.far_offload.specs.Jobs.{AreForms}
 use Rattle.far_rows.specs.Copies.{copy_of}
 use Rattle.far_table.specs.Offloading.{AreTicketsOf}
-use Rattle.far_table.proofs.Tickets.{AreTicketsBelow}
+use Rattle.far_table.proofs.OffloadingTickets.{AreTicketsBelow}
 use Rattle.far_table.proofs.copies.copies_of.Given as goal
 
 abbrev pub invariant-loop-column : goal.invariant-loop-column

@@ -1,5 +1,5 @@
 use Rattle.std.proofs.lemmas.Option.{IfSome_then}
-use Rattle.far_table.proofs.Copied.{copied}
+use Rattle.far_table.proofs.FarGroupsCopies.{copied}
 use Rattle.far_table.proofs.copies.copy_of.Goals as goal
 
 pub returns-clause-copy : goal.returns-clause-copy

@@ -1,7 +1,7 @@
 use Rattle.std.proofs.Common.{sym, subst}
 use Rattle.std.specs.Prelude.{IsSomeAnd}
 use Rattle.far_table.specs.FarGroups.{IsCopy}
-use Rattle.far_table.proofs.Tickets.{ticket-among, same-copy}
+use Rattle.far_table.proofs.OffloadingTickets.{ticket-among, same-copy}
 use Rattle.far_table.proofs.copies.is_still.Goals as goal
 
 pub same-requires-clause-b_here : goal.same-requires-clause-b_here

@@ -5,7 +5,7 @@ use Rattle.far_types.specs.Table.{Place}
 use Rattle.far_rows.specs.Places.{places_in}
 use Rattle.far_aggregates.specs.Accumulators.{pairs_here, group_pairs}
 use Rattle.far_table.specs.Pieces.{run_of}
-use Rattle.far_table.proofs.Runs.{run-none, run-observed}
+use Rattle.far_table.proofs.PiecesRuns.{run-none, run-observed}
 use Rattle.far_table.proofs.extrema.observe_run.Goals as goal
 
 pub loop-group-init : goal.loop-group-init

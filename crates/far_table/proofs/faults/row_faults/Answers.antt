@@ -1,7 +1,7 @@
 use Rattle.std.proofs.Common.{◌==◌, [], ◌∷◌, sym, ap, ◌∙◌}
 use Rattle.far_types.specs.declared.refusal.Refusal.TheVariants as refusal
 use Rattle.far_types.specs.FirstOf.{first_of}
-use Rattle.far_table.proofs.Faultless.{full-alone}
+use Rattle.far_table.proofs.EditsAcceptance.{full-alone}
 use Rattle.far_table.proofs.faults.row_faults.Goals as goal
 
 pub returns-then-is_faultless : goal.returns-then-is_faultless

@@ -2,9 +2,9 @@ use Rattle.std.proofs.Common.{◌/◌, ◌∙◌, ap, sym, subst, List}
 use Rattle.far_types.specs.Table.{Place, in_group}
 use Rattle.far_aggregates.specs.Accumulators.{RegistryEntry, Keeps, registered_of}
 use Rattle.far_aggregates.specs.Lending.{AreServed}
-use Rattle.far_aggregates.specs.Pending.{MayRetractAll, all_retracted}
+use Rattle.far_aggregates.specs.Pending.{MayRetractAll, after_retract_all}
 use Rattle.far_table.specs.Groups.{GroupRows, has_column, places_here}
-use Rattle.far_table.proofs.LiveTaking.{lent-is, places-here, served-here}
+use Rattle.far_table.proofs.GroupsRetract.{lent-is, places-here, served-here}
 use Rattle.far_table.proofs.live_table.retract_row.Goals as goal
 
 pub retract-requires-clause-may : goal.retract-requires-clause-may
@@ -29,7 +29,7 @@ returns-clause-kept g c =
     let content = g.S.FarTickets.content in
     let lent = lent-is t c.group.result c.row_group.result (c.args.place / t.limits.group) (c.row_group.ensures ∙ c.requires.retracts.at) c.group.ensures in
     let here = ap (places_here content) lent ∙ places-here content t c.held-held.ensures.places c.held-held.ensures.size (c.args.place / t.limits.group) in
-    let gone = c.retract.ensures.retracted ∙ ap (λ (ps : List Place). all_retracted ps c.args.aggregates.now c.args.pending) here in
+    let gone = c.retract.ensures.retracted ∙ ap (λ (ps : List Place). after_retract_all ps c.args.aggregates.now c.args.pending) here in
     subst (λ (registry : List RegistryEntry). Keeps t.limits.group t.places registry) (sym gone) c.requires.retracts.kept
 
 pub returns-then-not-needs_rows-clause-kept : goal.returns-then-not-needs_rows-clause-kept

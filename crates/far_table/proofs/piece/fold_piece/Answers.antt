@@ -7,7 +7,7 @@ use Rattle.far_rows.specs.Rows.{all_cells}
 use Rattle.far_aggregates.specs.Accumulators.{pairs_here}
 use Rattle.far_table.specs.Pieces.{begin_of, run_of}
 use Rattle.far_table.proofs.Places.{length-places}
-use Rattle.far_table.proofs.Runs.{as-one}
+use Rattle.far_table.proofs.PiecesRuns.{as-one}
 use Rattle.far_table.proofs.piece.fold_piece.Goals as goal
 
 pub returns : goal.returns

@@ -1,7 +1,7 @@
 use Rattle.std.proofs.Common.{◌≡◌, ◌+◌, ◌≤◌, true, length}
 use Rattle.std.specs.Vec.Iter.{into_iter_items, into_iter_len}
 use Rattle.far_table.specs.Pieces.{HaveFewFaults}
-use Rattle.far_table.proofs.PieceLaws.{AreGathered}
+use Rattle.far_table.proofs.PiecesLaws.{AreGathered}
 use Rattle.far_table.proofs.recounting.gather.Given as goal
 
 abbrev pub invariant-loop-piece : goal.invariant-loop-piece

@@ -1,7 +1,7 @@
 use Rattle.std.proofs.Common.{sym, subst, arith, ◌<◌, ◌≤◌, ◌*◌, ◌+◌}
 use Rattle.std.proofs.Math.Nat.{mul_comm, mul-le-mul_right}
 use Rattle.std.proofs.lemmas.Grind.{div_ceil_times}
-use Rattle.far_table.proofs.Runs.{ceil-short}
+use Rattle.far_table.proofs.PiecesRuns.{ceil-short}
 use Rattle.far_table.proofs.recounting.long_for.Goals as goal
 
 pub returns-clause-all : goal.returns-clause-all

@@ -3,9 +3,9 @@ use Rattle.std.proofs.lemmas.Result.{IfOk-weaker}
 use Rattle.far_types.specs.Table.{groups}
 use Rattle.far_rows.specs.Places.{places_in}
 use Rattle.far_rows.specs.Rows.{all_cells}
-use Rattle.far_table.proofs.LiveScanning.{begun}
+use Rattle.far_table.proofs.WatchingScans.{begun}
 use Rattle.far_table.proofs.Places.{length-places}
-use Rattle.far_table.proofs.Runs.{all-held, wide-few, wide-told}
+use Rattle.far_table.proofs.PiecesRuns.{all-held, wide-few, wide-given}
 use Rattle.far_table.proofs.recounting.recount_rows.Goals as goal
 
 pub fold_pieces-requires-clause-begun : goal.fold_pieces-requires-clause-begun
@@ -33,7 +33,7 @@ answer_of-requires-clause-partials g c =
     let places = places_in content r in
     let wide = c.wide_cut-wide.result in
     let long = length-places (all_cells content r) r.alive ∙ sym c.len-places.ensures.len in
-    let whole = wide-told c.args.spec.now places c.args.size r.size wide.cut.long wide.size wide.pieces c.len-places.result c.in_ok-pieces.pieces.items c.in_ok-partials.partials.items c.requires.size c.wide_cut-wide.ensures.size c.wide_cut-wide.ensures.pieces c.in_ok-pieces.ensures.len c.in_ok-pieces.ensures.each c.in_ok-partials.ensures.whole c.in_ok-partials.ensures.partials in
+    let whole = wide-given c.args.spec.now places c.args.size r.size wide.cut.long wide.size wide.pieces c.len-places.result c.in_ok-pieces.pieces.items c.in_ok-partials.partials.items c.requires.size c.wide_cut-wide.ensures.size c.wide_cut-wide.ensures.pieces c.in_ok-pieces.ensures.len c.in_ok-pieces.ensures.each c.in_ok-partials.ensures.whole c.in_ok-partials.ensures.partials in
     (places, long, whole)
 
 pub returns-clause-answer : goal.returns-clause-answer
@@ -43,5 +43,5 @@ returns-clause-answer g c =
     let places = places_in content r in
     let wide = c.wide_cut-wide.result in
     let long = length-places (all_cells content r) r.alive ∙ sym c.len-places.ensures.len in
-    let whole = wide-told c.args.spec.now places c.args.size r.size wide.cut.long wide.size wide.pieces c.len-places.result c.in_ok-pieces.pieces.items c.in_ok-partials.partials.items c.requires.size c.wide_cut-wide.ensures.size c.wide_cut-wide.ensures.pieces c.in_ok-pieces.ensures.len c.in_ok-pieces.ensures.each c.in_ok-partials.ensures.whole c.in_ok-partials.ensures.partials in
-    IfOk-weaker c.answer_of.result _ _ (λ answer told. told places long whole) c.answer_of.ensures.answer
+    let whole = wide-given c.args.spec.now places c.args.size r.size wide.cut.long wide.size wide.pieces c.len-places.result c.in_ok-pieces.pieces.items c.in_ok-partials.partials.items c.requires.size c.wide_cut-wide.ensures.size c.wide_cut-wide.ensures.pieces c.in_ok-pieces.ensures.len c.in_ok-pieces.ensures.each c.in_ok-partials.ensures.whole c.in_ok-partials.ensures.partials in
+    IfOk-weaker c.answer_of.result _ _ (λ answer answered. answered places long whole) c.answer_of.ensures.answer

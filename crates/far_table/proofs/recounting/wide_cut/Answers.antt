@@ -1,5 +1,5 @@
 use Rattle.std.proofs.Common.{◌≤◌, sym, subst, arith}
-use Rattle.far_table.proofs.Runs.{positive, all-held, narrow, few-wide}
+use Rattle.far_table.proofs.PiecesRuns.{positive, all-held, narrow, few-wide}
 use Rattle.far_table.proofs.recounting.wide_cut.Goals as goal
 
 pub overflow_mul-wide : goal.overflow_mul-wide

@@ -1,7 +1,7 @@
 use Rattle.std.proofs.Common.{◌≡◌, ◌+◌, ◌<◌, ℕ, length, slice_set, sym, ap, subst, arith}
 use Rattle.std.specs.Result.{result_ok}
 use Rattle.far_table.specs.Groups.{GroupRows}
-use Rattle.far_table.proofs.LentColumns.{AreBelow, looked, one-more, all-below}
+use Rattle.far_table.proofs.GroupsColumns.{AreBelow, looked, one-more, all-below}
 use Rattle.far_table.proofs.row_group.columns_of.Goals as goal
 
 pub loop-column-preserved : goal.loop-column-preserved

@@ -1,4 +1,4 @@
-use Rattle.far_table.proofs.LentColumns.{AreBelow}
+use Rattle.far_table.proofs.GroupsColumns.{AreBelow}
 use Rattle.far_table.proofs.row_group.columns_of.Given as goal
 
 abbrev pub invariant-loop-column : goal.invariant-loop-column

@@ -3,7 +3,7 @@ use Rattle.std.proofs.lemmas.List.{get_or_default}
 use Rattle.far_types.specs.declared.cell.Kind.{Kind}
 use Rattle.far_types.specs.declared.cell.Kind.TheVariants as kind
 use Rattle.far_rows.specs.Opening.{numbers_from, texts_from}
-use Rattle.far_table.proofs.Widths.{AreCounted, few-ints, few-strings, one-int, one-string, all-ints, all-strings}
+use Rattle.far_table.proofs.OpeningWidths.{AreCounted, few-ints, few-strings, one-int, one-string, all-ints, all-strings}
 use Rattle.far_table.proofs.table_rows.widths_of.Goals.{in-Int, in-Text}
 use Rattle.far_table.proofs.table_rows.widths_of.Goals as goal
 

@@ -1,4 +1,4 @@
-use Rattle.far_table.proofs.Widths.{AreCounted}
+use Rattle.far_table.proofs.OpeningWidths.{AreCounted}
 use Rattle.far_table.proofs.table_rows.widths_of.Given as goal
 
 abbrev pub invariant-loop-kind : goal.invariant-loop-kind

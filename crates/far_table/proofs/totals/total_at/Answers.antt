@@ -5,7 +5,7 @@ use Rattle.far_types.specs.Effects.{joined_totals}
 use Rattle.far_groups.specs.Live.{CanJoin}
 use Rattle.far_aggregates.specs.Accumulators.{pairs_here}
 use Rattle.far_table.specs.MixedGroups.{MixedRows, places_mixed}
-use Rattle.far_table.proofs.Runs.{live_of}
+use Rattle.far_table.proofs.PiecesRuns.{live_of}
 use Rattle.far_table.proofs.totals.total_at.Goals as goal
 
 pub scan_totals-requires-clause-can_join : goal.scan_totals-requires-clause-can_join

@@ -8,7 +8,7 @@ use Rattle.far_rows.specs.Rows.{all_cells}
 use Rattle.far_aggregates.specs.Accumulators.{pairs_here, group_pairs}
 use Rattle.far_table.specs.Pieces.{run_of}
 use Rattle.far_table.proofs.Places.{length-places}
-use Rattle.far_table.proofs.Runs.{live_of, run-none, run-joins, run-joined}
+use Rattle.far_table.proofs.PiecesRuns.{live_of, run-none, run-joins, run-joined}
 use Rattle.far_table.proofs.totals.total_run.Goals as goal
 
 pub loop-group-init : goal.loop-group-init

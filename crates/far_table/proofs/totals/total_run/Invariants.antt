@@ -3,7 +3,7 @@ use Rattle.far_types.specs.Answers.{totals}
 use Rattle.far_rows.specs.Places.{places_in}
 use Rattle.far_aggregates.specs.Accumulators.{pairs_here}
 use Rattle.far_table.specs.Pieces.{run_of}
-use Rattle.far_table.proofs.Runs.{live_of}
+use Rattle.far_table.proofs.PiecesRuns.{live_of}
 use Rattle.far_table.proofs.totals.total_run.Given as goal
 
 abbrev pub invariant-loop-group : goal.invariant-loop-group

@@ -1,4 +1,4 @@
-use Rattle.far_texts.proofs.Disjoint.{no-columns, columns-more, columns-after, others-after, columns-stay, texts-stay}
+use Rattle.far_texts.proofs.ColumnsLaws.{no-columns, columns-more, columns-after, others-after, columns-stay, texts-stay}
 use Rattle.far_texts.proofs.laws.columns_stay_together.Goals as goal
 
 pub returns : goal.returns

@@ -4,7 +4,7 @@ ghost use Rattle.far_types.specs.FirstOf.{first_of};
 ghost use Rattle.far_texts.specs.Texts.{lists_of, HasGroups, IsTextColumn};
 ghost use Rattle.far_texts.specs.Effects.{begins_group};
 ghost use Rattle.far_texts.specs.Refusing.{next_length_refusal};
-ghost use Rattle.far_texts.specs.Together.{object_for, next_forms, given_forms, AreNextForms};
+ghost use Rattle.far_texts.specs.Together.{object_for, next_forms, forms_of, AreNextForms};
 ghost use Rattle.far_texts.specs.RefusingTogether.{any_full};
 
 use crate::text_column::TextColumn;
@@ -56,7 +56,7 @@ pub(super) fn next_form<S: FarTickets>(
     requires few { All (λ c. begins_group c ≡ true → length objects.now.records + length columns.now ≤ 2 ^ 28) columns.now }
     requires here { All (λ c. next_length_refusal S.content objects.now c ≡ None) columns.now }
     requires short { first_of (any_full (lists_of S.content objects.now) columns.now texts.now ∷ []) ≡ None }
-    ensures form { IfOk result (λ form. given_forms (form ∷ []) ≡ next_forms (lists_of S.content objects.now) (length objects.now.records) columns.now texts.now) }
+    ensures form { IfOk result (λ form. forms_of (form ∷ []) ≡ next_forms (lists_of S.content objects.now) (length objects.now.records) columns.now texts.now) }
     ensures valid { IfOk result (λ form. AreNextForms (lists_of S.content objects.now) columns.now texts.now) }
     ensures memory { IfErr result (λ e. e ≡ Refusal.NoMemory) }
 {
@@ -78,7 +78,7 @@ pub(super) fn next_forms<S: FarTickets>(
     requires few { All (λ c. begins_group c ≡ true → length objects.now.records + length columns.now ≤ 2 ^ 28) columns.now }
     requires here { All (λ c. next_length_refusal S.content objects.now c ≡ None) columns.now }
     requires short { first_of (any_full (lists_of S.content objects.now) columns.now texts.now ∷ []) ≡ None }
-    ensures forms { IfOk result (λ forms. given_forms forms.items ≡ next_forms (lists_of S.content objects.now) (length objects.now.records) columns.now texts.now) }
+    ensures forms { IfOk result (λ forms. forms_of forms.items ≡ next_forms (lists_of S.content objects.now) (length objects.now.records) columns.now texts.now) }
     ensures valid { IfOk result (λ forms. AreNextForms (lists_of S.content objects.now) columns.now texts.now) }
     ensures memory { IfErr result (λ e. e ≡ Refusal.NoMemory) }
 {

@@ -4,7 +4,7 @@ ghost use Rattle.far_types.specs.FirstOf.{first_of};
 ghost use Rattle.far_scopes.specs.Movement.{AreClean, AreHere};
 ghost use Rattle.far_texts.specs.Texts.{Texts, HasGroups, IsTextColumn, AreDisjoint, lists_of, texts_in};
 ghost use Rattle.far_texts.specs.Refusing.{next_length_refusal};
-ghost use Rattle.far_texts.specs.Together.{AreColumns, AreNextForms, all_begin, next_forms, given_forms, all_pushed, all_texts_with, ChangesTo, KeepsColumns, after_create_all, AreReplaced};
+ghost use Rattle.far_texts.specs.Together.{AreColumns, AreNextForms, all_begin, next_forms, forms_of, after_push_all, all_texts_with, ChangesTo, KeepsColumns, after_create_all, AreReplaced};
 ghost use Rattle.far_texts.specs.RefusingTogether.{first_tests, push_texts_refusal};
 
 use super::checking::all_begin;
@@ -33,9 +33,9 @@ pub(super) fn give_forms<S: FarTickets>(
     requires fresh { (p : ℕ) → length objects.old.records ≤ p → lists_of S.content objects.old p ≡ None }
     requires here { All (λ c. next_length_refusal S.content objects.old c ≡ None) columns.old }
     requires first { first_of (first_tests S.content objects.old columns.old texts.now) ≡ None }
-    requires forms { given_forms forms.now ≡ next_forms (lists_of S.content objects.old) (length objects.old.records) columns.old texts.now }
+    requires forms { forms_of forms.now ≡ next_forms (lists_of S.content objects.old) (length objects.old.records) columns.old texts.now }
     requires valid { AreNextForms (lists_of S.content objects.old) columns.old texts.now }
-    ensures pushed { OnOk result (columns.new ≡ all_pushed (length objects.old.records) columns.old) }
+    ensures pushed { OnOk result (columns.new ≡ after_push_all (length objects.old.records) columns.old) }
     ensures begun { OnOk result (all_begin columns.old ≡ true → objects.new ≡ after_create_all objects.old columns.old (next_forms (lists_of S.content objects.old) (length objects.old.records) columns.old texts.now)) }
     ensures replaced { OnOk result (all_begin columns.old ≡ false → AreReplaced objects.old (next_forms (lists_of S.content objects.old) (length objects.old.records) columns.old texts.now) objects.new) }
     ensures count { OnOk result (length objects.new.records ≡ length objects.old.records + (if all_begin columns.old then length columns.old else 0)) }
@@ -70,7 +70,7 @@ pub(super) fn make_forms<S: FarTickets>(
     requires same_length { length texts.now ≡ length columns.old }
     requires few { all_begin columns.old ≡ true → length objects.old.records + length columns.old ≤ 2 ^ 28 }
     requires first { first_of (first_tests S.content objects.old columns.old texts.now) ≡ None }
-    ensures pushed { OnOk result (columns.new ≡ all_pushed (length objects.old.records) columns.old) }
+    ensures pushed { OnOk result (columns.new ≡ after_push_all (length objects.old.records) columns.old) }
     ensures begun { OnOk result (all_begin columns.old ≡ true → objects.new ≡ after_create_all objects.old columns.old (next_forms (lists_of S.content objects.old) (length objects.old.records) columns.old texts.now)) }
     ensures replaced { OnOk result (all_begin columns.old ≡ false → AreReplaced objects.old (next_forms (lists_of S.content objects.old) (length objects.old.records) columns.old texts.now) objects.new) }
     ensures count { OnOk result (length objects.new.records ≡ length objects.old.records + (if all_begin columns.old then length columns.old else 0)) }

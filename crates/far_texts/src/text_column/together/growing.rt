@@ -9,7 +9,7 @@ ghost use Rattle.far_scopes.specs.Replacing.{AreListedOnce, ChangesLists};
 ghost use Rattle.far_scopes.specs.Effects.{after_replace_all};
 ghost use Rattle.far_texts.specs.Texts.{lists_of};
 ghost use Rattle.far_texts.specs.Effects.{begins_group};
-ghost use Rattle.far_texts.specs.Together.{all_pushed, ChangesTo, given_forms, after_create_all};
+ghost use Rattle.far_texts.specs.Together.{after_push_all, ChangesTo, forms_of, after_create_all};
 
 use crate::text_column::TextColumn;
 use far_scopes::{Objects, Replacement};
@@ -28,10 +28,10 @@ pub(super) fn begin_groups<S: FarTickets>(
     requires same_length { length forms.now ≡ length columns.old }
     requires some { All (λ r. 0 < length r.list.items) forms.now }
     requires numbered { (k : ℕ) (d : Given ℕ) → k < length forms.now → (slice_index_or forms.now k d).object ≡ length objects.old.records + k }
-    ensures pushed { OnOk result (columns.new ≡ all_pushed (length objects.old.records) columns.old) }
-    ensures created { OnOk result (objects.new ≡ after_create_all objects.old columns.old (given_forms forms.now)) }
+    ensures pushed { OnOk result (columns.new ≡ after_push_all (length objects.old.records) columns.old) }
+    ensures created { OnOk result (objects.new ≡ after_create_all objects.old columns.old (forms_of forms.now)) }
     ensures count { OnOk result (length objects.new.records ≡ length objects.old.records + length columns.old) }
-    ensures lists { OnOk result (ChangesTo (lists_of S.content objects.old) (lists_of S.content objects.new) (given_forms forms.now)) }
+    ensures lists { OnOk result (ChangesTo (lists_of S.content objects.old) (lists_of S.content objects.new) (forms_of forms.now)) }
     ensures clean { AreClean (λ bytes. bytes) S.content objects.old → AreClean (λ bytes. bytes) S.content objects.new }
     ensures store { (id : List ℕ) → AreHere S.is_of id objects.old → AreHere S.is_of id objects.new }
     ensures space { OnOk result (fit_in_order (spaces_of objects.old.memory.state) (map (λ r. length r.list.items) forms.now) ≡ true) }
@@ -63,7 +63,7 @@ pub(super) fn begin_groups<S: FarTickets>(
 // Adds one to the length of each column. No column's last row group is full.
 fn lengthen(columns: &mut [TextColumn])
     requires { All (λ c. begins_group c ≡ false) columns.old }
-    ensures { (n : ℕ) → columns.new ≡ all_pushed n columns.old }
+    ensures { (n : ℕ) → columns.new ≡ after_push_all n columns.old }
 {
     let Some((column, columns)) = columns.split_first_mut() else {
         return;
@@ -106,7 +106,7 @@ pub(super) fn extend_groups<S: FarTickets>(
     requires some { All (λ r. 0 < length r.list.items) forms.now }
     requires within { All (λ r. r.object < length objects.old.records) forms.now }
     requires once { AreListedOnce forms.now }
-    ensures pushed { OnOk result ((n : ℕ) → columns.new ≡ all_pushed n columns.old) }
+    ensures pushed { OnOk result ((n : ℕ) → columns.new ≡ after_push_all n columns.old) }
     ensures replaced { OnOk result (objects.new ≡ after_replace_all objects.old forms.now) }
     ensures count { OnOk result (length objects.new.records ≡ length objects.old.records) }
     ensures lists { OnOk result (ChangesLists (lists_of S.content objects.old) (lists_of S.content objects.new) forms.now) }

@@ -1,4 +1,4 @@
-use Rattle.far_threads.proofs.RunLaws.{is-accepted, of-accepted}
+use Rattle.far_threads.proofs.RunsLaws.{is-accepted, of-accepted}
 use Rattle.far_threads.proofs.ending.close_all.Goals as goal
 
 pub accepted-requires : goal.accepted-requires

@@ -1,4 +1,4 @@
-use Rattle.far_threads.proofs.MakingLaws.{makes-more, makes-none}
+use Rattle.far_threads.proofs.WorkingInserts.{makes-more, makes-none}
 use Rattle.far_threads.proofs.inserting.insert_all.Goals as goal
 
 pub loop-made-init : goal.loop-made-init

@@ -3,7 +3,7 @@ use Rattle.std.proofs.lemmas.List.{map-id}
 use Rattle.std.proofs.lemmas.Iterator.Adapters.{YieldsList-from_vec}
 use Rattle.std.proofs.lemmas.Iterator.Consumers.{YieldsList-end}
 use Rattle.far_threads.specs.Working.{Ended}
-use Rattle.far_threads.proofs.ReadingLaws.{AreRead, gauged-all, read-more}
+use Rattle.far_threads.proofs.WorkingReadings.{AreRead, gauged-all, read-more}
 use Rattle.far_threads.proofs.reading.read_gauges.Goals as goal
 use Rattle.far_threads.proofs.reading.read_gauges.Goals.{After-drop-one-iterator-2}
 

@@ -1,4 +1,4 @@
-use Rattle.far_threads.proofs.ReadingLaws.{AreRead}
+use Rattle.far_threads.proofs.WorkingReadings.{AreRead}
 use Rattle.far_threads.proofs.reading.read_gauges.Given as goal
 
 abbrev pub invariant-loop-one : goal.invariant-loop-one

@@ -7,7 +7,7 @@ use Rattle.std.proofs.Common.{Bool, true, false, rules}
 use Rattle.far_shared.proofs.CrossingLaws.{shared_sync}
 use Rattle.far_threads.proofs.running.work_beside.Goals as goal
 
-as-before : (D : Type 0) (kept : Bool) → Quiet (if_kept {D = D} kept unchanged unseen)
+as-before : (D : Type 0) (has_pass : Bool) → Quiet (if_kept {D = D} has_pass unchanged unseen)
 as-before D true = λ x w. tt
 as-before D false = λ x w. tt
 

@@ -1,4 +1,4 @@
-use Rattle.far_types.proofs.TotalLaws.{extrema-cons, extrema-among, extrema-append}
+use Rattle.far_types.proofs.EffectsLaws.{extrema-cons, extrema-among, extrema-append}
 use Rattle.far_types.proofs.laws.extrema_follow_the_pairs.Goals as goal
 
 pub returns : goal.returns

@@ -1,4 +1,4 @@
-use Rattle.far_types.proofs.LineLaws.{extrema_lines-ascend, extrema_lines-occur, extrema_lines-least, extrema_lines-greatest}
+use Rattle.far_types.proofs.AnswersLines.{extrema_lines-ascend, extrema_lines-occur, extrema_lines-least, extrema_lines-greatest}
 use Rattle.far_types.proofs.laws.extrema_lines_are_by_key.Goals as goal
 
 pub returns : goal.returns

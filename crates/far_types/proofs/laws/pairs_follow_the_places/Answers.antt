@@ -1,4 +1,4 @@
-use Rattle.far_types.proofs.PlaceLaws.{pairs_of-rows}
+use Rattle.far_types.proofs.TablePairs.{pairs_of-rows}
 use Rattle.far_types.proofs.laws.pairs_follow_the_places.Goals as goal
 
 pub returns : goal.returns

@@ -1,4 +1,4 @@
-use Rattle.far_types.proofs.LineLaws.{total_lines-ascend, total_lines-occur, total_lines-count, total_lines-sum, total_lines-counted, total_lines-bounded}
+use Rattle.far_types.proofs.AnswersLines.{total_lines-ascend, total_lines-occur, total_lines-count, total_lines-sum, total_lines-counted, total_lines-bounded}
 use Rattle.far_types.proofs.laws.total_lines_are_by_key.Goals as goal
 
 pub returns : goal.returns

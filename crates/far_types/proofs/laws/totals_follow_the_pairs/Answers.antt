@@ -1,4 +1,4 @@
-use Rattle.far_types.proofs.TotalLaws.{totals-cons, totals-among, totals-append, without_pair-totals}
+use Rattle.far_types.proofs.EffectsLaws.{totals-cons, totals-among, totals-append, without_pair-totals}
 use Rattle.far_types.proofs.laws.totals_follow_the_pairs.Goals as goal
 
 pub returns : goal.returns

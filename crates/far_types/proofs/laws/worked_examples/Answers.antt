@@ -4,7 +4,7 @@ use Rattle.far_types.specs.declared.spec.Fold.TheVariants as fold
 use Rattle.far_types.specs.declared.filter.Op.TheVariants as op
 use Rattle.far_types.specs.declared.filter.Test.TheVariants as test
 use Rattle.far_types.specs.Examples.{of_column, row, a, b, some_missing}
-use Rattle.far_types.proofs.Computed.{answer_over-computed}
+use Rattle.far_types.proofs.AnswersComputation.{answer_over-computed}
 use Rattle.far_types.proofs.laws.worked_examples.Goals as goal
 
 pub returns : goal.returns

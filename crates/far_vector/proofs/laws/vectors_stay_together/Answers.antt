@@ -1,4 +1,4 @@
-use Rattle.far_vector.proofs.Together.{no-vectors, vectors-more, vectors-after, others-after, vectors-stay, elements-stay}
+use Rattle.far_vector.proofs.VectorsLaws.{no-vectors, vectors-more, vectors-after, others-after, vectors-stay, elements-stay}
 use Rattle.far_vector.proofs.laws.vectors_stay_together.Goals as goal
 
 pub returns : goal.returns

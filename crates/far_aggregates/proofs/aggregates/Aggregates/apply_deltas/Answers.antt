@@ -1,10 +1,10 @@
 use Rattle.std.proofs.Common.{◌≡◌, ◌/◌, List, refl, ap, sym, ◌∙◌, subst, arith, length, map}
-use Rattle.far_extrema.proofs.ReserveLaws.{err_any}
+use Rattle.far_extrema.proofs.HoldersReserve.{err_any}
 use Rattle.far_aggregates.specs.Reserve.{AreReserved}
 use Rattle.far_aggregates.specs.declared.pending.Pending.{Pending}
 use Rattle.far_aggregates.specs.Accumulators.{RegistryEntry, Keeps, registered_in, registered_of}
 use Rattle.far_aggregates.specs.Pending.{KeepsAsBefore, UndoesAll}
-use Rattle.far_aggregates.proofs.EditLaws.{each-folds, all-added_registered}
+use Rattle.far_aggregates.proofs.AccumulatorsEdits.{each-folds, all-added_registered}
 use Rattle.far_aggregates.proofs.PendingLaws.{written, shown-alike, insert-applied, retracts-undo}
 use Rattle.far_aggregates.proofs.aggregates.Aggregates.apply_deltas.Goals as goal
 

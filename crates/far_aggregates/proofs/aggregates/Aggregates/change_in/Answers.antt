@@ -1,7 +1,7 @@
 use Rattle.std.proofs.Common.{◌≡◌, ◌≤◌, ◌/◌, List, Option, refl, ap, sym, ◌∙◌, subst, arith, length, map}
 use Rattle.std.proofs.lemmas.List.{length-map}
-use Rattle.far_extrema.proofs.ReserveLaws.{err_any}
-use Rattle.far_types.specs.Edits.{changed_at, with_cell}
+use Rattle.far_extrema.proofs.HoldersReserve.{err_any}
+use Rattle.far_types.specs.Edits.{change_at, with_cell}
 use Rattle.far_types.specs.Lent.{lent_cell}
 use Rattle.far_aggregates.specs.Reserve.{AreReserved}
 use Rattle.far_aggregates.specs.declared.pending.Pending.{Pending}
@@ -12,7 +12,7 @@ use Rattle.far_aggregates.specs.Accumulators.{RegistryEntry, Keeps, registered_i
 use Rattle.far_aggregates.specs.Pending.{KeepsAsBefore, UndoesAll, RetractsAll}
 use Rattle.far_aggregates.specs.LeavingOut.{EachLeftOut}
 use Rattle.far_aggregates.proofs.LeavingOutLaws.{left_out-retracts}
-use Rattle.far_aggregates.proofs.EditLaws.{each-folds, all-added_registered}
+use Rattle.far_aggregates.proofs.AccumulatorsEdits.{each-folds, all-added_registered}
 use Rattle.far_aggregates.proofs.PendingLaws.{written, shown-alike, retracts-undo, set-retracts}
 use Rattle.far_aggregates.proofs.aggregates.Aggregates.change_in.Goals as goal
 
@@ -60,8 +60,8 @@ returns-clause-retracts g c = λ places there kept fit.
     let as_many_new : length c.apply_deltas.new.registry ≡ length c.reserve_all.new.registry = omega arith in
     let within : length c.leave_out-to_retract.result.items ≤ length c.apply_deltas.new.registry = omega (arith, c.leave_out-to_retract.ensures.len, as_many, as_many_new) in
     let out = subst (λ (deltas : List (Option Delta)). EachLeftOut deltas c.in_ok-to_retract.to_retract.items c.leave_out-to_retract.result.items) c.as_slice.ensures.value c.leave_out-to_retract.ensures.left_out in
-    subst (λ (registry : List RegistryEntry). RetractsAll c.args.size at (changed_at (with_cell c.args.column cell) c.args.place places) registry left) (sym whole)
-    (left_out-retracts c.args.size c.args.place gives (changed_at (with_cell c.args.column cell) c.args.place places) c.reserve_all.new.registry c.apply_deltas.new.registry c.in_ok-applied.applied.items pending left (subst (λ n. AreReserved n c.reserve_all.new.registry) c.group_of-group.ensures c.reserve_all.ensures.reserved)
+    subst (λ (registry : List RegistryEntry). RetractsAll c.args.size at (change_at (with_cell c.args.column cell) c.args.place places) registry left) (sym whole)
+    (left_out-retracts c.args.size c.args.place gives (change_at (with_cell c.args.column cell) c.args.place places) c.reserve_all.new.registry c.apply_deltas.new.registry c.in_ok-applied.applied.items pending left (subst (λ n. AreReserved n c.reserve_all.new.registry) c.group_of-group.ensures c.reserve_all.ensures.reserved)
     c.group_of-group.ensures c.group_of-group.ensures c.in_ok-applied.ensures.deltas c.in_ok-applied.ensures.ok c.leave_out-to_retract.ensures.len as_many within out
     (set-retracts c.args.size c.args.place c.args.column cell (g.R.LendCells.cells c.args.row.now) c.args.self.now c.reserve_all.new.registry c.apply_deltas.new.registry pending c.requires.size c.requires.column (subst (λ n. AreReserved n c.reserve_all.new.registry) c.group_of-group.ensures c.reserve_all.ensures.reserved) before c.group_of-group.ensures c.in_ok-to_retract.ensures.ok c.in_ok-applied.ensures.ok places there kept fit))
 

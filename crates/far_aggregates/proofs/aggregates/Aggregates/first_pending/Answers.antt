@@ -1,7 +1,7 @@
 use Rattle.std.proofs.Common.{◌≡◌, ℕ, false, ap, sym, ◌∙◌, slice_get}
 use Rattle.far_aggregates.specs.Aggregates.{flattened}
 use Rattle.far_aggregates.specs.Scans.{has_pending}
-use Rattle.far_aggregates.proofs.NumberLaws.{left-at, if_none}
+use Rattle.far_aggregates.proofs.AggregatesLaws.{left-at, if_none}
 use Rattle.far_aggregates.proofs.aggregates.Aggregates.first_pending.Goals as goal
 
 pub returns-clause-none : goal.returns-clause-none

@@ -1,5 +1,5 @@
 use Rattle.std.proofs.Common.{◌≡◌, ◌/◌, List, refl, sym, ◌∙◌, subst, arith, length}
-use Rattle.far_types.specs.Edits.{changed_at, removed}
+use Rattle.far_types.specs.Edits.{change_at, after_remove}
 use Rattle.far_aggregates.specs.Reserve.{AreReserved}
 use Rattle.far_aggregates.specs.declared.pending.Pending.{Pending}
 use Rattle.far_aggregates.specs.Accumulators.{RegistryEntry, Keeps}
@@ -30,5 +30,5 @@ returns-clause-retracts g c = λ places there kept.
     let many : length c.reserve_all.new.registry ≡ c.self.inside.registry.len = omega arith in
     let whole = written c.self.inside.registry.len c.reserve_all.new.registry c.self.inside.registry.items many in
     let pending : Pending = record { group = c.group_of-group.result; applied = c.new-applied.result; to_retract = c.in_ok-to_retract.to_retract } in
-    subst (λ (registry : List RegistryEntry). RetractsAll c.args.size (c.args.place / c.args.size) (changed_at removed c.args.place places) registry pending) (sym whole)
+    subst (λ (registry : List RegistryEntry). RetractsAll c.args.size (c.args.place / c.args.size) (change_at after_remove c.args.place places) registry pending) (sym whole)
     (remove-retracts c.args.size c.args.place (g.R.LendCells.cells c.args.row.now) c.args.self.now c.reserve_all.new.registry pending c.requires.size (subst (λ n. AreReserved n c.reserve_all.new.registry) c.group_of-group.ensures c.reserve_all.ensures.reserved) before c.group_of-group.ensures c.in_ok-to_retract.ensures.ok places there kept)

@@ -2,7 +2,7 @@ use Rattle.std.proofs.Common.{◌≡◌, Some, ap, sym, ◌∙◌, subst, slice_
 use Rattle.far_aggregates.specs.Aggregates.{flattened}
 use Rattle.far_aggregates.specs.Accumulators.{KeepsEntry, registered_in}
 use Rattle.far_aggregates.specs.Readings.{plain_in}
-use Rattle.far_aggregates.proofs.NumberLaws.{entry-at, keeps-at}
+use Rattle.far_aggregates.proofs.AggregatesLaws.{entry-at, keeps-at}
 use Rattle.far_aggregates.proofs.aggregates.Aggregates.plain.Goals as goal
 
 pub returns : goal.returns

@@ -1,7 +1,7 @@
 use Rattle.std.proofs.Common.{ap, ◌∙◌}
 use Rattle.far_aggregates.specs.Aggregates.{free_from}
 use Rattle.far_aggregates.specs.Accumulators.{registered_of}
-use Rattle.far_aggregates.proofs.NumberLaws.{free-within, free-below}
+use Rattle.far_aggregates.proofs.AggregatesLaws.{free-within, free-below}
 use Rattle.far_aggregates.proofs.aggregates.Aggregates.register.Goals as goal
 
 pub register-requires-clause-number : goal.register-requires-clause-number

@@ -4,7 +4,7 @@ use Rattle.std.specs.List.{AllByRecursion}
 use Rattle.far_aggregates.specs.Accumulators.{RegistryEntry, registered_in, registered_of}
 use Rattle.far_aggregates.specs.Lending.{EntryIsServed}
 use Rattle.far_aggregates.proofs.ListLaws.{all-front}
-use Rattle.far_aggregates.proofs.EditLaws.{all-retracted_registered}
+use Rattle.far_aggregates.proofs.AccumulatorsEdits.{all-retracted_registered}
 use Rattle.far_aggregates.proofs.PendingLaws.{written, shown-alike}
 use Rattle.far_aggregates.proofs.aggregates.Aggregates.retract.Goals as goal
 

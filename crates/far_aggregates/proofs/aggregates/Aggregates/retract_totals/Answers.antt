@@ -1,10 +1,10 @@
 use Rattle.std.proofs.Common.{◌≡◌, ap, sym, subst, ◌∙◌, arith, length, map, List, []}
-use Rattle.far_aggregates.specs.Retract.{retracted, EachMayRetract}
+use Rattle.far_aggregates.specs.Retract.{after_retract, EachMayRetract}
 use Rattle.far_aggregates.specs.Accumulators.{RegistryEntry, registered_in, registered_of}
 use Rattle.far_aggregates.specs.Until.{zip_all}
-use Rattle.far_aggregates.proofs.EditLaws.{all-retracted_registered}
+use Rattle.far_aggregates.proofs.AccumulatorsEdits.{all-retracted_registered}
 use Rattle.far_aggregates.proofs.PendingLaws.{written, shown-alike}
-use Rattle.far_aggregates.proofs.PlainLaws.{each-plain_may, all-plain_retracted}
+use Rattle.far_aggregates.proofs.RetractLaws.{each-plain_may, all-plain_retracted}
 use Rattle.far_aggregates.proofs.aggregates.Aggregates.retract_totals.Goals as goal
 
 pub retract_totals-requires-clause-may : goal.retract_totals-requires-clause-may
@@ -21,8 +21,8 @@ returns-clause-retracted c = λ here.
     c.end.ensures.same
     ∙ written c.self.inside.registry.len c.retract_totals.new.registry c.self.inside.registry.items many
     ∙ c.retract_totals.ensures
-    ∙ ap (zip_all (retracted 0 []) c.as_mut_slice.result.now) c.as_slice.ensures.value
-    ∙ ap (λ (registry : List RegistryEntry). zip_all (retracted 0 []) registry c.args.pending.to_retract.items) same
+    ∙ ap (zip_all (after_retract 0 []) c.as_mut_slice.result.now) c.as_slice.ensures.value
+    ∙ ap (λ (registry : List RegistryEntry). zip_all (after_retract 0 []) registry c.args.pending.to_retract.items) same
     ∙ sym (all-plain_retracted c.args.pending.group 0 here [] c.args.self.now c.args.pending.to_retract.items c.requires.plain)
 
 pub returns-clause-registered : goal.returns-clause-registered

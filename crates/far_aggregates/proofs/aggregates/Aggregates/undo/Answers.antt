@@ -1,6 +1,6 @@
 use Rattle.std.proofs.Common.{◌≡◌, ap, ◌∙◌, arith, length, map}
 use Rattle.far_aggregates.specs.Accumulators.{registered_in, registered_of}
-use Rattle.far_aggregates.proofs.EditLaws.{all-undo_registered}
+use Rattle.far_aggregates.proofs.AccumulatorsEdits.{all-undo_registered}
 use Rattle.far_aggregates.proofs.PendingLaws.{written, shown-alike}
 use Rattle.far_aggregates.proofs.aggregates.Aggregates.undo.Goals as goal
 

@@ -3,10 +3,10 @@ use Rattle.std.specs.Prelude.{ℤ, ◌≤ℤ◌, IfSome}
 use Rattle.std.proofs.lemmas.Int.{to_z-of_z}
 use Rattle.std.specs.FinMap as fin
 use Rattle.far_types.specs.Answers.{Extrema}
-use Rattle.far_types.specs.Effects.{with_observed, widened}
+use Rattle.far_types.specs.Effects.{with_observed, min_max_with}
 use Rattle.far_extrema.specs.Live.{ExtremaState, group_at}
 use Rattle.far_aggregates.specs.Known.{AreKnown}
-use Rattle.far_aggregates.proofs.ExtremaLaws.{observed-within}
+use Rattle.far_aggregates.proofs.AccumulatorsExtrema.{observed-within}
 use Rattle.far_aggregates.proofs.KnownLaws.{known-at, known-noted, known-same, observed-plain}
 use Rattle.far_aggregates.proofs.known.KnownExtrema.observe_plain.Goals as goal
 
@@ -31,7 +31,7 @@ invariant_of-self-2 c =
     let reserved : c.args.group < length groups = subst (λ (live : ExtremaState). c.args.group < length live.groups) (sym c.self.view_is) c.requires in
     let new = simp to_z-of_z at c.in_ok-previous.ensures.ok in
     let is = ap (λ (live : ExtremaState). live.groups) new in
-    let wide : c.wider.result ≡ widened value c.in_ok-previous.previous = simp to_z-of_z at c.wider.ensures in
+    let wide : c.wider.result ≡ min_max_with value c.in_ok-previous.previous = simp to_z-of_z at c.wider.ensures in
     let known = subst (λ plain. AreKnown plain groups) (sym c.make_place.ensures) c.self.invariant in
     let noted = ap Some wide ∙ observed-plain m None value c.in_ok-previous.previous refl c.in_ok-previous.ensures.previous in
     subst (AreKnown c.note.new.plain.items) (sym is) (known-noted plain c.note.new.plain.items groups c.args.group (with_observed m (None, value)) (Some c.wider.result) reserved noted known c.note.ensures)

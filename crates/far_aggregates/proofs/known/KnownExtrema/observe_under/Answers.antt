@@ -3,7 +3,7 @@ use Rattle.std.specs.Prelude.{is_some}
 use Rattle.std.proofs.lemmas.Int.{to_z-of_z}
 use Rattle.far_types.specs.Effects.{with_observed}
 use Rattle.far_extrema.specs.Live.{ExtremaState, group_at}
-use Rattle.far_extrema.proofs.ReserveLaws.{either}
+use Rattle.far_extrema.proofs.HoldersReserve.{either}
 use Rattle.far_aggregates.specs.Known.{AreKnown}
 use Rattle.far_aggregates.proofs.KnownLaws.{known-elsewhere, known-same, observed-elsewhere}
 use Rattle.far_aggregates.proofs.known.KnownExtrema.observe_under.Goals as goal

@@ -1,5 +1,5 @@
 use Rattle.std.proofs.Common.{sym, subst}
-use Rattle.far_extrema.proofs.ReserveLaws.{either}
+use Rattle.far_extrema.proofs.HoldersReserve.{either}
 use Rattle.far_aggregates.specs.Known.{AreKnown}
 use Rattle.far_aggregates.proofs.KnownLaws.{known-reserved, known-same}
 use Rattle.far_aggregates.proofs.known.KnownExtrema.reserve_for.Goals as goal

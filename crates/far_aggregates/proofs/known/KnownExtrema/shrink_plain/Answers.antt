@@ -5,7 +5,7 @@ use Rattle.far_types.specs.Answers.{Extrema}
 use Rattle.far_extrema.specs.Live.{ExtremaState, group_at}
 use Rattle.far_extrema.specs.MinMaxes.{put_min_max}
 use Rattle.far_aggregates.specs.Known.{AreKnown}
-use Rattle.far_aggregates.proofs.ExtremaLaws.{left-within}
+use Rattle.far_aggregates.proofs.AccumulatorsExtrema.{left-within}
 use Rattle.far_aggregates.proofs.KnownLaws.{known-noted, put-plain}
 use Rattle.far_aggregates.proofs.known.KnownExtrema.shrink_plain.Goals as goal
 

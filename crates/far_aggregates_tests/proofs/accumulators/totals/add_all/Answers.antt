@@ -1,5 +1,5 @@
 use Rattle.std.proofs.Common.{◌≡◌, ◌+◌, suc, refl, sym, ap, ◌∙◌, subst, arith}
-use Rattle.far_groups.proofs.PairLaws.{AreFew, AreFew-empty, AreFew-with_pair}
+use Rattle.far_groups.proofs.LivePairs.{AreFew, AreFew-empty, AreFew-with_pair}
 use Rattle.far_aggregates_tests.proofs.accumulators.totals.add_all.Goals as goal
 
 pub loop-name-init : goal.loop-name-init

@@ -1,7 +1,7 @@
 use Rattle.std.proofs.Common.{◌≡◌, inl, ◌∙◌}
 use Rattle.std.proofs.lemmas.Result.{IfOk-weaker}
 use Rattle.far_codec.specs.Lent.{IsForm}
-use Rattle.far_codec.proofs.Meaning.{is_ints_form}
+use Rattle.far_codec.proofs.FormsMeaning.{is_ints_form}
 use Rattle.far_aggregates_tests.proofs.offload.rows.put_ints.Goals as goal
 
 pub returns-clause-form : goal.returns-clause-form

@@ -1,5 +1,5 @@
 use Rattle.std.proofs.Common.{◌<◌, subst, sym}
-use Rattle.far_log.proofs.RegionLaws.{below-size}
+use Rattle.far_log.proofs.RegionStateLaws.{below-size}
 use Rattle.far_base_tests.proofs.log.order.is_order.Goals as goal
 
 pub returns : goal.returns

@@ -1,7 +1,7 @@
 use Rattle.std.proofs.Common.{◌<◌, length, get_or, sym, ap, subst, arith}
 use Rattle.std.proofs.lemmas.List.{get_or_default}
 use Rattle.far_codec.specs.TextForm.{texts_of, ends_in, IsTextsForm}
-use Rattle.far_codec.proofs.Meaning.{is_texts_form}
+use Rattle.far_codec.proofs.FormsMeaning.{is_texts_form}
 use Rattle.far_codec.proofs.bytes.U8Elem.unspell.Goals as goal
 
 pub returns-in_ok-from_slice-in-Some-clause-found : goal.returns-in_ok-from_slice-in-Some-clause-found

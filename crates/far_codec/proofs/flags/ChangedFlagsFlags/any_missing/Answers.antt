@@ -2,8 +2,8 @@ use Rattle.std.proofs.Common.{◌≡◌, ◌<◌, ◌≤◌, ℕ, zero, suc, Boo
 use Rattle.std.specs.Prelude.{◌||◌}
 use Rattle.far_codec.specs.FarForm.{some_missing}
 use Rattle.far_codec.specs.Reading.{flags_of}
-use Rattle.far_codec.proofs.ChangedLengths.{set_past}
-use Rattle.far_codec.proofs.Masks.{length-flags_of}
+use Rattle.far_codec.proofs.TextFormLengthChanges.{set_past}
+use Rattle.far_codec.proofs.ReadingMasks.{length-flags_of}
 use Rattle.far_codec.proofs.flags.ChangedFlagsFlags.any_missing.Goals as goal
 use Rattle.far_codec.proofs.flags.ChangedFlagsFlags.any_missing.Goals.{else-self-via-then-self+else-self-2, else-self-via-else-self}
 

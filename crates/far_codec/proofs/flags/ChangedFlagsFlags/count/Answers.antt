@@ -1,7 +1,7 @@
 use Rattle.std.proofs.Common.{sym, ◌∙◌}
 use Rattle.std.proofs.lemmas.List.{length-set}
 use Rattle.far_codec.specs.Reading.{flags_of}
-use Rattle.far_codec.proofs.Masks.{length-flags_of}
+use Rattle.far_codec.proofs.ReadingMasks.{length-flags_of}
 use Rattle.far_codec.proofs.flags.ChangedFlagsFlags.count.Goals as goal
 
 pub returns : goal.returns

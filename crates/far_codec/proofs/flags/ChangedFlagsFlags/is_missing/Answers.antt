@@ -1,7 +1,7 @@
 use Rattle.std.proofs.Common.{◌<◌, false, sym, ◌∙◌, arith}
 use Rattle.std.proofs.lemmas.List.{length-set, get_or-set_other}
 use Rattle.far_codec.specs.Reading.{flags_of}
-use Rattle.far_codec.proofs.Masks.{length-flags_of, flag_at}
+use Rattle.far_codec.proofs.ReadingMasks.{length-flags_of, flag_at}
 use Rattle.far_codec.proofs.flags.ChangedFlagsFlags.is_missing.Goals as goal
 
 pub returns-else-i-self : goal.returns-else-i-self

@@ -1,5 +1,5 @@
 use Rattle.std.proofs.Common.{◌∙◌}
-use Rattle.far_codec.proofs.MaskWriting.{missing_any}
+use Rattle.far_codec.proofs.FarFormMaskBytes.{missing_any}
 use Rattle.far_codec.proofs.flags.RefSliceOptionFlags.any_missing.Goals as goal
 
 pub returns : goal.returns

@@ -1,5 +1,5 @@
 use Rattle.std.proofs.Common.{sym, ◌∙◌}
-use Rattle.far_codec.proofs.PresentNumbers.{form_tells}
+use Rattle.far_codec.proofs.PlainNumbersLaws.{form_tells}
 use Rattle.far_codec.proofs.ints.OptionI64Elem.spells.Goals as goal
 
 pub returns-then-tells_missing-clause-exact : goal.returns-then-tells_missing-clause-exact

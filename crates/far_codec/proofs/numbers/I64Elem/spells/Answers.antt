@@ -4,7 +4,7 @@ use Rattle.std.proofs.lemmas.List.Elements.{All-from_recursion}
 use Rattle.far_codec.specs.PlainNumbers.{plain_form}
 use Rattle.far_codec.specs.Reading.{number_of}
 use Rattle.far_codec.specs.PlainLaws.{numbers_again}
-use Rattle.far_codec.proofs.PlainWords.{plain_found, IsBytes}
+use Rattle.far_codec.proofs.PlainNumbersWords.{plain_found, IsBytes}
 use Rattle.far_codec.proofs.numbers.I64Elem.spells.Goals as goal
 
 pub returns-in-Some-clause-exact : goal.returns-in-Some-clause-exact

@@ -5,7 +5,7 @@ use Rattle.std.proofs.lemmas.List.Elements.{All-from_recursion, recursion_from_A
 use Rattle.far_codec.specs.PlainNumbers.{plain_form}
 use Rattle.far_codec.specs.Reading.{number_of}
 use Rattle.far_codec.specs.PlainLaws.{numbers_again}
-use Rattle.far_codec.proofs.PlainWords.{plain_found, all_fit, IsBytes}
+use Rattle.far_codec.proofs.PlainNumbersWords.{plain_found, all_fit, IsBytes}
 use Rattle.far_codec.proofs.numbers.I64Elem.unspell.Goals as goal
 
 pub returns-in_ok-read_numbers-in-Some-clause-found : goal.returns-in_ok-read_numbers-in-Some-clause-found

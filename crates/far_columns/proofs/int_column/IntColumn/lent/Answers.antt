@@ -3,7 +3,7 @@ use Rattle.std.specs.Prelude.{Option, ℤ}
 use Rattle.std.specs.List.{flat_map}
 use Rattle.far_vector.specs.Vector.{Vector, IsVector}
 use Rattle.far_columns.specs.Numbers.{number_lists}
-use Rattle.far_columns.proofs.Flags.{values-with_flags, joined-values, joined-flags, same_length-flags, flags-same_length}
+use Rattle.far_columns.proofs.NumbersFlags.{values-with_flags, joined-values, joined-flags, same_length-flags, flags-same_length}
 use Rattle.far_columns.proofs.int_column.IntColumn.lent.Goals as goal
 
 pub new-requires-after_bounds : goal.new-requires-after_bounds

@@ -1,5 +1,5 @@
 use Rattle.std.proofs.Common.{sym, ◌∙◌}
-use Rattle.far_columns.proofs.Flags.{length-with_flags}
+use Rattle.far_columns.proofs.NumbersFlags.{length-with_flags}
 use Rattle.far_columns.proofs.lent.Lents.len.Goals as goal
 
 pub returns : goal.returns

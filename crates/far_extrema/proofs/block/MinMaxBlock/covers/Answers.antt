@@ -2,7 +2,7 @@ use Rattle.std.proofs.Common.{◌-◌, ◌≤◌, sym, ap, ◌∙◌, arith}
 use Rattle.std.proofs.lemmas.Bool.Decides.{nat_tests}
 use Rattle.far_extrema.specs.Blocks.{BlockState}
 use Rattle.far_extrema.specs.Spreads.{at}
-use Rattle.far_extrema.proofs.BlockLaws.{from-present, below-present}
+use Rattle.far_extrema.proofs.BlocksLaws.{from-present, below-present}
 use Rattle.far_extrema.proofs.block.MinMaxBlock.covers.Goals as goal
 
 pub returns-then-self-group-clause-absent : goal.returns-then-self-group-clause-absent

@@ -3,7 +3,7 @@ use Rattle.std.proofs.Math.Seq.{take-length}
 use Rattle.far_types.specs.Effects.{join_min_maxes, merge_two}
 use Rattle.far_extrema.specs.Blocks.{BlockState, present}
 use Rattle.far_extrema.specs.Spreads.{IsTopOf}
-use Rattle.far_extrema.proofs.BlockLaws.{all_elements, top-present, more_elements}
+use Rattle.far_extrema.proofs.BlocksLaws.{all_elements, top-present, more_elements}
 use Rattle.far_extrema.proofs.block.MinMaxBlock.joined.Goals as goal
 
 pub loop-element-preserved : goal.loop-element-preserved

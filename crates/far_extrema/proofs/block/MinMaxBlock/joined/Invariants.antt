@@ -1,5 +1,5 @@
 use Rattle.std.proofs.Common.{◌≡◌, take}
-use Rattle.far_extrema.proofs.BlockLaws.{all_elements}
+use Rattle.far_extrema.proofs.BlocksLaws.{all_elements}
 use Rattle.far_extrema.proofs.block.MinMaxBlock.joined.Given as goal
 
 abbrev pub invariant-loop-element : goal.invariant-loop-element

@@ -1,7 +1,7 @@
 use Rattle.std.proofs.Common.{◌≤◌, refl, sym, ap, ◌∙◌, arith}
 use Rattle.far_extrema.specs.Blocks.{BlockState}
 use Rattle.far_extrema.specs.Spreads.{at}
-use Rattle.far_extrema.proofs.BlockLaws.{at-number}
+use Rattle.far_extrema.proofs.BlocksLaws.{at-number}
 use Rattle.far_extrema.proofs.block.MinMaxBlock.look_up.Goals as goal
 
 pub returns-in-Some : goal.returns-in-Some

@@ -1,7 +1,7 @@
 use Rattle.std.proofs.Common.{◌==◌, cond, ap, ◌∙◌, arith}
 use Rattle.far_extrema.specs.Blocks.{BlockState}
 use Rattle.far_extrema.specs.Spreads.{at}
-use Rattle.far_extrema.proofs.BlockLaws.{set-present}
+use Rattle.far_extrema.proofs.BlocksLaws.{set-present}
 use Rattle.far_extrema.proofs.block.MinMaxBlock.put.Goals as goal
 
 pub returns-clause-set : goal.returns-clause-set

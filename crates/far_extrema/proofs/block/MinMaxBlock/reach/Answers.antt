@@ -1,7 +1,7 @@
 use Rattle.std.proofs.Common.{sym, ap, ◌∙◌, arith}
 use Rattle.far_extrema.specs.Blocks.{BlockState}
 use Rattle.far_extrema.specs.Spreads.{at}
-use Rattle.far_extrema.proofs.BlockLaws.{from-present, below-present}
+use Rattle.far_extrema.proofs.BlocksLaws.{from-present, below-present}
 use Rattle.far_extrema.proofs.block.MinMaxBlock.reach.Goals as goal
 
 pub returns-clause-from : goal.returns-clause-from

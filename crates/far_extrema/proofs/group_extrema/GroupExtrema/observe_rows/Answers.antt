@@ -3,7 +3,7 @@ use Rattle.std.specs.Prelude.{Result}
 use Rattle.std.proofs.lemmas.Int.{to_z-of_z}
 use Rattle.std.specs.FinMap as fin
 use Rattle.far_types.specs.Effects.{join_min_maxes, joined_extrema}
-use Rattle.far_types.proofs.ByKeyMaps.{joined-one}
+use Rattle.far_types.proofs.AnswersByKeyMaps.{joined-one}
 use Rattle.far_extrema.specs.MinMaxes.{extrema_of}
 use Rattle.far_extrema.proofs.group_extrema.GroupExtrema.observe_rows.Goals as goal
 

@@ -2,8 +2,8 @@ use Rattle.std.proofs.Common.{◌==◌, cond, sym, ap, subst, ◌∙◌, None}
 use Rattle.std.specs.Prelude.{is_some}
 use Rattle.far_extrema.specs.Spreads.{at, IsTopOf}
 use Rattle.far_extrema.specs.Holders.{Holding, held}
-use Rattle.far_extrema.proofs.SpreadLaws.{gone-last}
-use Rattle.far_extrema.proofs.TournamentLaws.{no_top}
+use Rattle.far_extrema.proofs.SpreadsLaws.{gone-last}
+use Rattle.far_extrema.proofs.TournamentsLaws.{no_top}
 use Rattle.far_extrema.proofs.holder.Holder.leave.Goals as goal
 
 pub returns-clause-min_maxes : goal.returns-clause-min_maxes

@@ -2,8 +2,8 @@ use Rattle.std.proofs.Common.{refl, sym, subst, Option}
 use Rattle.std.specs.Prelude.{ℤ, ◌<ℤ◌}
 use Rattle.std.proofs.lemmas.Int.{to_z-of_z}
 use Rattle.far_extrema.specs.Spreads.{at, IsSet}
-use Rattle.far_extrema.proofs.GoneLaws.{left-inside}
-use Rattle.far_extrema.proofs.SpreadLaws.{put-again}
+use Rattle.far_extrema.proofs.MinMaxesRemoval.{left-inside}
+use Rattle.far_extrema.proofs.SpreadsLaws.{put-again}
 use Rattle.far_extrema.proofs.holder.Holder.shrink.Goals as goal
 
 pub returns-then-is_strictly_within-clause-left : goal.returns-then-is_strictly_within-clause-left

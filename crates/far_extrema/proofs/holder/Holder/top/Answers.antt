@@ -2,7 +2,7 @@ use Rattle.std.proofs.Common.{sym, ap, subst, ◌∙◌, None}
 use Rattle.std.specs.Prelude.{is_some}
 use Rattle.far_extrema.specs.Spreads.{IsTopOf}
 use Rattle.far_extrema.specs.Holders.{Holding, held}
-use Rattle.far_extrema.proofs.HolderLaws.{top-none}
+use Rattle.far_extrema.proofs.HoldersLaws.{top-none}
 use Rattle.far_extrema.proofs.holder.Holder.top.Goals as goal
 
 pub returns-in-None-clause-top : goal.returns-in-None-clause-top

@@ -3,7 +3,7 @@ use Rattle.std.specs.Prelude.{replicate}
 use Rattle.std.specs.FinMap as fin
 use Rattle.far_extrema.specs.Live.{ExtremaState}
 use Rattle.far_extrema.specs.Holders.{holders_of, groups_in}
-use Rattle.far_extrema.proofs.HolderLaws.{more-reserved, length-groups_in}
+use Rattle.far_extrema.proofs.HoldersLaws.{more-reserved, length-groups_in}
 use Rattle.far_extrema.proofs.live_extrema.LiveExtrema.make_room.Goals as goal
 
 pub returns : goal.returns

@@ -4,8 +4,8 @@ use Rattle.std.specs.FinMap as fin
 use Rattle.far_types.specs.Keys.{line_cmp}
 use Rattle.far_extrema.specs.Live.{ExtremaState, group_at}
 use Rattle.far_extrema.specs.Holders.{holders_of, IsGroup}
-use Rattle.far_extrema.proofs.HolderLaws.{get-group_at, get-reserved, length-groups_in, put-group}
-use Rattle.far_extrema.proofs.ReserveLaws.{reserved-group}
+use Rattle.far_extrema.proofs.HoldersLaws.{get-group_at, get-reserved, length-groups_in, put-group}
+use Rattle.far_extrema.proofs.HoldersReserve.{reserved-group}
 use Rattle.far_extrema.proofs.live_extrema.LiveExtrema.merge.Goals as goal
 
 pub fill_all-requires-clause-reserved : goal.fill_all-requires-clause-reserved

@@ -2,7 +2,7 @@ use Rattle.std.proofs.Common.{sym, ap, ◌∙◌}
 use Rattle.std.specs.FinMap as fin
 use Rattle.far_extrema.specs.Live.{ExtremaState, group_at}
 use Rattle.far_extrema.specs.Holders.{holders_of}
-use Rattle.far_extrema.proofs.HolderLaws.{get-group_at}
+use Rattle.far_extrema.proofs.HoldersLaws.{get-group_at}
 use Rattle.far_extrema.proofs.live_extrema.LiveExtrema.min_max.Goals as goal
 
 pub returns : goal.returns

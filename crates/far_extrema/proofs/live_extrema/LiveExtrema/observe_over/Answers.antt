@@ -4,11 +4,11 @@ use Rattle.std.proofs.lemmas.Int.{to_z-of_z}
 use Rattle.std.specs.FinMap as fin
 use Rattle.far_types.specs.declared.key.Key.{Key}
 use Rattle.far_types.specs.Answers.{Extrema}
-use Rattle.far_types.specs.Effects.{with_observed, widened}
+use Rattle.far_types.specs.Effects.{with_observed, min_max_with}
 use Rattle.far_extrema.specs.Live.{ExtremaState, group_at}
 use Rattle.far_extrema.specs.Holders.{Holders, holders_of, min_max_at, groups_in, AreReserved, IsPut}
-use Rattle.far_extrema.proofs.GoneLaws.{put-same}
-use Rattle.far_extrema.proofs.HolderLaws.{get-group_at, length-groups_in, observed-in, reserved-put, widened_within, same-reserved}
+use Rattle.far_extrema.proofs.MinMaxesRemoval.{put-same}
+use Rattle.far_extrema.proofs.HoldersLaws.{get-group_at, length-groups_in, observed-in, reserved-put, widened_within, same-reserved}
 use Rattle.far_extrema.proofs.live_extrema.LiveExtrema.observe_over.Goals as goal
 
 -- what stands in a row group is what stands by key
@@ -17,7 +17,7 @@ previous h count g gs key s groups reserved is = sym (get-group_at h count g key
 
 -- a value within the min-max under its key changes nothing
 observed_within : (m : Extrema) (key : Option Key) (v : ℤ) (s : ℤ × ℤ) → fin.get m key ≡ Some s → s.0 ≤ℤ v → v ≤ℤ s.1 → with_observed m (key, v) ≡ m
-observed_within m key v s is low high = ap (λ o. fin.insert m key (widened v o)) is ∙ ap (fin.insert m key) (widened_within v s low high) ∙ put-same m key s is
+observed_within m key v s is low high = ap (λ o. fin.insert m key (min_max_with v o)) is ∙ ap (fin.insert m key) (widened_within v s low high) ∙ put-same m key s is
 
 set_own : (gs : List Extrema) (g : ℕ) → slice_set gs g (group_at gs g) ≡ gs
 set_own [] g = refl
@@ -54,7 +54,7 @@ returns c =
     let groups = ap (λ (live : ExtremaState). live.groups) c.self.view_is in
     let less : c.args.group < c.self.inside.reserved_groups = omega (arith, ap length groups, length-groups_in m c.self.inside.reserved_groups, c.requires.reserved) in
     let there = previous m c.self.inside.reserved_groups c.args.group c.args.self.now.groups c.args.key.now c.args.previous groups c.self.invariant c.requires.previous in
-    let joined : c.merge_two-wide.result ≡ widened c.args.value (Some c.args.previous) = simp to_z-of_z at c.merge_two-wide.ensures in
+    let joined : c.merge_two-wide.result ≡ min_max_with c.args.value (Some c.args.previous) = simp to_z-of_z at c.merge_two-wide.ensures in
     let put = subst (λ (x : ℤ × ℤ). IsPut m c.args.group c.args.key.now (Some x) (holders_of c.set_in.new.holders.entries)) joined c.set_in.ensures.min_maxes in
     let new =
     observed-in m (holders_of c.set_in.new.holders.entries) c.self.inside.reserved_groups c.args.group c.args.key.now c.args.value (Some c.args.previous) c.self.invariant there less put

@@ -2,11 +2,11 @@ use Rattle.std.proofs.Common.{◌≡◌, ◌<◌, length, Option, refl, sym, ap,
 use Rattle.std.specs.Prelude.{ℤ, IfOk, slice_set}
 use Rattle.std.specs.FinMap as fin
 use Rattle.std.proofs.lemmas.Int.{to_z-of_z}
-use Rattle.far_types.specs.Effects.{with_observed, widened}
+use Rattle.far_types.specs.Effects.{with_observed, min_max_with}
 use Rattle.far_extrema.specs.Live.{ExtremaState, group_at}
 use Rattle.far_extrema.specs.Holders.{holders_of, min_max_at, AreReserved, IsPut, HaveSameReserved}
-use Rattle.far_extrema.proofs.HolderLaws.{get-group_at, length-groups_in, observed-in, reserved-put, same-reserved}
-use Rattle.far_extrema.proofs.ReserveLaws.{either, both_ok, on_err}
+use Rattle.far_extrema.proofs.HoldersLaws.{get-group_at, length-groups_in, observed-in, reserved-put, same-reserved}
+use Rattle.far_extrema.proofs.HoldersReserve.{either, both_ok, on_err}
 use Rattle.far_extrema.proofs.live_extrema.LiveExtrema.observe_under.Goals as goal
 
 pub invariant_of-self : goal.invariant_of-self
@@ -16,7 +16,7 @@ invariant_of-self c =
     let fits = c.ranges.value in
     let groups = ap (λ (live : ExtremaState). live.groups) c.self.view_is in
     let less : c.args.group < c.self.inside.reserved_groups = omega (arith, ap length groups, length-groups_in m c.self.inside.reserved_groups, c.requires) in
-    let wide = widened c.args.value (min_max_at m c.args.group c.args.key.now) in
+    let wide = min_max_with c.args.value (min_max_at m c.args.group c.args.key.now) in
     either c.observe_in.result {Q = AreReserved c.self.inside.reserved_groups n}
     (λ put. reserved-put m n c.self.inside.reserved_groups c.args.group c.args.key.now (Some wide) c.self.invariant less put)
     (λ same. subst (AreReserved c.self.inside.reserved_groups) (sym same) c.self.invariant) (simp to_z-of_z at c.observe_in.ensures.ok) c.observe_in.ensures.err
@@ -37,7 +37,7 @@ returns-clause-ok c =
     let groups = ap (λ (live : ExtremaState). live.groups) c.self.view_is in
     let less : c.args.group < c.self.inside.reserved_groups = omega (arith, ap length groups, length-groups_in m c.self.inside.reserved_groups, c.requires) in
     let previous = min_max_at m c.args.group c.args.key.now in
-    both_ok c.observe_in.result (λ (put : IsPut m c.args.group c.args.key.now (Some (widened c.args.value previous)) n) (own : HaveSameReserved m n).
+    both_ok c.observe_in.result (λ (put : IsPut m c.args.group c.args.key.now (Some (min_max_with c.args.value previous)) n) (own : HaveSameReserved m n).
     let new =
     observed-in m n c.self.inside.reserved_groups c.args.group c.args.key.now c.args.value previous c.self.invariant refl less put
     ∙ ap (λ gs. slice_set gs c.args.group (with_observed (group_at gs c.args.group) (c.args.key.now, c.args.value))) groups in

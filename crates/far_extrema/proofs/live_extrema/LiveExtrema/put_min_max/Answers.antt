@@ -4,7 +4,7 @@ use Rattle.std.specs.FinMap as fin
 use Rattle.far_extrema.specs.Live.{ExtremaState, group_at}
 use Rattle.far_extrema.specs.MinMaxes.{put_min_max}
 use Rattle.far_extrema.specs.Holders.{holders_of}
-use Rattle.far_extrema.proofs.HolderLaws.{get-group_at, length-groups_in, put-in, reserved-put, same-reserved}
+use Rattle.far_extrema.proofs.HoldersLaws.{get-group_at, length-groups_in, put-in, reserved-put, same-reserved}
 use Rattle.far_extrema.proofs.live_extrema.LiveExtrema.put_min_max.Goals as goal
 
 pub set_in-requires : goal.set_in-requires

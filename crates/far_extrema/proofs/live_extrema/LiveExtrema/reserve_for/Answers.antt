@@ -1,9 +1,9 @@
 use Rattle.std.proofs.Common.{sym, ap, ◌∙◌}
 use Rattle.std.specs.FinMap as fin
-use Rattle.far_extrema.specs.Live.{ExtremaState, with_reserved}
+use Rattle.far_extrema.specs.Live.{ExtremaState, after_reserve}
 use Rattle.far_extrema.specs.Holders.{holders_of}
-use Rattle.far_extrema.proofs.HolderLaws.{get-reserved, same-groups}
-use Rattle.far_extrema.proofs.ReserveLaws.{err_any}
+use Rattle.far_extrema.proofs.HoldersLaws.{get-reserved, same-groups}
+use Rattle.far_extrema.proofs.HoldersReserve.{err_any}
 use Rattle.far_extrema.proofs.live_extrema.LiveExtrema.reserve_for.Goals as goal
 
 pub returns-in_err-reserve_all-clause-err : goal.returns-in_err-reserve_all-clause-err
@@ -15,7 +15,7 @@ pub returns-clause-groups : goal.returns-clause-groups
 returns-clause-groups c =
     let groups = ap (λ (live : ExtremaState). live.groups) c.self.view_is in
     ap (λ (live : ExtremaState). live.groups) c.make_room.ensures
-    ∙ ap (with_reserved c.args.group) (same-groups (holders_of c.self.inside.holders.entries) (holders_of c.reserve_all.new.holders.entries) c.self.inside.reserved_groups c.in_ok-reserve_all.ensures.min_maxes ∙ groups)
+    ∙ ap (after_reserve c.args.group) (same-groups (holders_of c.self.inside.holders.entries) (holders_of c.reserve_all.new.holders.entries) c.self.inside.reserved_groups c.in_ok-reserve_all.ensures.min_maxes ∙ groups)
 
 pub returns-clause-reserved : goal.returns-clause-reserved
 returns-clause-reserved c = λ key there none. c.in_ok-reserve_all.ensures.reserved key (λ n. there (ap (λ e. fin.get e key) (sym c.min_maxes.ensures) ∙ n))

@@ -4,8 +4,8 @@ use Rattle.std.specs.FinMap as fin
 use Rattle.far_types.specs.Keys.{line_cmp}
 use Rattle.far_extrema.specs.Live.{ExtremaState}
 use Rattle.far_extrema.specs.Holders.{holders_of, min_max_at, IsGroup}
-use Rattle.far_extrema.proofs.HolderLaws.{get-reserved, length-groups_in, put-group}
-use Rattle.far_extrema.proofs.ReserveLaws.{reserved-group, group-twice, own_test}
+use Rattle.far_extrema.proofs.HoldersLaws.{get-reserved, length-groups_in, put-group}
+use Rattle.far_extrema.proofs.HoldersReserve.{reserved-group, group-twice, own_test}
 use Rattle.far_extrema.proofs.live_extrema.LiveExtrema.set_group.Goals as goal
 
 pub fill_all-requires-clause-reserved : goal.fill_all-requires-clause-reserved

@@ -5,7 +5,7 @@ use Rattle.std.proofs.lemmas.Int.{to_z-of_z}
 use Rattle.far_extrema.specs.Live.{ExtremaState, group_at}
 use Rattle.far_extrema.specs.MinMaxes.{put_min_max}
 use Rattle.far_extrema.specs.Holders.{holders_of}
-use Rattle.far_extrema.proofs.HolderLaws.{get-group_at, length-groups_in, put-in, reserved-put, same-reserved}
+use Rattle.far_extrema.proofs.HoldersLaws.{get-group_at, length-groups_in, put-in, reserved-put, same-reserved}
 use Rattle.far_extrema.proofs.live_extrema.LiveExtrema.shrink.Goals as goal
 
 pub shrink_in-requires-clause-previous : goal.shrink_in-requires-clause-previous

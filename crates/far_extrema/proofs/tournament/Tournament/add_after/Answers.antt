@@ -1,5 +1,5 @@
 use Rattle.std.proofs.Common.{arith}
-use Rattle.far_extrema.proofs.TournamentLaws.{branch-added-after}
+use Rattle.far_extrema.proofs.TournamentsLaws.{branch-added-after}
 use Rattle.far_extrema.proofs.tournament.Tournament.add_after.Goals as goal
 
 pub invariant_of-self : goal.invariant_of-self

@@ -2,8 +2,8 @@ use Rattle.std.proofs.Common.{◌≡◌, ℕ, sym, ap, subst, ◌∙◌}
 use Rattle.far_extrema.specs.declared.tournament.Branch.{Branch}
 use Rattle.far_extrema.specs.Spreads.{Spread, at, IsTopOf}
 use Rattle.far_extrema.specs.Tournaments.{spread_of}
-use Rattle.far_extrema.proofs.SpreadLaws.{without-before, without-after}
-use Rattle.far_extrema.proofs.TournamentLaws.{whole, no_min_max}
+use Rattle.far_extrema.proofs.SpreadsLaws.{without-before, without-after}
+use Rattle.far_extrema.proofs.TournamentsLaws.{whole, no_min_max}
 use Rattle.far_extrema.proofs.tournament.Tournament.prune.Goals as goal
 use Rattle.far_extrema.proofs.tournament.Tournament.prune.Goals.{then-is_none, else-is_none+then-is_none-2}
 

@@ -1,7 +1,7 @@
 use Rattle.std.proofs.Common.{IfErr, subst}
 use Rattle.far_frame.specs.Jobs.{JobRecord, InstallRefusal}
 use Rattle.far_frame.specs.State.{State}
-use Rattle.far_frame.proofs.WorldLaws.{install-refused}
+use Rattle.far_frame.proofs.WorldsLaws.{install-refused}
 use Rattle.far_frame.proofs.frame.Frame.install.Goals as goal
 
 pub returns-in-Fetched-clause-refused : goal.returns-in-Fetched-clause-refused

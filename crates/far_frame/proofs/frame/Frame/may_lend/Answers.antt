@@ -2,7 +2,7 @@ use Rattle.std.proofs.Common.{◌<◌, ◌≤◌, Some, ap, sym, ◌∙◌, arit
 use Rattle.std.specs.Prelude.{slice_get}
 use Rattle.far_types.specs.Table.{part}
 use Rattle.far_frame.specs.Lending.{lent_part}
-use Rattle.far_frame.proofs.GivenLaws.{ints-given, texts-given}
+use Rattle.far_frame.proofs.LendingReplies.{ints-given, texts-given}
 use Rattle.far_frame.proofs.LendingLaws.{lends-ints, lends-low, lends-texts}
 use Rattle.far_frame.proofs.frame.Frame.may_lend.Goals as goal
 

@@ -1,7 +1,7 @@
 use Rattle.std.proofs.Common.{◌≡◌, ◌+◌, ◌*◌, ◌/◌, ◌<◌, ◌≤◌, ℕ, List, ◌∷◌, ap, subst, sym, ◌∙◌, arith}
 use Rattle.far_table.specs.State.{LiveState}
 use Rattle.far_vector.specs.Pieces.{overlapped_groups}
-use Rattle.far_frame.proofs.ObservedLaws.{IsObserving, observing-all, observing-more, overlapped-next, overlapped-none}
+use Rattle.far_frame.proofs.LendingAccesses.{IsObserving, observing-all, observing-more, overlapped-next, overlapped-none}
 use Rattle.far_frame.proofs.frame.Frame.record_accesses.Goals as goal
 
 pub loop-place-preserved : goal.loop-place-preserved

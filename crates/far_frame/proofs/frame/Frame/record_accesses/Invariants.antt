@@ -1,7 +1,7 @@
 use Rattle.std.proofs.Common.{ℕ, List, ◌-◌}
 use Rattle.far_vector.specs.Pieces.{overlapped_groups}
 use Rattle.far_rows.specs.Jobs.{AreAt}
-use Rattle.far_frame.proofs.ObservedLaws.{IsObserving}
+use Rattle.far_frame.proofs.LendingAccesses.{IsObserving}
 use Rattle.far_frame.proofs.frame.Frame.record_accesses.Given as goal
 
 abbrev pub invariant-loop-place : goal.invariant-loop-place

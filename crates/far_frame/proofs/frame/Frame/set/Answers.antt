@@ -5,7 +5,7 @@ use Rattle.far_frame.specs.Effects.{Accepts, Refuses}
 use Rattle.far_frame.specs.State.{State}
 use Rattle.far_frame.specs.declared.step.Step.TheVariants as step
 use Rattle.far_frame.specs.declared.step.Reply.TheVariants as reply
-use Rattle.far_frame.proofs.FrameLaws.{on-ok, refused, remembering}
+use Rattle.far_frame.proofs.EffectsLaws.{on-ok, refused, remembering}
 use Rattle.far_frame.proofs.frame.Frame.set.Goals as goal
 
 pub returns-clause-ok : goal.returns-clause-ok

@@ -2,7 +2,7 @@ use Rattle.std.proofs.Common.{IfErr, subst}
 use Rattle.far_frame.specs.Effects.{Refuses}
 use Rattle.far_frame.specs.State.{State}
 use Rattle.far_frame.specs.declared.step.Step.TheVariants as step
-use Rattle.far_frame.proofs.FrameLaws.{refused, remembering}
+use Rattle.far_frame.proofs.EffectsLaws.{refused, remembering}
 use Rattle.far_frame.proofs.frame.Frame.watch.Goals as goal
 
 pub returns-clause-err : goal.returns-clause-err

@@ -5,7 +5,7 @@ use Rattle.far_types.specs.FirstOf.{first_of}
 use Rattle.far_types.specs.Table.{groups}
 use Rattle.far_table.specs.State.{LiveState}
 use Rattle.far_frame.specs.Views.{absents_of, away}
-use Rattle.far_frame.proofs.ViewLaws.{here-first, away-first, each-here, group-within}
+use Rattle.far_frame.proofs.ViewsLaws.{here-first, away-first, each-here, group-within}
 use Rattle.far_frame.proofs.view.View.all.Goals as goal
 
 pub returns-in_err-here-clause-refused : goal.returns-in_err-here-clause-refused

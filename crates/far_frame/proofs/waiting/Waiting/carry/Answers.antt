@@ -1,7 +1,7 @@
 use Rattle.std.proofs.Common.{◌≡◌, ◌∙◌, ap, sym, subst, None, Some}
 use Rattle.far_frame.specs.Waiting.{is_number, job_at, with_job, AreJobsAt}
 use Rattle.far_frame.proofs.WaitingLaws.{set-twice, set-same}
-use Rattle.far_frame.proofs.WorldLaws.{job-here, with-here}
+use Rattle.far_frame.proofs.WorldsLaws.{job-here, with-here}
 use Rattle.far_frame.proofs.waiting.Waiting.carry.Goals as goal
 
 pub returns-in_default-clause-err : goal.returns-in_default-clause-err

@@ -2,7 +2,7 @@ use Rattle.std.proofs.Common.{subst, sym}
 use Rattle.far_frame.specs.Jobs.{IsJobAt}
 use Rattle.far_frame.specs.Waiting.{AreJobsAt}
 use Rattle.far_frame.specs.Worlds.{World}
-use Rattle.far_frame.proofs.WorldLaws.{more-here}
+use Rattle.far_frame.proofs.WorldsLaws.{more-here}
 use Rattle.far_frame.proofs.world.World.add.Goals as goal
 
 pub invariant_of-self-2 : goal.invariant_of-self-2

@@ -4,7 +4,7 @@ use Rattle.far_frame.specs.Effects.{Replies}
 use Rattle.far_frame.specs.Jobs.{Installs, InstallRefusal}
 use Rattle.far_frame.specs.Waiting.{Waiting, AreJobsAt, spends}
 use Rattle.far_frame.specs.Worlds.{World, IsEnded, IsNotEnded}
-use Rattle.far_frame.proofs.WorldLaws.{ended-here, ended-step}
+use Rattle.far_frame.proofs.WorldsLaws.{ended-here, ended-step}
 use Rattle.far_frame.proofs.world.World.install.Goals as goal
 
 pub invariant_of-self : goal.invariant_of-self

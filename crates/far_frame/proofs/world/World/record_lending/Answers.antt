@@ -1,4 +1,4 @@
-use Rattle.far_frame.proofs.WorldLaws.{table-moved}
+use Rattle.far_frame.proofs.WorldsLaws.{table-moved}
 use Rattle.far_frame.proofs.world.World.record_lending.Goals as goal
 
 pub invariant_of-self : goal.invariant_of-self

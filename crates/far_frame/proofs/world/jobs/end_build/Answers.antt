@@ -1,6 +1,6 @@
 use Rattle.std.proofs.Common.{◌∙◌, ap, sym}
 use Rattle.std.specs.Option.{option_copied}
-use Rattle.far_frame.proofs.WorldLaws.{job-here}
+use Rattle.far_frame.proofs.WorldsLaws.{job-here}
 use Rattle.far_frame.proofs.world.jobs.end_build.Goals as goal
 
 pub merge-requires-clause-job_here : goal.merge-requires-clause-job_here

@@ -1,7 +1,7 @@
 use Rattle.std.proofs.Common.{rules, ◌≡◌, sym, ◌∙◌}
 use Rattle.std.specs.declared.cmp.Ordering.TheVariants.{Less, Equal, Greater}
 use Rattle.far_types.specs.Keys.{line_cmp}
-use Rattle.far_groups.proofs.WalkLaws.{found_here, not_ahead, above_both, above_equal, still_ascend, moved_past}
+use Rattle.far_groups.proofs.WalksLaws.{found_here, not_ahead, above_both, above_equal, still_ascend, moved_past}
 use Rattle.far_groups.proofs.joins.Walk.find.Goals as goal
 
 pub returns-in-Greater-clause-found : goal.returns-in-Greater-clause-found

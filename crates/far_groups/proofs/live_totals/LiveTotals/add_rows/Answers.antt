@@ -3,7 +3,7 @@ use Rattle.std.specs.Prelude.{Result}
 use Rattle.std.proofs.lemmas.Int.{to_z-of_z}
 use Rattle.std.specs.FinMap as fin
 use Rattle.far_types.specs.Effects.{add_count_sums, joined_totals}
-use Rattle.far_types.proofs.ByKeyMaps.{joined-one}
+use Rattle.far_types.proofs.AnswersByKeyMaps.{joined-one}
 use Rattle.far_groups.specs.ByKey.{totals_in}
 use Rattle.far_groups.proofs.live_totals.LiveTotals.add_rows.Goals as goal
 

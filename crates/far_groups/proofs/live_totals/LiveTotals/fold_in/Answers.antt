@@ -3,7 +3,7 @@ use Rattle.far_types.specs.Answers.{Totals, totals}
 use Rattle.far_types.specs.Effects.{joined_totals}
 use Rattle.far_groups.specs.Live.{TotalsState, CanJoin}
 use Rattle.far_groups.specs.ByKey.{totals_in}
-use Rattle.far_groups.proofs.FoldLaws.{can_fold, with_pairs-joined}
+use Rattle.far_groups.proofs.FoldsLaws.{can_fold, with_pairs-joined}
 use Rattle.far_groups.proofs.live_totals.LiveTotals.fold_in.Goals as goal
 
 pub fold_all-requires-clause-can : goal.fold_all-requires-clause-can

@@ -121,10 +121,10 @@ lend_spec 𝓤 𝓛 𝓜 𝓡 wired X L =
     -- [what the block follows; the tokens; the slice]
     let le : length r.now ≤ m = omega (arith, fits, ap (λ (l : List R.Denot). length l) value, length-take (j - i) (drop_list i s.now.items.items)) in
     move ! (1 ∷ []) $ split ! $ move ! (3 ∷ 0 ∷ []) $
-    use2 𝓛 (later (given ((v ∷ [] ≡ mut_slice_vals r) × Room R (length r.now)) (some (lent 𝓛 κ q R r m le)))) (relends 𝓛 κ q R r m le (v ∷ [])) $ await ! tt $ learn ! (λ told. pick ! (λ δ. split3 ! $
+    use2 𝓛 (later (given ((v ∷ [] ≡ mut_slice_vals r) × Room R (length r.now)) (some (lent 𝓛 κ q R r m le)))) (relends 𝓛 κ q R r m le (v ∷ [])) $ await ! tt $ learn ! (λ held. pick ! (λ δ. split3 ! $
     -- [the slice; the token; what it follows; the other token; what the block follows]
     move ! (4 ∷ 2 ∷ []) $ use2 𝓛 (‵ (follows B (Array R 0) s.ghost_name δ (λ ws. with_list_from s.now i (take m ws)))) (follows_then 𝓛 B (Array R 0) (Array R 0) (with_list_from s.now i) (take m) s.ghost_name r.ghost_name δ) $
-    lands_as ! (ap only told.0) refl (tt, (tt, (record { fits = told.1.0 }, tt))) $
+    lands_as ! (ap only held.0) refl (tt, (tt, (record { fits = held.1.0 }, tt))) $
     returns ! (look_at ! 0 refl) $ free_all ! refl $ keep ! (1 ∷ 2 ∷ 0 ∷ 3 ∷ []) $
     suffices ! _ (ends_at 𝓛 En hs c y (slice_val r.ref_ptr (length r.now)) (record { ref_ptr = r.ref_ptr; ghost_name = δ; now = r.now }) (tt, (tt, (tt, (tt, tt)))) (tt, (tt, (tt, (tt, tt))))) $
     nothing ! $ nothing ! $ fjoin ! $ nothing ! $ fjoin ! $ nothing ! $ fjoin ! $ nothing ! $ fjoin ! $ join ! $ move ! (1 ∷ 3 ∷ []) $ join ! $ join ! $ frame ! $ says ! value $ done !))))))))))))

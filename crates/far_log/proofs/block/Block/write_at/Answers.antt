@@ -1,5 +1,5 @@
 use Rattle.std.proofs.Common.{◌<◌, ◌+◌, length, arith}
-use Rattle.far_log.proofs.Puts.{put-within, put-behind}
+use Rattle.far_log.proofs.StackingPuts.{put-within, put-behind}
 use Rattle.far_log.proofs.block.Block.write_at.Goals as goal
 
 pub unreachable-requires : goal.unreachable-requires

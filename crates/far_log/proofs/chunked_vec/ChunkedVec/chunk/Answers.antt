@@ -3,8 +3,8 @@ use Rattle.std.specs.Prelude.{slice_get}
 use Rattle.std.proofs.lemmas.List.{take_all}
 use Rattle.std.proofs.lemmas.Option.{slice_get_read}
 use Rattle.far_log.specs.Chunking.{start_at}
-use Rattle.far_log.proofs.Chunks.{chunk-there, cut-chunk}
-use Rattle.far_log.proofs.ChunkedVecs.{index-within}
+use Rattle.far_log.proofs.ChunkingLayout.{chunk-there, cut-chunk}
+use Rattle.far_log.proofs.ChunkingVecs.{index-within}
 use Rattle.far_log.proofs.chunked_vec.ChunkedVec.chunk.Goals as goal
 
 pub index-chunk-requires : goal.index-chunk-requires

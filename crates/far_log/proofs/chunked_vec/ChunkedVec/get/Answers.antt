@@ -1,6 +1,6 @@
 use Rattle.std.proofs.Common.{◌∙◌, arith}
 use Rattle.std.proofs.lemmas.Option.{slice_get_read}
-use Rattle.far_log.proofs.ChunkedVecs.{index-within, reached, chunk-is, holds, shown-read}
+use Rattle.far_log.proofs.ChunkingVecs.{index-within, reached, chunk-is, holds, shown-read}
 use Rattle.far_log.proofs.chunked_vec.ChunkedVec.get.Goals as goal
 
 pub place_of-chunk-requires : goal.place_of-chunk-requires

@@ -1,7 +1,7 @@
 use Rattle.std.proofs.Common.{◌≡◌, ◌≤◌, ◌++◌, ◌∷◌, [], length, take, refl, ap, ◌∙◌, arith}
 use Rattle.far_log.specs.Chunking.{items_of, start_at}
-use Rattle.far_log.proofs.Chunks.{next-chunk, all-full}
-use Rattle.far_log.proofs.ChunkedVecs.{chunk-is, has-size, kept-reused, shown-reused, kept-pushed, shown-pushed, length-shown}
+use Rattle.far_log.proofs.ChunkingLayout.{next-chunk, all-full}
+use Rattle.far_log.proofs.ChunkingVecs.{chunk-is, has-size, chunked-reused, shown-reused, chunked-pushed, shown-pushed, length-shown}
 use Rattle.far_log.proofs.chunked_vec.ChunkedVec.push.Goals as goal
 use Rattle.far_log.proofs.chunked_vec.ChunkedVec.push.Goals.{then-at-len, else-at-len}
 
@@ -29,8 +29,8 @@ invariant_of-self-2 g c =
     let within : c.self.inside.len ≤ length (items_of c.make_chunk.new.chunks.items) = omega (arith, ap length c.in_ok-make_chunk.ensures.same, c.self.invariant.within) in
     let few = length-shown c.self.inside.chunks.items c.self.inside.len c.self.invariant in
     elim c.if-at-len.branch [
-      | then-at-len w ↦ rw w.self-inside-is (kept-reused c.make_chunk.new.chunks.items c.self.inside.len c.self.inside.len _ _ c.place_of-chunk.ensures.place c.index_mut-chunk.result.now _ c.args.value c.in_ok-make_chunk.ensures.kept refl (omega (arith, c.requires, few, ap length c.self.view_is)) here (omega (arith, w.if-at-len.true, c.len.ensures, c.index_mut-chunk.result.now.ok.0)) refl refl)
-      | else-at-len w ↦ rw w.self-inside-is (kept-pushed c.make_chunk.new.chunks.items c.self.inside.len c.self.inside.len _ _ c.place_of-chunk.ensures.place c.index_mut-chunk.result.now w.push_reserved.new.self c.args.value c.in_ok-make_chunk.ensures.kept refl within (omega (arith, c.requires, few, ap length c.self.view_is)) here (omega (arith, w.if-at-len.false, c.len.ensures, c.index_mut-chunk.result.now.ok.0)) w.push_reserved.ensures.items w.push_reserved.ensures.capacity)
+      | then-at-len w ↦ rw w.self-inside-is (chunked-reused c.make_chunk.new.chunks.items c.self.inside.len c.self.inside.len _ _ c.place_of-chunk.ensures.place c.index_mut-chunk.result.now _ c.args.value c.in_ok-make_chunk.ensures.kept refl (omega (arith, c.requires, few, ap length c.self.view_is)) here (omega (arith, w.if-at-len.true, c.len.ensures, c.index_mut-chunk.result.now.ok.0)) refl refl)
+      | else-at-len w ↦ rw w.self-inside-is (chunked-pushed c.make_chunk.new.chunks.items c.self.inside.len c.self.inside.len _ _ c.place_of-chunk.ensures.place c.index_mut-chunk.result.now w.push_reserved.new.self c.args.value c.in_ok-make_chunk.ensures.kept refl within (omega (arith, c.requires, few, ap length c.self.view_is)) here (omega (arith, w.if-at-len.false, c.len.ensures, c.index_mut-chunk.result.now.ok.0)) w.push_reserved.ensures.items w.push_reserved.ensures.capacity)
     ]
 
 pub returns-clause-pushed : goal.returns-clause-pushed

@@ -1,5 +1,5 @@
 use Rattle.std.proofs.Common.{refl, arith}
-use Rattle.far_log.proofs.ChunkedVecs.{index-within, reached, chunk-is, holds, kept-written, shown-written}
+use Rattle.far_log.proofs.ChunkingVecs.{index-within, reached, chunk-is, holds, chunked-written, shown-after_write}
 use Rattle.far_log.proofs.chunked_vec.ChunkedVec.set.Goals as goal
 
 pub place_of-chunk-requires : goal.place_of-chunk-requires
@@ -25,11 +25,11 @@ invariant_of-self g c =
     let lt = index-within c.self.inside.chunks.items c.self.inside.len c.args.self.now c.args.index c.self.view_is c.requires in
     let there = reached c.self.inside.chunks.items c.self.inside.len c.args.index _ _ c.place_of-chunk.ensures.place c.self.invariant lt in
     let here = chunk-is c.self.inside.chunks.items c.self.inside.len c.args.index _ _ c.place_of-chunk.ensures.place c.index_mut.result.now c.index_mut.ensures.value there in
-    kept-written c.self.inside.chunks.items c.self.inside.len c.args.index _ _ c.place_of-chunk.ensures.place c.index_mut.result.now _ c.args.value c.self.invariant lt here refl refl
+    chunked-written c.self.inside.chunks.items c.self.inside.len c.args.index _ _ c.place_of-chunk.ensures.place c.index_mut.result.now _ c.args.value c.self.invariant lt here refl refl
 
 pub returns : goal.returns
 returns g c =
     let lt = index-within c.self.inside.chunks.items c.self.inside.len c.args.self.now c.args.index c.self.view_is c.requires in
     let there = reached c.self.inside.chunks.items c.self.inside.len c.args.index _ _ c.place_of-chunk.ensures.place c.self.invariant lt in
     let here = chunk-is c.self.inside.chunks.items c.self.inside.len c.args.index _ _ c.place_of-chunk.ensures.place c.index_mut.result.now c.index_mut.ensures.value there in
-    rw (← c.self.view_is) (shown-written c.self.inside.chunks.items c.self.inside.len c.args.index _ _ c.place_of-chunk.ensures.place c.index_mut.result.now _ c.args.value c.self.invariant lt here refl)
+    rw (← c.self.view_is) (shown-after_write c.self.inside.chunks.items c.self.inside.len c.args.index _ _ c.place_of-chunk.ensures.place c.index_mut.result.now _ c.args.value c.self.invariant lt here refl)

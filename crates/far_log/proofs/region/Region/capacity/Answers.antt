@@ -1,6 +1,6 @@
 use Rattle.std.proofs.Common.{◌≡◌, ◌*◌, length, sym, ap, ◌∙◌}
 use Rattle.far_log.specs.RegionState.{segment_of}
-use Rattle.far_log.proofs.RegionLaws.{sizes-sum}
+use Rattle.far_log.proofs.RegionStateLaws.{sizes-sum}
 use Rattle.far_log.proofs.region.Region.capacity.Goals as goal
 
 pub returns : goal.returns

@@ -2,7 +2,7 @@ use Rattle.std.proofs.Common.{◌≡◌, ◌<◌, length, map, ap, subst, ◌∙
 use Rattle.far_log.specs.RegionState.{RegionState, IsRegion, segment_of}
 use Rattle.far_log.specs.Effects.{compacted, gathered, IsEmptyOther}
 use Rattle.far_log.specs.Skipping.{IsSkip, IsSpaced}
-use Rattle.far_log.proofs.Compactions.{compacted-region, compacted-skip, compacts}
+use Rattle.far_log.proofs.EffectsCompaction.{compacted-region, compacted-skip, compacts}
 use Rattle.far_log.proofs.region.Region.compact.Goals as goal
 
 pub invariant_of-self-2 : goal.invariant_of-self-2

@@ -2,9 +2,9 @@ use Rattle.std.proofs.Common.{◌≡◌, refl, sym, ap, subst, ◌∙◌, IsSome
 use Rattle.far_log.specs.RegionState.{SegmentState, RegionState, part_of, segment_of, space_in}
 use Rattle.far_log.specs.Effects.{without_part}
 use Rattle.far_log.specs.Skipping.{IsSpaced}
-use Rattle.far_log.proofs.Layouts.{layout-without_part, changes-dropped}
-use Rattle.far_log.proofs.RegionLaws.{changes-segment, region-set, layout-segment, part-there}
-use Rattle.far_log.proofs.Skipped.{skip-set}
+use Rattle.far_log.proofs.RegionStateLayouts.{layout-without_part, changes-dropped}
+use Rattle.far_log.proofs.RegionStateLaws.{changes-segment, region-set, layout-segment, part-there}
+use Rattle.far_log.proofs.SkippingLaws.{skip-set}
 use Rattle.far_log.proofs.region.Region.drop_at.Goals as goal
 
 pub space-space-requires : goal.space-space-requires

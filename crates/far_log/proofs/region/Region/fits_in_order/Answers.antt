@@ -5,8 +5,8 @@ use Rattle.far_log.specs.declared.skip.Skip.{Skip}
 use Rattle.far_log.specs.RegionState.{RegionState, space_in, segment_of, spaces_of}
 use Rattle.far_log.specs.Fitting.{waiting_fit}
 use Rattle.far_log.specs.Skipping.{IsSkip}
-use Rattle.far_log.proofs.Skipped.{AreLong, skip-nothing, skip-either, before-first, skipped-fit, long-all, long-any, long-filled}
-use Rattle.far_log.proofs.Fits.{filled-first, none-left, none-waiting, all-waiting}
+use Rattle.far_log.proofs.SkippingLaws.{AreLong, skip-nothing, skip-either, before-first, skipped-fit, long-all, long-any, long-after_fill}
+use Rattle.far_log.proofs.FittingLaws.{after_fill-first, none-left, none-waiting, all-waiting}
 use Rattle.far_log.proofs.region.Region.fits_in_order.Goals as goal
 
 pub loop-number-init : goal.loop-number-init
@@ -46,12 +46,12 @@ loop-number-preserved g c =
     let space : c.space.result ≡ space_in (segment_of state i) = c.space.ensures.space ∙ ap (λ r. space_in (segment_of r i)) c.self.view_is in
     let there : i < length state = omega (arith, c.loop-number-test.true, c.len.ensures, ap length c.self.view_is) in
     let next : drop i state ≡ segment_of state i ∷ drop (i + 1) state = drop_more state i record { parts = []; size = 0 } there in
-    let long = long-filled c.space.result skip.len c.loop-number.waiting c.loop-number.invariant.long in
+    let long = long-after_fill c.space.result skip.len c.loop-number.waiting c.loop-number.invariant.long in
     record {
       first = omega (arith, c.loop-number.invariant.first, c.max-number.ensures);
       long = rw c.fill.ensures long;
       fits = c.loop-number.invariant.fits ∙ ap (λ l. waiting_fit (map space_in l) c.loop-number.waiting) next
-          ∙ filled-first (space_in (segment_of state i)) (map space_in (drop (i + 1) state)) c.loop-number.waiting
+          ∙ after_fill-first (space_in (segment_of state i)) (map space_in (drop (i + 1) state)) c.loop-number.waiting
           ∙ rw (c.fill.ensures, ← space) (skipped-fit state (i + 1) c.max-number.result skip.len _ (λ k least less. known.full k (omega (arith, least, less, c.max-number.ensures)) (λ e. omega (arith, e, least, c.loop-number.invariant.first))) (omega (arith, c.max-number.ensures)) long);
     }
 

@@ -1,7 +1,7 @@
 use Rattle.std.proofs.Common.{◌≡◌, ◌≤◌, ◌-◌, length, map, drop}
 use Rattle.far_log.specs.RegionState.{space_in}
 use Rattle.far_log.specs.Fitting.{waiting_fit}
-use Rattle.far_log.proofs.Skipped.{AreLong}
+use Rattle.far_log.proofs.SkippingLaws.{AreLong}
 use Rattle.far_log.proofs.region.Region.fits_in_order.Given as goal
 
 abbrev pub invariant-loop-number : goal.invariant-loop-number

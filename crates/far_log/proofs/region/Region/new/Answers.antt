@@ -1,6 +1,6 @@
 use Rattle.std.proofs.Common.{arith}
-use Rattle.far_log.proofs.RegionLaws.{region-new}
-use Rattle.far_log.proofs.Skipped.{skip-nothing}
+use Rattle.far_log.proofs.RegionStateLaws.{region-new}
+use Rattle.far_log.proofs.SkippingLaws.{skip-nothing}
 use Rattle.far_log.proofs.region.Region.new.Goals as goal
 
 pub invariant_of-result : goal.invariant_of-result

@@ -1,9 +1,9 @@
 use Rattle.std.proofs.Common.{◌≡◌, ◌≤◌, ◌+◌, ℕ, List, length, Option, Some, None, refl, sym, ap, subst, ◌∙◌, arith}
 use Rattle.std.specs.Prelude.{IsSome, IsSomeAnd, slice_range}
 use Rattle.far_log.specs.RegionState.{RegionState, IsRegion, part_of, list_at}
-use Rattle.far_log.proofs.Layouts.{layout-written, whole-range}
-use Rattle.far_log.proofs.RegionLaws.{region-set, layout-segment, part-there, writes-whole}
-use Rattle.far_log.proofs.Skipped.{skip-written}
+use Rattle.far_log.proofs.RegionStateLayouts.{layout-after_write, whole-range}
+use Rattle.far_log.proofs.RegionStateLaws.{region-set, layout-segment, part-there, writes-whole}
+use Rattle.far_log.proofs.SkippingLaws.{skip-after_write}
 use Rattle.far_log.proofs.region.Region.part_long_mut.Goals as goal
 
 some-long : {A : Type 0} (P : A → Type 0) (o : Option A) → IsSomeAnd o P → IsSome o
@@ -26,8 +26,8 @@ invariant_of-self-lent g c w =
     let state : RegionState g.row.T.Denot = c.self.inside.segments in
     let lt = part-there state c.args.at (subst (λ r. IsSome (part_of r c.args.at)) (sym c.self.view_is) (some-long _ (part_of c.args.self.now c.args.at) c.requires)) in
     record {
-      region = region-set state c.args.at.segment _ c.self.invariant.region lt refl (layout-written _ (c.args.at.offset + 0) w (layout-segment state c.args.at.segment c.self.invariant.region lt));
-      skipped = skip-written state c.self.inside.skip c.self.invariant.skipped c.args.at.segment (c.args.at.offset + 0) w lt;
+      region = region-set state c.args.at.segment _ c.self.invariant.region lt refl (layout-after_write _ (c.args.at.offset + 0) w (layout-segment state c.args.at.segment c.self.invariant.region lt));
+      skipped = skip-after_write state c.self.inside.skip c.self.invariant.skipped c.args.at.segment (c.args.at.offset + 0) w lt;
     }
 
 pub returns : goal.returns

@@ -3,8 +3,8 @@ use Rattle.far_pointer.specs.declared.pointer.At.{At}
 use Rattle.far_log.specs.RegionState.{SegmentState, RegionState, fill_of, segment_of, space_in}
 use Rattle.far_log.specs.Effects.{with_segment, with_part}
 use Rattle.far_log.specs.Skipping.{IsSkip, IsSpaced}
-use Rattle.far_log.proofs.RegionLaws.{places, target-takes, spaces-placed}
-use Rattle.far_log.proofs.Skipped.{skip-either, skip-set}
+use Rattle.far_log.proofs.RegionStateLaws.{places, target-takes, spaces-placed}
+use Rattle.far_log.proofs.SkippingLaws.{skip-either, skip-set}
 use Rattle.far_log.proofs.region.Region.place.Goals as goal
 
 pub place-requires-clause-there : goal.place-requires-clause-there

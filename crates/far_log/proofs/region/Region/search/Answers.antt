@@ -1,7 +1,7 @@
 use Rattle.std.proofs.Common.{◌≡◌, ◌⊎◌, ◌+◌, ◌<◌, ◌≤◌, inl, inr, length, sym, ap, ◌∙◌, arith}
 use Rattle.std.proofs.lemmas.Bool.{cases_lt}
 use Rattle.far_log.specs.RegionState.{RegionState, space_in, segment_of}
-use Rattle.far_log.proofs.Skipped.{no-space-longer, lowest-is, none-takes, skip-known, before-first, passed-more, skip-found}
+use Rattle.far_log.proofs.SkippingLaws.{no-space-longer, lowest-is, none-takes, skip-known, before-first, passed-more, skip-found}
 use Rattle.far_log.proofs.region.Region.search.Goals as goal
 
 pub loop-number-init : goal.loop-number-init

@@ -1,5 +1,5 @@
 use Rattle.std.proofs.Common.{◌≤◌, ◌-◌, length}
-use Rattle.far_log.proofs.Skipped.{HasNoSpace}
+use Rattle.far_log.proofs.SkippingLaws.{HasNoSpace}
 use Rattle.far_log.proofs.region.Region.search.Given as goal
 
 abbrev pub invariant-loop-number : goal.invariant-loop-number

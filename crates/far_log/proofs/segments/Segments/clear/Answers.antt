@@ -1,5 +1,5 @@
 use Rattle.std.proofs.Common.{◌≡◌, ◌<◌, [], length, get_or, take, refl, sym, ap, subst, ◌∙◌, arith}
-use Rattle.far_log.proofs.Segmented.{default_value, segment-with, kept-default_value, count-states, count-tables, states-set, kept-set}
+use Rattle.far_log.proofs.StorageSegments.{default_value, segment-with, kept-default_value, count-states, count-tables, states-set, kept-set}
 use Rattle.far_log.proofs.segments.Segments.clear.Goals as goal
 
 pub index_mut-table-requires : goal.index_mut-table-requires

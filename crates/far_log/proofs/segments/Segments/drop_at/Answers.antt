@@ -5,11 +5,11 @@ use Rattle.far_log.specs.declared.part_entry.PartEntry.{PartEntry}
 use Rattle.far_log.specs.declared.table.Table.{Table}
 use Rattle.far_log.specs.RegionState.{list_at}
 use Rattle.far_log.specs.Storage.{extents_of, links_of, extents_end, emptied_at}
-use Rattle.far_log.proofs.Entries.{extent-is, extents-emptied, links-kept}
-use Rattle.far_log.proofs.ExtentOf.{extent-of, extent-in-table, extent-in-some, extent-is-live}
-use Rattle.far_log.proofs.PartDrops.{dropped, stored-dropped, shown-dropped, used-emptied}
-use Rattle.far_log.proofs.RegionLaws.{part-there}
-use Rattle.far_log.proofs.Segmented.{segment-with, count-states, count-tables, states-set, kept-set}
+use Rattle.far_log.proofs.StorageEntries.{extent-is, extents-emptied, links-unchanged}
+use Rattle.far_log.proofs.StorageExtents.{extent-of, extent-in-table, extent-in-some, extent-is-live}
+use Rattle.far_log.proofs.StoragePartDrops.{dropped, stored-dropped, shown-dropped, used-emptied}
+use Rattle.far_log.proofs.RegionStateLaws.{part-there}
+use Rattle.far_log.proofs.StorageSegments.{segment-with, count-states, count-tables, states-set, kept-set}
 use Rattle.far_log.proofs.segments.Segments.drop_at.Goals as goal
 
 pub index_mut-table-requires : goal.index_mut-table-requires
@@ -160,7 +160,7 @@ invariant_of-self g c =
     let gone = dropped xs (extents_of t.entries) _ _ c.args.at.offset c.number_at-number.result c.unlink-left.result c.get-entry.result.extent h.kept.stored extent.here extent.live extent.begins c.unlink-left.ensures.kept in
     let kept : extents_of c.truncate.new.self ≡ take c.unlink-left.result (emptied_at (extents_of t.entries) c.number_at-number.result) = ap extents_of (c.truncate.ensures ∙ ap (take c.unlink-left.result) c.set.ensures) ∙ extents-emptied c.unlink-left.new.table c.number_at-number.result c.unlink-left.result c.get-entry.result c.get-entry.ensures ∙ ap (λ ss. take c.unlink-left.result (emptied_at ss c.number_at-number.result)) c.unlink-left.ensures.extents in
     let end : c.end_of-end.result ≡ extents_end 0 (take c.unlink-left.result (emptied_at (extents_of t.entries) c.number_at-number.result)) = c.end_of-end.ensures ∙ ap (extents_end 0) kept in
-    let links : links_of c.truncate.new.self ≡ take c.unlink-left.result (links_of c.unlink-left.new.table) = ap links_of (c.truncate.ensures ∙ ap (take c.unlink-left.result) c.set.ensures) ∙ links-kept c.unlink-left.new.table c.number_at-number.result c.unlink-left.result c.get-entry.result _ c.get-entry.ensures in
+    let links : links_of c.truncate.new.self ≡ take c.unlink-left.result (links_of c.unlink-left.new.table) = ap links_of (c.truncate.ensures ∙ ap (take c.unlink-left.result) c.set.ensures) ∙ links-unchanged c.unlink-left.new.table c.number_at-number.result c.unlink-left.result c.get-entry.result _ c.get-entry.ensures in
     let now : Table = record { entries = c.truncate.new.self; used = t.used - c.get-entry.result.extent.len } in
     rw c.truncate-2.ensures (kept-set c.self.inside.stacks.size c.self.inside.stacks.stacks c.self.inside.tables.items c.args.at.segment (take c.end_of-end.result xs) now c.self.invariant record {
       stored = rw kept (stored-dropped xs (extents_of t.entries) _ _ c.args.at.offset c.end_of-end.result c.get-entry.result.extent _ h.kept.stored gone c.unlink-left.ensures.last end);

@@ -3,12 +3,12 @@ use Rattle.std.proofs.lemmas.List.{map_push, set-set}
 use Rattle.std.proofs.lemmas.List.Elements.{All-get_or}
 use Rattle.far_log.specs.RegionState.{Part, SegmentState, RegionState, segment_of, list_at, fill_of, space_in}
 use Rattle.far_log.specs.Effects.{gathered, with_segment, with_part, list_or_none}
-use Rattle.far_log.proofs.Gathers.{next-fits, gathered-more}
-use Rattle.far_log.proofs.Compactions.{emptied-back, emptied-again}
+use Rattle.far_log.proofs.EffectsGathering.{next-fits, gathered-more}
+use Rattle.far_log.proofs.EffectsCompaction.{emptied-unchanged, emptied-again}
 use Rattle.far_log.proofs.segments.Segments.gather.Goals as goal
 
 pub loop-offset-init : goal.loop-offset-init
-loop-offset-init g c = record { state = sym (emptied-back c.args.self.now c.args.to c.requires.empty); offsets = rw c.in_ok-offsets.ensures.items refl }
+loop-offset-init g c = record { state = sym (emptied-unchanged c.args.self.now c.args.to c.requires.empty); offsets = rw c.in_ok-offsets.ensures.items refl }
 
 pub place_copy-requires-clause-there : goal.place_copy-requires-clause-there
 place_copy-requires-clause-there g c =

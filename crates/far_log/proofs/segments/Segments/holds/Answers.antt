@@ -2,8 +2,8 @@ use Rattle.std.proofs.Common.{◌<◌, IsSome, length, ap, sym, subst, eq-eqb, a
 use Rattle.std.proofs.lemmas.Bool.{eqb-true}
 use Rattle.far_log.specs.RegionState.{list_at}
 use Rattle.far_log.specs.Storage.{extents_of}
-use Rattle.far_log.proofs.ExtentOf.{extent-found, none-found, live-shows}
-use Rattle.far_log.proofs.Segmented.{segment-with, count-states}
+use Rattle.far_log.proofs.StorageExtents.{extent-found, none-found, live-shows}
+use Rattle.far_log.proofs.StorageSegments.{segment-with, count-states}
 use Rattle.far_log.proofs.segments.Segments.holds.Goals as goal
 
 pub index-table-requires : goal.index-table-requires

@@ -2,7 +2,7 @@ use Rattle.std.proofs.Common.{◌≡◌, [], ap, ◌∙◌, sym, arith, length, 
 use Rattle.std.proofs.lemmas.Bool.{eqb-true}
 use Rattle.far_log.specs.RegionState.{fill_from}
 use Rattle.far_log.specs.Storage.{extents_of}
-use Rattle.far_log.proofs.Segmented.{segment-is, none-left, count-states, count-tables}
+use Rattle.far_log.proofs.StorageSegments.{segment-is, none-left, count-states, count-tables}
 use Rattle.far_log.proofs.segments.Segments.is_empty.Goals as goal
 
 pub len-requires : goal.len-requires

@@ -1,5 +1,5 @@
 use Rattle.std.proofs.Common.{sym, ap, ◌∙◌, length}
-use Rattle.far_log.proofs.Segmented.{count-states}
+use Rattle.far_log.proofs.StorageSegments.{count-states}
 use Rattle.far_log.proofs.segments.Segments.len.Goals as goal
 
 pub returns : goal.returns

@@ -1,5 +1,5 @@
 use Rattle.std.proofs.Common.{◌≡◌, replicate}
-use Rattle.far_log.proofs.Segmented.{default_value}
+use Rattle.far_log.proofs.StorageSegments.{default_value}
 use Rattle.far_log.proofs.segments.Segments.new.Given as goal
 
 abbrev pub invariant-loop : goal.invariant-loop

@@ -1,9 +1,9 @@
 use Rattle.std.proofs.Common.{◌<◌, ◌≡◌, ◌+◌, ◌≤◌, IsSome, length, sym, ap, subst, ◌∙◌, arith}
 use Rattle.far_log.specs.RegionState.{list_at}
 use Rattle.far_log.specs.Storage.{extents_of}
-use Rattle.far_log.proofs.ExtentOf.{extent-found, none-found, extent-within}
-use Rattle.far_log.proofs.RegionLaws.{part-there}
-use Rattle.far_log.proofs.Segmented.{segment-with, some-element, count-states, count-tables}
+use Rattle.far_log.proofs.StorageExtents.{extent-found, none-found, extent-within}
+use Rattle.far_log.proofs.RegionStateLaws.{part-there}
+use Rattle.far_log.proofs.StorageSegments.{segment-with, some-element, count-states, count-tables}
 use Rattle.far_log.proofs.segments.Segments.part.Goals as goal
 
 pub index-table-requires : goal.index-table-requires

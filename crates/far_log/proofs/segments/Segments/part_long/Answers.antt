@@ -2,8 +2,8 @@ use Rattle.std.proofs.Common.{◌≡◌, Option, Some, None, IsSome, length, ref
 use Rattle.std.specs.Prelude.{IsSomeAnd}
 use Rattle.far_log.specs.RegionState.{list_at}
 use Rattle.far_log.specs.Storage.{extents_of}
-use Rattle.far_log.proofs.RegionLaws.{part-there}
-use Rattle.far_log.proofs.Segmented.{segment-is, long-in, count-states, count-tables}
+use Rattle.far_log.proofs.RegionStateLaws.{part-there}
+use Rattle.far_log.proofs.StorageSegments.{segment-is, long-in, count-states, count-tables}
 use Rattle.far_log.proofs.segments.Segments.part_long.Goals as goal
 
 some-long : {A : Type 0} (P : A → Type 0) (o : Option A) → IsSomeAnd o P → IsSome o

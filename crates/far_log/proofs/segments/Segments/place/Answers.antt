@@ -2,8 +2,8 @@ use Rattle.std.proofs.Common.{◌≡◌, ◌-◌, ◌+◌, ◌++◌, [], true, �
 use Rattle.far_log.specs.RegionState.{SegmentState, segment_of, space_in}
 use Rattle.far_log.specs.declared.extents.Extent.{Extent}
 use Rattle.far_log.specs.Storage.{extents_of}
-use Rattle.far_log.proofs.PartChanges.{stored-push, used-le-end, shown-push}
-use Rattle.far_log.proofs.Segmented.{segment-with, count-states, count-tables, states-set, kept-set}
+use Rattle.far_log.proofs.StoragePartChanges.{stored-push, used-le-end, shown-push}
+use Rattle.far_log.proofs.StorageSegments.{segment-with, count-states, count-tables, states-set, kept-set}
 use Rattle.far_log.proofs.segments.Segments.place.Goals as goal
 
 pub len-fill-requires : goal.len-fill-requires

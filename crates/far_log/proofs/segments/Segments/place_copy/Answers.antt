@@ -4,10 +4,10 @@ use Rattle.far_log.specs.RegionState.{SegmentState, segment_of, space_in, list_a
 use Rattle.far_log.specs.Effects.{list_or_none}
 use Rattle.far_log.specs.declared.extents.Extent.{Extent}
 use Rattle.far_log.specs.Storage.{extents_of, IsStored}
-use Rattle.far_log.proofs.Gathers.{list-is}
-use Rattle.far_log.proofs.PartChanges.{stored-push, used-le-end, shown-push}
-use Rattle.far_log.proofs.RegionLaws.{part-there}
-use Rattle.far_log.proofs.Segmented.{default_value, segment-is, segment-with, long-in, part-some, count-states, count-tables, states-set, kept-set}
+use Rattle.far_log.proofs.EffectsGathering.{list-is}
+use Rattle.far_log.proofs.StoragePartChanges.{stored-push, used-le-end, shown-push}
+use Rattle.far_log.proofs.RegionStateLaws.{part-there}
+use Rattle.far_log.proofs.StorageSegments.{default_value, segment-is, segment-with, long-in, part-some, count-states, count-tables, states-set, kept-set}
 use Rattle.far_log.proofs.segments.Segments.place_copy.Goals as goal
 
 pub len-fill-requires : goal.len-fill-requires

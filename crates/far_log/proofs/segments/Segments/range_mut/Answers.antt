@@ -1,11 +1,11 @@
 use Rattle.std.proofs.Common.{◌≡◌, ◌+◌, ◌-◌, ◌≤◌, List, [], Option, Some, None, IsSome, length, get_or, take, drop, refl, sym, ap, subst, ◌∙◌, arith}
 use Rattle.std.specs.Prelude.{IsSomeAnd}
 use Rattle.far_log.specs.RegionState.{SegmentState, list_at}
-use Rattle.far_log.specs.Effects.{written}
+use Rattle.far_log.specs.Effects.{after_write}
 use Rattle.far_log.specs.Storage.{extents_of}
-use Rattle.far_log.proofs.RegionLaws.{range-there}
-use Rattle.far_log.proofs.Writes.{range-of, stored-written, shown-written}
-use Rattle.far_log.proofs.Segmented.{default_value, segment-is, some-element, count-states, count-tables, states-set_stack, kept-set_stack}
+use Rattle.far_log.proofs.RegionStateLaws.{range-there}
+use Rattle.far_log.proofs.StorageWrites.{range-of, stored-after_write, shown-after_write}
+use Rattle.far_log.proofs.StorageSegments.{default_value, segment-is, some-element, count-states, count-tables, states-set_stack, kept-set_stack}
 use Rattle.far_log.proofs.segments.Segments.range_mut.Goals as goal
 
 some-range : {A : Type 0} (P : A → Type 0) (o : Option A) → IsSomeAnd o P → IsSome o
@@ -56,7 +56,7 @@ invariant_of-self-lent g c w =
     let some = subst (λ r. IsSomeAnd (list_at r.parts c.args.at.offset) (λ list. c.args.to ≤ length list)) h.shows c.requires.within in
     let range = range-of xs (extents_of t.entries) c.args.at.offset c.args.from c.args.to h.kept.stored.adjacent (omega (arith, h.kept.stored.end)) c.requires.ordered some in
     kept-set_stack c.self.inside.stacks.size c.self.inside.stacks.stacks c.self.inside.tables.items c.args.at.segment _ c.self.invariant
-    record { stored = stored-written xs (extents_of t.entries) _ _ (c.args.at.offset + c.args.from) w h.kept.stored (omega (arith, range.within, c.requires.ordered)); linked = h.kept.linked }
+    record { stored = stored-after_write xs (extents_of t.entries) _ _ (c.args.at.offset + c.args.from) w h.kept.stored (omega (arith, range.within, c.requires.ordered)); linked = h.kept.linked }
 
 pub returns : goal.returns
 returns g c =
@@ -66,7 +66,7 @@ returns g c =
     let t = get_or c.self.inside.tables.items c.args.at.segment default_value in
     let some = subst (λ r. IsSomeAnd (list_at r.parts c.args.at.offset) (λ list. c.args.to ≤ length list)) h.shows c.requires.within in
     let range = range-of xs (extents_of t.entries) c.args.at.offset c.args.from c.args.to h.kept.stored.adjacent (omega (arith, h.kept.stored.end)) c.requires.ordered some in
-    let shown_is = λ (w : List g.row.T.Denot). shown-written xs (extents_of t.entries) _ _ (c.args.at.offset + c.args.from) w h.kept.stored (omega (arith, range.within, c.requires.ordered)) in (
+    let shown_is = λ (w : List g.row.T.Denot). shown-after_write xs (extents_of t.entries) _ _ (c.args.at.offset + c.args.from) w h.kept.stored (omega (arith, range.within, c.requires.ordered)) in (
       (refl, λ w. rw (states-set_stack c.self.inside.stacks.size c.self.inside.stacks.stacks c.self.inside.tables.items c.args.at.segment _, shown_is w, h.shows, c.self.view_is) refl),
       record { writes_back = tt; value = rw h.shows (rw c.slice_mut.ensures.value range.value) },
     )

@@ -1,5 +1,5 @@
 use Rattle.std.proofs.Common.{ap, ◌∙◌, sym}
-use Rattle.far_log.proofs.Segmented.{segment-is}
+use Rattle.far_log.proofs.StorageSegments.{segment-is}
 use Rattle.far_log.proofs.segments.Segments.size.Goals as goal
 
 pub returns : goal.returns

@@ -1,5 +1,5 @@
 use Rattle.std.proofs.Common.{◌<◌, ap, ◌∙◌, sym, arith, length}
-use Rattle.far_log.proofs.Segmented.{segment-is, count-states, count-tables}
+use Rattle.far_log.proofs.StorageSegments.{segment-is, count-states, count-tables}
 use Rattle.far_log.proofs.segments.Segments.space.Goals as goal
 
 pub len-requires : goal.len-requires

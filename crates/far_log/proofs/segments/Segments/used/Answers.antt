@@ -2,7 +2,7 @@ use Rattle.std.proofs.Common.{◌≤◌, ap, ◌∙◌, length, arith}
 use Rattle.std.specs.Prelude.{sum_by}
 use Rattle.far_log.specs.declared.table.Table.{Table}
 use Rattle.far_log.specs.RegionState.{used_of}
-use Rattle.far_log.proofs.Segmented.{count-states, used-states}
+use Rattle.far_log.proofs.StorageSegments.{count-states, used-states}
 use Rattle.far_log.proofs.segments.Segments.used.Goals as goal
 
 pub used_by-requires : goal.used_by-requires

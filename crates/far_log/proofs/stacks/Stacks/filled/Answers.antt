@@ -1,7 +1,7 @@
 use Rattle.std.proofs.Common.{sym, ap, ◌∙◌, length, rules}
 use Rattle.std.specs.Prelude.{sum_by}
 use Rattle.far_log.specs.Stacking.{Stacked}
-use Rattle.far_log.proofs.Stacked.{filled-lens}
+use Rattle.far_log.proofs.StackingLaws.{filled-lens}
 use Rattle.far_log.proofs.stacks.Stacks.filled.Goals as goal
 
 pub returns : goal.returns

@@ -1,6 +1,6 @@
 use Rattle.std.proofs.Common.{sym, ◌∙◌, arith}
 use Rattle.std.proofs.lemmas.List.{get_or_read}
-use Rattle.far_log.proofs.Stacked.{stack-is}
+use Rattle.far_log.proofs.StackingLaws.{stack-is}
 use Rattle.far_log.proofs.stacks.Stacks.len.Goals as goal
 
 pub index-requires : goal.index-requires

@@ -1,8 +1,8 @@
 use Rattle.std.proofs.Common.{◌≡◌, ◌+◌, ◌-◌, ◌*◌, ◌≤◌, ◌++◌, length, get_or, take, drop, refl, sym, ap, ◌∙◌, arith, length-set, length-take, length-drop}
 use Rattle.std.proofs.lemmas.List.{get_or_read}
 use Rattle.far_log.specs.Stacking.{stack_of}
-use Rattle.far_log.proofs.Stacked.{stack-is, stacks-put, within-put}
-use Rattle.far_log.proofs.Writes.{range-at}
+use Rattle.far_log.proofs.StackingLaws.{stack-is, stacks-put, within-put}
+use Rattle.far_log.proofs.StorageWrites.{range-at}
 use Rattle.far_log.proofs.stacks.Stacks.push_from.Goals as goal
 
 pub begin_of-requires : goal.begin_of-requires

@@ -1,6 +1,6 @@
 use Rattle.std.proofs.Common.{◌≡◌, ◌+◌, ◌-◌, ◌*◌, ◌≤◌, length, get_or, take, drop, sym, ap, ◌∙◌, arith, length-take, length-drop}
-use Rattle.far_log.proofs.Stacked.{stack-is}
-use Rattle.far_log.proofs.Writes.{range-at}
+use Rattle.far_log.proofs.StackingLaws.{stack-is}
+use Rattle.far_log.proofs.StorageWrites.{range-at}
 use Rattle.far_log.proofs.stacks.Stacks.slice.Goals as goal
 
 pub begin_of-requires : goal.begin_of-requires

@@ -1,7 +1,7 @@
 use Rattle.std.proofs.Common.{◌≡◌, ◌+◌, ◌-◌, ◌*◌, ◌≤◌, List, [], length, get_or, take, drop, refl, sym, ap, ◌∙◌, arith, length-take, length-drop}
 use Rattle.far_log.specs.Stacking.{Stacked, stacks_from}
-use Rattle.far_log.proofs.Stacked.{stack-is, length-stack, stacks-over, over-cut}
-use Rattle.far_log.proofs.Writes.{range-at, length-block_over}
+use Rattle.far_log.proofs.StackingLaws.{stack-is, length-stack, stacks-over, over-cut}
+use Rattle.far_log.proofs.StorageWrites.{range-at, length-block_over}
 use Rattle.far_log.proofs.stacks.Stacks.slice_mut.Goals as goal
 
 pub begin_of-requires : goal.begin_of-requires

@@ -1,6 +1,6 @@
 use Rattle.std.proofs.Common.{◌≡◌, length, get_or, refl, sym, ap, ◌∙◌, arith, length-set}
 use Rattle.far_log.specs.Stacking.{Stacked, with_stack, stack_of}
-use Rattle.far_log.proofs.Stacked.{stack-is, stacks-cut, within-cut}
+use Rattle.far_log.proofs.StackingLaws.{stack-is, stacks-cut, within-cut}
 use Rattle.far_log.proofs.stacks.Stacks.truncate.Goals as goal
 
 pub index_mut-requires : goal.index_mut-requires

@@ -4,7 +4,7 @@ use Rattle.far_offload.specs.declared.column.ColumnValues.{ColumnValues}
 use Rattle.far_types.specs.Lent.{int_cell, text_cell}
 use Rattle.far_offload.specs.Columns.{cell_of}
 use Rattle.far_offload.specs.Lent.{cells_lent}
-use Rattle.far_offload.proofs.CellLaws.{int_here, text_here}
+use Rattle.far_offload.proofs.LentCells.{int_here, text_here}
 use Rattle.far_offload.proofs.column.Column.cell.Goals as goal
 
 pub returns-in-None-clause-cell : goal.returns-in-None-clause-cell

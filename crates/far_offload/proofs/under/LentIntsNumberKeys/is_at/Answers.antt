@@ -3,7 +3,7 @@ use Rattle.std.proofs.lemmas.Bool.{false≢true}
 use Rattle.far_types.specs.declared.cell.Cell.TheVariants as cell
 use Rattle.far_types.specs.declared.cell.Cell.TheVariants.{Missing}
 use Rattle.far_types.specs.Lent.{int_cell}
-use Rattle.far_offload.proofs.CellLaws.{int_here}
+use Rattle.far_offload.proofs.LentCells.{int_here}
 use Rattle.far_offload.proofs.under.LentIntsNumberKeys.is_at.Goals as goal
 
 no_number : (n : ℤ) → Missing ≡ cell.Int n → ⊥

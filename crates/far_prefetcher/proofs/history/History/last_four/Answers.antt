@@ -1,5 +1,5 @@
 use Rattle.std.proofs.Common.{sym}
-use Rattle.far_prefetcher.proofs.LastFour.{last_four}
+use Rattle.far_prefetcher.proofs.StridesLaws.{last_four}
 use Rattle.far_prefetcher.proofs.history.History.last_four.Goals as goal
 
 pub returns-clause-four : goal.returns-clause-four

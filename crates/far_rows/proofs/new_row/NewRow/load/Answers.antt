@@ -3,8 +3,8 @@ use Rattle.std.proofs.lemmas.List.{length-set, take_all}
 use Rattle.far_rows.specs.declared.column_index.ColumnIndex.TheVariants as column_index
 use Rattle.far_rows.specs.ColumnIndexes.{Values, row_of}
 use Rattle.far_types.specs.Cells.{is_too_long}
-use Rattle.far_rows.proofs.ShortRows.{short-at}
-use Rattle.far_rows.proofs.Filling.{kind-next, numbers-kept, texts-kept, row-more, within-still, same-next, same-later, taken-more}
+use Rattle.far_rows.proofs.RefusingTextSize.{short-at}
+use Rattle.far_rows.proofs.ColumnIndexesValues.{kind-next, numbers-unchanged, texts-unchanged, row-more, within-still, same-next, same-later, taken-more}
 use Rattle.far_rows.proofs.new_row.NewRow.load.Goals as goal
 
 pub loop-column-init : goal.loop-column-init
@@ -59,8 +59,8 @@ loop-column-preserved c =
           ∙ taken-more row _ n cell below read c.loop-column.invariant.row;
       rest = same-later c.loop-column.cells.items row n _ c.loop-column.invariant.rest;
       long = length-set c.loop-column.cells.items n _ ∙ c.loop-column.invariant.long;
-      numbers = ap (λ (v : Values). length v.numbers) c.put.ensures ∙ numbers-kept values s cell ∙ c.loop-column.invariant.numbers;
-      texts = ap (λ (v : Values). length v.texts) c.put.ensures ∙ texts-kept values s cell ∙ c.loop-column.invariant.texts;
+      numbers = ap (λ (v : Values). length v.numbers) c.put.ensures ∙ numbers-unchanged values s cell ∙ c.loop-column.invariant.numbers;
+      texts = ap (λ (v : Values). length v.texts) c.put.ensures ∙ texts-unchanged values s cell ∙ c.loop-column.invariant.texts;
     }
 
 pub returns-clause-row : goal.returns-clause-row

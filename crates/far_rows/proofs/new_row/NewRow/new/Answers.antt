@@ -1,6 +1,6 @@
 use Rattle.std.proofs.Common.{ap, ◌∙◌}
 use Rattle.far_texts.specs.RefusingTogether.{any_too_long}
-use Rattle.far_rows.proofs.ShortRows.{missing-short}
+use Rattle.far_rows.proofs.RefusingTextSize.{missing-short}
 use Rattle.far_rows.proofs.new_row.NewRow.new.Goals as goal
 
 pub invariant_of-result : goal.invariant_of-result

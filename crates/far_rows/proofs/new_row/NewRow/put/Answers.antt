@@ -1,4 +1,4 @@
-use Rattle.far_rows.proofs.ShortRows.{still-short}
+use Rattle.far_rows.proofs.RefusingTextSize.{still-short}
 use Rattle.far_rows.proofs.new_row.NewRow.put.Goals as goal
 
 pub invariant_of-self-in-Text : goal.invariant_of-self-in-Text

@@ -6,7 +6,7 @@ use Rattle.far_types.specs.declared.cell.Cell.TheVariants.{Missing}
 use Rattle.far_rows.specs.declared.column_index.ColumnIndex.{ColumnIndex}
 use Rattle.far_rows.specs.ColumnIndexes.{column_in}
 use Rattle.far_rows.specs.Rows.{all_numbers, all_texts}
-use Rattle.far_rows.proofs.RowCells.{row-cell, none-refused}
+use Rattle.far_rows.proofs.RowsCells.{row-cell, none-refused}
 use Rattle.far_rows.proofs.row_ref.RowRef.get.Goals as goal
 
 pub unreachable-requires : goal.unreachable-requires

@@ -2,7 +2,7 @@ use Rattle.std.proofs.Common.{◌≡◌, ℕ, None, subst}
 use Rattle.far_types.specs.FirstOf.{first_of}
 use Rattle.far_rows.specs.Rows.{Rows}
 use Rattle.far_rows.specs.Refusing.{absents}
-use Rattle.far_rows.proofs.AllHere.{all-here}
+use Rattle.far_rows.proofs.RefusingLocality.{all-here}
 use Rattle.far_rows.proofs.rows.Rows.are_all_local.Goals as goal
 
 pub returns-then-numbers : goal.returns-then-numbers

@@ -1,8 +1,8 @@
 use Rattle.std.proofs.Common.{true, Some, ap, subst, ◌∙◌}
 use Rattle.far_types.specs.MayRefuse.{MayRefuse}
-use Rattle.far_scopes.proofs.RefusedAll.{err-handed}
+use Rattle.far_scopes.proofs.RefusingReplacements.{err-handed}
 use Rattle.far_rows.specs.Jobs.{evac_refusal}
-use Rattle.far_rows.proofs.Begun.{evac-number, evac-text}
+use Rattle.far_rows.proofs.JobsBeginning.{evac-number, evac-text}
 use Rattle.far_rows.proofs.rows.Rows.begin_evac.Goals as goal
 
 pub returns-in_err-begin_numbers-in-Number-clause-refused :

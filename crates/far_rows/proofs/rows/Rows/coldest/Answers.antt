@@ -1,7 +1,7 @@
 use Rattle.std.proofs.Common.{◌≡◌, ℕ, subst}
 use Rattle.far_scopes.specs.Movement.{is_local}
 use Rattle.far_scopes.specs.Recency.{has}
-use Rattle.far_rows.proofs.GoesFirst.{goes-local, goes-unpinned}
+use Rattle.far_rows.proofs.ColdestLaws.{goes-local, goes-unpinned}
 use Rattle.far_rows.proofs.rows.Rows.coldest.Goals as goal
 
 pub returns-clause-local : goal.returns-clause-local

@@ -1,6 +1,6 @@
 use Rattle.std.proofs.Common.{refl}
-use Rattle.far_rows.proofs.Moved.{numbers-moved, number-cells}
-use Rattle.far_rows.proofs.Names.{names-with, still-named}
+use Rattle.far_rows.proofs.MovingCells.{numbers-moved, number-cells}
+use Rattle.far_rows.proofs.NamingLaws.{names-with, still-named}
 use Rattle.far_rows.proofs.rows.Rows.commit_numbers.Goals as goal
 
 pub invariant_of-self : goal.invariant_of-self

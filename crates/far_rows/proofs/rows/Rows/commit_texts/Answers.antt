@@ -1,6 +1,6 @@
 use Rattle.std.proofs.Common.{refl}
-use Rattle.far_rows.proofs.Moved.{texts-moved, text-cells}
-use Rattle.far_rows.proofs.Names.{names-with, still-named}
+use Rattle.far_rows.proofs.MovingCells.{texts-moved, text-cells}
+use Rattle.far_rows.proofs.NamingLaws.{names-with, still-named}
 use Rattle.far_rows.proofs.rows.Rows.commit_texts.Goals as goal
 
 pub invariant_of-self : goal.invariant_of-self

@@ -4,8 +4,8 @@ use Rattle.far_types.specs.Lent.{int_cell}
 use Rattle.far_scopes.specs.Memory.{list_in}
 use Rattle.far_scopes.specs.Movement.{Movement}
 use Rattle.far_scopes.specs.Refusing.{lend_refusal}
-use Rattle.far_rows.proofs.Begun.{evac-number, evac-text}
-use Rattle.far_rows.proofs.Grouped.{group-numbers, group-texts}
+use Rattle.far_rows.proofs.JobsBeginning.{evac-number, evac-text}
+use Rattle.far_rows.proofs.RowsGroups.{group-numbers, group-texts}
 use Rattle.far_rows.proofs.rows.Rows.group_column.Goals as goal
 
 pub returns-in_err-lend-in-Number-clause-refused :

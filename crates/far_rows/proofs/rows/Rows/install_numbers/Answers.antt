@@ -1,6 +1,6 @@
 use Rattle.far_columns.specs.Numbers.{number_lists}
-use Rattle.far_rows.proofs.Moved.{numbers-moved, number-cells}
-use Rattle.far_rows.proofs.Names.{still-named-there}
+use Rattle.far_rows.proofs.MovingCells.{numbers-moved, number-cells}
+use Rattle.far_rows.proofs.NamingLaws.{still-named-there}
 use Rattle.far_rows.proofs.rows.Rows.install_numbers.Goals as goal
 
 pub invariant_of-self : goal.invariant_of-self

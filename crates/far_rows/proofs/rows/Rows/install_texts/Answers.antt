@@ -1,6 +1,6 @@
 use Rattle.far_texts.specs.Texts.{lists_of}
-use Rattle.far_rows.proofs.Moved.{texts-moved, text-cells}
-use Rattle.far_rows.proofs.Names.{still-named-there}
+use Rattle.far_rows.proofs.MovingCells.{texts-moved, text-cells}
+use Rattle.far_rows.proofs.NamingLaws.{still-named-there}
 use Rattle.far_rows.proofs.rows.Rows.install_texts.Goals as goal
 
 pub invariant_of-self : goal.invariant_of-self

@@ -11,7 +11,7 @@ use Rattle.far_rows.specs.declared.column_index.ColumnIndex.TheVariants as colum
 use Rattle.far_types.specs.Lent.{int_cell}
 use Rattle.far_rows.specs.Rows.{Rows, AreRows, all_cells}
 use Rattle.far_rows.specs.Lending.{numbers_of}
-use Rattle.far_rows.proofs.LentNumbers.{part-cells, part-due}
+use Rattle.far_rows.proofs.LendingNumbers.{part-cells, part-due}
 use Rattle.far_rows.proofs.rows.Rows.ints.Goals as goal
 
 pub returns-clause-cells : goal.returns-clause-cells

@@ -7,9 +7,9 @@ use Rattle.far_vector.specs.Pieces.{overlapped_groups, pieces_of}
 use Rattle.far_columns.specs.Numbers.{Numbers, numbers_in, with_flags}
 use Rattle.far_rows.specs.declared.column_index.ColumnIndex.TheVariants as column_index
 use Rattle.far_rows.specs.Rows.{Rows}
-use Rattle.far_rows.specs.Refusing.{told_at, no_range}
+use Rattle.far_rows.specs.Refusing.{away_at, no_range}
 use Rattle.far_rows.specs.Lending.{numbers_of}
-use Rattle.far_rows.proofs.LentNumbers.{pieces-read, range-read, part-refused}
+use Rattle.far_rows.proofs.LendingNumbers.{pieces-read, range-read, part-refused}
 use Rattle.far_rows.proofs.rows.Rows.ints_at.Goals as goal
 
 pub returns-clause-lent : goal.returns-clause-lent
@@ -34,4 +34,4 @@ returns-clause-refused g c =
     let column = subst (λ (r : Rows g.row.S-Ticket.Denot). c.args.number < length r.numbers) (sym c.self.view_is) c.requires in
     c.lent.ensures.refused
     ∙ part-refused g.S.FarTickets.content _ c.self.invariant c.args.number c.args.from c.args.to c.index-column.result.now column c.index-column.ensures
-    ∙ ap (λ (r : Rows g.row.S-Ticket.Denot). first_of (no_range r c.args.from c.args.to ∷ map (λ h. told_at r h (column_index.Number c.args.number)) (overlapped_groups r.size c.args.from c.args.to))) c.self.view_is
+    ∙ ap (λ (r : Rows g.row.S-Ticket.Denot). first_of (no_range r c.args.from c.args.to ∷ map (λ h. away_at r h (column_index.Number c.args.number)) (overlapped_groups r.size c.args.from c.args.to))) c.self.view_is

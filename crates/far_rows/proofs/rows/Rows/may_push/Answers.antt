@@ -1,6 +1,6 @@
 use Rattle.std.proofs.Common.{◌∙◌}
 use Rattle.far_rows.proofs.PlainLaws.{push-plain}
-use Rattle.far_rows.proofs.OneList.{push-kinds}
+use Rattle.far_rows.proofs.ByKindLaws.{push-kinds}
 use Rattle.far_rows.proofs.rows.Rows.may_push.Goals as goal
 
 pub returns-clause-refused : goal.returns-clause-refused

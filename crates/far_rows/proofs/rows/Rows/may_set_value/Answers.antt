@@ -11,7 +11,7 @@ use Rattle.far_rows.specs.declared.column_index.ColumnIndex.TheVariants as colum
 use Rattle.far_rows.specs.Refusing.{absents}
 use Rattle.far_rows.specs.ColumnIndexes.{IsColumnIn}
 use Rattle.far_rows.specs.Setting.{kind_in, value_refusal}
-use Rattle.far_rows.proofs.CellsSet.{column_index-within}
+use Rattle.far_rows.proofs.SettingCells.{column_index-within}
 use Rattle.far_rows.proofs.rows.Rows.may_set_value.Goals as goal
 
 pub returns-in_err-here : goal.returns-in_err-here

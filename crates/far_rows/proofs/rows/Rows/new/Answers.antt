@@ -2,7 +2,7 @@ use Rattle.std.proofs.Common.{sym, ap, subst, ◌∙◌}
 use Rattle.far_scopes.specs.Opening.{no_objects}
 use Rattle.far_rows.specs.Rows.{Rows, AreRows}
 use Rattle.far_rows.specs.Opening.{empty_rows}
-use Rattle.far_rows.proofs.EmptyRows.{rows-are}
+use Rattle.far_rows.proofs.OpeningRows.{rows-are}
 use Rattle.far_rows.proofs.rows.Rows.new.Goals as goal
 
 pub invariant_of-result : goal.invariant_of-result

@@ -1,6 +1,6 @@
 use Rattle.std.proofs.Common.{◌<◌, length, refl, sym, subst, ◌∙◌}
 use Rattle.std.proofs.lemmas.Option.{slice_get_read}
-use Rattle.far_rows.proofs.InUse.{number-in-use}
+use Rattle.far_rows.proofs.MovementInUse.{number-in-use}
 use Rattle.far_rows.proofs.rows.Rows.number_object.Goals as goal
 
 pub returns-clause-in_use : goal.returns-clause-in_use

@@ -2,7 +2,7 @@ use Rattle.std.proofs.Common.{◌≡◌, subst}
 use Rattle.std.specs.Prelude.{Some, slice_get}
 use Rattle.far_rows.specs.Naming.{names_of}
 use Rattle.far_rows.specs.Rows.{AreRows}
-use Rattle.far_rows.proofs.Spelled.{numbers-spelled, number-owned}
+use Rattle.far_rows.proofs.NamingObjects.{numbers-spelled, number-owned}
 use Rattle.far_rows.proofs.rows.Rows.number_objects.Goals as goal
 
 pub returns-clause-spelled : goal.returns-clause-spelled

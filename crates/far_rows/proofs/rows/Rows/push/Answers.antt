@@ -2,8 +2,8 @@ use Rattle.std.proofs.Common.{true, ◌∙◌}
 use Rattle.far_rows.specs.ColumnIndexes.{row_of}
 use Rattle.far_rows.specs.Rows.{all_cells}
 use Rattle.far_rows.specs.Places.{places_of}
-use Rattle.far_rows.proofs.CellsLong.{cells-long, row-wide}
-use Rattle.far_rows.proofs.OneList.{push-kinds}
+use Rattle.far_rows.proofs.RowsSameLength.{cells-long, row-wide}
+use Rattle.far_rows.proofs.ByKindLaws.{push-kinds}
 use Rattle.far_rows.proofs.PlacesChanged.{places-push}
 use Rattle.far_rows.proofs.rows.Rows.push.Goals as goal
 

@@ -5,24 +5,24 @@ use Rattle.std.proofs.lemmas.List.{with_items_is, length_push, length-map}
 use Rattle.far_vector.specs.Vector.{IsShaped}
 use Rattle.far_texts.specs.Texts.{Texts, Lists, HasGroups, lists_of, texts_in}
 use Rattle.far_columns.specs.Numbers.{number_lists, numbers_in}
-use Rattle.far_columns.specs.NumbersTogether.{NumberColumns, all_begin, all_pushed, all_pushed_in, all_numbers_with, push_numbers_refusal}
-use Rattle.far_texts.specs.Together.{AreReplaced, all_begin as all_texts_begin, after_create_all, all_pushed as all_texts_pushed, all_texts_with, next_forms}
+use Rattle.far_columns.specs.NumbersTogether.{NumberColumns, all_begin, after_push_all, objects_after_push_all, all_numbers_with, push_numbers_refusal}
+use Rattle.far_texts.specs.Together.{AreReplaced, all_begin as all_texts_begin, after_create_all, after_push_all as all_texts_pushed, all_texts_with, next_forms}
 use Rattle.far_texts.specs.RefusingTogether.{push_texts_refusal}
 use Rattle.far_types.specs.FirstOf.{first_of}
 use Rattle.far_rows.specs.Refusing.{absents}
-use Rattle.far_rows.proofs.Beginning.{are-numbers, are-texts, numbers-begin, numbers-begun, numbers-few, texts-few, none-of-two}
-use Rattle.far_rows.proofs.MoreCells.{all_with, numbers-with, texts-with, columns-with}
-use Rattle.far_rows.proofs.Grown.{as-many-numbers, as-many-texts, all-numbers, all-texts}
-use Rattle.far_rows.proofs.GrownNumbers.{same_length-grown, count-grown}
-use Rattle.far_rows.proofs.GrownTexts.{same_length-grown as texts-same_length-grown, count-grown as texts-count-grown}
-use Rattle.far_rows.proofs.NumbersNamed.{IsNamed, same-numbers, numbers-named}
-use Rattle.far_rows.proofs.TextsNamed.{IsNamed as IsTextNamed, same-numbers as texts-same-numbers, texts-named}
+use Rattle.far_rows.proofs.RowsGroupStarts.{are-numbers, are-texts, numbers-begin, numbers-begun, numbers-few, texts-few, none-of-two}
+use Rattle.far_rows.proofs.ColumnIndexesAppend.{all_with, numbers-with, texts-with, columns-with}
+use Rattle.far_rows.proofs.EffectsGrowth.{as-many-numbers, as-many-texts, all-numbers, all-texts}
+use Rattle.far_rows.proofs.EffectsNumberGrowth.{same_length-grown, count-grown}
+use Rattle.far_rows.proofs.EffectsTextGrowth.{same_length-grown as texts-same_length-grown, count-grown as texts-count-grown}
+use Rattle.far_rows.proofs.NamingNumbers.{IsNamed, same-numbers, numbers-named}
+use Rattle.far_rows.proofs.NamingTexts.{IsNamed as IsTextNamed, same-numbers as texts-same-numbers, texts-named}
 use Rattle.far_rows.specs.Naming.{names_of, AreNumbered, AreOwned, ArePlaced}
 use Rattle.far_rows.specs.declared.column_index.ColumnIndex.TheVariants as column_index
 use Rattle.far_scopes.specs.Movement.{version_of}
-use Rattle.far_rows.proofs.Versions.{number-versions, text-versions}
-use Rattle.far_rows.proofs.NumbersOwned.{numbers-owned}
-use Rattle.far_rows.proofs.TextsOwned.{texts-owned}
+use Rattle.far_rows.proofs.EffectsVersions.{number-versions, text-versions}
+use Rattle.far_rows.proofs.NamingNumberOwners.{numbers-owned}
+use Rattle.far_rows.proofs.NamingTextOwners.{texts-owned}
 use Rattle.far_rows.specs.Rows.{AreRows, all_cells}
 use Rattle.far_rows.specs.ColumnIndexes.{AreColumnIndexes, columns_of, row_of, with_row}
 use Rattle.std.specs.Vec.{with_items}
@@ -95,7 +95,7 @@ invariant_of-self-2 g c =
     let columns = c.self.inside.numbers.items in
     let first = length c.self.inside.number_objects.records in
     let numbers = c.push_values-pushed.new.numbers in
-    let pushed : numbers ≡ all_pushed first columns = done.numbers_pushed ∙ ap (all_pushed first) c.deref_mut.ensures.value in
+    let pushed : numbers ≡ after_push_all first columns = done.numbers_pushed ∙ ap (after_push_all first) c.deref_mut.ensures.value in
     let many : length numbers ≡ length columns = ap length pushed ∙ as-many-numbers first columns in
     let numbers_is = with_items_is c.self.inside.numbers numbers (many ∙ sym c.self.inside.numbers.ok.0) in
     let are = are-numbers size len columns c.self.invariant.shaped inv.same_length_numbers in
@@ -116,8 +116,8 @@ invariant_of-self-2 g c =
     let texts_same_length : length values.texts ≡ length texts_before = c.requires.texts ∙ ap (λ r. length r.texts) (sym c.self.view_is) in
     let before = c.self.inside.text_objects in
     let after = c.push_values-pushed.new.text_objects in
-    let moved : c.push_values-pushed.new.number_objects ≡ all_pushed_in c.self.inside.number_objects columns values.numbers =
-    done.numbers_moved ∙ ap (λ cs. all_pushed_in c.self.inside.number_objects cs values.numbers) c.deref_mut.ensures.value in
+    let moved : c.push_values-pushed.new.number_objects ≡ objects_after_push_all c.self.inside.number_objects columns values.numbers =
+    done.numbers_moved ∙ ap (λ cs. objects_after_push_all c.self.inside.number_objects cs values.numbers) c.deref_mut.ensures.value in
     let texts_begun = subst (λ cs. all_texts_begin cs ≡ true → after ≡ after_create_all before cs (next_forms lists first_text cs values.texts)) c.deref_mut-2.ensures.value done.texts_begun in
     let texts_replaced = subst (λ cs. all_texts_begin cs ≡ false → AreReplaced before (next_forms lists first_text cs values.texts) after) c.deref_mut-2.ensures.value done.texts_replaced in
     let rows : AreRows content record {
@@ -155,12 +155,12 @@ invariant_of-self-2 g c =
       placed_texts = subst (λ cs. ArePlaced c.self.inside.column_indexes.items (λ i. column_index.Text i) (map (λ v. v.column) cs)) (sym texts_pushed)
           (subst (ArePlaced c.self.inside.column_indexes.items (λ i. column_index.Text i)) (sym (texts-same-numbers first_text texts_before)) inv.placed_texts);
       number_names = subst (All (IsNamed (names_of c.push_values-pushed.new.number_objects))) (sym pushed)
-          (subst (λ m. All (IsNamed (names_of m)) (all_pushed first columns)) (sym moved)
+          (subst (λ m. All (IsNamed (names_of m)) (after_push_all first columns)) (sym moved)
           (numbers-named size len columns inv.some are c.self.inside.number_objects values.numbers numbers_same_length inv.number_names));
       text_names = subst (All (IsTextNamed (names_of after))) (sym texts_pushed)
           (texts-named lists size len texts_before inv.some texts_are before after values.texts texts_same_length texts_begun texts_replaced inv.text_names);
       owned_numbers = subst (λ (cs : NumberColumns). AreOwned (λ v. v.column) (λ v. v.objects) (names_of c.push_values-pushed.new.number_objects) cs) (sym pushed)
-          (subst (λ m. AreOwned (λ v. v.column) (λ v. v.objects) (names_of m) (all_pushed first columns)) (sym moved)
+          (subst (λ m. AreOwned (λ v. v.column) (λ v. v.objects) (names_of m) (after_push_all first columns)) (sym moved)
           (numbers-owned size len columns inv.some are c.self.inside.number_objects values.numbers numbers_same_length inv.owned_numbers));
       owned_texts = subst (λ (cs : List Texts). AreOwned (λ v. v.column) (λ v. v.objects) (names_of after) cs) (sym texts_pushed)
           (texts-owned lists size len texts_before inv.some texts_are before after values.texts texts_same_length texts_begun texts_replaced inv.owned_texts);
@@ -179,7 +179,7 @@ returns-clause-cells g c =
     let columns = c.self.inside.numbers.items in
     let first = length c.self.inside.number_objects.records in
     let numbers = c.push_values-pushed.new.numbers in
-    let pushed : numbers ≡ all_pushed first columns = done.numbers_pushed ∙ ap (all_pushed first) c.deref_mut.ensures.value in
+    let pushed : numbers ≡ after_push_all first columns = done.numbers_pushed ∙ ap (after_push_all first) c.deref_mut.ensures.value in
     let many : length numbers ≡ length columns = ap length pushed ∙ as-many-numbers first columns in
     let numbers_is = with_items_is c.self.inside.numbers numbers (many ∙ sym c.self.inside.numbers.ok.0) in
     let texts_before = c.self.inside.texts.items in
@@ -213,7 +213,7 @@ returns-clause-number_versions g c = λ o.
     let are = are-numbers c.self.inside.size (length c.self.inside.alive) columns inv.shaped inv.same_length_numbers in
     let values = c.args.row.now in
     let same_length : length values.numbers ≡ length columns = c.requires.numbers ∙ ap (λ r. length r.numbers) (sym c.self.view_is) in
-    let moved : c.push_values-pushed.new.number_objects ≡ all_pushed_in m columns values.numbers = c.in_default.ensures.numbers_moved ∙ ap (λ cs. all_pushed_in m cs values.numbers) c.deref_mut.ensures.value in
+    let moved : c.push_values-pushed.new.number_objects ≡ objects_after_push_all m columns values.numbers = c.in_default.ensures.numbers_moved ∙ ap (λ cs. objects_after_push_all m cs values.numbers) c.deref_mut.ensures.value in
     let most = number-versions g.S.FarTickets.content c.self.inside.size (length c.self.inside.alive) columns inv.some are m inv.numbers values.numbers same_length o in
     subst (λ r. version_of c.push_values-pushed.new.number_objects o ≤ version_of r.number_objects o + 1) c.self.view_is
     (subst (λ now. version_of now o ≤ version_of m o + 1) (sym moved) most)

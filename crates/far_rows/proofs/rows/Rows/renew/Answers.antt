@@ -2,7 +2,7 @@ use Rattle.std.proofs.Common.{◌≡◌, length, sym, ap, subst, ◌∙◌}
 use Rattle.far_scopes.specs.Renewal.{AreTicketsHere}
 use Rattle.far_rows.specs.Naming.{names_of}
 use Rattle.far_rows.specs.Rows.{Rows, all_cells}
-use Rattle.far_rows.proofs.Renewed.{renewed-named, rows-renewed, renewed-cells}
+use Rattle.far_rows.proofs.RenewalLaws.{renewed-named, rows-renewed, renewed-cells}
 use Rattle.far_rows.proofs.rows.Rows.renew.Goals as goal
 
 pub invariant_of-result : goal.invariant_of-result

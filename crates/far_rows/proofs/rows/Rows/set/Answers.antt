@@ -4,10 +4,10 @@ use Rattle.std.proofs.lemmas.Option.{slice_get_within}
 use Rattle.far_rows.specs.Rows.{all_cells}
 use Rattle.far_rows.specs.Setting.{cell_of, kind_in}
 use Rattle.far_rows.specs.Places.{places_of}
-use Rattle.far_rows.proofs.CellsLong.{column-long}
+use Rattle.far_rows.proofs.RowsSameLength.{column-long}
 use Rattle.far_rows.proofs.PlacesChanged.{places-set}
 use Rattle.far_rows.proofs.PlainSet.{found-column_index}
-use Rattle.far_rows.proofs.StillHere.{set-here, set-alive}
+use Rattle.far_rows.proofs.SettingLocality.{set-here, set-alive}
 use Rattle.far_rows.proofs.rows.Rows.set.Goals as goal
 
 pub returns-clause-places : goal.returns-clause-places

@@ -4,7 +4,7 @@ use Rattle.std.specs.Option.{option_map_or}
 use Rattle.std.proofs.lemmas.Option.{slice_get-get_or, slice_get-map, get_or_from_slice_get}
 use Rattle.far_scopes.specs.Movement.{Movement, AreHere, version_of}
 use Rattle.far_vector.specs.Vector.{Vector, IsVector, object_at}
-use Rattle.far_vector.specs.Effects.{range_written}
+use Rattle.far_vector.specs.Effects.{after_write_range}
 use Rattle.far_vector.specs.Refusing.{set_refusal}
 use Rattle.far_columns.specs.Numbers.{number_lists, numbers_in}
 use Rattle.far_columns.specs.NumbersTogether.{NumberColumns}
@@ -13,10 +13,10 @@ use Rattle.far_rows.specs.declared.new_cell.NewCell.TheVariants as new
 use Rattle.far_rows.specs.Naming.{names_of, AreNamed, AreOwned}
 use Rattle.far_rows.specs.Rows.{Rows, all_numbers}
 use Rattle.far_rows.specs.Setting.{set_in}
-use Rattle.far_rows.proofs.Names.{as-many, names-written}
-use Rattle.far_rows.proofs.Versions.{written-once}
-use Rattle.far_rows.proofs.OneCell.{numbers-still, numbers-set}
-use Rattle.far_rows.proofs.Writable.{size-same, free-column, place-of}
+use Rattle.far_rows.proofs.NamingLaws.{as-many, names-after_write}
+use Rattle.far_rows.proofs.EffectsVersions.{after_write-once}
+use Rattle.far_rows.proofs.SettingColumns.{numbers-still, numbers-set}
+use Rattle.far_rows.proofs.RefusingNumbers.{size-same, free-column, place-of}
 use Rattle.far_rows.proofs.rows.Rows.set_number.Goals as goal
 
 pub group_of-group-requires-after_bounds : goal.group_of-group-requires-after_bounds
@@ -53,7 +53,7 @@ invariant_of-self g c =
     let done = c.set_in_group.ensures in
     let within = subst (λ r. c.args.i < length r.numbers) (sym c.self.view_is) c.requires.within in
     let at : slice_get columns c.args.i ≡ Some v = slice_get-get_or columns c.args.i v within ∙ ap Some (sym c.index.ensures) in
-    let names : names_of now ≡ names_of m = ap names_of done.written ∙ names-written m (object_at v c.args.place) in
+    let names : names_of now ≡ names_of m = ap names_of done.written ∙ names-after_write m (object_at v c.args.place) in
     record {
       column_indexes = inv.column_indexes;
       few = inv.few;
@@ -88,7 +88,7 @@ returns-clause-moved g c =
     let done = c.set_in_group.ensures in
     let within = subst (λ r. c.args.i < length r.numbers) (sym c.self.view_is) c.requires.within in
     let at : slice_get columns c.args.i ≡ Some v = slice_get-get_or columns c.args.i v within ∙ ap Some (sym c.index.ensures) in
-    let put : Vector (Option ℤ) → Movement (Option ℤ) g.row.S-Ticket.Denot = λ w. range_written m w place (c.args.number ∷ []) in
+    let put : Vector (Option ℤ) → Movement (Option ℤ) g.row.S-Ticket.Denot = λ w. after_write_range m w place (c.args.number ∷ []) in
     let written : c.set_in_group.new.objects ≡ option_map_or put (slice_get columns c.args.i) m = done.written ∙ sym (ap (λ o. option_map_or put o m) at) in
     (λ j. record {
       column_indexes = c.self.inside.column_indexes.items;
@@ -130,4 +130,4 @@ returns-clause-versions g c = λ o.
     let v : Vector (Option ℤ) = c.index.result.now in
     let m = c.self.inside.number_objects in
     subst (λ r. version_of c.set_in_group.new.objects o ≤ version_of r.number_objects o + 1) c.self.view_is
-    (subst (λ (now : Movement (Option ℤ) g.row.S-Ticket.Denot). version_of now o ≤ version_of m o + 1) (sym c.set_in_group.ensures.written) (written-once m (object_at v c.args.place) o))
+    (subst (λ (now : Movement (Option ℤ) g.row.S-Ticket.Denot). version_of now o ≤ version_of m o + 1) (sym c.set_in_group.ensures.written) (after_write-once m (object_at v c.args.place) o))

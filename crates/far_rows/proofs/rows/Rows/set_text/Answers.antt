@@ -14,9 +14,9 @@ use Rattle.far_rows.specs.declared.new_cell.NewCell.TheVariants as new
 use Rattle.far_rows.specs.Naming.{names_of, AreNamed, AreOwned}
 use Rattle.far_rows.specs.Rows.{all_texts}
 use Rattle.far_rows.specs.Setting.{set_in}
-use Rattle.far_rows.proofs.Names.{as-many, names-replaced, still-named}
-use Rattle.far_rows.proofs.Versions.{replaced-version}
-use Rattle.far_rows.proofs.OneCell.{texts-still, texts-set, only-memory}
+use Rattle.far_rows.proofs.NamingLaws.{as-many, names-after_replace, still-named}
+use Rattle.far_rows.proofs.EffectsVersions.{replaced-version}
+use Rattle.far_rows.proofs.SettingColumns.{texts-still, texts-set, only-memory}
 use Rattle.far_rows.proofs.rows.Rows.set_text.Goals as goal
 
 pub set-requires-after_bounds : goal.set-requires-after_bounds
@@ -36,7 +36,7 @@ invariant_of-self g c =
     let within = subst (λ r. c.args.i < length r.texts) (sym c.self.view_is) c.requires.within in
     let at : slice_get columns c.args.i ≡ Some v = slice_get-get_or columns c.args.i v within ∙ ap Some (sym c.index.ensures) in
     let form : List ℕ = texts_form (group_with (lists_of content m) v c.args.place c.args.text.now) in
-    let names : names_of now ≡ names_of m = still-named m now (text_set_in content m v c.args.place c.args.text.now) c.set.result c.set.ensures.set c.set.ensures.err (names-replaced m (object_at v c.args.place) form) in
+    let names : names_of now ≡ names_of m = still-named m now (text_set_in content m v c.args.place c.args.text.now) c.set.result c.set.ensures.set c.set.ensures.err (names-after_replace m (object_at v c.args.place) form) in
     record {
       column_indexes = inv.column_indexes;
       few = inv.few;

@@ -10,7 +10,7 @@ use Rattle.far_rows.specs.declared.column_index.ColumnIndex.TheVariants as colum
 use Rattle.far_rows.specs.ColumnIndexes.{IsColumnIn, columns_of}
 use Rattle.far_rows.specs.Rows.{all_numbers, all_texts, all_cells}
 use Rattle.far_rows.specs.Setting.{cell_of, kind_in, set_in, with_cell_at}
-use Rattle.far_rows.proofs.CellsSet.{column_index-within, number-set, text-set}
+use Rattle.far_rows.proofs.SettingCells.{column_index-within, number-set, text-set}
 use Rattle.far_rows.proofs.rows.Rows.set_value.Goals as goal
 
 pub returns-in-Number-Number-clause-moved : goal.returns-in-Number-Number-clause-moved

@@ -10,8 +10,8 @@ use Rattle.far_types.specs.Lent.{text_cell}
 use Rattle.far_rows.specs.ColumnIndexes.{column_in}
 use Rattle.far_rows.specs.Rows.{Rows, all_numbers, all_texts}
 use Rattle.far_rows.specs.Refusing.{absent_at}
-use Rattle.far_rows.proofs.AbsentNames.{one-told}
-use Rattle.far_rows.proofs.Reading.{text-column, text-refused, cell-of-text}
+use Rattle.far_rows.proofs.RefusingNames.{one-away_at}
+use Rattle.far_rows.proofs.RowsReading.{text-column, text-refused, cell-of-text}
 use Rattle.far_rows.proofs.rows.Rows.text_at.Goals as goal
 
 pub text-requires-after_bounds : goal.text-requires-after_bounds
@@ -34,5 +34,5 @@ returns-clause-refused g c =
     let place = subst (λ (r : Rows g.row.S-Ticket.Denot). c.args.place < length r.alive) (sym c.self.view_is) c.requires.place in
     c.text.ensures.refused
     ∙ text-refused g.S.FarTickets.content _ c.self.invariant c.args.text c.args.place c.index-column.result.now column c.index-column.ensures place c.len-len.ensures.groups
-    ∙ one-told g.S.FarTickets.content _ c.self.invariant c.args.at (column_index.Text c.args.text) (subst (λ (r : Rows g.row.S-Ticket.Denot). slice_get r.column_indexes c.args.at ≡ Some (column_index.Text c.args.text)) (sym c.self.view_is) c.requires.lies) (c.args.place / c.self.inside.size)
+    ∙ one-away_at g.S.FarTickets.content _ c.self.invariant c.args.at (column_index.Text c.args.text) (subst (λ (r : Rows g.row.S-Ticket.Denot). slice_get r.column_indexes c.args.at ≡ Some (column_index.Text c.args.text)) (sym c.self.view_is) c.requires.lies) (c.args.place / c.self.inside.size)
     ∙ ap (λ (r : Rows g.row.S-Ticket.Denot). first_of (absent_at r c.args.at (c.args.place / r.size) (column_index.Text c.args.text) ∷ [])) c.self.view_is

@@ -2,7 +2,7 @@ use Rattle.std.proofs.Common.{◌≡◌, subst}
 use Rattle.std.specs.Prelude.{Some, slice_get}
 use Rattle.far_rows.specs.Naming.{names_of}
 use Rattle.far_rows.specs.Rows.{AreRows}
-use Rattle.far_rows.proofs.Spelled.{texts-spelled, text-owned}
+use Rattle.far_rows.proofs.NamingObjects.{texts-spelled, text-owned}
 use Rattle.far_rows.proofs.rows.Rows.text_objects.Goals as goal
 
 pub returns-clause-spelled : goal.returns-clause-spelled

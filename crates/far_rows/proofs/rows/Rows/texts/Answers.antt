@@ -9,7 +9,7 @@ use Rattle.far_rows.specs.declared.column_index.ColumnIndex.TheVariants as colum
 use Rattle.far_types.specs.Lent.{text_cell}
 use Rattle.far_rows.specs.Rows.{Rows, AreRows, all_cells}
 use Rattle.far_rows.specs.Lending.{texts_of}
-use Rattle.far_rows.proofs.LentTexts.{part-cells, part-due}
+use Rattle.far_rows.proofs.LendingTexts.{part-cells, part-due}
 use Rattle.far_rows.proofs.rows.Rows.texts.Goals as goal
 
 pub returns-clause-cells : goal.returns-clause-cells

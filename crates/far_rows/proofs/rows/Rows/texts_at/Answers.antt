@@ -7,10 +7,10 @@ use Rattle.far_vector.specs.Pieces.{overlapped_groups}
 use Rattle.far_texts.specs.Texts.{lists_of, texts_in}
 use Rattle.far_rows.specs.declared.column_index.ColumnIndex.TheVariants as column_index
 use Rattle.far_rows.specs.Rows.{Rows}
-use Rattle.far_rows.specs.Refusing.{told_at, no_range}
+use Rattle.far_rows.specs.Refusing.{away_at, no_range}
 use Rattle.far_rows.specs.Lending.{texts_of}
-use Rattle.far_rows.proofs.Reading.{text-column}
-use Rattle.far_rows.proofs.LentTexts.{texts-read, lent-values, lent-flags, flags-same_length, part-refused}
+use Rattle.far_rows.proofs.RowsReading.{text-column}
+use Rattle.far_rows.proofs.LendingTexts.{texts-read, lent-values, lent-flags, flags-same_length, part-refused}
 use Rattle.far_rows.proofs.rows.Rows.texts_at.Goals as goal
 
 pub texts-requires-clause-is : goal.texts-requires-clause-is
@@ -57,4 +57,4 @@ returns-clause-refused g c =
     let column = subst (λ (r : Rows g.row.S-Ticket.Denot). c.args.text < length r.texts) (sym c.self.view_is) c.requires in
     c.texts.ensures.refused
     ∙ part-refused g.S.FarTickets.content _ c.self.invariant c.args.text c.args.from c.args.to c.index-column.result.now column c.index-column.ensures
-    ∙ ap (λ (r : Rows g.row.S-Ticket.Denot). first_of (no_range r c.args.from c.args.to ∷ map (λ h. told_at r h (column_index.Text c.args.text)) (overlapped_groups r.size c.args.from c.args.to))) c.self.view_is
+    ∙ ap (λ (r : Rows g.row.S-Ticket.Denot). first_of (no_range r c.args.from c.args.to ∷ map (λ h. away_at r h (column_index.Text c.args.text)) (overlapped_groups r.size c.args.from c.args.to))) c.self.view_is

@@ -1,7 +1,7 @@
 use Rattle.std.proofs.Common.{sym, ◌∙◌}
 use Rattle.far_scopes.specs.Movement.{ticket_of}
 use Rattle.far_codec.specs.Spelling.{IsSpelled}
-use Rattle.far_evacuator.proofs.CopyLaws.{far-spelled}
+use Rattle.far_evacuator.proofs.MovementCopies.{far-spelled}
 use Rattle.far_rows.proofs.Copies.{away-clean, if-found}
 use Rattle.far_rows.proofs.rows.copying.clean_ticket.Goals as goal
 

@@ -4,7 +4,7 @@ use Rattle.std.proofs.lemmas.Option.{slice_get-map}
 use Rattle.far_scopes.specs.declared.object_record.ObjectRecord.{ObjectRecord}
 use Rattle.far_scopes.specs.Movement.{Movement}
 use Rattle.far_rows.specs.Naming.{names_of}
-use Rattle.far_rows_tests.proofs.Found.{number-owner}
+use Rattle.far_rows_tests.proofs.MovingObjects.{number-owner}
 use Rattle.far_rows_tests.proofs.rows.callers.number_owner.Goals as goal
 
 pub returns : goal.returns

@@ -1,4 +1,4 @@
-use Rattle.far_rows_tests.proofs.Found.{begun-is-ok}
+use Rattle.far_rows_tests.proofs.MovingObjects.{begun-is-ok}
 use Rattle.far_rows_tests.proofs.rows.callers.object_begun.Goals as goal
 
 pub returns : goal.returns

@@ -6,8 +6,8 @@ use Rattle.far_log.specs.RegionState.{fits_in}
 use Rattle.far_scopes.specs.Memory.{list_in, ChangesList}
 use Rattle.far_scopes.specs.Placing.{with_object}
 use Rattle.far_scopes.specs.Refusing.{refusal_in}
-use Rattle.far_scopes.proofs.FitsAll.{no_space-next}
-use Rattle.far_scopes.proofs.PlacedFirst.{once-rest, local-rest, first-other, local-first, local-last, replaced-is, lists-replaced}
+use Rattle.far_scopes.proofs.ReplacingFits.{no_space-next}
+use Rattle.far_scopes.proofs.ReplacingFirst.{once-rest, local-rest, first-other, local-first, local-last, replaced-is, lists-replaced}
 use Rattle.far_scopes.proofs.memory.LocalMemory.+replace_all.Goals as goal
 
 pub replace_all-requires-clause-local : goal.replace_all-requires-clause-local
@@ -44,13 +44,13 @@ take_over-requires-clause-last g t c κs within =
 pub returns-clause-ok : goal.returns-clause-ok
 returns-clause-ok g t c =
     let placed = c.in_ok-add.ensures.ok ∙ ap (with_object c.args.self.now) c.deref.ensures.value in
-    replaced-is c.args.self.now c.in-Some.first.now c.in-Some.rest.now c.args.lists.now c.in-Some.ensures.cases.0 c.requires.local c.requires.once c.add.new.self placed c.replace_all.new.self c.in_default-replace_all.ensures.ok c.take_over.new.self c.take_over.ensures.taken
+    replaced-is c.args.self.now c.in-Some.first.now c.in-Some.rest.now c.args.lists.now c.in-Some.ensures.cases.0 c.requires.local c.requires.once c.add.new.self placed c.replace_all.new.self c.in_default-replace_all.ensures.ok c.take_over.new.self c.take_over.ensures.effect
 
 pub returns-clause-lists : goal.returns-clause-lists
 returns-clause-lists g t c =
     let placed = c.in_ok-add.ensures.ok ∙ ap (with_object c.args.self.now) c.deref.ensures.value in
     let first = subst (λ l. ChangesList (list_in c.args.self.now) (list_in c.add.new.self) (length c.args.self.now.words) (Some l)) c.deref.ensures.value c.in_ok-add.ensures.list in
-    lists-replaced c.args.self.now c.in-Some.first.now c.in-Some.rest.now c.args.lists.now c.in-Some.ensures.cases.0 c.requires.local c.requires.once c.add.new.self placed c.replace_all.new.self c.in_default-replace_all.ensures.ok c.take_over.new.self c.take_over.ensures.taken first c.in_default-replace_all.ensures.lists c.take_over.ensures.here c.take_over.ensures.others
+    lists-replaced c.args.self.now c.in-Some.first.now c.in-Some.rest.now c.args.lists.now c.in-Some.ensures.cases.0 c.requires.local c.requires.once c.add.new.self placed c.replace_all.new.self c.in_default-replace_all.ensures.ok c.take_over.new.self c.take_over.ensures.effect first c.in_default-replace_all.ensures.lists c.take_over.ensures.here c.take_over.ensures.others
 
 pub returns-clause-free : goal.returns-clause-free
 returns-clause-free g t c =

@@ -1,12 +1,12 @@
 use Rattle.std.proofs.Common.{◌≡◌, ◌+◌, ◌++◌, length, map, take, drop, ap, subst, ◌∙◌, arith}
 use Rattle.far_types.specs.declared.refusal.Refusal.TheVariants.{OutOfRange}
-use Rattle.far_log.proofs.Compactions.{whole-back}
+use Rattle.far_log.proofs.EffectsCompaction.{whole-back}
 use Rattle.far_log.specs.Effects.{Compacts}
 use Rattle.far_scopes.specs.declared.memory.compaction.SegmentObject.{SegmentObject}
 use Rattle.far_scopes.specs.SegmentObjects.{AreHotFirst, Settles}
 use Rattle.far_scopes.specs.Cool.{cool_in}
 use Rattle.far_scopes.proofs.CoolLaws.{cool-le-length}
-use Rattle.far_scopes.proofs.Compacted.{not-missing, order-listed, within-words, once-each, long-enough, Done, compacted-done}
+use Rattle.far_scopes.proofs.CompactionMemory.{not-missing, order-listed, within-words, once-each, long-enough, Done, compacted-done}
 use Rattle.far_scopes.proofs.memory.LocalMemory.compact.Given as given
 use Rattle.far_scopes.proofs.memory.LocalMemory.compact.Goals as goal
 

@@ -5,7 +5,7 @@ use Rattle.std.proofs.lemmas.List.{with_items_is}
 use Rattle.far_scopes.specs.Memory.{list_in}
 use Rattle.far_scopes.specs.Renewal.{renewed_word}
 use Rattle.far_scopes.proofs.CoolLaws.{cool-renewed}
-use Rattle.far_scopes.proofs.RenewedWords.{renewed_before, renewed-more, renewed-read, renewed-all, memory-renewed, list-renewed, list-placed}
+use Rattle.far_scopes.proofs.RenewalWords.{renewed_before, renewed-more, renewed-read, renewed-all, memory-renewed, list-renewed, list-placed}
 use Rattle.far_scopes.proofs.memory.LocalMemory.forget_copies.Given as given
 use Rattle.far_scopes.proofs.memory.LocalMemory.forget_copies.Goals as goal
 

@@ -1,5 +1,5 @@
 use Rattle.std.proofs.Common.{◌≡◌}
-use Rattle.far_scopes.proofs.RenewedWords.{renewed_before}
+use Rattle.far_scopes.proofs.RenewalWords.{renewed_before}
 use Rattle.far_scopes.proofs.memory.LocalMemory.forget_copies.Given as goal
 
 abbrev pub invariant-loop-word : goal.invariant-loop-word

@@ -1,7 +1,7 @@
 use Rattle.std.proofs.Common.{◌<◌, length, true, refl, sym, subst, arith}
 use Rattle.far_pointer.specs.Layout.{with_dirty, with_hot}
-use Rattle.far_scopes.proofs.WordPlaces.{word-read}
-use Rattle.far_scopes.proofs.MemoryLaws.{already-marked, memory-marked, lists-marked, at-dirty_hot}
+use Rattle.far_scopes.proofs.MemoryWordPlaces.{word-read}
+use Rattle.far_scopes.proofs.MemoryLaws.{already-marked, memory-after_mark, lists-after_mark, at-dirty_hot}
 use Rattle.far_scopes.proofs.CoolLaws.{none-hot, count-there, count-less}
 use Rattle.far_scopes.proofs.memory.LocalMemory.mark.Goals as goal
 
@@ -22,7 +22,7 @@ invariant_of-self g c =
     let within = subst (λ m. c.args.o < length m.words) (sym c.self.view_is) c.requires in
     let was = word-read c.self.inside.words.items c.args.o c.index-word.result.now within c.index-word.ensures in
     rw (c.with_hot.ensures, c.with_dirty.ensures, c.cool_of.ensures) record {
-      memory = memory-marked c.self.inside.words.items c.self.inside.region c.self.invariant.memory c.args.o c.index-word.result.now _ was (at-dirty_hot c.index-word.result.now);
+      memory = memory-after_mark c.self.inside.words.items c.self.inside.region c.self.invariant.memory c.args.o c.index-word.result.now _ was (at-dirty_hot c.index-word.result.now);
       count = count-less c.self.inside.words.items c.args.o c.index-word.result.now was c.self.inside.cool c.self.invariant.count (with_hot (with_dirty c.index-word.result.now) true) (none-hot (with_dirty c.index-word.result.now));
     }
 
@@ -36,4 +36,4 @@ pub returns-clause-lists : goal.returns-clause-lists
 returns-clause-lists g c =
     let within = subst (λ m. c.args.o < length m.words) (sym c.self.view_is) c.requires in
     let was = word-read c.self.inside.words.items c.args.o c.index-word.result.now within c.index-word.ensures in
-    rw (c.with_hot.ensures, c.with_dirty.ensures, ← c.self.view_is) (lists-marked c.self.inside.words.items c.self.inside.region c.self.invariant.memory c.args.o c.index-word.result.now _ was (at-dirty_hot c.index-word.result.now))
+    rw (c.with_hot.ensures, c.with_dirty.ensures, ← c.self.view_is) (lists-after_mark c.self.inside.words.items c.self.inside.region c.self.invariant.memory c.args.o c.index-word.result.now _ was (at-dirty_hot c.index-word.result.now))

@@ -1,7 +1,7 @@
 use Rattle.std.proofs.Common.{◌<◌, length, refl, sym, ap, subst, ◌∙◌}
 use Rattle.far_scopes.specs.Memory.{at_of}
 use Rattle.far_scopes.specs.Cool.{cool_of}
-use Rattle.far_scopes.proofs.WordPlaces.{word-read, place-read, place-within}
+use Rattle.far_scopes.proofs.MemoryWordPlaces.{word-read, place-read, place-within}
 use Rattle.far_scopes.proofs.MemoryLaws.{memory-replaced, list-replaced, at-moved, spot-is, new-is}
 use Rattle.far_scopes.proofs.CoolLaws.{same-moved, count-same}
 use Rattle.far_scopes.proofs.memory.LocalMemory.replace.Goals as goal

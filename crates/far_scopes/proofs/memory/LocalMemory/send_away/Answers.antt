@@ -1,6 +1,6 @@
 use Rattle.std.proofs.Common.{◌<◌, length, refl, sym, subst, arith}
 use Rattle.far_pointer.specs.declared.pointer.Pointer.TheVariants.{Remote}
-use Rattle.far_scopes.proofs.WordPlaces.{word-read, place-read, place-within}
+use Rattle.far_scopes.proofs.MemoryWordPlaces.{word-read, place-read, place-within}
 use Rattle.far_scopes.proofs.MemoryLaws.{memory-lost, list-lost}
 use Rattle.far_scopes.proofs.CoolLaws.{count-there, count-less}
 use Rattle.far_scopes.proofs.memory.LocalMemory.send_away.Goals as goal

@@ -1,8 +1,8 @@
 use Rattle.std.proofs.Common.{sym, ap, subst, ◌∙◌, arith}
 use Rattle.std.specs.Option.{option_and_then}
 use Rattle.far_scopes.specs.SegmentObjects.{offset_if, AreObjects}
-use Rattle.far_scopes.proofs.WordPlaces.{word-read}
-use Rattle.far_scopes.proofs.ObjectLists.{objects-push, objects-past}
+use Rattle.far_scopes.proofs.MemoryWordPlaces.{word-read}
+use Rattle.far_scopes.proofs.SegmentObjectsLists.{objects-push, objects-past}
 use Rattle.far_scopes.proofs.memory.compaction.objects_in.Goals.{in-Some+in_ok-push, in_default}
 use Rattle.far_scopes.proofs.memory.compaction.objects_in.Goals as goal
 

@@ -8,8 +8,8 @@ use Rattle.far_pointer.specs.Layout.{is_hot, with_hot, with_at}
 use Rattle.far_scopes.specs.declared.memory.compaction.SegmentObject.{SegmentObject}
 use Rattle.far_scopes.specs.SegmentObjects.{Settles}
 use Rattle.far_scopes.specs.Cool.{cool_in}
-use Rattle.far_scopes.proofs.WordPlaces.{word-read}
-use Rattle.far_scopes.proofs.Settling.{settles-none, settles-more}
+use Rattle.far_scopes.proofs.MemoryWordPlaces.{word-read}
+use Rattle.far_scopes.proofs.SegmentObjectsWords.{settles-none, settles-more}
 use Rattle.far_scopes.proofs.CoolLaws.{more-cooled, hot-at-most-one, cool-set}
 use Rattle.far_scopes.proofs.memory.compaction.settle.Goals as goal
 

@@ -1,7 +1,7 @@
 use Rattle.std.proofs.Common.{rules, length}
 use Rattle.std.proofs.lemmas.List.Sorted.{IsNonDecreasingBy-from_sort_by_key}
 use Rattle.far_scopes.specs.declared.memory.compaction.SegmentObject.{SegmentObject}
-use Rattle.far_scopes.proofs.ObjectLists.{objects-moved, sorted-mapped}
+use Rattle.far_scopes.proofs.SegmentObjectsLists.{objects-moved, sorted-mapped}
 use Rattle.far_scopes.proofs.memory.compaction.sorted.Goals as goal
 
 pub returns-clause-found : goal.returns-clause-found

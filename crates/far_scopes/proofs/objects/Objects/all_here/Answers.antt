@@ -1,7 +1,7 @@
 use Rattle.std.proofs.Common.{Some, refl, sym, ap, map, ◌∙◌}
 use Rattle.far_scopes.specs.Refusing.{first_absent}
-use Rattle.far_scopes.proofs.Refused.{not-not, away-is}
-use Rattle.far_scopes.proofs.MarkedAll.{next-is}
+use Rattle.far_scopes.proofs.RefusingLaws.{not-not, away-is}
+use Rattle.far_scopes.proofs.RefusingWrites.{next-is}
 use Rattle.far_scopes.proofs.objects.Objects.all_here.Goals as goal
 
 pub returns-then-is_away : goal.returns-then-is_away

@@ -1,7 +1,7 @@
 use Rattle.std.proofs.Common.{Some, refl, sym, ap, ◌∙◌}
 use Rattle.std.proofs.lemmas.List.{at_drop_more}
 use Rattle.far_scopes.specs.Refusing.{first_absent}
-use Rattle.far_scopes.proofs.Refused.{not-not, away-is}
+use Rattle.far_scopes.proofs.RefusingLaws.{not-not, away-is}
 use Rattle.far_scopes.proofs.objects.Objects.all_local.Goals as goal
 
 pub returns-then-is_away : goal.returns-then-is_away

@@ -1,8 +1,8 @@
 use Rattle.std.proofs.Common.{◌<◌, ◌≤◌, length, refl, sym, ap, subst, ◌∙◌}
 use Rattle.far_scopes.specs.Movement.{record_of}
 use Rattle.far_scopes.specs.Refusing.{any_written_out}
-use Rattle.far_scopes.proofs.WordPlaces.{word-read}
-use Rattle.far_scopes.proofs.MarkedAll.{next-is, used-up, left-over}
+use Rattle.far_scopes.proofs.MemoryWordPlaces.{word-read}
+use Rattle.far_scopes.proofs.RefusingWrites.{next-is, used-up, left-over}
 use Rattle.far_scopes.proofs.objects.Objects.all_writable.Goals as goal
 
 pub returns-then-index-self : goal.returns-then-index-self

@@ -2,7 +2,7 @@ use Rattle.std.proofs.Common.{◌≡◌, length, sym, ap, subst, ◌∙◌, arit
 use Rattle.std.proofs.lemmas.Bool.{eqb-true, eq-eqb}
 use Rattle.far_codec.specs.Spelling.{IsSpelled}
 use Rattle.far_scopes.specs.Movement.{AreTracked}
-use Rattle.far_scopes.proofs.AllLocal.{all-local}
+use Rattle.far_scopes.proofs.RecencyAllLocal.{all-local}
 use Rattle.far_scopes.proofs.objects.Objects.are_all_local.Goals as goal
 
 pub returns : goal.returns

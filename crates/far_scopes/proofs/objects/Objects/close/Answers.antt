@@ -2,8 +2,8 @@ use Rattle.std.proofs.Common.{◌≡◌, ◌∙◌, ap, subst}
 use Rattle.std.proofs.lemmas.List.{drop_all}
 use Rattle.far_scopes.specs.Movement.{list_of, AreHere}
 use Rattle.far_scopes.specs.Entering.{after_close}
-use Rattle.far_scopes.proofs.Framing.{here-closed}
-use Rattle.far_scopes.proofs.ListsKept.{lists-closed}
+use Rattle.far_scopes.proofs.MovementFrames.{here-closed}
+use Rattle.far_scopes.proofs.MovementRecords.{lists-closed}
 use Rattle.far_scopes.proofs.objects.Objects.close.Goals as goal
 
 pub returns-clause-store : goal.returns-clause-store

@@ -1,6 +1,6 @@
 use Rattle.std.proofs.Common.{sym, subst}
 use Rattle.far_scopes.specs.Movement.{Movement, AreClean, AreHere}
-use Rattle.far_scopes.proofs.CompactedObjects.{tracked-compacted, clean-compacted}
+use Rattle.far_scopes.proofs.MovementCompaction.{tracked-compacted, clean-compacted}
 use Rattle.far_scopes.proofs.objects.Objects.compact.Goals as goal
 
 pub invariant_of-self-2 : goal.invariant_of-self-2

@@ -1,8 +1,8 @@
 use Rattle.std.proofs.Common.{◌≡◌, ◌<◌, ◌^◌, length, sym, ap, subst, ◌∙◌}
-use Rattle.far_scopes.specs.Placing.{removed}
-use Rattle.far_scopes.proofs.Undone.{uncreated-created}
-use Rattle.far_scopes.proofs.Creations.{tracked-made, lists-made, clean-made, last-made}
-use Rattle.far_scopes.proofs.FitsAll.{fits-next}
+use Rattle.far_scopes.specs.Placing.{after_remove_last}
+use Rattle.far_scopes.proofs.PlacingUndo.{after_uncreate-after_create}
+use Rattle.far_scopes.proofs.MovementCreations.{tracked-made, lists-made, clean-made, last-made}
+use Rattle.far_scopes.proofs.ReplacingFits.{fits-next}
 use Rattle.far_scopes.proofs.objects.Objects.create.Goals as goal
 
 pub invariant_of-self-2 : goal.invariant_of-self-2
@@ -16,8 +16,8 @@ returns-clause-clean g c = rw (← c.self.view_is, c.push_reserved.ensures.items
 
 pub returns-clause-undone : goal.returns-clause-undone
 returns-clause-undone g c =
-    let back = subst (λ memory. removed memory ≡ c.self.inside.memory) c.in_default.ensures.ok c.in_default.ensures.undone in
-    rw (← c.self.view_is, c.push_reserved.ensures.items, c.in_ok-add.ensures.ok, c.len-o.ensures, c.reserve.new.self.ok.0, c.reserve.ensures.items, c.in_default.ensures.ok) (uncreated-created _ c.args.name c.args.items.now back)
+    let back = subst (λ memory. after_remove_last memory ≡ c.self.inside.memory) c.in_default.ensures.ok c.in_default.ensures.undone in
+    rw (← c.self.view_is, c.push_reserved.ensures.items, c.in_ok-add.ensures.ok, c.len-o.ensures, c.reserve.new.self.ok.0, c.reserve.ensures.items, c.in_default.ensures.ok) (after_uncreate-after_create _ c.args.name c.args.items.now back)
 
 pub returns-clause-last : goal.returns-clause-last
 returns-clause-last g c = rw (← c.self.view_is, c.push_reserved.ensures.items, c.reserve.ensures.items) (last-made g.T.Elem.meaning g.S.FarTickets.content _ _ c.self.invariant c.add-2.new.self _ c.args.name c.args.items.now (ap (λ m. m.words) c.in_default.ensures.ok) c.in_default.ensures.list)

@@ -7,7 +7,7 @@ use Rattle.far_scopes.proofs.objects.Objects.first_cold.Given as goal
 abbrev pub invariant-loop-o : goal.invariant-loop-o
 invariant-loop-o g l =
     (coldest l.self ≡ coldest_in l.self l.hot (keys_of l.rest))
-    × ((seen : List ℕ) × (l.self.order ≡ keys_of l.rest ++ seen))
+    × ((visited : List ℕ) × (l.self.order ≡ keys_of l.rest ++ visited))
 
 abbrev pub decreases-loop-o : goal.decreases-loop-o
 decreases-loop-o g l = length l.rest

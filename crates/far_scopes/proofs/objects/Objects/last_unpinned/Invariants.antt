@@ -7,7 +7,7 @@ use Rattle.far_scopes.proofs.objects.Objects.last_unpinned.Given as goal
 abbrev pub invariant-loop-last : goal.invariant-loop-last
 invariant-loop-last g l =
     (find (is_unpinned l.self) (reverse l.self.order) ≡ find (is_unpinned l.self) (reverse (keys_of l.rest)))
-    × ((seen : List ℕ) × (l.self.order ≡ keys_of l.rest ++ seen))
+    × ((visited : List ℕ) × (l.self.order ≡ keys_of l.rest ++ visited))
 
 abbrev pub decreases-loop-last : goal.decreases-loop-last
 decreases-loop-last g l = length l.rest

@@ -3,7 +3,7 @@ use Rattle.std.specs.Prelude.{IsSomeAnd}
 use Rattle.far_codec.specs.Spelling.{IsSpelled}
 use Rattle.far_scopes.specs.Memory.{list_in}
 use Rattle.far_scopes.specs.Movement.{pins_of, leavings_of}
-use Rattle.far_scopes.proofs.Departures.{reads-spelled, object_record-was, tracked-gone, lists-gone, clean-gone}
+use Rattle.far_scopes.proofs.MovementDepartures.{reads-spelled, object_record-was, tracked-gone, lists-gone, clean-gone}
 use Rattle.far_scopes.proofs.objects.Objects.leave.Goals as goal
 
 pub invariant_of-self : goal.invariant_of-self

@@ -1,7 +1,7 @@
 use Rattle.std.proofs.Common.{◌≡◌, true, sym, subst}
 use Rattle.far_scopes.specs.Movement.{is_local}
-use Rattle.far_scopes.proofs.Refused.{local-lent}
-use Rattle.far_scopes.proofs.Tracked.{long-read}
+use Rattle.far_scopes.proofs.RefusingLaws.{local-lent}
+use Rattle.far_scopes.proofs.MovementLaws.{long-read}
 use Rattle.far_scopes.proofs.objects.Objects.lend.Goals as goal
 
 pub lend-requires-clause-long : goal.lend-requires-clause-long

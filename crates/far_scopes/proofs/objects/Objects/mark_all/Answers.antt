@@ -4,9 +4,9 @@ use Rattle.std.proofs.lemmas.List.Elements.{All-head}
 use Rattle.far_scopes.specs.Refusing.{write_refusal}
 use Rattle.far_scopes.specs.Replacing.{AreListedOnce, AreCleanElsewhere}
 use Rattle.far_scopes.specs.Effects.{after_write_all}
-use Rattle.far_scopes.proofs.Pins.{length-with}
-use Rattle.far_scopes.proofs.Relisted.{once-tail}
-use Rattle.far_scopes.proofs.MarkedAll.{next-is, free-rest, clean-rest}
+use Rattle.far_scopes.proofs.EnteringPins.{length-with}
+use Rattle.far_scopes.proofs.ReplacingRecords.{once-tail}
+use Rattle.far_scopes.proofs.RefusingWrites.{next-is, free-rest, clean-rest}
 use Rattle.far_scopes.proofs.objects.Objects.mark_all.Goals as goal
 
 pub mark-requires-clause-free : goal.mark-requires-clause-free

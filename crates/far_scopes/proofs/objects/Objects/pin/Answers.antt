@@ -1,9 +1,9 @@
 use Rattle.std.proofs.Common.{◌≡◌, ◌<◌, length, refl, sym, subst}
 use Rattle.std.proofs.lemmas.Bool.{ne_eqb}
 use Rattle.far_scopes.specs.Movement.{is_local, pins_of, list_of, AreClean}
-use Rattle.far_scopes.proofs.WordPlaces.{word-read}
-use Rattle.far_scopes.proofs.Transitions.{tracked-recorded, tracked-pins, clean-recorded, true-or-false}
-use Rattle.far_scopes.proofs.ListsKept.{lists-pinned}
+use Rattle.far_scopes.proofs.MemoryWordPlaces.{word-read}
+use Rattle.far_scopes.proofs.MovementTransitions.{tracked-recorded, tracked-pins, clean-recorded, true-or-false}
+use Rattle.far_scopes.proofs.MovementRecords.{lists-after_pin}
 use Rattle.far_scopes.proofs.objects.Objects.pin.Goals as goal
 
 pub invariant_of-self-2 : goal.invariant_of-self-2
@@ -34,4 +34,4 @@ returns-clause-refused g c =
 
 pub returns-clause-lists : goal.returns-clause-lists
 returns-clause-lists g c =
-    λ p. subst (λ m. list_of g.T.Elem.meaning g.S.FarTickets.content m p ≡ list_of g.T.Elem.meaning g.S.FarTickets.content c.args.self.now p) (sym (returns-clause-pinned g c)) (lists-pinned g.T.Elem.meaning g.S.FarTickets.content c.args.self.now c.args.o p)
+    λ p. subst (λ m. list_of g.T.Elem.meaning g.S.FarTickets.content m p ≡ list_of g.T.Elem.meaning g.S.FarTickets.content c.args.self.now p) (sym (returns-clause-pinned g c)) (lists-after_pin g.T.Elem.meaning g.S.FarTickets.content c.args.self.now c.args.o p)

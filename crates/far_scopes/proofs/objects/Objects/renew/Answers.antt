@@ -5,7 +5,7 @@ use Rattle.std.specs.Vec.Iter.{into_iter_items}
 use Rattle.far_codec.specs.Spelling.{IsSpelled}
 use Rattle.far_scopes.specs.Memory.{place_of, list_in}
 use Rattle.far_scopes.specs.Movement.{list_of, AreClean, AreHere}
-use Rattle.far_scopes.proofs.Renewed.{records-renewed, none-left, here-renewed, lists-renewed, clean-renewed, tracked-renewed}
+use Rattle.far_scopes.proofs.RenewalLaws.{records-renewed, none-left, here-renewed, lists-renewed, clean-renewed, tracked-renewed}
 use Rattle.far_scopes.proofs.objects.Objects.renew.Given as given
 use Rattle.far_scopes.proofs.objects.Objects.renew.Goals as goal
 

@@ -2,7 +2,7 @@ use Rattle.std.proofs.Common.{◌≡◌, ◌≤◌, ◌+◌, ◌++◌, length}
 use Rattle.std.specs.Iterator.Adapters.{zip_first, zip_second}
 use Rattle.std.specs.Vec.{vec_capacity}
 use Rattle.std.specs.Vec.Iter.{into_iter_items, into_iter_len}
-use Rattle.far_scopes.proofs.Renewed.{records-renewed}
+use Rattle.far_scopes.proofs.RenewalLaws.{records-renewed}
 use Rattle.far_scopes.proofs.objects.Objects.renew.Given as goal
 
 abbrev pub invariant-loop-object_record : goal.invariant-loop-object_record

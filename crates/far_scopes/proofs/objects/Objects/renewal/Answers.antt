@@ -1,7 +1,7 @@
 use Rattle.std.proofs.Common.{◌≡◌, length, length-append, [], ◌∷◌, cond, None, sym, ap, ◌∙◌, arith}
 use Rattle.std.specs.Prelude.{option_map, IfSome}
 use Rattle.far_scopes.specs.Movement.{is_local, ticket_of}
-use Rattle.far_scopes.proofs.Renewing.{away-some, away-none, renewed-push, renews-all, here-push}
+use Rattle.far_scopes.proofs.RenewalTickets.{away-some, away-none, renewed-push, renews-all, here-push}
 use Rattle.far_scopes.proofs.objects.Objects.renewal.Given as given
 use Rattle.far_scopes.proofs.objects.Objects.renewal.Goals as goal
 use Rattle.far_scopes.proofs.objects.Objects.renewal.Goals.{in-Some+in_ok-put_again-in-Some, in-None}

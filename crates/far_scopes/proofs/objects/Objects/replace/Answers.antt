@@ -1,10 +1,10 @@
 use Rattle.std.proofs.Common.{◌≡◌, ◌<◌, false, length, None, refl, sym, subst}
 use Rattle.far_log.specs.RegionState.{fits_in}
 use Rattle.far_scopes.specs.Refusing.{replace_refusal}
-use Rattle.far_scopes.proofs.Refused.{free-placed}
-use Rattle.far_scopes.proofs.Replacements.{object_record-was, tracked-mid, free-mid, lists-new, clean-new}
+use Rattle.far_scopes.proofs.RefusingLaws.{free-placed}
+use Rattle.far_scopes.proofs.MovementReplacement.{object_record-was, tracked-mid, free-mid, lists-new, clean-new}
 use Rattle.far_scopes.specs.Movement.{AreHere}
-use Rattle.far_scopes.proofs.Framing.{here-replaced}
+use Rattle.far_scopes.proofs.MovementFrames.{here-replaced}
 use Rattle.far_scopes.proofs.objects.Objects.replace.Goals as goal
 
 pub invariant_of-self-2 : goal.invariant_of-self-2

@@ -7,10 +7,10 @@ use Rattle.far_scopes.specs.Movement.{AreClean, AreHere}
 use Rattle.far_scopes.specs.Refusing.{refusal_in, first_absent, any_written_out, replace_all_refusal}
 use Rattle.far_scopes.specs.Replacing.{no_space_for_all, first_fits}
 use Rattle.far_scopes.specs.Effects.{with_lens}
-use Rattle.far_scopes.proofs.Framing.{here-replaced_all}
-use Rattle.far_scopes.proofs.Relisted.{length-lens}
-use Rattle.far_scopes.proofs.RefusedAll.{all-placed, refusal-is, checked-free, err-handed, absent-no-memory}
-use Rattle.far_scopes.proofs.ReplacedAll.{tracked-mid, lists-new, clean-mid, free-mid}
+use Rattle.far_scopes.proofs.MovementFrames.{here-replaced_all}
+use Rattle.far_scopes.proofs.ReplacingRecords.{length-lens}
+use Rattle.far_scopes.proofs.RefusingReplacements.{all-placed, refusal-is, checked-free, err-handed, absent-no-memory}
+use Rattle.far_scopes.proofs.ReplacingMovement.{tracked-mid, lists-new, clean-mid, free-mid}
 use Rattle.far_scopes.proofs.objects.Objects.replace_all.Goals as goal
 
 pub replace_all-requires-clause-local : goal.replace_all-requires-clause-local
@@ -33,7 +33,7 @@ returns-in_err-replace_all-clause-refused g c =
     err-handed c.from_residual-in_err-replace_all.result c.in_err-replace_all.field-0.0
     (λ e. (replace_all_refusal c.args.self.now c.args.lists.now ≡ Some e) ⊎ ((first_absent c.args.self.now (map (λ r. r.object) c.args.lists.now) ≡ None) × (e ≡ NoMemory)))
     (elim c.in_err-replace_all.ensures.refused [
-      | inl told ↦ inl (all ∙ sym state ∙ told)
+      | inl stated ↦ inl (all ∙ sym state ∙ stated)
       | inr memory ↦ inr (here, memory)
     ])
     c.from_residual-in_err-replace_all.ensures.1

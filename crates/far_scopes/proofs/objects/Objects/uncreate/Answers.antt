@@ -1,8 +1,8 @@
 use Rattle.std.proofs.Common.{◌≡◌, ◌-◌, length, true, sym, ap, subst}
 use Rattle.far_scopes.specs.Memory.{place_of}
 use Rattle.far_scopes.specs.Movement.{is_local}
-use Rattle.far_scopes.proofs.WordPlaces.{some-true}
-use Rattle.far_scopes.proofs.Unmade.{cut-length, tracked-unmade, lists-unmade, clean-unmade, changes-unmade, here-unmade}
+use Rattle.far_scopes.proofs.MemoryWordPlaces.{some-true}
+use Rattle.far_scopes.proofs.MovementUndo.{cut-length, tracked-unmade, lists-unmade, clean-unmade, changes-unmade, here-unmade}
 use Rattle.far_scopes.proofs.objects.Objects.uncreate.Goals as goal
 
 pub remove_last-requires-after_bounds : goal.remove_last-requires-after_bounds

@@ -1,9 +1,9 @@
 use Rattle.std.proofs.Common.{◌≡◌, ◌<◌, length, refl, sym, subst}
 use Rattle.std.proofs.lemmas.Bool.{ne_eqb}
 use Rattle.far_scopes.specs.Movement.{pins_of, list_of, AreClean}
-use Rattle.far_scopes.proofs.WordPlaces.{word-read}
-use Rattle.far_scopes.proofs.Transitions.{tracked-recorded, tracked-pins, clean-recorded}
-use Rattle.far_scopes.proofs.ListsKept.{lists-unpinned}
+use Rattle.far_scopes.proofs.MemoryWordPlaces.{word-read}
+use Rattle.far_scopes.proofs.MovementTransitions.{tracked-recorded, tracked-pins, clean-recorded}
+use Rattle.far_scopes.proofs.MovementRecords.{lists-unpinned}
 use Rattle.far_scopes.proofs.objects.Objects.unpin.Goals as goal
 
 pub invariant_of-self-2 : goal.invariant_of-self-2

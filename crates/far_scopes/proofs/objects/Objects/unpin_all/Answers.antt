@@ -1,6 +1,6 @@
 use Rattle.std.proofs.Common.{◌<◌, ◌-◌, length, ◌∙◌, arith}
 use Rattle.std.proofs.lemmas.List.Elements.{All-get_or}
-use Rattle.far_scopes.proofs.Pins.{undo-one}
+use Rattle.far_scopes.proofs.EnteringPins.{undo-one}
 use Rattle.far_scopes.proofs.objects.Objects.unpin_all.Goals as goal
 
 pub loop-left-preserved : goal.loop-left-preserved

@@ -1,7 +1,7 @@
 use Rattle.std.proofs.Common.{◌<◌, ◌+◌, length, drop, refl, sym, ap, subst, ◌∙◌}
 use Rattle.far_scopes.specs.Effects.{with_lens}
-use Rattle.far_scopes.proofs.WordPlaces.{word-read}
-use Rattle.far_scopes.proofs.MarkedAll.{next-is}
+use Rattle.far_scopes.proofs.MemoryWordPlaces.{word-read}
+use Rattle.far_scopes.proofs.RefusingWrites.{next-is}
 use Rattle.far_scopes.proofs.objects.replacing.set_lens.Goals as goal
 
 pub loop-replacement-preserved : goal.loop-replacement-preserved

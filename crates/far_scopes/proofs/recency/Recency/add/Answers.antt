@@ -1,7 +1,7 @@
 use Rattle.std.proofs.Common.{◌≡◌, false, ◌∷◌, ap, ◌∙◌, arith}
 use Rattle.std.specs.Map.{keys_of}
 use Rattle.far_scopes.specs.Recency.{has}
-use Rattle.far_scopes.proofs.KeyLaws.{added_keys}
+use Rattle.far_scopes.proofs.RecencyKeys.{added_keys}
 use Rattle.far_scopes.proofs.recency.Recency.add.Goals as goal
 
 pub returns-clause-ok : goal.returns-clause-ok

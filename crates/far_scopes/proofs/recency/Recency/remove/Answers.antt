@@ -1,7 +1,7 @@
 use Rattle.std.proofs.Common.{ap, ◌∙◌}
 use Rattle.std.specs.Map.{keys_of}
 use Rattle.far_scopes.specs.Recency.{without}
-use Rattle.far_scopes.proofs.KeyLaws.{without_keys}
+use Rattle.far_scopes.proofs.RecencyKeys.{without_keys}
 use Rattle.far_scopes.proofs.recency.Recency.remove.Goals as goal
 
 pub returns : goal.returns

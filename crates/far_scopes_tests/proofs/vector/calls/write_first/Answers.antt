@@ -5,7 +5,7 @@ use Rattle.std.proofs.lemmas.List.Edits.{length-between}
 use Rattle.far_scopes.specs.Movement.{Movement}
 use Rattle.far_vector.specs.Vector.{Vector, IsShaped, IsVector, elements}
 use Rattle.far_vector.specs.Refusing.{write_part_refusal}
-use Rattle.far_vector.proofs.Checked.{within-written}
+use Rattle.far_vector.proofs.RefusingLaws.{within-written}
 use Rattle.far_vector.proofs.VectorLaws.{length-elements}
 use Rattle.far_scopes_tests.proofs.vector.calls.write_first.Goals as goal
 

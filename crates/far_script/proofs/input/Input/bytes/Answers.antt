@@ -1,6 +1,6 @@
 use Rattle.std.proofs.Common.{◌≡◌, ◌<◌, [], length, inl, inr, refl, sym, ◌∙◌, arith}
 use Rattle.far_script.specs.Flow.{IsShort, unread}
-use Rattle.far_script.proofs.StopLaws.{handed-on, if-input-both, leaves-same, not-found, short-later, stops-still}
+use Rattle.far_script.proofs.FlowStops.{handed-on, if-input-both, leaves-same, not-found, short-later, stops-still}
 use Rattle.far_script.proofs.FlowLaws.{dropped, fewer, front-within, prints-none, prints-then-nothing, range-length, reads-none, reads-range, reads-then, turns-past}
 use Rattle.far_script.proofs.input.Input.bytes.Goals as goal
 

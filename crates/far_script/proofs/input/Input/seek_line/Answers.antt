@@ -1,7 +1,7 @@
 use Rattle.std.proofs.Common.{[], refl, arith}
 use Rattle.far_script.specs.Flow.{unread}
 use Rattle.far_script.specs.Lines.{IsOneLine}
-use Rattle.far_script.proofs.StopLaws.{handed-on, if-input-both, if-unseen, none-of, not-found, stops-still}
+use Rattle.far_script.proofs.FlowStops.{handed-on, if-input-both, if-unseen, none-of, not-found, stops-still}
 use Rattle.far_script.proofs.FlowLaws.{fewer, prints-none, prints-then-nothing, reads-looked, reads-none, reads-then, turns-past}
 use Rattle.far_script.proofs.input.Input.seek_line.Goals as goal
 

@@ -2,7 +2,7 @@ use Rattle.std.proofs.Common.{ap, arith, drop}
 use Rattle.std.specs.List.{position_or_len}
 use Rattle.std.proofs.lemmas.List.{length-drop, take_rest}
 use Rattle.far_script.specs.Lines.{is_line_feed}
-use Rattle.far_script.proofs.Feeds.{feed-later, feed-none}
+use Rattle.far_script.proofs.LinesFeeds.{feed-later, feed-none}
 use Rattle.far_script.proofs.input.filling.line_feed.Goals as goal
 
 pub returns-in-Some-clause-some : goal.returns-in-Some-clause-some

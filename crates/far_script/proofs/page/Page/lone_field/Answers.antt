@@ -1,5 +1,5 @@
 use Rattle.std.proofs.Common.{sym}
-use Rattle.far_script.proofs.PrintLaws.{lone-empty, lone-same}
+use Rattle.far_script.proofs.PrintingLaws.{lone-empty, lone-same}
 use Rattle.far_script.proofs.page.Page.lone_field.Goals as goal
 
 pub returns-then-is_empty-clause-ok : goal.returns-then-is_empty-clause-ok

@@ -1,6 +1,6 @@
 use Rattle.std.proofs.Common.{◌≡◌, ◌∙◌, vec_len, rules}
 use Rattle.csv.specs.Writing.{default_writer, field_text}
-use Rattle.far_script.proofs.PrintLaws.{quoted-row, without-end}
+use Rattle.far_script.proofs.PrintingLaws.{quoted-row, without-end}
 use Rattle.far_script.proofs.page.Page.quoted_field.Goals as goal
 
 pub returns-clause-ok : goal.returns-clause-ok

@@ -1,6 +1,6 @@
 use Rattle.std.proofs.Common.{◌≡◌, ◌∙◌, ap, sym, rules, Some}
 use Rattle.far_script.specs.Words.{word_of, long_number_in, after}
-use Rattle.far_script.proofs.FirstNumbers.{long-size}
+use Rattle.far_script.proofs.NumbersFirst.{long-size}
 use Rattle.far_script.proofs.words.Words.long_number.Goals as goal
 
 pub returns-in-Some-clause-number : goal.returns-in-Some-clause-number

@@ -1,7 +1,7 @@
 use Rattle.std.proofs.Common.{◌≡◌, ◌∙◌, ap, rules, Some, ◌∷◌}
 use Rattle.far_script.proofs.PartLaws.{last-part}
 use Rattle.far_script.specs.Words.{word_in, after, words_in, is_space}
-use Rattle.far_script.proofs.WordLaws.{some-word}
+use Rattle.far_script.proofs.WordsLaws.{some-word}
 use Rattle.far_script.proofs.words.Words.word.Goals as goal
 
 pub returns-in-Some-clause-first : goal.returns-in-Some-clause-first

@@ -1,4 +1,4 @@
-use Rattle.far_shared.proofs.NumberLaws.{if-err}
+use Rattle.far_shared.proofs.JobsRefusals.{if-err}
 use Rattle.far_shared.proofs.shared.Shared.apply.Goals as goal
 
 pub returns-in-0-clause-refused : goal.returns-in-0-clause-refused

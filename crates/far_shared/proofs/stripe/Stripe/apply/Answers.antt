@@ -1,8 +1,8 @@
 use Rattle.std.proofs.Common.{◌<◌, ◌^◌, length, sym, ap, subst, ◌∙◌, arith, rules}
 use Rattle.far_history.specs.Histories.{IsLegal}
 use Rattle.far_history.specs.declared.reading.Reading.{Reading}
-use Rattle.far_shared.proofs.ColumnLaws.{still-of}
-use Rattle.far_shared.proofs.StripeLaws.{few, reads-edited, same-refusal, same-why, stripe-made}
+use Rattle.far_shared.proofs.StripesColumns.{still-of}
+use Rattle.far_shared.proofs.StripesLaws.{few, reads-edited, same-refusal, same-why, stripe-made}
 use Rattle.far_shared.proofs.stripe.Stripe.apply.Goals as goal
 
 pub change-requires-clause-few : goal.change-requires-clause-few

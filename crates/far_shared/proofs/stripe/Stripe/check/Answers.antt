@@ -1,8 +1,8 @@
 use Rattle.std.proofs.Common.{◌≡◌, Some, subst, ◌∙◌}
 use Rattle.far_types.specs.Bounds.{spec_refusal}
-use Rattle.far_shared.proofs.NumberLaws.{if-err}
-use Rattle.far_shared.proofs.RegisterLaws.{check-allowed}
-use Rattle.far_shared.proofs.WorkLaws.{either-carried}
+use Rattle.far_shared.proofs.JobsRefusals.{if-err}
+use Rattle.far_shared.proofs.StripesRegistry.{check-allowed}
+use Rattle.far_shared.proofs.WorksLaws.{either-carried}
 use Rattle.far_shared.proofs.stripe.Stripe.check.Goals as goal
 
 pub returns-clause-allowed : goal.returns-clause-allowed

@@ -1,9 +1,9 @@
 use Rattle.std.proofs.Common.{ap, subst}
 use Rattle.std.proofs.lemmas.Result.{on_err_weaker}
 use Rattle.far_rows.specs.Jobs.{AreAt}
-use Rattle.far_shared.proofs.ColumnLaws.{still-of}
-use Rattle.far_shared.proofs.StripeLaws.{stripe-kept}
-use Rattle.far_shared.proofs.UndoLaws.{held}
+use Rattle.far_shared.proofs.StripesColumns.{still-of}
+use Rattle.far_shared.proofs.StripesLaws.{stripe-unchanged}
+use Rattle.far_shared.proofs.WatchingUndo.{held}
 use Rattle.far_shared.proofs.stripe.Stripe.finish.Goals as goal
 
 pub returns-clause-ended : goal.returns-clause-ended
@@ -19,7 +19,7 @@ pub invariant_of-self : goal.invariant_of-self
 invariant_of-self g c =
     let s = c.self.inside in
     let done = c.finish_on.ensures in (
-      stripe-kept g.N.PlanTag.plan s.keeper s.frame.table c.finish_on.new.frame.table done.keeps c.self.invariant.0,
+      stripe-unchanged g.N.PlanTag.plan s.keeper s.frame.table c.finish_on.new.frame.table done.keeps c.self.invariant.0,
       subst (λ n. AreAt g.S.FarTickets.is_of n c.finish_on.new.frame.rows) c.requires.store done.here,
       still-of g.N.PlanTag.plan.schema _ _ _ done.columns c.self.invariant.2,
     )

@@ -1,4 +1,4 @@
-use Rattle.far_shared.proofs.UndoLaws.{next-number}
+use Rattle.far_shared.proofs.WatchingUndo.{next-number}
 use Rattle.far_shared.proofs.stripe.Stripe.next_number.Goals as goal
 
 pub free_number-requires-clause-all : goal.free_number-requires-clause-all

@@ -1,6 +1,6 @@
 use Rattle.std.proofs.Common.{ap}
-use Rattle.far_shared.proofs.RegisterLaws.{held-unwatch}
-use Rattle.far_shared.proofs.UndoLaws.{forgotten, held}
+use Rattle.far_shared.proofs.StripesRegistry.{held-unwatch}
+use Rattle.far_shared.proofs.WatchingUndo.{forgotten, held}
 use Rattle.far_shared.proofs.stripe.Stripe.unwatch.Goals as goal
 
 pub returns : goal.returns

@@ -1,8 +1,8 @@
 use Rattle.std.proofs.Common.{ap}
 use Rattle.std.proofs.lemmas.Result.{IfOk-weaker}
-use Rattle.far_shared.proofs.NumberLaws.{if-err}
-use Rattle.far_shared.proofs.RegisterLaws.{held-watch, refused-watched}
-use Rattle.far_shared.proofs.UndoLaws.{held, watched}
+use Rattle.far_shared.proofs.JobsRefusals.{if-err}
+use Rattle.far_shared.proofs.StripesRegistry.{held-watch, refused-watched}
+use Rattle.far_shared.proofs.WatchingUndo.{held, watched}
 use Rattle.far_shared.proofs.stripe.Stripe.watch.Goals as goal
 
 pub returns-clause-ok : goal.returns-clause-ok

@@ -4,7 +4,7 @@ use Rattle.far_types.specs.Bounds.{needs}
 use Rattle.far_offload.specs.Columns.{cells_meant}
 use Rattle.far_aggregates.specs.Lending.{IsOfPlaces}
 use Rattle.far_table.specs.FarGroups.{FarRows, places_there, needs_column}
-use Rattle.far_table.proofs.Tickets.{read-copy, one-read}
+use Rattle.far_table.proofs.OffloadingTickets.{read-copy, one-read}
 use Rattle.far_table.proofs.far_group.FarGroupLendGroup.column.Goals as goal
 
 pub returns-in-Some-clause-cells : goal.returns-in-Some-clause-cells

@@ -9,15 +9,15 @@ use Rattle.far_table.proofs.live_table.LiveTable.ask.Goals as goal
 pub returns-clause-ok : goal.returns-clause-ok
 returns-clause-ok g c =
     let rows = c.self.inside.rows in
-    IfOk-weaker c.answer.result _ _ (λ answer told.
+    IfOk-weaker c.answer.result _ _ (λ answer answered.
     subst (λ (s : LiveState g.row.S-Ticket.Denot). Answers s.table.places (aggregate_at s.table c.args.a) answer) c.self.view_is
-    (told rows.limits.group rows.places (omega (arith, c.limits-limits.ensures.bounds.group_low)) c.self.invariant.kept)) c.answer.ensures.ok
+    (answered rows.limits.group rows.places (omega (arith, c.limits-limits.ensures.bounds.group_low)) c.self.invariant.kept)) c.answer.ensures.ok
 
 pub returns-clause-err : goal.returns-clause-err
 returns-clause-err g c =
     let rows = c.self.inside.rows in
-    IfErr-weaker c.answer.result _ _ (λ e told. (
+    IfErr-weaker c.answer.result _ _ (λ e answered. (
       refl,
       subst (λ (s : LiveState g.row.S-Ticket.Denot). MayRefuse (ask_refusal (aggregate_at s.table c.args.a)) true e) c.self.view_is
-          (told rows.limits.group rows.places c.self.invariant.kept),
+          (answered rows.limits.group rows.places c.self.invariant.kept),
     )) c.answer.ensures.err

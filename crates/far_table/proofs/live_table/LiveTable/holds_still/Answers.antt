@@ -13,8 +13,8 @@ use Rattle.far_table.specs.Live.{state_of}
 use Rattle.far_rows.specs.Copies.{copy_of}
 use Rattle.far_table.specs.Offloading.{Build, HaveOneNumber, ticket_for}
 use Rattle.far_table.specs.FarGroups.{AllNeeded, IsCopy}
-use Rattle.far_table.proofs.LiveScanning.{an-aggregate, checked-at}
-use Rattle.far_table.proofs.Merging.{needed-below, still-alive, tickets-decide, still-copies}
+use Rattle.far_table.proofs.WatchingScans.{an-aggregate, checked-at}
+use Rattle.far_table.proofs.OffloadingMerge.{needed-below, still-alive, tickets-decide, still-copies}
 use Rattle.far_table.proofs.live_table.LiveTable.holds_still.Goals as goal
 
 pub returns-then-eq-clause-exact : goal.returns-then-eq-clause-exact

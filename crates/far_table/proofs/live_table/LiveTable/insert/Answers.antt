@@ -8,7 +8,7 @@ use Rattle.far_aggregates.specs.Accumulators.{RegistryEntry, Keeps}
 use Rattle.far_table.specs.State.{LiveState}
 use Rattle.far_table.specs.TableRows.{TableRows}
 use Rattle.far_table.specs.Live.{IsLive, IsEdited, state_of}
-use Rattle.far_table.proofs.LiveEdits.{refuses-due, refuses-memory, kept-fit, shown-same, same-live, taken-state, taken-live, inserted, inserted-live}
+use Rattle.far_table.proofs.LiveEdits.{refuses-due, refuses-memory, keeps-fit, shown-same, same-live, loaded-state, loaded-live, inserted, inserted-live}
 use Rattle.far_table.proofs.live_table.LiveTable.insert.Goals as goal
 
 pub returns-in_err-may_insert-clause-err : goal.returns-in_err-may_insert-clause-err
@@ -18,22 +18,22 @@ returns-in_err-may_insert-clause-err g c =
     let n = c.self.inside.registrations in
     let registry = c.self.inside.aggregates in
     let e = c.in_err-may_insert.ensures in
-    rw (p.1, p.2) (refuses-due (state_of rows n registry) c.args.self.now (state_of c.may_insert.new.self n registry) (edit.Insert c.args.row) c.in_err-may_insert.field-0.0 c.self.view_is (taken-state rows c.may_insert.new.self n registry e.stays) e.refused)
+    rw (p.1, p.2) (refuses-due (state_of rows n registry) c.args.self.now (state_of c.may_insert.new.self n registry) (edit.Insert c.args.row) c.in_err-may_insert.field-0.0 c.self.view_is (loaded-state rows c.may_insert.new.self n registry e.stays) e.refused)
 
 pub apply_deltas-requires-clause-kept : goal.apply_deltas-requires-clause-kept
 apply_deltas-requires-clause-kept g c =
     let t = c.may_insert.new.self in
     let n = c.self.inside.registrations in
     let registry = c.self.inside.aggregates in
-    let live = taken-live c.self.inside.rows t n registry c.in_ok-may_insert.ensures.stays c.self.invariant in
-    (t.places, kept-fit t n registry c.limits.result.now c.limits.ensures.same c.limits.ensures.bounds c.len-place.ensures.few c.len-place.ensures.fit live)
+    let live = loaded-live c.self.inside.rows t n registry c.in_ok-may_insert.ensures.stays c.self.invariant in
+    (t.places, keeps-fit t n registry c.limits.result.now c.limits.ensures.same c.limits.ensures.bounds c.len-place.ensures.few c.len-place.ensures.fit live)
 
 pub invariant_of-self-in_err-pending : goal.invariant_of-self-in_err-pending
 invariant_of-self-in_err-pending g c =
     let t = c.may_insert.new.self in
     let n = c.self.inside.registrations in
     let registry = c.self.inside.aggregates in
-    let live = taken-live c.self.inside.rows t n registry c.in_ok-may_insert.ensures.stays c.self.invariant in
+    let live = loaded-live c.self.inside.rows t n registry c.in_ok-may_insert.ensures.stays c.self.invariant in
     let e = c.in_err-pending.ensures in
     same-live t n registry c.apply_deltas.new.self e.registered live (e.unchanged t.limits.group t.places live.kept)
 
@@ -45,7 +45,7 @@ returns-in_err-pending-clause-err g c =
     let registry = c.self.inside.aggregates in
     let e = c.in_err-pending.ensures in
     rw (p.1, p.2) (refuses-memory (state_of rows n registry) c.args.self.now (state_of c.may_insert.new.self n c.apply_deltas.new.self) (edit.Insert c.args.row) c.in_err-pending.field-0.0 c.self.view_is
-    (shown-same c.may_insert.new.self n registry c.apply_deltas.new.self e.registered ∙ taken-state rows c.may_insert.new.self n registry c.in_ok-may_insert.ensures.stays)
+    (shown-same c.may_insert.new.self n registry c.apply_deltas.new.self e.registered ∙ loaded-state rows c.may_insert.new.self n registry c.in_ok-may_insert.ensures.stays)
     c.in_ok-may_insert.ensures.refused e.memory)
 
 pub invariant_of-self-in-Err : goal.invariant_of-self-in-Err
@@ -53,7 +53,7 @@ invariant_of-self-in-Err g c =
     let t = c.may_insert.new.self in
     let n = c.self.inside.registrations in
     let registry = c.self.inside.aggregates in
-    let live = taken-live c.self.inside.rows t n registry c.in_ok-may_insert.ensures.stays c.self.invariant in
+    let live = loaded-live c.self.inside.rows t n registry c.in_ok-may_insert.ensures.stays c.self.invariant in
     let e = c.in_ok-pending.ensures in
     let kept = subst (λ (now : List RegistryEntry). Keeps t.limits.group t.places now) (sym c.undo.ensures.undo) (e.undo.kept t.limits.group t.places live.kept) in
     subst (λ (rows : TableRows g.row.S-Ticket.Denot). IsLive rows n c.undo.new.self) (sym c.in-Err.ensures.err)
@@ -65,24 +65,24 @@ invariant_of-self-2 g c =
     let rows = c.self.inside.rows in
     let n = c.self.inside.registrations in
     let registry = c.self.inside.aggregates in
-    let taken = c.in_ok-may_insert.ensures in
-    let live = taken-live rows t n registry taken.stays c.self.invariant in
+    let loaded = c.in_ok-may_insert.ensures in
+    let live = loaded-live rows t n registry loaded.stays c.self.invariant in
     let e = c.in_ok-pending.ensures in
     let before = subst (λ (l : Limits). Keeps l.group t.places registry) (sym c.limits.ensures.same) live.kept in
-    let applied = e.applied t.places c.args.row (sym c.len-place.ensures.len) (ap cells_of (c.new_row_ref.ensures ∙ taken.taken)) before in
+    let applied = e.applied t.places c.args.row (sym c.len-place.ensures.len) (ap cells_of (c.new_row_ref.ensures ∙ loaded.loaded)) before in
     let kept = subst (λ (l : Limits). Keeps l.group (places_after (edit.Insert c.args.row) t.places) c.apply_deltas.new.self) c.limits.ensures.same applied in
     subst (λ (now : List RegistryEntry). IsLive c.push-2.new.self n now) (sym c.end.ensures.same)
-    (inserted-live g.S.FarTickets.content rows t c.push-2.new.self c.args.row taken.stays taken.taken c.in_default.ensures.appended n registry c.apply_deltas.new.self e.registered c.self.invariant kept)
+    (inserted-live g.S.FarTickets.content rows t c.push-2.new.self c.args.row loaded.stays loaded.loaded c.in_default.ensures.appended n registry c.apply_deltas.new.self e.registered c.self.invariant kept)
 
 pub returns-clause-ok : goal.returns-clause-ok
 returns-clause-ok g c =
     let n = c.self.inside.registrations in
     let registry = c.self.inside.aggregates in
-    let taken = c.in_ok-may_insert.ensures in
+    let loaded = c.in_ok-may_insert.ensures in
     let content = g.S.FarTickets.content in
     subst (λ (now : List RegistryEntry). IsEdited content c.args.self.now (edit.Insert c.args.row) (state_of c.push-2.new.self n now)) (sym c.end.ensures.same)
     (subst (λ (s : LiveState g.row.S-Ticket.Denot). IsEdited content s (edit.Insert c.args.row) (state_of c.push-2.new.self n c.apply_deltas.new.self)) c.self.view_is
-    (inserted content c.self.inside.rows c.may_insert.new.self c.push-2.new.self c.args.row taken.stays taken.taken c.in_default.ensures.appended n registry c.apply_deltas.new.self taken.refused c.in_ok-pending.ensures.registered))
+    (inserted content c.self.inside.rows c.may_insert.new.self c.push-2.new.self c.args.row loaded.stays loaded.loaded c.in_default.ensures.appended n registry c.apply_deltas.new.self loaded.refused c.in_ok-pending.ensures.registered))
 
 pub returns-in_err-push-clause-err : goal.returns-in_err-push-clause-err
 returns-in_err-push-clause-err g c =
@@ -92,21 +92,21 @@ returns-in_err-push-clause-err g c =
     let registry = c.self.inside.aggregates in
     let e = c.in_err-push.ensures in
     rw (p.1, p.2) (refuses-memory (state_of rows n registry) c.args.self.now (state_of c.push.new.self n registry) (edit.Insert c.args.row) c.in_err-push.field-0.0 c.self.view_is
-    (ap (λ (t : TableRows g.row.S-Ticket.Denot). state_of t n registry) e.err ∙ taken-state rows c.may_insert.new.self n registry c.in_ok-may_insert.ensures.stays)
+    (ap (λ (t : TableRows g.row.S-Ticket.Denot). state_of t n registry) e.err ∙ loaded-state rows c.may_insert.new.self n registry c.in_ok-may_insert.ensures.stays)
     c.in_ok-may_insert.ensures.refused e.memory)
 
 pub invariant_of-self-then-is_empty : goal.invariant_of-self-then-is_empty
 invariant_of-self-then-is_empty g c =
     let t = c.may_insert.new.self in
-    let taken = c.in_ok-may_insert.ensures in
-    inserted-live g.S.FarTickets.content c.self.inside.rows t c.push.new.self c.args.row taken.stays taken.taken c.in_ok-push.ensures.appended c.self.inside.registrations c.self.inside.aggregates c.self.inside.aggregates refl c.self.invariant
+    let loaded = c.in_ok-may_insert.ensures in
+    inserted-live g.S.FarTickets.content c.self.inside.rows t c.push.new.self c.args.row loaded.stays loaded.loaded c.in_ok-push.ensures.appended c.self.inside.registrations c.self.inside.aggregates c.self.inside.aggregates refl c.self.invariant
     (c.is_empty.ensures c.if-is_empty.true t.limits.group (places_after (edit.Insert c.args.row) t.places))
 
 pub returns-then-is_empty-clause-ok : goal.returns-then-is_empty-clause-ok
 returns-then-is_empty-clause-ok g c =
     let n = c.self.inside.registrations in
     let registry = c.self.inside.aggregates in
-    let taken = c.in_ok-may_insert.ensures in
+    let loaded = c.in_ok-may_insert.ensures in
     let content = g.S.FarTickets.content in
     subst (λ (s : LiveState g.row.S-Ticket.Denot). IsEdited content s (edit.Insert c.args.row) (state_of c.push.new.self n registry)) c.self.view_is
-    (inserted content c.self.inside.rows c.may_insert.new.self c.push.new.self c.args.row taken.stays taken.taken c.in_ok-push.ensures.appended n registry registry taken.refused refl)
+    (inserted content c.self.inside.rows c.may_insert.new.self c.push.new.self c.args.row loaded.stays loaded.loaded c.in_ok-push.ensures.appended n registry registry loaded.refused refl)

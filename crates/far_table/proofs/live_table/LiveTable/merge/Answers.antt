@@ -6,9 +6,9 @@ use Rattle.far_rows.specs.Places.{places_in}
 use Rattle.far_aggregates.specs.Accumulators.{Keeps, registered_of}
 use Rattle.far_table.specs.Offloading.{Build}
 use Rattle.far_table.specs.FarGroups.{places_there}
-use Rattle.far_table.proofs.LiveEdits.{kept-fit}
-use Rattle.far_table.proofs.LiveScanning.{scanned-checked}
-use Rattle.far_table.proofs.LiveTaking.{places-here}
+use Rattle.far_table.proofs.LiveEdits.{keeps-fit}
+use Rattle.far_table.proofs.WatchingScans.{scanned-checked}
+use Rattle.far_table.proofs.GroupsRetract.{places-here}
 use Rattle.far_table.proofs.live_table.LiveTable.merge.Goals as goal
 
 pub scan_at-requires-clause-kept : goal.scan_at-requires-clause-kept
@@ -24,7 +24,7 @@ scan_at-requires-clause-kept g c =
     ∙ ap (λ (limits : Limits). in_group limits.group c.build.inside.group t.places) (sym c.limits.ensures.same) in (
       t.places,
       here,
-      kept-fit t c.self.inside.registrations c.self.inside.aggregates c.limits.result.now c.limits.ensures.same c.limits.ensures.bounds c.len-len.ensures.few c.len-len.ensures.fit c.self.invariant,
+      keeps-fit t c.self.inside.registrations c.self.inside.aggregates c.limits.result.now c.limits.ensures.same c.limits.ensures.bounds c.len-len.ensures.few c.len-len.ensures.fit c.self.invariant,
     )
 
 pub invariant_of-self : goal.invariant_of-self

@@ -13,8 +13,8 @@ use Rattle.far_aggregates.specs.Accumulators.{registered_of}
 use Rattle.far_table.specs.MixedGroups.{MayFold}
 use Rattle.far_table.specs.Recounting.{IsAnswerNow}
 use Rattle.far_table.specs.State.{LiveState, IsChecked}
-use Rattle.far_table.proofs.LiveScanning.{an-aggregate, checked-at}
-use Rattle.far_table.proofs.Merging.{needed-below}
+use Rattle.far_table.proofs.WatchingScans.{an-aggregate, checked-at}
+use Rattle.far_table.proofs.OffloadingMerge.{needed-below}
 use Rattle.far_table.proofs.live_table.LiveTable.recount.Goals as goal
 
 pub recount_rows-requires-clause-may_fold : goal.recount_rows-requires-clause-may_fold
@@ -42,10 +42,10 @@ returns-clause-answer g c =
     let registry = c.self.inside.aggregates in
     let spec = c.in-Some.spec.now in
     let found = an-aggregate (aggregate_in registry c.args.a) spec c.in-Some.ensures in
-    IfOk-weaker c.recount_rows.result _ _ (λ answer told.
+    IfOk-weaker c.recount_rows.result _ _ (λ answer answered.
     subst (λ (s : LiveState g.row.S-Ticket.Denot). IsAnswerNow s.table c.args.a answer) c.self.view_is
     (subst (λ o. IsSomeAnd o (λ aggregate. answer ≡ answer_over aggregate.spec (rows_of t.places))) (sym found.is)
-    (told
+    (answered
     ∙ ap (λ (r : Rows g.row.S-Ticket.Denot). answer_over spec (rows_of (places_in content r))) c.held-held.ensures.held
     ∙ ap (λ ps. answer_over spec (rows_of ps)) (sym c.held-held.ensures.places)
     ∙ ap (λ s. answer_over s (rows_of t.places)) (sym found.same)))) c.recount_rows.ensures.answer

@@ -3,8 +3,8 @@ use Rattle.far_types.specs.declared.edit.Edit.TheVariants as edit
 use Rattle.far_types.specs.declared.limits.Limits.{Limits}
 use Rattle.far_types.specs.FirstOf.{first_of}
 use Rattle.far_rows.specs.Refusing.{absents}
-use Rattle.far_table.proofs.LiveEdits.{kept-fit, same-live, made-checked, made-live, retracts-after, remove-here, remove-row, remove-inside}
-use Rattle.far_table.proofs.LiveTaking.{absents-cleared}
+use Rattle.far_table.proofs.LiveEdits.{keeps-fit, same-live, made-checked, made-live, retracts-after, remove-here, remove-row, remove-inside}
+use Rattle.far_table.proofs.GroupsRetract.{absents-cleared}
 use Rattle.far_table.proofs.live_table.LiveTable.remove.Goals as goal
 
 pub invariant_of-self : goal.invariant_of-self
@@ -34,7 +34,7 @@ retract_row-requires-clause-retracts g c κs within =
     let old = c.self.inside.rows in
     let e = c.in_ok-pending.ensures in
     let row = remove-row old c.args.place c.in_ok-row.ensures.refused c.in_ok-row.row c.in_ok-row.ensures.row in
-    let kept = kept-fit old c.self.inside.registrations c.self.inside.aggregates c.limits.result.now c.limits.ensures.same c.limits.ensures.bounds c.len-len.ensures.few c.len-len.ensures.fit c.self.invariant in
+    let kept = keeps-fit old c.self.inside.registrations c.self.inside.aggregates c.limits.result.now c.limits.ensures.same c.limits.ensures.bounds c.len-len.ensures.few c.len-len.ensures.fit c.self.invariant in
     retracts-after old c.remove.new.self (edit.Remove c.args.place) c.args.place c.limits.result.now c.leave.new.self c.in_ok-pending.pending c.limits.ensures.same c.remove.ensures.made
     (e.retracts old.places (c.in_ok-row.row, refl, row) kept)
 

@@ -9,10 +9,10 @@ use Rattle.far_aggregates.specs.Accumulators.{Keeps, registered_of}
 use Rattle.far_aggregates.specs.Lending.{IsServed, EntryIsServed}
 use Rattle.far_table.specs.Groups.{GroupRows, has_column, places_here}
 use Rattle.far_table.specs.State.{IsChecked}
-use Rattle.far_table.proofs.LiveEdits.{kept-fit}
-use Rattle.far_table.proofs.LiveScanning.{begun, scan-served, an-aggregate, checked-at, scanned-checked}
-use Rattle.far_table.proofs.LiveTaking.{places-here}
-use Rattle.far_table.proofs.Needed.{begun-at}
+use Rattle.far_table.proofs.LiveEdits.{keeps-fit}
+use Rattle.far_table.proofs.WatchingScans.{begun, scan-served, an-aggregate, checked-at, scanned-checked}
+use Rattle.far_table.proofs.GroupsRetract.{places-here}
+use Rattle.far_table.proofs.WatchingColumns.{begun-at}
 use Rattle.far_table.proofs.Places.{length-places}
 use Rattle.far_table.proofs.live_table.LiveTable.scan_group.Goals as goal
 
@@ -44,7 +44,7 @@ scan_at-requires-clause-kept g c =
     ∙ ap (λ (limits : Limits). in_group limits.group c.args.group t.places) (sym c.limits.ensures.same) in (
       t.places,
       here,
-      kept-fit t c.self.inside.registrations c.self.inside.aggregates c.limits.result.now c.limits.ensures.same c.limits.ensures.bounds c.len-len.ensures.few c.len-len.ensures.fit c.self.invariant,
+      keeps-fit t c.self.inside.registrations c.self.inside.aggregates c.limits.result.now c.limits.ensures.same c.limits.ensures.bounds c.len-len.ensures.few c.len-len.ensures.fit c.self.invariant,
     )
 
 pub invariant_of-self : goal.invariant_of-self

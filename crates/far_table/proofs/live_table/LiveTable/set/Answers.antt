@@ -7,7 +7,7 @@ use Rattle.far_rows.specs.Setting.{cell_of}
 use Rattle.far_table.specs.State.{LiveState}
 use Rattle.far_table.specs.TableRows.{TableRows}
 use Rattle.far_table.specs.Live.{IsLive, IsEdited, state_of}
-use Rattle.far_table.proofs.LiveEdits.{refuses-due, refuses-memory, kept-fit, shown-same, same-live, made-checked, made-live, made-with, retracts-after, put, set-inside, set-below, set-row, set-column}
+use Rattle.far_table.proofs.LiveEdits.{refuses-due, refuses-memory, keeps-fit, shown-same, same-live, made-checked, made-live, made-with, retracts-after, put, set-inside, set-below, set-row, set-column}
 use Rattle.far_table.proofs.live_table.LiveTable.set.Goals as goal
 
 pub returns-in_err-value-clause-err : goal.returns-in_err-value-clause-err
@@ -31,7 +31,7 @@ change_in-requires-clause-column g c =
 pub change_in-requires-clause-kept : goal.change_in-requires-clause-kept
 change_in-requires-clause-kept g c =
     let t = c.self.inside.rows in
-    (t.places, kept-fit t c.self.inside.registrations c.self.inside.aggregates c.limits.result.now c.limits.ensures.same c.limits.ensures.bounds c.len-before.ensures.few c.len-before.ensures.fit c.self.invariant)
+    (t.places, keeps-fit t c.self.inside.registrations c.self.inside.aggregates c.limits.result.now c.limits.ensures.same c.limits.ensures.bounds c.len-before.ensures.few c.len-before.ensures.fit c.self.invariant)
 
 pub invariant_of-self : goal.invariant_of-self
 invariant_of-self g c =
@@ -75,7 +75,7 @@ retract_row-requires-clause-retracts g c κs within =
     let new = c.set.new.self in
     let e = c.in_ok-pending.ensures in
     let row = set-row old c.args.place c.args.column c.args.cell c.in_ok-value.ensures.refused c.in-Ok.row c.in-Ok.ensures.row in
-    let kept = kept-fit old c.self.inside.registrations c.self.inside.aggregates c.limits.result.now c.limits.ensures.same c.limits.ensures.bounds c.len-before.ensures.few c.len-before.ensures.fit c.self.invariant in
+    let kept = keeps-fit old c.self.inside.registrations c.self.inside.aggregates c.limits.result.now c.limits.ensures.same c.limits.ensures.bounds c.len-before.ensures.few c.len-before.ensures.fit c.self.invariant in
     let made = made-with old new c.args.place c.args.column (cell_of c.in_ok-value.value) (lent_cell c.lend.result) (sym c.lend.ensures) c.in_default-set.ensures.put.made in
     retracts-after old new (edit.Set c.args.place c.args.column (lent_cell c.lend.result)) c.args.place c.limits.result.now c.change_in.new.self c.in_ok-pending.pending c.limits.ensures.same made
     (e.retracts old.places (c.in-Ok.row, refl, row) kept (subst PlacesFit made.places c.len-after.ensures.fit))

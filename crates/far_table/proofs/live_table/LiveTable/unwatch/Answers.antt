@@ -1,6 +1,6 @@
 use Rattle.std.proofs.Common.{None, sym, subst}
 use Rattle.far_table.specs.State.{AreChecked}
-use Rattle.far_table.proofs.Watched.{checked-put}
+use Rattle.far_table.proofs.WatchingLaws.{checked-put}
 use Rattle.far_table.proofs.live_table.LiveTable.unwatch.Goals as goal
 
 pub invariant_of-self : goal.invariant_of-self

@@ -7,8 +7,8 @@ use Rattle.far_types.specs.Table.{Registered, groups}
 use Rattle.far_aggregates.specs.Accumulators.{RegistryEntry, Keeps, registered_of}
 use Rattle.far_table.specs.Live.{state_of}
 use Rattle.far_table.specs.State.{LiveState, AreChecked}
-use Rattle.far_table.specs.Watching.{lowest_free, registered_at, watch_refusal}
-use Rattle.far_table.proofs.Watched.{due, for-memory, watch-wrong, watch-full, watch-used, watch-free, checked-put}
+use Rattle.far_table.specs.Watching.{lowest_free, after_register_at, watch_refusal}
+use Rattle.far_table.proofs.WatchingLaws.{due, for-memory, watch-wrong, watch-full, watch-used, watch-free, checked-put}
 use Rattle.far_table.proofs.live_table.LiveTable.watch.Goals as goal
 
 pub returns-in_err-check-clause-err : goal.returns-in_err-check-clause-err
@@ -82,5 +82,5 @@ returns-clause-ok g c =
             table = record { schema = rows.schema; limits = rows.limits; places = rows.places; edits = rows.edits; registrations = inside.registrations + 1; aggregates = aggregates };
             rows = rows.held;
           }) (c.in_ok-register.ensures.registered ∙ groups-are)
-          ∙ ap (λ (s : LiveState g.row.S-Ticket.Denot). record s { table = registered_at a c.args.spec s.table }) c.self.view_is;
+          ∙ ap (λ (s : LiveState g.row.S-Ticket.Denot). record s { table = after_register_at a c.args.spec s.table }) c.self.view_is;
     }

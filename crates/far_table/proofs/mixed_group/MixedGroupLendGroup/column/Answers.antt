@@ -2,7 +2,7 @@ use Rattle.std.proofs.Common.{ℕ, List, sym, subst}
 use Rattle.far_types.specs.declared.cell.Cell.{Cell}
 use Rattle.far_aggregates.specs.Lending.{IsOfPlaces}
 use Rattle.far_table.specs.MixedGroups.{MixedRows, IsRead, places_mixed}
-use Rattle.far_table.proofs.MixedReads.{found-read}
+use Rattle.far_table.proofs.MixedGroupsReads.{found-read}
 use Rattle.far_table.proofs.mixed_group.MixedGroupLendGroup.column.Goals as goal
 
 pub returns-in-Some-clause-cells : goal.returns-in-Some-clause-cells

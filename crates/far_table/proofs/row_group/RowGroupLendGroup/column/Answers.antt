@@ -1,7 +1,7 @@
 use Rattle.std.proofs.Common.{rules, ◌≡◌, ℕ, List, map, None, Some, sym, ap, subst, ◌∙◌}
 use Rattle.std.specs.Prelude.{slice_get, slice_index_or}
 use Rattle.far_types.specs.declared.cell.Cell.{Cell}
-use Rattle.far_types.specs.Cells.{all_cells as row_cells}
+use Rattle.far_types.specs.Cells.{cells_of as row_cells}
 use Rattle.far_types.specs.Lent.{int_cell, text_cell}
 use Rattle.far_codec.specs.TextForm.{texts_meaning}
 use Rattle.far_offload.specs.Columns.{cell_of}

@@ -15,12 +15,12 @@ use Rattle.far_rows.specs.Rows.{all_cells}
 use Rattle.far_rows.specs.ColumnIndexes.{kind_of, row_of}
 use Rattle.far_table.specs.Edits.{edit_due, obstacles}
 use Rattle.far_table.specs.TableRows.{TableRows, asked, rows_in}
-use Rattle.far_table.proofs.Due.{insert-due}
-use Rattle.far_table.proofs.Faultless.{row-right}
-use Rattle.far_table.proofs.First.{refused-first}
+use Rattle.far_table.proofs.EditsRefusals.{insert-due}
+use Rattle.far_table.proofs.EditsAcceptance.{row-right}
+use Rattle.far_table.proofs.FirstOfLaws.{refused-first}
 use Rattle.far_table.proofs.Places.{length-places}
-use Rattle.far_table.proofs.Stays.{taken-kept}
-use Rattle.far_table.proofs.Told.{on-ok}
+use Rattle.far_table.proofs.TableRowsEdits.{loaded-invariant}
+use Rattle.far_table.proofs.RefusingOutcome.{on-ok}
 use Rattle.far_table.proofs.table_rows.TableRows.may_insert.Goals as goal
 
 pub returns-in_err-row_faults-clause-refused : goal.returns-in_err-row_faults-clause-refused
@@ -32,8 +32,8 @@ returns-in_err-row_faults-clause-refused g c =
     let count = length-places (all_cells content inside.rows) inside.rows.alive ∙ sym c.len-len.ensures.len in
     let e = edit.Insert c.args.row in
     let table = rows_in content inside.schema inside.limits inside.rows inside.new_row inside.edits in
-    let told = refused-first (edit_faults inside.schema inside.limits places e) (obstacles (asked table) e) c.in_err-row_faults.field-0.0 (sym (c.in_err-row_faults.ensures places count)) in
-    rw (p.1, p.2) (sym told ∙ ap (λ (t : TableRows g.row.S-Ticket.Denot). edit_due (asked t) e) c.self.view_is)
+    let answered = refused-first (edit_faults inside.schema inside.limits places e) (obstacles (asked table) e) c.in_err-row_faults.field-0.0 (sym (c.in_err-row_faults.ensures places count)) in
+    rw (p.1, p.2) (sym answered ∙ ap (λ (t : TableRows g.row.S-Ticket.Denot). edit_due (asked t) e) c.self.view_is)
 
 pub load-requires-clause-width : goal.load-requires-clause-width
 load-requires-clause-width g c =
@@ -80,11 +80,11 @@ returns-in_err-may_push-clause-refused g c =
     let free = sym (c.in_ok-row_faults.ensures places count) in
     let new_row = c.load.new.self in
     let row : row_of inside.rows.column_indexes new_row ≡ c.args.row = ap (λ (column_indexes : List ColumnIndex). row_of column_indexes new_row) (sym c.column_indexes.ensures) ∙ c.load.ensures.row in
-    let kept = taken-kept content g.S.FarTickets.is_of inside.schema inside.limits inside.rows inside.new_row inside.edits c.self.invariant new_row c.load.ensures.numbers c.load.ensures.texts (subst RowFits (sym row) c.as_slice-cells.ensures.fit) in
+    let kept = loaded-invariant content g.S.FarTickets.is_of inside.schema inside.limits inside.rows inside.new_row inside.edits c.self.invariant new_row c.load.ensures.numbers c.load.ensures.texts (subst RowFits (sym row) c.as_slice-cells.ensures.fit) in
     let due = insert-due content inside.schema inside.limits inside.rows new_row inside.edits kept c.args.row row free in
     let last = first_of ((inside.edits == inside.limits.edits, refusal.EditsUsedUp) ∷ []) in
-    let seen = ap (λ (t : TableRows g.row.S-Ticket.Denot). edit_due (asked t) (edit.Insert c.args.row)) c.self.view_is in
-    rw (p.1, p.2) (ap (λ o. option_or o last) (c.in_err-may_push.ensures.plain inside.limits c.self.invariant.layout) ∙ due ∙ seen)
+    let observed = ap (λ (t : TableRows g.row.S-Ticket.Denot). edit_due (asked t) (edit.Insert c.args.row)) c.self.view_is in
+    rw (p.1, p.2) (ap (λ o. option_or o last) (c.in_err-may_push.ensures.plain inside.limits c.self.invariant.layout) ∙ due ∙ observed)
 
 pub returns-clause-refused : goal.returns-clause-refused
 returns-clause-refused g c =
@@ -95,11 +95,11 @@ returns-clause-refused g c =
     let free = sym (c.in_ok-row_faults.ensures places count) in
     let new_row = c.load.new.self in
     let row : row_of inside.rows.column_indexes new_row ≡ c.args.row = ap (λ (column_indexes : List ColumnIndex). row_of column_indexes new_row) (sym c.column_indexes.ensures) ∙ c.load.ensures.row in
-    let kept = taken-kept content g.S.FarTickets.is_of inside.schema inside.limits inside.rows inside.new_row inside.edits c.self.invariant new_row c.load.ensures.numbers c.load.ensures.texts (subst RowFits (sym row) c.as_slice-cells.ensures.fit) in
+    let kept = loaded-invariant content g.S.FarTickets.is_of inside.schema inside.limits inside.rows inside.new_row inside.edits c.self.invariant new_row c.load.ensures.numbers c.load.ensures.texts (subst RowFits (sym row) c.as_slice-cells.ensures.fit) in
     let due = insert-due content inside.schema inside.limits inside.rows new_row inside.edits kept c.args.row row free in
     let last = first_of ((inside.edits == inside.limits.edits, refusal.EditsUsedUp) ∷ []) in
-    let seen = ap (λ (t : TableRows g.row.S-Ticket.Denot). edit_due (asked t) (edit.Insert c.args.row)) c.self.view_is in
-    c.may_count.ensures ∙ ap (λ o. option_or o last) (c.in_ok-may_push.ensures.plain inside.limits c.self.invariant.layout) ∙ due ∙ seen
+    let observed = ap (λ (t : TableRows g.row.S-Ticket.Denot). edit_due (asked t) (edit.Insert c.args.row)) c.self.view_is in
+    c.may_count.ensures ∙ ap (λ o. option_or o last) (c.in_ok-may_push.ensures.plain inside.limits c.self.invariant.layout) ∙ due ∙ observed
 
 pub returns-clause-free : goal.returns-clause-free
 returns-clause-free g c =
@@ -110,7 +110,7 @@ returns-clause-free g c =
     let free = sym (c.in_ok-row_faults.ensures places count) in
     let new_row = c.load.new.self in
     let row : row_of inside.rows.column_indexes new_row ≡ c.args.row = ap (λ (column_indexes : List ColumnIndex). row_of column_indexes new_row) (sym c.column_indexes.ensures) ∙ c.load.ensures.row in
-    let kept = taken-kept content g.S.FarTickets.is_of inside.schema inside.limits inside.rows inside.new_row inside.edits c.self.invariant new_row c.load.ensures.numbers c.load.ensures.texts (subst RowFits (sym row) c.as_slice-cells.ensures.fit) in
+    let kept = loaded-invariant content g.S.FarTickets.is_of inside.schema inside.limits inside.rows inside.new_row inside.edits c.self.invariant new_row c.load.ensures.numbers c.load.ensures.texts (subst RowFits (sym row) c.as_slice-cells.ensures.fit) in
     let due = insert-due content inside.schema inside.limits inside.rows new_row inside.edits kept c.args.row row free in
     let last = first_of ((inside.edits == inside.limits.edits, refusal.EditsUsedUp) ∷ []) in
     let table = rows_in content inside.schema inside.limits inside.rows new_row inside.edits in

@@ -9,7 +9,7 @@ use Rattle.far_types.specs.FirstOf.{first_of}
 use Rattle.far_rows.specs.Refusing.{absents}
 use Rattle.far_table.specs.Edits.{edit_due}
 use Rattle.far_table.specs.TableRows.{TableRows, asked}
-use Rattle.far_table.proofs.Due.{remove-due}
+use Rattle.far_table.proofs.EditsRefusals.{remove-due}
 use Rattle.far_table.proofs.table_rows.TableRows.may_remove.Goals as goal
 
 pub returns-in_err-row-clause-refused : goal.returns-in_err-row-clause-refused

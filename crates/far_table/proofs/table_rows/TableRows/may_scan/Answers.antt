@@ -5,7 +5,7 @@ use Rattle.far_rows.specs.Jobs.{evac_refusal}
 use Rattle.far_rows.specs.Rows.{Rows, AreRows, all_cells}
 use Rattle.far_rows.specs.ColumnIndexes.{kind_of}
 use Rattle.far_table.specs.TableRows.{TableRows}
-use Rattle.far_table.proofs.Needed.{begun-at, none-left, step-past, step-here, step-away}
+use Rattle.far_table.proofs.WatchingColumns.{begun-at, none-left, step-past, step-here, step-away}
 use Rattle.far_table.proofs.Places.{length-places}
 use Rattle.far_table.proofs.table_rows.TableRows.may_scan.Goals.{then-needs+in_ok-group_column, else-needs}
 use Rattle.far_table.proofs.table_rows.TableRows.may_scan.Goals as goal

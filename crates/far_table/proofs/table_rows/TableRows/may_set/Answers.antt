@@ -16,9 +16,9 @@ use Rattle.far_rows.specs.Rows.{all_cells}
 use Rattle.far_rows.specs.ColumnIndexes.{kind_of}
 use Rattle.far_table.specs.Edits.{MayPut, edit_due, obstacles}
 use Rattle.far_table.specs.TableRows.{TableRows, asked, rows_in}
-use Rattle.far_table.proofs.DueSet.{set-due}
-use Rattle.far_table.proofs.Faultless.{cell-right, kind-right, place-below, column_index-of}
-use Rattle.far_table.proofs.First.{refused-first}
+use Rattle.far_table.proofs.EditsSetRefusals.{set-due}
+use Rattle.far_table.proofs.EditsAcceptance.{cell-right, kind-right, place-below, column_index-of}
+use Rattle.far_table.proofs.FirstOfLaws.{refused-first}
 use Rattle.far_table.proofs.table_rows.TableRows.may_set.Goals as goal
 
 pub returns-in_err-cell_faults-clause-refused : goal.returns-in_err-cell_faults-clause-refused
@@ -30,8 +30,8 @@ returns-in_err-cell_faults-clause-refused g c =
     let alive = ap (λ (t : TableRows g.row.S-Ticket.Denot). option_map (λ (p : Place). p.alive) (slice_get t.places c.args.place)) c.self.view_is ∙ sym c.is_alive.ensures in
     let e = edit.Set c.args.place c.args.column c.args.cell in
     let table = rows_in content inside.schema inside.limits inside.rows inside.new_row inside.edits in
-    let told = refused-first (edit_faults inside.schema inside.limits places e) (obstacles (asked table) e) c.in_err-cell_faults.field-0.0 (sym (c.in_err-cell_faults.ensures inside.limits places c.args.place alive)) in
-    rw (p.1, p.2) (sym told ∙ ap (λ (t : TableRows g.row.S-Ticket.Denot). edit_due (asked t) e) c.self.view_is)
+    let answered = refused-first (edit_faults inside.schema inside.limits places e) (obstacles (asked table) e) c.in_err-cell_faults.field-0.0 (sym (c.in_err-cell_faults.ensures inside.limits places c.args.place alive)) in
+    rw (p.1, p.2) (sym answered ∙ ap (λ (t : TableRows g.row.S-Ticket.Denot). edit_due (asked t) e) c.self.view_is)
 
 pub unreachable-requires : goal.unreachable-requires
 unreachable-requires g c =
@@ -94,8 +94,8 @@ returns-in_err-may_set-clause-refused g c =
     let below = place-below (all_cells content inside.rows) inside.rows.alive c.args.place right.place in
     let due = set-due content inside.schema inside.limits inside.rows inside.new_row inside.edits c.self.invariant c.len-len.ensures.rows c.args.column c.args.place c.new-value.result s.0 s.1 below c.args.cell c.new-value.ensures.cell free in
     let last = first_of ((inside.edits == inside.limits.edits, refusal.EditsUsedUp) ∷ []) in
-    let seen = ap (λ (t : TableRows g.row.S-Ticket.Denot). edit_due (asked t) (edit.Set c.args.place c.args.column c.args.cell)) c.self.view_is in
-    rw (p.1, p.2) (ap (λ o. option_or o last) (c.in_err-may_set.ensures.plain inside.limits c.self.invariant.layout) ∙ due ∙ seen)
+    let observed = ap (λ (t : TableRows g.row.S-Ticket.Denot). edit_due (asked t) (edit.Set c.args.place c.args.column c.args.cell)) c.self.view_is in
+    rw (p.1, p.2) (ap (λ o. option_or o last) (c.in_err-may_set.ensures.plain inside.limits c.self.invariant.layout) ∙ due ∙ observed)
 
 pub returns-in_err-may_count-clause-refused : goal.returns-in_err-may_count-clause-refused
 returns-in_err-may_count-clause-refused g c =
@@ -111,9 +111,9 @@ returns-in_err-may_count-clause-refused g c =
     let below = place-below (all_cells content inside.rows) inside.rows.alive c.args.place right.place in
     let due = set-due content inside.schema inside.limits inside.rows inside.new_row inside.edits c.self.invariant c.len-len.ensures.rows c.args.column c.args.place c.new-value.result s.0 s.1 below c.args.cell c.new-value.ensures.cell free in
     let last = first_of ((inside.edits == inside.limits.edits, refusal.EditsUsedUp) ∷ []) in
-    let seen = ap (λ (t : TableRows g.row.S-Ticket.Denot). edit_due (asked t) (edit.Set c.args.place c.args.column c.args.cell)) c.self.view_is in
+    let observed = ap (λ (t : TableRows g.row.S-Ticket.Denot). edit_due (asked t) (edit.Set c.args.place c.args.column c.args.cell)) c.self.view_is in
     let used = sym (ap (λ (t : TableRows g.row.S-Ticket.Denot). first_of ((t.edits == t.limits.edits, refusal.EditsUsedUp) ∷ [])) c.self.view_is) in
-    rw (p.1, p.2) (c.in_err-may_count.ensures ∙ used ∙ ap (λ o. option_or o last) (c.in_ok-may_set.ensures.plain inside.limits c.self.invariant.layout) ∙ due ∙ seen)
+    rw (p.1, p.2) (c.in_err-may_count.ensures ∙ used ∙ ap (λ o. option_or o last) (c.in_ok-may_set.ensures.plain inside.limits c.self.invariant.layout) ∙ due ∙ observed)
 
 pub returns-clause-refused : goal.returns-clause-refused
 returns-clause-refused g c =
@@ -128,9 +128,9 @@ returns-clause-refused g c =
     let below = place-below (all_cells content inside.rows) inside.rows.alive c.args.place right.place in
     let due = set-due content inside.schema inside.limits inside.rows inside.new_row inside.edits c.self.invariant c.len-len.ensures.rows c.args.column c.args.place c.new-value.result s.0 s.1 below c.args.cell c.new-value.ensures.cell free in
     let last = first_of ((inside.edits == inside.limits.edits, refusal.EditsUsedUp) ∷ []) in
-    let seen = ap (λ (t : TableRows g.row.S-Ticket.Denot). edit_due (asked t) (edit.Set c.args.place c.args.column c.args.cell)) c.self.view_is in
+    let observed = ap (λ (t : TableRows g.row.S-Ticket.Denot). edit_due (asked t) (edit.Set c.args.place c.args.column c.args.cell)) c.self.view_is in
     let used = sym (ap (λ (t : TableRows g.row.S-Ticket.Denot). first_of ((t.edits == t.limits.edits, refusal.EditsUsedUp) ∷ [])) c.self.view_is) in
-    c.in_ok-may_count.ensures ∙ used ∙ ap (λ o. option_or o last) (c.in_ok-may_set.ensures.plain inside.limits c.self.invariant.layout) ∙ due ∙ seen
+    c.in_ok-may_count.ensures ∙ used ∙ ap (λ o. option_or o last) (c.in_ok-may_set.ensures.plain inside.limits c.self.invariant.layout) ∙ due ∙ observed
 
 pub returns-clause-free : goal.returns-clause-free
 returns-clause-free g c =

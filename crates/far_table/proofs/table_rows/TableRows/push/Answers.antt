@@ -6,9 +6,9 @@ use Rattle.far_rows.specs.Rows.{Rows, all_cells}
 use Rattle.far_rows.specs.ColumnIndexes.{row_of}
 use Rattle.far_table.specs.Edits.{MayPush}
 use Rattle.far_table.specs.TableRows.{TableRows, asked, rows_in}
-use Rattle.far_table.proofs.Faultless.{faultless, edits-left, row-right}
+use Rattle.far_table.proofs.EditsAcceptance.{faultless, edits-left, row-right}
 use Rattle.far_table.proofs.Places.{length-places}
-use Rattle.far_table.proofs.Stays.{pushed-kept}
+use Rattle.far_table.proofs.TableRowsEdits.{pushed-invariant}
 use Rattle.far_table.proofs.table_rows.TableRows.push.Goals as goal
 
 pub push-requires-clause-free : goal.push-requires-clause-free
@@ -45,4 +45,4 @@ invariant_of-self-2 g c =
     let right = row-right inside.schema inside.limits table.places row (faultless (asked table) (edit.Insert row) may.due) in
     let count = length-places (all_cells content old) old.alive in
     let done = c.in_ok-push.ensures in
-    pushed-kept content g.S.FarTickets.is_of inside.schema inside.limits old inside.new_row inside.edits c.self.invariant (edits-left (asked table) (edit.Insert row) may.due) c.push.new.self done.pushed done.kept (λ full. right.few (count ∙ full)) done.places
+    pushed-invariant content g.S.FarTickets.is_of inside.schema inside.limits old inside.new_row inside.edits c.self.invariant (edits-left (asked table) (edit.Insert row) may.due) c.push.new.self done.pushed done.kept (λ full. right.few (count ∙ full)) done.places

@@ -4,8 +4,8 @@ use Rattle.far_rows.specs.Places.{places_in}
 use Rattle.far_rows.specs.Rows.{Rows, all_cells}
 use Rattle.far_table.specs.Edits.{edit_due}
 use Rattle.far_table.specs.TableRows.{TableRows, AreTableRows, asked, rows_in}
-use Rattle.far_table.proofs.Faultless.{faultless, edits-left, remove-right, place-below}
-use Rattle.far_table.proofs.Stays.{cleared-kept}
+use Rattle.far_table.proofs.EditsAcceptance.{faultless, edits-left, remove-right, place-below}
+use Rattle.far_table.proofs.TableRowsEdits.{cleared-invariant}
 use Rattle.far_table.proofs.table_rows.TableRows.remove.Goals as goal
 
 pub clear-requires-after_bounds : goal.clear-requires-after_bounds
@@ -26,4 +26,4 @@ invariant_of-self g c =
     let due : edit_due (asked table) e ≡ None = subst (λ (t : TableRows g.row.S-Ticket.Denot). edit_due (asked t) e ≡ None) (sym c.self.view_is) c.requires in
     let is = c.clear.ensures.cleared in
     subst (λ (rows : Rows g.row.S-Ticket.Denot). AreTableRows content inside.schema inside.limits rows inside.new_row (inside.edits + 1)) (sym is)
-    (cleared-kept content g.S.FarTickets.is_of inside.schema inside.limits inside.rows inside.new_row inside.edits c.self.invariant (edits-left (asked table) e due) c.args.place (ap (places_in content) (sym is) ∙ c.clear.ensures.places))
+    (cleared-invariant content g.S.FarTickets.is_of inside.schema inside.limits inside.rows inside.new_row inside.edits c.self.invariant (edits-left (asked table) e due) c.args.place (ap (places_in content) (sym is) ∙ c.clear.ensures.places))

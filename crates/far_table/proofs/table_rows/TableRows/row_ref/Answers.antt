@@ -4,7 +4,7 @@ use Rattle.std.proofs.lemmas.Result.{IfOk-weaker}
 use Rattle.far_types.specs.Table.{Place}
 use Rattle.far_rows.specs.Rows.{all_cells}
 use Rattle.far_table.specs.TableRows.{TableRows}
-use Rattle.far_table.proofs.DueSet.{found-at}
+use Rattle.far_table.proofs.EditsSetRefusals.{found-at}
 use Rattle.far_table.proofs.Places.{length-places, cells-get}
 use Rattle.far_table.proofs.table_rows.TableRows.row_ref.Goals as goal
 

@@ -6,8 +6,8 @@ use Rattle.far_rows.specs.Rows.{Rows}
 use Rattle.far_rows.specs.Setting.{cell_of, kind_in, set_in}
 use Rattle.far_table.specs.Edits.{MayPut, IsPut}
 use Rattle.far_table.specs.TableRows.{TableRows, asked, rows_in}
-use Rattle.far_table.proofs.Faultless.{edits-left, column_index-of}
-use Rattle.far_table.proofs.Stays.{set-kept}
+use Rattle.far_table.proofs.EditsAcceptance.{edits-left, column_index-of}
+use Rattle.far_table.proofs.TableRowsEdits.{set-invariant}
 use Rattle.far_table.proofs.table_rows.TableRows.set.Goals as goal
 
 pub returns-in_err-set-clause-err : goal.returns-in_err-set-clause-err
@@ -27,7 +27,7 @@ invariant_of-self-2 g c =
     let s = column_index-of (slice_get old.column_indexes c.args.column) (kind_in value) may.of_kind in
     let done = c.in_ok-set.ensures in
     let moved = subst (λ found. IfSome found (λ object_record. c.set.new.self ≡ set_in content old object_record c.args.place value)) s.1 done.set.moved in
-    set-kept content g.S.FarTickets.is_of inside.schema inside.limits old inside.new_row inside.edits c.self.invariant (edits-left (asked table) (edit.Set c.args.place c.args.column (cell_of value)) may.due) c.set.new.self s.0 c.args.column c.args.place value moved done.kept c.fitting-cell.ensures.fits done.places
+    set-invariant content g.S.FarTickets.is_of inside.schema inside.limits old inside.new_row inside.edits c.self.invariant (edits-left (asked table) (edit.Set c.args.place c.args.column (cell_of value)) may.due) c.set.new.self s.0 c.args.column c.args.place value moved done.kept c.fitting-cell.ensures.fits done.places
 
 pub returns-clause-put : goal.returns-clause-put
 returns-clause-put g c =

@@ -1,7 +1,7 @@
 use Rattle.std.proofs.Common.{◌+◌, get_or, rules, ap, ◌∙◌}
 use Rattle.std.specs.Prelude.{slice_range}
 use Rattle.far_scopes.specs.Refusing.{first_absent}
-use Rattle.far_texts.proofs.LentCells.{range-next, away-first, here-first}
+use Rattle.far_texts.proofs.LendingLaws.{range-next, away-first, here-first}
 use Rattle.far_texts.proofs.text_column.TextColumn.all_here.Goals as goal
 
 pub returns-in_err-_form : goal.returns-in_err-_form

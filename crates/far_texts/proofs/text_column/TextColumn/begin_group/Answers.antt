@@ -1,6 +1,6 @@
 use Rattle.std.proofs.Common.{◌≡◌, ◌<◌, ◌^◌, true, length, sym, subst, arith}
 use Rattle.far_texts.specs.Effects.{begins_group}
-use Rattle.far_texts.proofs.Pushing.{has-more}
+use Rattle.far_texts.proofs.EffectsAppend.{has-more}
 use Rattle.far_texts.proofs.text_column.TextColumn.begin_group.Goals as goal
 
 pub invariant_of-self-2 : goal.invariant_of-self-2

@@ -2,7 +2,7 @@ use Rattle.std.specs.Prelude.{option_map}
 use Rattle.far_scopes.specs.Memory.{list_in}
 use Rattle.far_scopes.specs.Movement.{meant, ticket_of}
 use Rattle.far_texts.specs.Texts.{IsGroupForm}
-use Rattle.far_texts.proofs.Groups.{group-form, form-lent}
+use Rattle.far_texts.proofs.TextsGroups.{group-form, form-lent}
 use Rattle.far_texts.proofs.text_column.TextColumn.form.Goals as goal
 
 pub returns-clause-form : goal.returns-clause-form

@@ -1,8 +1,8 @@
 use Rattle.std.proofs.Common.{length, arith}
 use Rattle.far_texts.specs.Texts.{lists_of}
-use Rattle.far_texts.proofs.Groups.{group-list}
-use Rattle.far_texts.proofs.InUse.{in-use, no-list}
-use Rattle.far_texts.proofs.Pushing.{few-objects}
+use Rattle.far_texts.proofs.TextsGroups.{group-list}
+use Rattle.far_texts.proofs.MovementInUse.{in-use, no-list}
+use Rattle.far_texts.proofs.EffectsAppend.{few-objects}
 use Rattle.far_texts.proofs.text_column.TextColumn.next_object_is_unused.Goals as goal
 
 pub returns-clause-objects : goal.returns-clause-objects

@@ -1,7 +1,7 @@
 use Rattle.std.proofs.Common.{◌≡◌, ◌<◌, length, get_or, sym, ap, subst, ◌∙◌}
 use Rattle.std.proofs.lemmas.List.{get_or_read}
-use Rattle.far_texts.proofs.Groups.{group-list}
-use Rattle.far_texts.proofs.InUse.{in-use}
+use Rattle.far_texts.proofs.TextsGroups.{group-list}
+use Rattle.far_texts.proofs.MovementInUse.{in-use}
 use Rattle.far_texts.proofs.text_column.TextColumn.object_in_use.Goals as goal
 
 pub returns-clause-used : goal.returns-clause-used

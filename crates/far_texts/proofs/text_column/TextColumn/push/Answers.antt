@@ -2,10 +2,10 @@ use Rattle.std.proofs.Common.{◌≤◌, length, Some, sym, ap, subst, ◌∙◌
 use Rattle.far_scopes.specs.Memory.{ChangesList}
 use Rattle.far_texts.specs.Texts.{Lists, lists_of, texts_in, IsTextColumn, AreDisjoint, KeepsOthers}
 use Rattle.far_texts.specs.Effects.{last_object}
-use Rattle.far_texts.proofs.Changed.{keeps-others-new, keeps-same}
+use Rattle.far_texts.proofs.TextsChanges.{keeps-others-new, keeps-same}
 use Rattle.far_scopes.proofs.Outcomes.{by-outcome, on-ok, by-outcomes, on-both}
-use Rattle.far_texts.proofs.Disjoint.{pushed-disjoint}
-use Rattle.far_texts.proofs.Pushing.{form-is, pushed-begun, pushed-longer, next-alone, next-behind, begun-is, begun-texts, longer-is, longer-texts, longer-others, push-short, moved-begun, moved-longer}
+use Rattle.far_texts.proofs.ColumnsLaws.{pushed-disjoint}
+use Rattle.far_texts.proofs.EffectsAppend.{form-is, pushed-begun, pushed-longer, next-alone, next-behind, begun-is, begun-texts, longer-is, longer-texts, longer-others, push-short, moved-begun, moved-longer}
 use Rattle.far_texts.proofs.text_column.TextColumn.push.Goals as goal
 
 pub returns-then-begins_group-clause-moved : goal.returns-then-begins_group-clause-moved

@@ -2,9 +2,9 @@ use Rattle.std.proofs.Common.{◌≡◌, ◌/◌, ◌≤◌, Some, sym, ap, subs
 use Rattle.std.specs.Prelude.{slice_index}
 use Rattle.far_scopes.specs.Memory.{ChangesList}
 use Rattle.far_texts.specs.Texts.{Lists, lists_of, object_at, HasGroups, IsTextColumn, KeepsOthers}
-use Rattle.far_texts.proofs.Changed.{keeps-same}
+use Rattle.far_texts.proofs.TextsChanges.{keeps-same}
 use Rattle.far_scopes.proofs.Outcomes.{by-outcome, on-ok}
-use Rattle.far_texts.proofs.Setting.{set-is, set-texts, set-others, set-below, set-short}
+use Rattle.far_texts.proofs.EffectsSet.{set-is, set-texts, set-others, set-below, set-short}
 use Rattle.far_texts.proofs.text_column.TextColumn.set.Goals as goal
 
 pub returns-clause-is : goal.returns-clause-is

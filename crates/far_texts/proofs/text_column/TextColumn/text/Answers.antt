@@ -3,7 +3,7 @@ use Rattle.std.specs.Prelude.{slice_get}
 use Rattle.std.specs.Option.{option_and_then}
 use Rattle.far_codec.specs.TextForm.{texts_meaning}
 use Rattle.far_texts.specs.Texts.{lists_of, HasGroups}
-use Rattle.far_texts.proofs.Groups.{text-lent}
+use Rattle.far_texts.proofs.TextsGroups.{text-lent}
 use Rattle.far_texts.proofs.text_column.TextColumn.text.Goals as goal
 
 pub returns-clause-text : goal.returns-clause-text

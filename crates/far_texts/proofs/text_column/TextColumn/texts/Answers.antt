@@ -3,7 +3,7 @@ use Rattle.std.specs.Prelude.{slice_range}
 use Rattle.std.proofs.lemmas.List.{length-take, length-drop}
 use Rattle.far_scopes.specs.Refusing.{first_absent}
 use Rattle.far_texts.specs.Texts.{lists_of, texts_in, HasGroups}
-use Rattle.far_texts.proofs.LentCells.{part-free, zip-part}
+use Rattle.far_texts.proofs.LendingLaws.{part-free, zip-part}
 use Rattle.far_texts.proofs.text_column.TextColumn.texts.Goals as goal
 use Rattle.far_texts.proofs.text_column.TextColumn.texts.Goals.{then-from-to-2+in_ok-all_here, else-from-to-2}
 

@@ -1,6 +1,6 @@
 use Rattle.far_types.specs.FirstOf.{first_of}
 use Rattle.far_texts.specs.RefusingTogether.{first_tests, push_texts_refusal}
-use Rattle.far_texts.proofs.Free.{first-free, only-memory}
+use Rattle.far_texts.proofs.RefusingTogetherAcceptance.{first-free, only-memory}
 use Rattle.far_texts.proofs.text_column.together.fill_texts.Goals as goal
 
 pub make_forms-requires-clause-first : goal.make_forms-requires-clause-first

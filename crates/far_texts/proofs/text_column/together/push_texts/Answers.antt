@@ -2,9 +2,9 @@ use Rattle.std.proofs.Common.{◌≡◌, inl, None, Some, sym}
 use Rattle.std.specs.Prelude.{◌⊎◌}
 use Rattle.far_types.specs.declared.refusal.Refusal.TheVariants.{NoMemory}
 use Rattle.far_types.specs.FirstOf.{first_of}
-use Rattle.far_scopes.proofs.RefusedAll.{err-handed}
+use Rattle.far_scopes.proofs.RefusingReplacements.{err-handed}
 use Rattle.far_texts.specs.RefusingTogether.{first_tests, push_texts_refusal}
-use Rattle.far_texts.proofs.DueTogether.{due-first}
+use Rattle.far_texts.proofs.RefusingTogetherLaws.{due-first}
 use Rattle.far_texts.proofs.text_column.together.push_texts.Goals as goal
 
 pub returns-in_err-may_make_forms-clause-refused : goal.returns-in_err-may_make_forms-clause-refused

@@ -1,7 +1,7 @@
 use Rattle.std.proofs.Common.{length, ap, sym, ◌∙◌}
 use Rattle.far_scopes.specs.Movement.{list_of}
 use Rattle.far_vector.specs.Vector.{elements}
-use Rattle.far_vector.proofs.PieceLaws.{length-pieces}
+use Rattle.far_vector.proofs.PiecesLaws.{length-pieces}
 use Rattle.far_vector.proofs.pieces.Pieces.len.Goals as goal
 
 pub returns : goal.returns

@@ -4,8 +4,8 @@ use Rattle.far_scopes.specs.Movement.{list_of}
 use Rattle.far_vector.specs.Vector.{elements}
 use Rattle.far_vector.specs.Pieces.{pieces_of}
 use Rattle.far_vector.specs.Refusing.{part_refusal, pieces_refusal}
-use Rattle.far_vector.proofs.Lendable.{range-free, part-free, next-free}
-use Rattle.far_vector.proofs.PieceLaws.{pieces-step}
+use Rattle.far_vector.proofs.RefusingParts.{range-free, part-free, next-free}
+use Rattle.far_vector.proofs.PiecesLaws.{pieces-step}
 use Rattle.far_vector.proofs.pieces.Pieces.next.Goals as goal
 
 pub unreachable-requires : goal.unreachable-requires

@@ -3,7 +3,7 @@ use Rattle.std.specs.Prelude.{slice_range}
 use Rattle.std.proofs.lemmas.Result.{err_from_is_err_and}
 use Rattle.far_scopes.specs.Refusing.{first_absent}
 use Rattle.far_vector.specs.Vector.{Vector}
-use Rattle.far_vector.proofs.Listed.{listed-free, listed-due}
+use Rattle.far_vector.proofs.RefusingObjects.{listed-free, listed-due}
 use Rattle.far_vector.proofs.vector.FarVector.all_here.Goals as goal
 
 pub returns-in_err-here : goal.returns-in_err-here

@@ -6,8 +6,8 @@ use Rattle.far_scopes.specs.Movement.{list_of}
 use Rattle.far_scopes.specs.Effects.{after_create}
 use Rattle.far_vector.specs.Vector.{Vector, IsVector, AreDisjoint}
 use Rattle.far_vector.specs.Effects.{is_full}
-use Rattle.far_vector.proofs.InUse.{in-use, bounded-sorted}
-use Rattle.far_vector.proofs.GroupLaws.{shaped-begun, object-begun, layout-first, elements-begun, vector-begun, untouched-begun}
+use Rattle.far_vector.proofs.MovementInUse.{in-use, bounded-sorted}
+use Rattle.far_vector.proofs.EffectsGroups.{shaped-begun, object-begun, layout-first, elements-begun, vector-begun, untouched-begun}
 use Rattle.far_vector.proofs.vector.FarVector.begin_group.Given.{Over}
 use Rattle.far_vector.proofs.vector.FarVector.begin_group.Goals as goal
 

@@ -4,8 +4,8 @@ use Rattle.far_scopes.specs.Movement.{list_of}
 use Rattle.far_vector.specs.Vector.{Vector, IsVector, WritesPlaces, AreDisjoint, KeepsOthers, object_at}
 use Rattle.far_vector.specs.Effects.{is_full}
 use Rattle.far_vector.proofs.VectorLaws.{object-there}
-use Rattle.far_vector.proofs.WritingLaws.{elements-filled, vector-filled}
-use Rattle.far_vector.proofs.Disjoint.{untouched}
+use Rattle.far_vector.proofs.VectorWrites.{elements-filled, vector-filled}
+use Rattle.far_vector.proofs.VectorDisjointness.{untouched}
 use Rattle.far_vector.proofs.vector.FarVector.fill_place.Given.{Over}
 use Rattle.far_vector.proofs.vector.FarVector.fill_place.Goals as goal
 

@@ -2,7 +2,7 @@ use Rattle.std.proofs.Common.{◌≡◌, ◌%◌, get_or, Some, ap, subst, arith
 use Rattle.far_scopes.specs.Movement.{list_of}
 use Rattle.far_vector.specs.Vector.{Vector, IsShaped}
 use Rattle.far_vector.proofs.VectorLaws.{get-is}
-use Rattle.far_vector.proofs.RangeLaws.{list-local}
+use Rattle.far_vector.proofs.VectorRanges.{list-local}
 use Rattle.far_vector.proofs.vector.FarVector.get.Goals as goal
 
 pub returns-clause-element : goal.returns-clause-element

@@ -1,5 +1,5 @@
 use Rattle.std.proofs.Common.{arith}
-use Rattle.far_vector.proofs.Checked.{within-checked}
+use Rattle.far_vector.proofs.RefusingLaws.{within-checked}
 use Rattle.far_vector.proofs.vector.FarVector.may_write_part.Goals as goal
 
 pub position-requires-clause-within : goal.position-requires-clause-within

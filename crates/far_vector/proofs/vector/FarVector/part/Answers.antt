@@ -2,9 +2,9 @@ use Rattle.std.proofs.Common.{◌≡◌, ◌<◌, ◌+◌, ◌-◌, ◌%◌, tak
 use Rattle.std.specs.Prelude.{slice_range}
 use Rattle.far_scopes.specs.Movement.{list_of}
 use Rattle.far_vector.specs.Vector.{Vector, elements}
-use Rattle.far_vector.proofs.Checked.{within-checked, group-checked}
+use Rattle.far_vector.proofs.RefusingLaws.{within-checked, group-checked}
 use Rattle.far_vector.proofs.VectorLaws.{part-lent}
-use Rattle.far_vector.proofs.RangeLaws.{list-local}
+use Rattle.far_vector.proofs.VectorRanges.{list-local}
 use Rattle.far_vector.proofs.vector.FarVector.part.Goals as goal
 
 pub position-at-requires-clause-within : goal.position-at-requires-clause-within

@@ -3,14 +3,14 @@ use Rattle.std.specs.Prelude.{IsSomeAnd, slice_range}
 use Rattle.far_scopes.specs.Memory.{list_in}
 use Rattle.far_scopes.specs.Movement.{Movement, list_of, AreClean, AreHere, ChangesObject}
 use Rattle.far_scopes.specs.Refusing.{write_refusal}
-use Rattle.far_scopes.specs.Effects.{written, overwritten}
+use Rattle.far_scopes.specs.Effects.{after_write, after_overwrite}
 use Rattle.far_vector.specs.Vector.{Vector, IsShaped, KeepsOthers, WritesPlaces, IsVector, elements, object_at}
-use Rattle.far_vector.specs.Effects.{range_written}
-use Rattle.far_vector.proofs.Checked.{within-written, group-written, free-written}
+use Rattle.far_vector.specs.Effects.{after_write_range}
+use Rattle.far_vector.proofs.RefusingLaws.{within-written, group-written, free-written}
 use Rattle.far_vector.proofs.VectorLaws.{part-fits, object-there}
-use Rattle.far_vector.proofs.WritingLaws.{elements-written, vector-written}
-use Rattle.far_vector.proofs.Disjoint.{untouched}
-use Rattle.far_vector.proofs.RangeLaws.{some-weaker, at-place, range-lent, Changes, written-is, changes-is, others-range, places-range}
+use Rattle.far_vector.proofs.VectorWrites.{elements-after_write, vector-after_write}
+use Rattle.far_vector.proofs.VectorDisjointness.{untouched}
+use Rattle.far_vector.proofs.VectorRanges.{some-weaker, at-place, range-lent, Changes, after_write-is, changes-is, others-range, places-range}
 use Rattle.far_vector.proofs.vector.FarVector.part_mut.Given.{Over}
 use Rattle.far_vector.proofs.vector.FarVector.part_mut.Goals as goal
 
@@ -70,8 +70,8 @@ module _ (g : Over) (c : goal.After-lend_range_mut g) where
   changes : Changes g.T.Elem.meaning g.S.FarTickets.content c.args.objects.now c.args.vector.now c.args.from (object_at c.args.vector.now c.args.from) c.args.vector.now.size (c.args.to - c.args.from)
   changes = changes-is g.T.Elem.meaning g.S.FarTickets.content was v c.args.from c.writable_at-o.result c.vector.inside.size (c.args.to - c.args.from) c.writable_at-o.ensures.object size-is c.lend_range_mut.ensures.alone
 
-  is-written : (range : List g.row.T.Denot) → overwritten (written c.args.objects.now c.writable_at-o.result) c.writable_at-o.result (c.args.from % c.vector.inside.size) range ≡ range_written c.args.objects.now c.args.vector.now c.args.from range
-  is-written range = written-is g.T.Elem.meaning g.S.FarTickets.content was v c.args.from c.writable_at-o.result c.vector.inside.size range range c.writable_at-o.ensures.object size-is refl
+  is-after_write : (range : List g.row.T.Denot) → after_overwrite (after_write c.args.objects.now c.writable_at-o.result) c.writable_at-o.result (c.args.from % c.vector.inside.size) range ≡ after_write_range c.args.objects.now c.args.vector.now c.args.from range
+  is-after_write range = after_write-is g.T.Elem.meaning g.S.FarTickets.content was v c.args.from c.writable_at-o.result c.vector.inside.size range range c.writable_at-o.ensures.object size-is refl
 
   lent : c.lend_range_mut.result.now ≡ slice_range (elements (list_of g.T.Elem.meaning g.S.FarTickets.content c.args.objects.now) c.args.vector.now) c.args.from c.args.to
   lent = range-lent g.T.Elem.meaning g.S.FarTickets.content was v shaped c.requires.is c.args.from c.args.to c.requires.some within same c.lend_range_mut.result.now
@@ -79,7 +79,7 @@ module _ (g : Over) (c : goal.After-lend_range_mut g) where
 
   module _ (range : List g.row.T.Denot) (long : length range ≡ c.args.to - c.args.from) where
     abbrev now : Movement g.row.T.Denot g.row.S-Ticket.Denot
-    now = range_written c.args.objects.now c.args.vector.now c.args.from range
+    now = after_write_range c.args.objects.now c.args.vector.now c.args.from range
 
     places : WritesPlaces (list_of g.T.Elem.meaning g.S.FarTickets.content c.args.objects.now) (list_of g.T.Elem.meaning g.S.FarTickets.content now) c.args.vector.now c.args.from range
     places = places-range g.T.Elem.meaning g.S.FarTickets.content was v shaped c.requires.is c.args.from (c.args.to - c.args.from) inside fits there changes range long
@@ -89,24 +89,24 @@ module _ (g : Over) (c : goal.After-lend_range_mut g) where
 
     elements-are : elements (lists now) v ≡ take c.args.from (elements (lists was) v) ++ (range ++ drop c.args.to (elements (lists was) v))
     elements-are =
-        elements-written (lists was) (lists now) v shaped c.requires.is c.args.from range places (omega (arith, long, within, c.requires.some))
+        elements-after_write (lists was) (lists now) v shaped c.requires.is c.args.from range places (omega (arith, long, within, c.requires.some))
         ∙ ap (λ n. take c.args.from (elements (lists was) v) ++ (range ++ drop n (elements (lists was) v))) (let e : c.args.from + length range ≡ c.args.to = omega (arith, long, c.requires.some) in e)
 
     is-vector : IsVector (lists now) v
-    is-vector = vector-written (lists was) (lists now) v shaped c.requires.is c.args.from range places (omega (arith, long, within, c.requires.some))
+    is-vector = vector-after_write (lists was) (lists now) v shaped c.requires.is c.args.from range places (omega (arith, long, within, c.requires.some))
 
 pub returns : goal.returns
 returns g c = (
-  (refl, is-written g c),
+  (refl, is-after_write g c),
   record {
     writes_back = tt;
     lent = lent g c;
     elements = elements-are g c;
     is = is-vector g c;
-    disjoint = λ range long w is-w disjoint. untouched (list_of g.T.Elem.meaning g.S.FarTickets.content c.args.objects.now) (list_of g.T.Elem.meaning g.S.FarTickets.content (range_written c.args.objects.now c.args.vector.now c.args.from range)) c.args.vector.now w is-w disjoint (object_at c.args.vector.now c.args.from) (others g c range long) (c.args.from / c.args.vector.now.size) (object-there c.args.vector.now (shaped g c) c.args.from (inside g c)) c.args.vector.now disjoint;
+    disjoint = λ range long w is-w disjoint. untouched (list_of g.T.Elem.meaning g.S.FarTickets.content c.args.objects.now) (list_of g.T.Elem.meaning g.S.FarTickets.content (after_write_range c.args.objects.now c.args.vector.now c.args.from range)) c.args.vector.now w is-w disjoint (object_at c.args.vector.now c.args.from) (others g c range long) (c.args.from / c.args.vector.now.size) (object-there c.args.vector.now (shaped g c) c.args.from (inside g c)) c.args.vector.now disjoint;
     lists = others g c;
-    others = λ range. at-place g.T.Elem.meaning g.S.FarTickets.content c.args.objects.now c.args.vector.now (λ p size. ChangesObject c.args.objects.now (overwritten (written c.args.objects.now p) p (c.args.from % size) range) p) c.args.from c.writable_at-o.result c.vector.inside.size c.writable_at-o.ensures.object (size-is g c) (c.lend_range_mut.ensures.others range);
-    clean = λ range long clean. subst (λ (m : Movement g.row.T.Denot g.row.S-Ticket.Denot). AreClean g.T.Elem.meaning g.S.FarTickets.content m) (is-written g c range) (c.lend_range_mut.ensures.clean range (omega (arith, long)) clean);
-    store = λ range id here. subst (λ (m : Movement g.row.T.Denot g.row.S-Ticket.Denot). AreHere g.S.FarTickets.is_of id m) (is-written g c range) (c.lend_range_mut.ensures.store range id here);
+    others = λ range. at-place g.T.Elem.meaning g.S.FarTickets.content c.args.objects.now c.args.vector.now (λ p size. ChangesObject c.args.objects.now (after_overwrite (after_write c.args.objects.now p) p (c.args.from % size) range) p) c.args.from c.writable_at-o.result c.vector.inside.size c.writable_at-o.ensures.object (size-is g c) (c.lend_range_mut.ensures.others range);
+    clean = λ range long clean. subst (λ (m : Movement g.row.T.Denot g.row.S-Ticket.Denot). AreClean g.T.Elem.meaning g.S.FarTickets.content m) (is-after_write g c range) (c.lend_range_mut.ensures.clean range (omega (arith, long)) clean);
+    store = λ range id here. subst (λ (m : Movement g.row.T.Denot g.row.S-Ticket.Denot). AreHere g.S.FarTickets.is_of id m) (is-after_write g c range) (c.lend_range_mut.ensures.store range id here);
   },
 )

@@ -4,7 +4,7 @@ use Rattle.std.specs.List.{flat_map}
 use Rattle.far_scopes.specs.Movement.{list_of}
 use Rattle.far_vector.specs.Vector.{Vector, IsShaped, elements}
 use Rattle.far_vector.proofs.VectorLaws.{length-elements}
-use Rattle.far_vector.proofs.PieceLaws.{joined-pieces, some-pieces}
+use Rattle.far_vector.proofs.PiecesLaws.{joined-pieces, some-pieces}
 use Rattle.far_vector.proofs.vector.FarVector.pieces.Goals as goal
 
 pub returns-clause-joined : goal.returns-clause-joined

@@ -3,7 +3,7 @@ use Rattle.std.specs.Prelude.{IsSomeAnd}
 use Rattle.std.proofs.lemmas.Nat.{div_below}
 use Rattle.far_scopes.specs.Movement.{list_of}
 use Rattle.far_vector.specs.Vector.{Vector, IsVector}
-use Rattle.far_vector.proofs.InUse.{in-use}
+use Rattle.far_vector.proofs.MovementInUse.{in-use}
 use Rattle.far_vector.proofs.vector.FarVector.position_in.Goals as goal
 
 pub returns-clause-made : goal.returns-clause-made

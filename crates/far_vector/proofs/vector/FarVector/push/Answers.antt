@@ -2,7 +2,7 @@ use Rattle.std.proofs.Common.{sym, subst}
 use Rattle.std.proofs.lemmas.Result.{on_ok_weaker}
 use Rattle.far_scopes.specs.Movement.{list_of}
 use Rattle.far_vector.specs.Vector.{KeepsOthers}
-use Rattle.far_vector.proofs.RangeLaws.{both-ok}
+use Rattle.far_vector.proofs.VectorRanges.{both-ok}
 use Rattle.far_vector.proofs.vector.FarVector.push.Goals as goal
 
 pub returns-then-begins_group-clause-lists : goal.returns-then-begins_group-clause-lists

@@ -2,10 +2,10 @@ use Rattle.std.proofs.Common.{◌≡◌, ◌*◌, ◌/◌, ◌<◌, [], ◌∷�
 use Rattle.far_scopes.specs.Movement.{list_of}
 use Rattle.far_scopes.specs.Refusing.{write_refusal}
 use Rattle.far_vector.specs.Vector.{Vector, WritesPlaces, KeepsOthers, elements, object_at}
-use Rattle.far_vector.proofs.Checked.{place-set, free-set}
+use Rattle.far_vector.proofs.RefusingLaws.{place-set, free-set}
 use Rattle.far_vector.proofs.VectorLaws.{object-there, length-elements}
-use Rattle.far_vector.proofs.WritingLaws.{elements-written, vector-written, one-written}
-use Rattle.far_vector.proofs.Disjoint.{untouched}
+use Rattle.far_vector.proofs.VectorWrites.{elements-after_write, vector-after_write, one-written}
+use Rattle.far_vector.proofs.VectorDisjointness.{untouched}
 use Rattle.far_vector.proofs.vector.FarVector.set_in_group.Given.{Over}
 use Rattle.far_vector.proofs.vector.FarVector.set_in_group.Goals as goal
 
@@ -32,13 +32,13 @@ pub returns-clause-elements : goal.returns-clause-elements
 returns-clause-elements g c =
     let shaped = c.len-len.ensures.shaped in
     let below = within g c in
-    elements-written (list_of g.T.Elem.meaning g.S.FarTickets.content c.args.objects.now) (list_of g.T.Elem.meaning g.S.FarTickets.content c.write.new.objects) c.args.self.now shaped c.requires.is c.args.i (c.args.x ∷ []) (placed g c) (omega (arith, below))
+    elements-after_write (list_of g.T.Elem.meaning g.S.FarTickets.content c.args.objects.now) (list_of g.T.Elem.meaning g.S.FarTickets.content c.write.new.objects) c.args.self.now shaped c.requires.is c.args.i (c.args.x ∷ []) (placed g c) (omega (arith, below))
     ∙ one-written (elements (list_of g.T.Elem.meaning g.S.FarTickets.content c.args.objects.now) c.args.self.now) c.args.i c.args.x (omega (arith, below, length-elements (list_of g.T.Elem.meaning g.S.FarTickets.content c.args.objects.now) c.args.self.now shaped c.requires.is))
 
 pub returns-clause-is : goal.returns-clause-is
 returns-clause-is g c =
     let below = within g c in
-    vector-written (list_of g.T.Elem.meaning g.S.FarTickets.content c.args.objects.now) (list_of g.T.Elem.meaning g.S.FarTickets.content c.write.new.objects) c.args.self.now c.len-len.ensures.shaped c.requires.is c.args.i (c.args.x ∷ []) (placed g c) (omega (arith, below))
+    vector-after_write (list_of g.T.Elem.meaning g.S.FarTickets.content c.args.objects.now) (list_of g.T.Elem.meaning g.S.FarTickets.content c.write.new.objects) c.args.self.now c.len-len.ensures.shaped c.requires.is c.args.i (c.args.x ∷ []) (placed g c) (omega (arith, below))
 
 pub returns-clause-disjoint : goal.returns-clause-disjoint
 returns-clause-disjoint g c = λ w is disjoint.

@@ -3,7 +3,7 @@ use Rattle.std.specs.Prelude.{slice_get}
 use Rattle.std.proofs.lemmas.Option.{slice_get_within}
 use Rattle.far_scopes.specs.Movement.{list_of}
 use Rattle.far_vector.specs.Vector.{Vector, IsVector, AreDisjoint}
-use Rattle.far_vector.proofs.GroupLaws.{shaped-unpushed, elements-unpushed, vector-unpushed, untouched-unpushed}
+use Rattle.far_vector.proofs.EffectsGroups.{shaped-unpushed, elements-unpushed, vector-unpushed, untouched-unpushed}
 use Rattle.far_vector.proofs.vector.FarVector.unpush.Given.{Over}
 use Rattle.far_vector.proofs.vector.FarVector.unpush.Goals as goal
 

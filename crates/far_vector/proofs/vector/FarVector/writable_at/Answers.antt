@@ -1,6 +1,6 @@
 use Rattle.std.proofs.Common.{◌≡◌, None, sym, subst}
 use Rattle.far_scopes.specs.Refusing.{write_refusal}
-use Rattle.far_vector.proofs.RangeLaws.{list-held}
+use Rattle.far_vector.proofs.VectorRanges.{list-held}
 use Rattle.far_vector.proofs.vector.FarVector.writable_at.Goals as goal
 
 pub returns-clause-list : goal.returns-clause-list

@@ -4,10 +4,10 @@ use Rattle.std.proofs.lemmas.List.{length-set}
 use Rattle.std.proofs.lemmas.Nat.{mod_below}
 use Rattle.far_scopes.specs.Memory.{list_in}
 use Rattle.far_scopes.specs.Movement.{Movement, list_of}
-use Rattle.far_scopes.specs.Effects.{written, overwritten}
+use Rattle.far_scopes.specs.Effects.{after_write, after_overwrite}
 use Rattle.far_vector.specs.Vector.{IsShaped, KeepsOthers, WritesPlaces, object_at}
-use Rattle.far_vector.specs.Effects.{range_written}
-use Rattle.far_vector.proofs.RangeLaws.{Changes, ChangesFrom, some-weaker, list-held, lent-long, single-set, written-is, changes-is, others-range, places-range}
+use Rattle.far_vector.specs.Effects.{after_write_range}
+use Rattle.far_vector.proofs.VectorRanges.{Changes, ChangesFrom, some-weaker, list-held, lent-long, single-set, after_write-is, changes-is, others-range, places-range}
 use Rattle.far_vector.proofs.vector.FarVector.write.Given.{Over}
 use Rattle.far_vector.proofs.vector.FarVector.write.Goals as goal
 
@@ -31,12 +31,12 @@ module _ (g : Over) (c : goal.After-objects-1 g) where
   one = lent-long (list_in c.args.objects.now.memory c.args.at.object) c.lend_range_mut-range.result.now c.args.at.index (c.args.at.index + 1) c.lend_range_mut-range.ensures.lent (some-weaker (list_in c.args.objects.now.memory c.args.at.object) held (λ list long. omega (arith, long, below)))
 
   abbrev now : Movement g.row.T.Denot g.row.S-Ticket.Denot
-  now = overwritten (written c.args.objects.now c.args.at.object) c.args.at.object c.args.at.index (set c.lend_range_mut-range.result.now 0 c.args.x)
+  now = after_overwrite (after_write c.args.objects.now c.args.at.object) c.args.at.object c.args.at.index (set c.lend_range_mut-range.result.now 0 c.args.x)
 
-  is-written : now ≡ range_written c.args.objects.now c.args.self.now c.args.at.place (c.args.x ∷ [])
-  is-written =
-      ap (λ k. overwritten (written c.args.objects.now c.args.at.object) c.args.at.object k (set c.lend_range_mut-range.result.now 0 c.args.x)) c.requires.index
-      ∙ written-is g.T.Elem.meaning g.S.FarTickets.content c.args.objects.now c.args.self.now c.args.at.place c.args.at.object c.args.self.now.size (set c.lend_range_mut-range.result.now 0 c.args.x) (c.args.x ∷ []) c.requires.object refl (single-set c.lend_range_mut-range.result.now c.args.x (omega (arith, one)))
+  is-after_write : now ≡ after_write_range c.args.objects.now c.args.self.now c.args.at.place (c.args.x ∷ [])
+  is-after_write =
+      ap (λ k. after_overwrite (after_write c.args.objects.now c.args.at.object) c.args.at.object k (set c.lend_range_mut-range.result.now 0 c.args.x)) c.requires.index
+      ∙ after_write-is g.T.Elem.meaning g.S.FarTickets.content c.args.objects.now c.args.self.now c.args.at.place c.args.at.object c.args.self.now.size (set c.lend_range_mut-range.result.now 0 c.args.x) (c.args.x ∷ []) c.requires.object refl (single-set c.lend_range_mut-range.result.now c.args.x (omega (arith, one)))
 
   fits : c.args.at.place % c.args.self.now.size + 1 ≤ c.args.self.now.size
   fits = omega (arith, mod_below c.args.at.place c.args.self.now.size shaped.some)
@@ -53,16 +53,16 @@ module _ (g : Over) (c : goal.After-objects-1 g) where
   set-long = length-set c.lend_range_mut-range.result.now 0 c.args.x ∙ one
 
 pub returns-clause-written : goal.returns-clause-written
-returns-clause-written g c = is-written g c
+returns-clause-written g c = is-after_write g c
 
 pub returns-clause-places : goal.returns-clause-places
 returns-clause-places g c =
-    subst (λ (m : Movement g.row.T.Denot g.row.S-Ticket.Denot). WritesPlaces (list_of g.T.Elem.meaning g.S.FarTickets.content c.args.objects.now) (list_of g.T.Elem.meaning g.S.FarTickets.content m) c.args.self.now c.args.at.place (c.args.x ∷ [])) (sym (is-written g c))
+    subst (λ (m : Movement g.row.T.Denot g.row.S-Ticket.Denot). WritesPlaces (list_of g.T.Elem.meaning g.S.FarTickets.content c.args.objects.now) (list_of g.T.Elem.meaning g.S.FarTickets.content m) c.args.self.now c.args.at.place (c.args.x ∷ [])) (sym (is-after_write g c))
     (places-range g.T.Elem.meaning g.S.FarTickets.content c.args.objects.now c.args.self.now (shaped g c) c.requires.is c.args.at.place 1 c.requires.within (fits g c) (there g c) (changes g c) (c.args.x ∷ []) refl)
 
 pub returns-clause-lists : goal.returns-clause-lists
 returns-clause-lists g c =
-    subst (λ (m : Movement g.row.T.Denot g.row.S-Ticket.Denot). KeepsOthers (list_of g.T.Elem.meaning g.S.FarTickets.content c.args.objects.now) (list_of g.T.Elem.meaning g.S.FarTickets.content m) (object_at c.args.self.now c.args.at.place)) (sym (is-written g c))
+    subst (λ (m : Movement g.row.T.Denot g.row.S-Ticket.Denot). KeepsOthers (list_of g.T.Elem.meaning g.S.FarTickets.content c.args.objects.now) (list_of g.T.Elem.meaning g.S.FarTickets.content m) (object_at c.args.self.now c.args.at.place)) (sym (is-after_write g c))
     (others-range g.T.Elem.meaning g.S.FarTickets.content c.args.objects.now c.args.self.now (shaped g c) c.requires.is c.args.at.place 1 c.requires.within (fits g c) (there g c) (changes g c) (c.args.x ∷ []) refl)
 
 pub returns-clause-clean : goal.returns-clause-clean

@@ -1,6 +1,6 @@
 use Rattle.std.proofs.Common.{◌∙◌, arith}
 use Rattle.std.proofs.lemmas.List.{length-set}
-use Rattle.far_columns.proofs.NumbersBegun.{sizes-more, sizes-some}
+use Rattle.far_columns.proofs.NumbersTogetherBeginning.{sizes-more, sizes-some}
 use Rattle.far_columns.proofs.int_column.together.checking.groups_fit.Goals as goal
 
 pub loop-k-preserved : goal.loop-k-preserved

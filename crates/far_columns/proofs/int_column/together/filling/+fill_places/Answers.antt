@@ -8,7 +8,7 @@ use Rattle.far_vector.specs.Effects.{is_full}
 use Rattle.far_vector.specs.Refusing.{push_refusal}
 use Rattle.far_columns.specs.Numbers.{number_lists}
 use Rattle.far_columns.proofs.NumbersTogether.{none-refused, begun-same, begun-object, pushed-first, count-same}
-use Rattle.far_columns.proofs.NumbersPushed.{all_disjoint-rest, all_disjoint-all, keeps-all, numbers-all, free-rest}
+use Rattle.far_columns.proofs.NumbersTogetherAppends.{all_disjoint-rest, all_disjoint-all, keeps-all, numbers-all, free-rest}
 use Rattle.far_columns.proofs.int_column.together.filling.+fill_places.Goals as goal
 
 pub unreachable-requires-in_default-push : goal.unreachable-requires-in_default-push

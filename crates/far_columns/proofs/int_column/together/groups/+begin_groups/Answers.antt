@@ -9,9 +9,9 @@ use Rattle.far_vector.specs.Vectors.{AreVectors}
 use Rattle.far_vector.specs.Effects.{is_full}
 use Rattle.far_columns.specs.Numbers.{number_lists}
 use Rattle.far_columns.proofs.NumbersTogether.{pushed-first}
-use Rattle.far_columns.proofs.NumbersBegun.{one-more, alone, last, first-refused, others-refused}
+use Rattle.far_columns.proofs.NumbersTogetherBeginning.{one-more, alone, last, first-refused, others-refused}
 use Rattle.far_columns.proofs.NumbersUndo.{begun-all, below-all, undone-all}
-use Rattle.far_columns.proofs.NumbersPushed.{first-has, all_disjoint-rest, all_disjoint-all, keeps-all, numbers-all}
+use Rattle.far_columns.proofs.NumbersTogetherAppends.{first-has, all_disjoint-rest, all_disjoint-all, keeps-all, numbers-all}
 use Rattle.far_columns.proofs.int_column.together.groups.+begin_groups.Goals as goal
 
 pub returns-in_err-push-clause-refused : goal.returns-in_err-push-clause-refused

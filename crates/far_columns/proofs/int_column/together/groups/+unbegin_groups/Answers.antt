@@ -2,7 +2,7 @@ use Rattle.std.proofs.Common.{subst}
 use Rattle.far_vector.specs.Vectors.{AreVectors}
 use Rattle.far_columns.specs.Numbers.{number_lists}
 use Rattle.far_columns.specs.NumbersUndo.{AreBegunLast}
-use Rattle.far_columns.proofs.NumbersUndo.{all_disjoint-tail, first-stays, all_disjoint-back, numbers-back, keeps-back, rest-last, first-last}
+use Rattle.far_columns.proofs.NumbersUndo.{all_disjoint-tail, first-stays, all_disjoint-undone, numbers-undone, keeps-undone, rest-last, first-last}
 use Rattle.far_columns.proofs.int_column.together.groups.+unbegin_groups.Goals as goal
 
 pub unbegin_groups-requires-clause-all_disjoint : goal.unbegin_groups-requires-clause-all_disjoint
@@ -30,15 +30,15 @@ unpush-requires-clause-unpinned g t c κs within = (first-last c.args.objects.no
 pub returns-clause-all_disjoint : goal.returns-clause-all_disjoint
 returns-clause-all_disjoint g t c =
     let old = number_lists g.S.FarTickets.content c.args.objects.now in
-    all_disjoint-back old (number_lists g.S.FarTickets.content c.unbegin_groups.new.objects) (number_lists g.S.FarTickets.content c.unpush.new.objects) c.in-Some.first.now c.unpush.new.self c.in-Some.others.now c.unbegin_groups.new.columns (subst (AreVectors old) c.in-Some.ensures.cases.0 c.requires.all_disjoint) c.unbegin_groups.ensures.all_disjoint c.unbegin_groups.ensures.others record { is = c.unpush.ensures.is; others = c.unpush.ensures.disjoint }
+    all_disjoint-undone old (number_lists g.S.FarTickets.content c.unbegin_groups.new.objects) (number_lists g.S.FarTickets.content c.unpush.new.objects) c.in-Some.first.now c.unpush.new.self c.in-Some.others.now c.unbegin_groups.new.columns (subst (AreVectors old) c.in-Some.ensures.cases.0 c.requires.all_disjoint) c.unbegin_groups.ensures.all_disjoint c.unbegin_groups.ensures.others record { is = c.unpush.ensures.is; others = c.unpush.ensures.disjoint }
 
 pub returns-clause-numbers : goal.returns-clause-numbers
 returns-clause-numbers g t c =
     let old = number_lists g.S.FarTickets.content c.args.objects.now in
-    rw c.in-Some.ensures.cases.0 (numbers-back old (number_lists g.S.FarTickets.content c.unbegin_groups.new.objects) (number_lists g.S.FarTickets.content c.unpush.new.objects) c.in-Some.first.now c.unpush.new.self c.in-Some.others.now c.unbegin_groups.new.columns (subst (AreVectors old) c.in-Some.ensures.cases.0 c.requires.all_disjoint) c.unbegin_groups.ensures.all_disjoint c.unbegin_groups.ensures.others record { is = c.unpush.ensures.is; others = c.unpush.ensures.disjoint }
+    rw c.in-Some.ensures.cases.0 (numbers-undone old (number_lists g.S.FarTickets.content c.unbegin_groups.new.objects) (number_lists g.S.FarTickets.content c.unpush.new.objects) c.in-Some.first.now c.unpush.new.self c.in-Some.others.now c.unbegin_groups.new.columns (subst (AreVectors old) c.in-Some.ensures.cases.0 c.requires.all_disjoint) c.unbegin_groups.ensures.all_disjoint c.unbegin_groups.ensures.others record { is = c.unpush.ensures.is; others = c.unpush.ensures.disjoint }
     c.unpush.ensures.numbers c.unbegin_groups.ensures.numbers)
 
 pub returns-clause-others : goal.returns-clause-others
 returns-clause-others g t c =
     let old = number_lists g.S.FarTickets.content c.args.objects.now in
-    rw c.in-Some.ensures.cases.0 (keeps-back old (number_lists g.S.FarTickets.content c.unbegin_groups.new.objects) (number_lists g.S.FarTickets.content c.unpush.new.objects) c.in-Some.first.now c.unpush.new.self c.in-Some.others.now c.unbegin_groups.new.columns (subst (AreVectors old) c.in-Some.ensures.cases.0 c.requires.all_disjoint) c.unbegin_groups.ensures.all_disjoint c.unbegin_groups.ensures.others record { is = c.unpush.ensures.is; others = c.unpush.ensures.disjoint })
+    rw c.in-Some.ensures.cases.0 (keeps-undone old (number_lists g.S.FarTickets.content c.unbegin_groups.new.objects) (number_lists g.S.FarTickets.content c.unpush.new.objects) c.in-Some.first.now c.unpush.new.self c.in-Some.others.now c.unbegin_groups.new.columns (subst (AreVectors old) c.in-Some.ensures.cases.0 c.requires.all_disjoint) c.unbegin_groups.ensures.all_disjoint c.unbegin_groups.ensures.others record { is = c.unpush.ensures.is; others = c.unpush.ensures.disjoint })

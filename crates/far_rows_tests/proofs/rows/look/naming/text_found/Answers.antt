@@ -2,7 +2,7 @@ use Rattle.std.proofs.Common.{◌∙◌}
 use Rattle.std.proofs.lemmas.Option.{slice_get-map}
 use Rattle.far_rows.specs.declared.object.Object.TheVariants as object
 use Rattle.far_scopes.specs.declared.object_record.ObjectRecord.{ObjectRecord}
-use Rattle.far_rows_tests.proofs.Found.{answered}
+use Rattle.far_rows_tests.proofs.MovingObjects.{answered}
 use Rattle.far_rows_tests.proofs.rows.look.naming.text_found.Goals as goal
 
 pub returns : goal.returns

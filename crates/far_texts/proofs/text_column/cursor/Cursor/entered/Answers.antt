@@ -1,5 +1,5 @@
 use Rattle.std.proofs.Common.{◌≡◌, ◌+◌, ◌*◌, arith}
-use Rattle.far_texts.proofs.LentCells.{group-here}
+use Rattle.far_texts.proofs.LendingLaws.{group-here}
 use Rattle.far_texts.proofs.text_column.cursor.Cursor.entered.Goals as goal
 
 pub form_here-form-requires-clause-here : goal.form_here-form-requires-clause-here

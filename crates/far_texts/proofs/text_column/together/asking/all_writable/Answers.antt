@@ -7,8 +7,8 @@ use Rattle.far_scopes.specs.Refusing.{absent, written_out}
 use Rattle.far_texts.specs.Texts.{Texts, lists_of, IsTextColumn}
 use Rattle.far_texts.specs.Effects.{begins_group, last_object}
 use Rattle.far_texts.specs.Refusing.{next_length_refusal}
-use Rattle.far_scopes.proofs.FirstCases.{any-later, any-here, written-free, written-due}
-use Rattle.far_texts.proofs.Asking.{last-here}
+use Rattle.far_scopes.proofs.FirstOfCases.{any-later, any-here, written-free, written-due}
+use Rattle.far_texts.proofs.RefusingTogetherForms.{last-here}
 use Rattle.far_texts.proofs.text_column.together.asking.all_writable.Goals as goal
 
 pub last_is_writable-requires-clause-begun : goal.last_is_writable-requires-clause-begun

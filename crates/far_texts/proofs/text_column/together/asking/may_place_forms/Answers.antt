@@ -6,10 +6,10 @@ use Rattle.far_types.specs.declared.refusal.Refusal.TheVariants as refusal
 use Rattle.far_log.specs.RegionState.{spaces_of, fit_in_order}
 use Rattle.far_texts.specs.Texts.{Lists, lists_of}
 use Rattle.far_texts.specs.Together.{all_begin, next_forms}
-use Rattle.far_scopes.proofs.FirstCases.{first-append, first-none}
+use Rattle.far_scopes.proofs.FirstOfCases.{first-append, first-none}
 use Rattle.far_texts.specs.RefusingTogether.{any_full, some_written_out, last_tests}
-use Rattle.far_texts.proofs.Checking.{none-begin}
-use Rattle.far_texts.proofs.Asking.{lens-from, lens-some, any-out, space-longer, first-asked}
+use Rattle.far_texts.proofs.TogetherChecks.{none-begin}
+use Rattle.far_texts.proofs.RefusingTogetherForms.{lens-from, lens-some, any-out, space-longer, first-asked}
 use Rattle.far_texts.proofs.text_column.together.asking.may_place_forms.Goals as goal
 
 pub fits_in_order-requires-clause-some : goal.fits_in_order-requires-clause-some

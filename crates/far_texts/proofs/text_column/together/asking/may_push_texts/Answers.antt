@@ -3,8 +3,8 @@ use Rattle.std.proofs.lemmas.Result.{err_from_is_err_and}
 use Rattle.far_types.specs.FirstOf.{first_of}
 use Rattle.far_texts.specs.Texts.{lists_of}
 use Rattle.far_texts.specs.RefusingTogether.{any_full, last_tests, push_texts_refusal}
-use Rattle.far_texts.proofs.Asking.{due-measured, first-asked, second-asked}
-use Rattle.far_texts.proofs.OneAsked.{one-asked}
+use Rattle.far_texts.proofs.RefusingTogetherForms.{due-measured, first-asked, second-asked}
+use Rattle.far_texts.proofs.RefusingTogetherOneColumn.{one-asked}
 use Rattle.far_texts.proofs.text_column.together.asking.may_push_texts.Goals as goal
 
 pub returns-in_err-may_measure_forms : goal.returns-in_err-may_measure_forms

@@ -1,8 +1,8 @@
 use Rattle.std.proofs.Common.{◌≡◌, ◌+◌, ◌<◌, [], ◌++◌, length, take, drop, sym, ap, subst, ◌∙◌, arith, length-set}
 use Rattle.std.proofs.lemmas.List.{append-nil, drop_all}
 use Rattle.far_texts.specs.Texts.{Texts, Lists, lists_of, IsTextColumn}
-use Rattle.far_texts.proofs.Asking.{lens-from, lens-more}
-use Rattle.far_texts.proofs.Fullness.{full-later}
+use Rattle.far_texts.proofs.RefusingTogetherForms.{lens-from, lens-more}
+use Rattle.far_texts.proofs.RefusingTogetherFormSize.{full-later}
 use Rattle.far_texts.proofs.text_column.together.asking.next_lens.Goals as goal
 
 pub form_length_with_next-requires-after_bounds : goal.form_length_with_next-requires-after_bounds

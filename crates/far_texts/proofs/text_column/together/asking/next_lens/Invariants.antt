@@ -1,7 +1,7 @@
 use Rattle.std.proofs.Common.{◌≡◌, ℕ, ◌+◌, ◌++◌, length, take, drop}
 use Rattle.far_texts.specs.Texts.{Lists, lists_of}
 use Rattle.far_texts.specs.RefusingTogether.{any_full}
-use Rattle.far_texts.proofs.Asking.{lens-from}
+use Rattle.far_texts.proofs.RefusingTogetherForms.{lens-from}
 use Rattle.far_texts.proofs.text_column.together.asking.next_lens.Given as goal
 
 abbrev pub invariant-loop-k : goal.invariant-loop-k

@@ -3,7 +3,7 @@ use Rattle.std.proofs.lemmas.Result.{err_from_is_err_and}
 use Rattle.far_texts.specs.Texts.{Texts, lists_of, IsTextColumn}
 use Rattle.far_texts.specs.Effects.{begins_group, last_object}
 use Rattle.far_scopes.specs.Refusing.{absent}
-use Rattle.far_scopes.proofs.FirstCases.{next-free, next-due}
+use Rattle.far_scopes.proofs.FirstOfCases.{next-free, next-due}
 use Rattle.far_texts.proofs.text_column.together.checking.all_here.Goals as goal
 
 pub last_form-requires-clause-begun : goal.last_form-requires-clause-begun

@@ -3,7 +3,7 @@ use Rattle.std.proofs.lemmas.Result.{err_from_is_err_and}
 use Rattle.far_types.specs.FirstOf.{first_of}
 use Rattle.far_texts.specs.Texts.{lists_of}
 use Rattle.far_texts.specs.RefusingTogether.{any_full, first_tests}
-use Rattle.far_texts.proofs.Asking.{first-measured, first-asked, second-asked}
+use Rattle.far_texts.proofs.RefusingTogetherForms.{first-measured, first-asked, second-asked}
 use Rattle.far_texts.proofs.text_column.together.checking.may_make_forms.Goals as goal
 
 pub returns-in_err-may_measure_forms : goal.returns-in_err-may_measure_forms

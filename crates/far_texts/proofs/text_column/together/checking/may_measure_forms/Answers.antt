@@ -4,14 +4,14 @@ use Rattle.std.specs.List.{slice_index_or}
 use Rattle.std.proofs.lemmas.List.Sums.{AllPass-from_list_all}
 use Rattle.far_types.specs.FirstOf.{first_of}
 use Rattle.far_scopes.specs.Refusing.{absent}
-use Rattle.far_scopes.proofs.FirstCases.{none-due}
+use Rattle.far_scopes.proofs.FirstOfCases.{none-due}
 use Rattle.far_texts.specs.Texts.{Texts, lists_of}
 use Rattle.far_texts.specs.Effects.{begins_group, last_object}
 use Rattle.far_texts.specs.Refusing.{next_length_refusal}
 use Rattle.far_texts.specs.Together.{all_begin}
 use Rattle.far_texts.specs.RefusingTogether.{any_too_long, absents}
-use Rattle.far_texts.proofs.Checking.{none-begin, here-begun, here-longer}
-use Rattle.far_texts.proofs.Asking.{away-asked, begun-asked, ok-follows}
+use Rattle.far_texts.proofs.TogetherChecks.{none-begin, here-begun, here-longer}
+use Rattle.far_texts.proofs.RefusingTogetherForms.{away-asked, begun-asked, ok-follows}
 use Rattle.far_texts.proofs.text_column.together.checking.may_measure_forms.Goals as goal
 
 pub all_here-requires-clause-begun : goal.all_here-requires-clause-begun

@@ -1,6 +1,6 @@
 use Rattle.std.proofs.Common.{◌≡◌, sym, ap, subst, ◌∙◌, arith}
 use Rattle.far_texts.specs.Texts.{Texts, Lists, lists_of, IsTextColumn}
-use Rattle.far_texts.proofs.Fullness.{full-later}
+use Rattle.far_texts.proofs.RefusingTogetherFormSize.{full-later}
 use Rattle.far_texts.proofs.text_column.together.checking.none_full.Goals as goal
 
 pub form_length_with_next-requires-after_bounds : goal.form_length_with_next-requires-after_bounds

@@ -4,10 +4,10 @@ use Rattle.std.proofs.lemmas.Option.{slice_get_within, slice_get_read}
 use Rattle.far_scopes.specs.declared.replacement.Replacement.{Replacement}
 use Rattle.far_texts.specs.Texts.{Lists, lists_of, IsTextColumn}
 use Rattle.far_texts.specs.Effects.{group_with_next}
-use Rattle.far_texts.specs.Together.{object_for, next_forms, given_forms}
-use Rattle.far_texts.proofs.Pushing.{form-is}
-use Rattle.far_texts.proofs.Fullness.{none-full-at}
-use Rattle.far_texts.proofs.MadeForms.{is-next, made-more, valid-more}
+use Rattle.far_texts.specs.Together.{object_for, next_forms, forms_of}
+use Rattle.far_texts.proofs.EffectsAppend.{form-is}
+use Rattle.far_texts.proofs.RefusingTogetherFormSize.{none-full-at}
+use Rattle.far_texts.proofs.TogetherMadeForms.{is-next, made-more, valid-more}
 use Rattle.far_texts.proofs.text_column.together.forms.next_form.Goals as goal
 
 pub bounds-columns-0 : goal.bounds-columns-0
@@ -44,7 +44,7 @@ returns-clause-form g c =
     let none : drop 1 columns ≡ [] = drop_all 1 columns (omega (arith, c.requires.one)) in
     let r : Replacement ℕ = record { object = c.object_for-object.result; list = c.in_ok-list.list } in
     let made = made-more lists n columns texts 0 column text one inside c.index-columns-0.is c.index-texts-0.is [] (r ∷ []) r (next_forms lists n columns texts) whole refl (c.object_for-object.ensures ∙ ap (λ i. object_for column (i + 0)) c.count.ensures) is in
-    sym (append-nil (given_forms (r ∷ []))) ∙ ap (λ cs. given_forms (r ∷ []) ++ next_forms lists (n + 1) cs (drop 1 texts)) (sym none) ∙ made
+    sym (append-nil (forms_of (r ∷ []))) ∙ ap (λ cs. forms_of (r ∷ []) ++ next_forms lists (n + 1) cs (drop 1 texts)) (sym none) ∙ made
 
 pub returns-clause-valid : goal.returns-clause-valid
 returns-clause-valid g c = λ k column text here there.

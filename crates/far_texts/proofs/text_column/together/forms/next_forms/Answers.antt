@@ -4,9 +4,9 @@ use Rattle.std.proofs.lemmas.Option.{slice_get_within, slice_get_read}
 use Rattle.far_texts.specs.Texts.{Lists, lists_of, IsTextColumn}
 use Rattle.far_texts.specs.Effects.{group_with_next}
 use Rattle.far_texts.specs.Together.{object_for}
-use Rattle.far_texts.proofs.Pushing.{form-is}
-use Rattle.far_texts.proofs.Fullness.{none-full-at}
-use Rattle.far_texts.proofs.MadeForms.{is-next, made-more, valid-more}
+use Rattle.far_texts.proofs.EffectsAppend.{form-is}
+use Rattle.far_texts.proofs.RefusingTogetherFormSize.{none-full-at}
+use Rattle.far_texts.proofs.TogetherMadeForms.{is-next, made-more, valid-more}
 use Rattle.far_texts.proofs.text_column.together.forms.next_forms.Goals as goal
 
 pub form_pushed-requires-clause-is : goal.form_pushed-requires-clause-is

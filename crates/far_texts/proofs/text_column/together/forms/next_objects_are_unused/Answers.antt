@@ -3,7 +3,7 @@ use Rattle.std.specs.Prelude.{All}
 use Rattle.std.proofs.lemmas.List.{take_all}
 use Rattle.std.proofs.lemmas.List.Elements.{All-more}
 use Rattle.far_texts.specs.Texts.{Texts, HasGroups, IsTextColumn, lists_of}
-use Rattle.far_texts.proofs.InUse.{no-list}
+use Rattle.far_texts.proofs.MovementInUse.{no-list}
 use Rattle.far_texts.proofs.text_column.together.forms.next_objects_are_unused.Goals as goal
 
 pub next_object_is_unused-requires-after_bounds : goal.next_object_is_unused-requires-after_bounds

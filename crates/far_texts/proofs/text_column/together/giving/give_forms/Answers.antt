@@ -7,15 +7,15 @@ use Rattle.far_scopes.specs.declared.replacement.Replacement.{Replacement}
 use Rattle.far_scopes.specs.Refusing.{first_absent, replace_all_refusal}
 use Rattle.far_texts.specs.Texts.{Texts, Lists, AreDisjoint, lists_of, texts_in}
 use Rattle.far_texts.specs.Effects.{begins_group}
-use Rattle.far_texts.specs.Together.{AreColumns, all_begin, next_forms, given_forms, after_create_all, ChangesTo, KeepsColumns}
+use Rattle.far_texts.specs.Together.{AreColumns, all_begin, next_forms, forms_of, after_create_all, ChangesTo, KeepsColumns}
 use Rattle.far_texts.specs.RefusingTogether.{first_tests, push_texts_refusal}
 use Rattle.far_scopes.proofs.Outcomes.{by-outcome, on-ok, by-outcomes, on-both}
-use Rattle.far_texts.proofs.Checking.{none-begin}
-use Rattle.far_texts.proofs.NextForms.{all-at}
-use Rattle.far_texts.proofs.AllPushed.{all-texts, keeps-columns, same-columns}
-use Rattle.far_texts.proofs.StayColumns.{stay-columns, stays-disjoint}
-use Rattle.far_texts.proofs.GivenForms.{length-given, given-some, given-numbered, given-changes, given-within, given-once, given-here}
-use Rattle.far_texts.proofs.DueTogether.{begun-free, begun-full, due-replaced, all-local, refused-begun, refused-longer}
+use Rattle.far_texts.proofs.TogetherChecks.{none-begin}
+use Rattle.far_texts.proofs.TogetherNextForms.{all-at}
+use Rattle.far_texts.proofs.TogetherAppends.{all-texts, keeps-columns, same-columns}
+use Rattle.far_texts.proofs.TogetherColumns.{stay-columns, stays-disjoint}
+use Rattle.far_texts.proofs.TogetherGivenForms.{length-given, given-some, given-numbered, given-changes, given-within, given-once, given-here}
+use Rattle.far_texts.proofs.RefusingTogetherLaws.{begun-free, begun-full, due-replaced, all-local, refused-begun, refused-longer}
 use Rattle.far_texts.proofs.text_column.together.giving.give_forms.Goals as goal
 
 pub begin_groups-requires-clause-begin : goal.begin_groups-requires-clause-begin
@@ -35,7 +35,7 @@ begin_groups-requires-clause-same_length g c κs within =
     let fresh = c.requires.fresh in
     let valid = c.requires.valid in
     let forms = c.args.forms.now in
-    let is : given_forms forms ≡ next_forms old n columns texts = c.requires.forms in
+    let is : forms_of forms ≡ next_forms old n columns texts = c.requires.forms in
     let begins : all_begin columns ≡ true = sym c.all_begin.ensures ∙ c.if-all_begin.true in
     length-given old n columns texts c.requires.same_length forms is
 
@@ -52,7 +52,7 @@ begin_groups-requires-clause-some g c κs within =
     let fresh = c.requires.fresh in
     let valid = c.requires.valid in
     let forms = c.args.forms.now in
-    let is : given_forms forms ≡ next_forms old n columns texts = c.requires.forms in
+    let is : forms_of forms ≡ next_forms old n columns texts = c.requires.forms in
     let begins : all_begin columns ≡ true = sym c.all_begin.ensures ∙ c.if-all_begin.true in
     given-some old n columns texts c.requires.same_length forms is valid
 
@@ -69,7 +69,7 @@ begin_groups-requires-clause-numbered g c κs within =
     let fresh = c.requires.fresh in
     let valid = c.requires.valid in
     let forms = c.args.forms.now in
-    let is : given_forms forms ≡ next_forms old n columns texts = c.requires.forms in
+    let is : forms_of forms ≡ next_forms old n columns texts = c.requires.forms in
     let begins : all_begin columns ≡ true = sym c.all_begin.ensures ∙ c.if-all_begin.true in
     given-numbered old n columns texts c.requires.same_length forms is (λ k d here. all-at (λ (x : Texts). begins_group x ≡ true) columns k d (AllPass-from_list_all begins_group columns begins) here)
 
@@ -90,7 +90,7 @@ extend_groups-requires-clause-some g c κs within =
     let fresh = c.requires.fresh in
     let valid = c.requires.valid in
     let forms = c.args.forms.now in
-    let is : given_forms forms ≡ next_forms old n columns texts = c.requires.forms in
+    let is : forms_of forms ≡ next_forms old n columns texts = c.requires.forms in
     let begins : all_begin columns ≡ false = sym c.all_begin.ensures ∙ c.if-all_begin.false in
     let begun : (k : ℕ) (d : Texts) → slice_get columns k ≡ Some d → begins_group d ≡ false = λ k d here. all-at (λ (x : Texts). begins_group x ≡ false) columns k d (none-begin old columns are groups begins) here in
     given-some old n columns texts c.requires.same_length forms is valid
@@ -108,7 +108,7 @@ extend_groups-requires-clause-within g c κs within =
     let fresh = c.requires.fresh in
     let valid = c.requires.valid in
     let forms = c.args.forms.now in
-    let is : given_forms forms ≡ next_forms old n columns texts = c.requires.forms in
+    let is : forms_of forms ≡ next_forms old n columns texts = c.requires.forms in
     let begins : all_begin columns ≡ false = sym c.all_begin.ensures ∙ c.if-all_begin.false in
     let begun : (k : ℕ) (d : Texts) → slice_get columns k ≡ Some d → begins_group d ≡ false = λ k d here. all-at (λ (x : Texts). begins_group x ≡ false) columns k d (none-begin old columns are groups begins) here in
     given-within old n columns texts c.requires.same_length forms is are groups fresh begun
@@ -126,7 +126,7 @@ extend_groups-requires-clause-once g c κs within =
     let fresh = c.requires.fresh in
     let valid = c.requires.valid in
     let forms = c.args.forms.now in
-    let is : given_forms forms ≡ next_forms old n columns texts = c.requires.forms in
+    let is : forms_of forms ≡ next_forms old n columns texts = c.requires.forms in
     let begins : all_begin columns ≡ false = sym c.all_begin.ensures ∙ c.if-all_begin.false in
     let begun : (k : ℕ) (d : Texts) → slice_get columns k ≡ Some d → begins_group d ≡ false = λ k d here. all-at (λ (x : Texts). begins_group x ≡ false) columns k d (none-begin old columns are groups begins) here in
     given-once old n columns texts c.requires.same_length forms is are groups fresh begun
@@ -144,7 +144,7 @@ returns-then-all_begin-clause-begun g c =
     let fresh = c.requires.fresh in
     let valid = c.requires.valid in
     let forms = c.args.forms.now in
-    let is : given_forms forms ≡ next_forms old n columns texts = c.requires.forms in
+    let is : forms_of forms ≡ next_forms old n columns texts = c.requires.forms in
     let begins : all_begin columns ≡ true = sym c.all_begin.ensures ∙ c.if-all_begin.true in
     on-ok c.begin_groups.result c.begin_groups.ensures.created (λ made _. made ∙ ap (after_create_all m columns) is)
 
@@ -161,7 +161,7 @@ returns-then-all_begin-clause-replaced g c =
     let fresh = c.requires.fresh in
     let valid = c.requires.valid in
     let forms = c.args.forms.now in
-    let is : given_forms forms ≡ next_forms old n columns texts = c.requires.forms in
+    let is : forms_of forms ≡ next_forms old n columns texts = c.requires.forms in
     let begins : all_begin columns ≡ true = sym c.all_begin.ensures ∙ c.if-all_begin.true in
     on-ok c.begin_groups.result c.begin_groups.ensures.created (λ _ not. absurd (let never = sym begins ∙ not in cc))
 
@@ -178,7 +178,7 @@ returns-then-all_begin-clause-lists g c =
     let fresh = c.requires.fresh in
     let valid = c.requires.valid in
     let forms = c.args.forms.now in
-    let is : given_forms forms ≡ next_forms old n columns texts = c.requires.forms in
+    let is : forms_of forms ≡ next_forms old n columns texts = c.requires.forms in
     let begins : all_begin columns ≡ true = sym c.all_begin.ensures ∙ c.if-all_begin.true in
     let new : Lists = lists_of content c.begin_groups.new.objects in
     on-ok c.begin_groups.result c.begin_groups.ensures.lists (λ changes. subst (ChangesTo old new) is changes)
@@ -196,7 +196,7 @@ returns-then-all_begin-clause-are g c =
     let fresh = c.requires.fresh in
     let valid = c.requires.valid in
     let forms = c.args.forms.now in
-    let is : given_forms forms ≡ next_forms old n columns texts = c.requires.forms in
+    let is : forms_of forms ≡ next_forms old n columns texts = c.requires.forms in
     let begins : all_begin columns ≡ true = sym c.all_begin.ensures ∙ c.if-all_begin.true in
     let new : Lists = lists_of content c.begin_groups.new.objects in
     by-outcomes c.begin_groups.result c.begin_groups.ensures.lists c.begin_groups.ensures.pushed c.begin_groups.ensures.err c.begin_groups.ensures.kept
@@ -216,7 +216,7 @@ returns-then-all_begin-clause-texts g c =
     let fresh = c.requires.fresh in
     let valid = c.requires.valid in
     let forms = c.args.forms.now in
-    let is : given_forms forms ≡ next_forms old n columns texts = c.requires.forms in
+    let is : forms_of forms ≡ next_forms old n columns texts = c.requires.forms in
     let begins : all_begin columns ≡ true = sym c.all_begin.ensures ∙ c.if-all_begin.true in
     let new : Lists = lists_of content c.begin_groups.new.objects in
     on-both c.begin_groups.result c.begin_groups.ensures.lists c.begin_groups.ensures.pushed
@@ -235,7 +235,7 @@ returns-then-all_begin-clause-others g c =
     let fresh = c.requires.fresh in
     let valid = c.requires.valid in
     let forms = c.args.forms.now in
-    let is : given_forms forms ≡ next_forms old n columns texts = c.requires.forms in
+    let is : forms_of forms ≡ next_forms old n columns texts = c.requires.forms in
     let begins : all_begin columns ≡ true = sym c.all_begin.ensures ∙ c.if-all_begin.true in
     let new : Lists = lists_of content c.begin_groups.new.objects in
     by-outcome c.begin_groups.result c.begin_groups.ensures.lists c.begin_groups.ensures.err
@@ -263,7 +263,7 @@ returns-then-all_begin-clause-free g c =
     let fresh = c.requires.fresh in
     let valid = c.requires.valid in
     let forms = c.args.forms.now in
-    let is : given_forms forms ≡ next_forms old n columns texts = c.requires.forms in
+    let is : forms_of forms ≡ next_forms old n columns texts = c.requires.forms in
     let begins : all_begin columns ≡ true = sym c.all_begin.ensures ∙ c.if-all_begin.true in
     on-ok c.begin_groups.result c.begin_groups.ensures.space (λ fits. begun-free content m columns texts (sym c.requires.first) forms is begins fits)
 
@@ -280,7 +280,7 @@ returns-then-all_begin-clause-refused g c =
     let fresh = c.requires.fresh in
     let valid = c.requires.valid in
     let forms = c.args.forms.now in
-    let is : given_forms forms ≡ next_forms old n columns texts = c.requires.forms in
+    let is : forms_of forms ≡ next_forms old n columns texts = c.requires.forms in
     let begins : all_begin columns ≡ true = sym c.all_begin.ensures ∙ c.if-all_begin.true in
     refused-begun c.begin_groups.result (push_texts_refusal content m columns texts) (first_of (first_tests content m columns texts)) (sym c.requires.first)
     (fit_in_order (spaces_of m.memory.state) (map (λ (r : Replacement ℕ). length r.list.items) forms)) (begun-full content m columns texts (sym c.requires.first) forms is begins) c.begin_groups.ensures.refused
@@ -298,7 +298,7 @@ returns-else-all_begin-clause-begun g c =
     let fresh = c.requires.fresh in
     let valid = c.requires.valid in
     let forms = c.args.forms.now in
-    let is : given_forms forms ≡ next_forms old n columns texts = c.requires.forms in
+    let is : forms_of forms ≡ next_forms old n columns texts = c.requires.forms in
     let begins : all_begin columns ≡ false = sym c.all_begin.ensures ∙ c.if-all_begin.false in
     let begun : (k : ℕ) (d : Texts) → slice_get columns k ≡ Some d → begins_group d ≡ false = λ k d here. all-at (λ (x : Texts). begins_group x ≡ false) columns k d (none-begin old columns are groups begins) here in
     on-ok c.extend_groups.result c.extend_groups.ensures.replaced (λ _ begin. absurd (let never = sym begins ∙ begin in cc))
@@ -316,7 +316,7 @@ returns-else-all_begin-clause-replaced g c =
     let fresh = c.requires.fresh in
     let valid = c.requires.valid in
     let forms = c.args.forms.now in
-    let is : given_forms forms ≡ next_forms old n columns texts = c.requires.forms in
+    let is : forms_of forms ≡ next_forms old n columns texts = c.requires.forms in
     let begins : all_begin columns ≡ false = sym c.all_begin.ensures ∙ c.if-all_begin.false in
     let begun : (k : ℕ) (d : Texts) → slice_get columns k ≡ Some d → begins_group d ≡ false = λ k d here. all-at (λ (x : Texts). begins_group x ≡ false) columns k d (none-begin old columns are groups begins) here in
     on-ok c.extend_groups.result c.extend_groups.ensures.replaced (λ made _. (forms, is, made))
@@ -334,7 +334,7 @@ returns-else-all_begin-clause-lists g c =
     let fresh = c.requires.fresh in
     let valid = c.requires.valid in
     let forms = c.args.forms.now in
-    let is : given_forms forms ≡ next_forms old n columns texts = c.requires.forms in
+    let is : forms_of forms ≡ next_forms old n columns texts = c.requires.forms in
     let begins : all_begin columns ≡ false = sym c.all_begin.ensures ∙ c.if-all_begin.false in
     let begun : (k : ℕ) (d : Texts) → slice_get columns k ≡ Some d → begins_group d ≡ false = λ k d here. all-at (λ (x : Texts). begins_group x ≡ false) columns k d (none-begin old columns are groups begins) here in
     let new : Lists = lists_of content c.extend_groups.new.objects in
@@ -353,7 +353,7 @@ returns-else-all_begin-clause-are g c =
     let fresh = c.requires.fresh in
     let valid = c.requires.valid in
     let forms = c.args.forms.now in
-    let is : given_forms forms ≡ next_forms old n columns texts = c.requires.forms in
+    let is : forms_of forms ≡ next_forms old n columns texts = c.requires.forms in
     let begins : all_begin columns ≡ false = sym c.all_begin.ensures ∙ c.if-all_begin.false in
     let begun : (k : ℕ) (d : Texts) → slice_get columns k ≡ Some d → begins_group d ≡ false = λ k d here. all-at (λ (x : Texts). begins_group x ≡ false) columns k d (none-begin old columns are groups begins) here in
     let new : Lists = lists_of content c.extend_groups.new.objects in
@@ -374,7 +374,7 @@ returns-else-all_begin-clause-texts g c =
     let fresh = c.requires.fresh in
     let valid = c.requires.valid in
     let forms = c.args.forms.now in
-    let is : given_forms forms ≡ next_forms old n columns texts = c.requires.forms in
+    let is : forms_of forms ≡ next_forms old n columns texts = c.requires.forms in
     let begins : all_begin columns ≡ false = sym c.all_begin.ensures ∙ c.if-all_begin.false in
     let begun : (k : ℕ) (d : Texts) → slice_get columns k ≡ Some d → begins_group d ≡ false = λ k d here. all-at (λ (x : Texts). begins_group x ≡ false) columns k d (none-begin old columns are groups begins) here in
     let new : Lists = lists_of content c.extend_groups.new.objects in
@@ -394,7 +394,7 @@ returns-else-all_begin-clause-others g c =
     let fresh = c.requires.fresh in
     let valid = c.requires.valid in
     let forms = c.args.forms.now in
-    let is : given_forms forms ≡ next_forms old n columns texts = c.requires.forms in
+    let is : forms_of forms ≡ next_forms old n columns texts = c.requires.forms in
     let begins : all_begin columns ≡ false = sym c.all_begin.ensures ∙ c.if-all_begin.false in
     let begun : (k : ℕ) (d : Texts) → slice_get columns k ≡ Some d → begins_group d ≡ false = λ k d here. all-at (λ (x : Texts). begins_group x ≡ false) columns k d (none-begin old columns are groups begins) here in
     let new : Lists = lists_of content c.extend_groups.new.objects in
@@ -423,7 +423,7 @@ returns-else-all_begin-clause-free g c =
     let fresh = c.requires.fresh in
     let valid = c.requires.valid in
     let forms = c.args.forms.now in
-    let is : given_forms forms ≡ next_forms old n columns texts = c.requires.forms in
+    let is : forms_of forms ≡ next_forms old n columns texts = c.requires.forms in
     let begins : all_begin columns ≡ false = sym c.all_begin.ensures ∙ c.if-all_begin.false in
     let begun : (k : ℕ) (d : Texts) → slice_get columns k ≡ Some d → begins_group d ≡ false = λ k d here. all-at (λ (x : Texts). begins_group x ≡ false) columns k d (none-begin old columns are groups begins) here in
     let here = all-local m forms (given-here old n columns texts c.requires.same_length forms is are groups fresh begun content m c.requires.here) in
@@ -443,7 +443,7 @@ returns-else-all_begin-clause-refused g c =
     let fresh = c.requires.fresh in
     let valid = c.requires.valid in
     let forms = c.args.forms.now in
-    let is : given_forms forms ≡ next_forms old n columns texts = c.requires.forms in
+    let is : forms_of forms ≡ next_forms old n columns texts = c.requires.forms in
     let begins : all_begin columns ≡ false = sym c.all_begin.ensures ∙ c.if-all_begin.false in
     let begun : (k : ℕ) (d : Texts) → slice_get columns k ≡ Some d → begins_group d ≡ false = λ k d here. all-at (λ (x : Texts). begins_group x ≡ false) columns k d (none-begin old columns are groups begins) here in
     let here = all-local m forms (given-here old n columns texts c.requires.same_length forms is are groups fresh begun content m c.requires.here) in

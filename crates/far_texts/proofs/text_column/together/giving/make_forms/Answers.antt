@@ -2,9 +2,9 @@ use Rattle.std.proofs.Common.{ap, ◌∙◌}
 use Rattle.std.proofs.lemmas.List.Sums.{list_all-from_AllPass}
 use Rattle.far_texts.specs.Texts.{Lists, lists_of}
 use Rattle.far_texts.specs.Effects.{begins_group}
-use Rattle.far_texts.specs.Together.{given_forms}
-use Rattle.far_texts.proofs.Checking.{all-begin}
-use Rattle.far_texts.proofs.Free.{none-full, all-here}
+use Rattle.far_texts.specs.Together.{forms_of}
+use Rattle.far_texts.proofs.TogetherChecks.{all-begin}
+use Rattle.far_texts.proofs.RefusingTogetherAcceptance.{none-full, all-here}
 use Rattle.far_texts.proofs.text_column.together.giving.make_forms.Goals as goal
 
 pub next_form-requires-clause-few : goal.next_form-requires-clause-few
@@ -23,7 +23,7 @@ pub give_forms-given-requires-clause-here : goal.give_forms-given-requires-claus
 give_forms-given-requires-clause-here g c κs within = all-here g.S.FarTickets.content c.args.objects.now c.args.columns.now c.args.texts.now c.requires.first c.requires.are c.next_objects_are_unused.ensures.groups
 
 pub give_forms-given-requires-clause-forms : goal.give_forms-given-requires-clause-forms
-give_forms-given-requires-clause-forms g c κs within = ap given_forms c.from_ref.ensures.value ∙ c.in_ok-form.ensures.form
+give_forms-given-requires-clause-forms g c κs within = ap forms_of c.from_ref.ensures.value ∙ c.in_ok-form.ensures.form
 
 pub next_forms-requires-clause-few : goal.next_forms-requires-clause-few
 next_forms-requires-clause-few g c κs within =
@@ -41,4 +41,4 @@ pub give_forms-requires-clause-here : goal.give_forms-requires-clause-here
 give_forms-requires-clause-here g c κs within = all-here g.S.FarTickets.content c.args.objects.now c.args.columns.now c.args.texts.now c.requires.first c.requires.are c.next_objects_are_unused.ensures.groups
 
 pub give_forms-requires-clause-forms : goal.give_forms-requires-clause-forms
-give_forms-requires-clause-forms g c κs within = ap given_forms c.deref.ensures.value ∙ c.in_ok-forms.ensures.forms
+give_forms-requires-clause-forms g c κs within = ap forms_of c.deref.ensures.value ∙ c.in_ok-forms.ensures.forms

@@ -4,15 +4,15 @@ use Rattle.std.proofs.lemmas.List.Elements.{All-head, All-rest, All-weaker}
 use Rattle.far_scopes.specs.declared.replacement.Replacement.{Replacement}
 use Rattle.far_texts.specs.Texts.{Texts, Lists, lists_of}
 use Rattle.far_texts.specs.Effects.{begins_group}
-use Rattle.far_texts.specs.Together.{ChangesTo, given_forms}
-use Rattle.far_texts.proofs.Pushing.{has-more}
-use Rattle.far_texts.proofs.Growing.{count-created, numbered-rest, numbered-first, numbered-disjoint, changes-more, pushed-more}
+use Rattle.far_texts.specs.Together.{ChangesTo, forms_of}
+use Rattle.far_texts.proofs.EffectsAppend.{has-more}
+use Rattle.far_texts.proofs.TogetherGrowth.{count-after_create, numbered-rest, numbered-first, numbered-disjoint, changes-more, pushed-more}
 use Rattle.far_texts.proofs.text_column.together.growing.+begin_groups.Goals as goal
 
 pub begin_groups-requires-clause-groups : goal.begin_groups-requires-clause-groups
 begin_groups-requires-clause-groups g t c κs within =
     let m = c.args.objects.now in
-    let more = count-created m c.create.new.self _ _ c.in_ok-o.ensures.created in
+    let more = count-after_create m c.create.new.self _ _ c.in_ok-o.ensures.created in
     All-weaker (λ (d : Texts). length d.objects ≤ length m.records) (λ (d : Texts). length d.objects ≤ length c.create.new.self.records) (λ d few. omega (arith, few, more)) c.in-Some.columns.now
     (All-rest (λ (d : Texts). length d.objects ≤ length m.records) c.in-Some.column.now c.in-Some.columns.now c.args.columns.now c.in-Some.ensures.cases.0 c.requires.groups)
 
@@ -23,7 +23,7 @@ begin_groups-requires-clause-some g t c κs within =
 pub begin_groups-requires-clause-numbered : goal.begin_groups-requires-clause-numbered
 begin_groups-requires-clause-numbered g t c κs within =
     let m = c.args.objects.now in
-    let more = count-created m c.create.new.self _ _ c.in_ok-o.ensures.created in
+    let more = count-after_create m c.create.new.self _ _ c.in_ok-o.ensures.created in
     let rest = numbered-rest (length m.records) c.in-Some-split_first.form.now c.in-Some-split_first.forms.now c.args.forms.now c.in-Some-split_first.ensures.cases.0 c.requires.numbered in
     λ k d below. let at = rest k d below in omega (arith, at, more)
 
@@ -45,7 +45,7 @@ returns-clause-pushed g t c =
     pushed-more (length m.records) (length c.create.new.self.records) _ _ c.in-Some.columns.now _ c.args.columns.now
     (c.in-Some.ensures.cases.0 ∙ ap (λ (d : Texts). d ∷ c.in-Some.columns.now) (sym c.column.view_is)) (subst (λ t. begins_group t ≡ true) (sym c.column.view_is) first)
     (c.push_reserved.ensures.items ∙ ap (λ l. l ++ c.in_ok-o.o ∷ []) c.in_ok-reserve.ensures.items ∙ ap (λ o. items ++ o ∷ []) c.in_ok-o.ensures.number)
-    (count-created m c.create.new.self _ _ c.in_ok-o.ensures.created) c.in_default-begin_groups.ensures.pushed
+    (count-after_create m c.create.new.self _ _ c.in_ok-o.ensures.created) c.in_default-begin_groups.ensures.pushed
 
 pub returns-clause-lists : goal.returns-clause-lists
 returns-clause-lists g t c =
@@ -53,7 +53,7 @@ returns-clause-lists g t c =
     let lists : Lists = lists_of g.S.FarTickets.content m in
     let first = numbered-first (length m.records) c.in-Some-split_first.form.now c.in-Some-split_first.forms.now c.args.forms.now c.in-Some-split_first.ensures.cases.0 c.requires.numbered in
     let rest = numbered-rest (length m.records) c.in-Some-split_first.form.now c.in-Some-split_first.forms.now c.args.forms.now c.in-Some-split_first.ensures.cases.0 c.requires.numbered in
-    subst (λ l. ChangesTo lists (lists_of g.S.FarTickets.content c.begin_groups.new.objects) (given_forms l)) (sym c.in-Some-split_first.ensures.cases.0)
+    subst (λ l. ChangesTo lists (lists_of g.S.FarTickets.content c.begin_groups.new.objects) (forms_of l)) (sym c.in-Some-split_first.ensures.cases.0)
     (changes-more lists (lists_of g.S.FarTickets.content c.create.new.self) (lists_of g.S.FarTickets.content c.begin_groups.new.objects) (length m.records) _ _ _ _ first c.deref.ensures.value
     (numbered-disjoint (length m.records) c.in-Some-split_first.forms.now rest) c.in_ok-o.ensures.list c.in_default-begin_groups.ensures.lists)
 
@@ -65,5 +65,5 @@ returns-clause-store g t c = λ id here. c.begin_groups.ensures.store id (c.crea
 
 pub returns-clause-count : goal.returns-clause-count
 returns-clause-count g t c =
-    let more = count-created c.args.objects.now c.create.new.self _ _ c.in_ok-o.ensures.created in
+    let more = count-after_create c.args.objects.now c.create.new.self _ _ c.in_ok-o.ensures.created in
     omega (arith, more, c.in_default-begin_groups.ensures.count, c.in-Some.ensures.cases.1)

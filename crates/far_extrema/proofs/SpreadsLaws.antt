@@ -1,0 +1,284 @@
+-- The min-maxes of the row groups of two parts, and their min-max together.
+use Rattle.std.proofs.Common.{◌≡◌, ℕ, zero, suc, ◌<◌, ◌≤◌, ◌+◌, ◌==◌, true, false, cond, [], ◌∷◌, ◌++◌, refl, sym, ap, ◌∙◌, arith, Option, None, Some, ◌⊎◌, inl, inr}
+use Rattle.std.specs.Prelude.{ℤ}
+use Rattle.std.specs.Int.{int_min, int_max}
+use Rattle.std.proofs.lemmas.Int.{ints, int_min_is, int_max_is}
+use Rattle.std.proofs.lemmas.Bool.Decides.{nat_tests}
+use Rattle.far_types.specs.Effects.{join_min_maxes, merge_two}
+use Rattle.far_extrema.specs.Spreads.{MinMaxes, at, IsFrom, IsBelow, IsTopOf, IsSet, AreSame, joined_to}
+use Rattle.far_extrema.specs.Tournaments.{IsParted}
+
+min_swap : (x y : ℤ) → int_min x y ≡ int_min y x
+min_swap x y = omega (arith, ints, int_min_is x y, int_min_is y x)
+
+max_swap : (x y : ℤ) → int_max x y ≡ int_max y x
+max_swap x y = omega (arith, ints, int_max_is x y, int_max_is y x)
+
+min_regroup : (x y z : ℤ) → int_min (int_min x y) z ≡ int_min x (int_min y z)
+min_regroup x y z = omega (arith, ints, int_min_is x y, int_min_is (int_min x y) z, int_min_is y z, int_min_is x (int_min y z))
+
+max_regroup : (x y z : ℤ) → int_max (int_max x y) z ≡ int_max x (int_max y z)
+max_regroup x y z = omega (arith, ints, int_max_is x y, int_max_is (int_max x y) z, int_max_is y z, int_max_is x (int_max y z))
+
+join_swap : (s t : ℤ × ℤ) → join_min_maxes s t ≡ join_min_maxes t s
+join_swap s t = λ i. (min_swap s.0 t.0 i, max_swap s.1 t.1 i)
+
+join_regroup : (s t u : ℤ × ℤ) → join_min_maxes (join_min_maxes s t) u ≡ join_min_maxes s (join_min_maxes t u)
+join_regroup s t u = λ i. (min_regroup s.0 t.0 u.0 i, max_regroup s.1 t.1 u.1 i)
+
+pub swap : (o p : Option (ℤ × ℤ)) → merge_two join_min_maxes o p ≡ merge_two join_min_maxes p o
+swap None None = refl
+swap None (Some t) = refl
+swap (Some s) None = refl
+swap (Some s) (Some t) = ap Some (join_swap s t)
+
+pub regroup : (o p q : Option (ℤ × ℤ)) → merge_two join_min_maxes (merge_two join_min_maxes o p) q ≡ merge_two join_min_maxes o (merge_two join_min_maxes p q)
+regroup None p q = refl
+regroup (Some s) None q = refl
+regroup (Some s) (Some t) None = refl
+regroup (Some s) (Some t) (Some u) = ap Some (join_regroup s t u)
+
+-- of four, which two are joined first does not matter
+pub exchange : (o p q r : Option (ℤ × ℤ)) → merge_two join_min_maxes (merge_two join_min_maxes o p) (merge_two join_min_maxes q r) ≡ merge_two join_min_maxes (merge_two join_min_maxes o q) (merge_two join_min_maxes p r)
+exchange o p q r =
+    regroup o p (merge_two join_min_maxes q r)
+    ∙ ap (merge_two join_min_maxes o) (sym (regroup p q r) ∙ ap (λ x. merge_two join_min_maxes x r) (swap p q) ∙ regroup q p r)
+    ∙ sym (regroup o q (merge_two join_min_maxes p r))
+
+-- the first of two that is there
+abbrev first_of : Option (ℤ × ℤ) → Option (ℤ × ℤ) → Option (ℤ × ℤ)
+first_of None p = p
+first_of (Some s) p = Some s
+
+at-append : (xs ys : MinMaxes) (q : ℕ) → at (xs ++ ys) q ≡ first_of (at xs q) (at ys q)
+at-append [] ys q = refl
+at-append (x ∷ xs) ys q =
+    elim (q == x.0) as (λ b. cond b (Some x.1) (at (xs ++ ys) q) ≡ first_of (cond b (Some x.1) (at xs q)) (at ys q)) [
+      | true ↦ refl
+      | false ↦ at-append xs ys q
+    ]
+
+first_none : (o : Option (ℤ × ℤ)) → first_of o None ≡ o
+first_none None = refl
+first_none (Some s) = refl
+
+-- before the number where two parts meet stands what the first has
+pub at-before : (s : ℕ) (xs ys : MinMaxes) (q : ℕ) → IsFrom s ys → q < s → at (xs ++ ys) q ≡ at xs q
+at-before s xs ys q h l = at-append xs ys q ∙ ap (first_of (at xs q)) (h q l) ∙ first_none (at xs q)
+
+-- and from it on what the second has
+pub at-after : (s : ℕ) (xs ys : MinMaxes) (q : ℕ) → IsBelow s xs → s ≤ q → at (xs ++ ys) q ≡ at ys q
+at-after s xs ys q h l = at-append xs ys q ∙ ap (λ o. first_of o (at ys q)) (h q l)
+
+both_none : (o p : Option (ℤ × ℤ)) → first_of o p ≡ None → (o ≡ None) × (p ≡ None)
+both_none None p h = (refl, h)
+both_none (Some s) p h = cc
+
+pub below-both : (n : ℕ) (xs ys : MinMaxes) → IsBelow n (xs ++ ys) → IsBelow n xs × IsBelow n ys
+below-both n xs ys h = (λ q l. (both_none _ _ (sym (at-append xs ys q) ∙ h q l)).0, λ q l. (both_none _ _ (sym (at-append xs ys q) ∙ h q l)).1)
+
+pub order : (m n : ℕ) → (m < n) ⊎ (n ≤ m)
+order m zero = inr (omega arith)
+order zero (suc n) = inl (omega arith)
+order (suc m) (suc n) = elim (order m n) [ inl l ↦ inl (omega arith) | inr l ↦ inr (omega arith) ]
+
+-- where two parts meet at a number, what stands at each number is what both have there together
+at_both : (s : ℕ) (xs ys : MinMaxes) (q : ℕ) → IsBelow s xs → IsFrom s ys → at (xs ++ ys) q ≡ merge_two join_min_maxes (at xs q) (at ys q)
+at_both s xs ys q h k = at-append xs ys q ∙ disjoint (at xs q) (at ys q) either where
+  disjoint : (o p : Option (ℤ × ℤ)) → (o ≡ None) ⊎ (p ≡ None) → first_of o p ≡ merge_two join_min_maxes o p
+  disjoint None p e = refl
+  disjoint (Some s) None e = refl
+  disjoint (Some s) (Some t) (inl e) = cc
+  disjoint (Some s) (Some t) (inr e) = cc
+
+  either : (at xs q ≡ None) ⊎ (at ys q ≡ None)
+  either = elim (order q s) [
+    | inl l ↦ inr (k q l)
+    | inr l ↦ inl (h q l)
+  ]
+
+joined_both : (s : ℕ) (xs ys : MinMaxes) → IsBelow s xs → IsFrom s ys → (n : ℕ) → joined_to n (at (xs ++ ys)) ≡ merge_two join_min_maxes (joined_to n (at xs)) (joined_to n (at ys))
+joined_both s xs ys h k zero = refl
+joined_both s xs ys h k (suc n) =
+    (λ i. merge_two join_min_maxes (joined_both s xs ys h k n i) (at_both s xs ys n h k i))
+    ∙ exchange (joined_to n (at xs)) (joined_to n (at ys)) (at xs n) (at ys n)
+
+-- the min-max of both parts together
+pub top-both : (s : ℕ) (xs ys : MinMaxes) (a b : Option (ℤ × ℤ)) → IsBelow s xs → IsFrom s ys → IsTopOf xs a → IsTopOf ys b → IsTopOf (xs ++ ys) (merge_two join_min_maxes a b)
+top-both s xs ys a b h k t u n w =
+    let both = below-both n xs ys w in
+    joined_both s xs ys h k n ∙ (λ i. merge_two join_min_maxes (t n both.0 i) (u n both.1 i))
+
+none_to : (g : ℕ) (x : ℤ × ℤ) (n : ℕ) → n ≤ g → joined_to n (at ((g, x) ∷ [])) ≡ None
+none_to g x zero l = refl
+none_to g x (suc n) l =
+    let distinct : (n == g) ≡ false = grind (arith, nat_tests) in
+    (λ i. merge_two join_min_maxes (none_to g x n (omega arith) i) (cond (distinct i) (Some x) None))
+
+one_to : (g : ℕ) (x : ℤ × ℤ) (n : ℕ) → g < n → joined_to n (at ((g, x) ∷ [])) ≡ Some x
+one_to g x zero l = absurd (omega arith)
+one_to g x (suc n) l = elim (n == g) as (λ b. (n == g) ≡ b → merge_two join_min_maxes (joined_to n (at ((g, x) ∷ []))) (cond b (Some x) None) ≡ Some x) [
+  | true ↦ λ e. ap (λ o. merge_two join_min_maxes o (Some x)) (none_to g x n (grind (arith, nat_tests)))
+  | false ↦ λ e. ap (λ o. merge_two join_min_maxes o None) (one_to g x n (grind (arith, nat_tests)))
+] refl
+
+some_none : (x : ℤ × ℤ) → Some x ≡ None → ⊥
+some_none x h = cc
+
+-- one row group's min-max is that of all
+pub top-one : (g : ℕ) (x : ℤ × ℤ) → IsTopOf ((g, x) ∷ []) (Some x)
+top-one g x n w = one_to g x n (within n w) where
+  own : (g == g) ≡ true
+  own = grind (arith, nat_tests)
+
+  within : (n : ℕ) → IsBelow n ((g, x) ∷ []) → g < n
+  within n w = elim (order g n) [
+    | inl l ↦ l
+    | inr l ↦ absurd (some_none x (sym (ap (λ b. cond b (Some x) None) own) ∙ w g l))
+  ]
+
+pub here : (q g : ℕ) → (q == g) ≡ true → q ≡ g
+here q g e = grind (arith, nat_tests)
+
+pub off : (q g : ℕ) → (q ≡ g → ⊥) → (q == g) ≡ false
+off q g n = grind (arith, nat_tests)
+
+-- what is not set there is as it was
+pub set_other : (xs xs' : MinMaxes) (g : ℕ) (o : Option (ℤ × ℤ)) (q : ℕ) → IsSet xs g o xs' → (q ≡ g → ⊥) → at xs' q ≡ at xs q
+set_other xs xs' g o q set n = set q ∙ ap (λ b. cond b o (at xs q)) (off q g n)
+
+set_here : (xs xs' : MinMaxes) (g : ℕ) (o : Option (ℤ × ℤ)) (q : ℕ) → IsSet xs g o xs' → q ≡ g → at xs' q ≡ o
+set_here xs xs' g o q set e =
+    let own : (q == g) ≡ true = grind (arith, nat_tests) in
+    set q ∙ ap (λ b. cond b o (at xs q)) own
+
+from-set : (low : ℕ) (xs xs' : MinMaxes) (g : ℕ) (o : Option (ℤ × ℤ)) → IsFrom low xs → low ≤ g → IsSet xs g o xs' → IsFrom low xs'
+from-set low xs xs' g o h l set q k = set_other xs xs' g o q set (λ e. omega arith) ∙ h q k
+
+below-set : (high : ℕ) (xs xs' : MinMaxes) (g : ℕ) (o : Option (ℤ × ℤ)) → IsBelow high xs → g < high → IsSet xs g o xs' → IsBelow high xs'
+below-set high xs xs' g o h l set q k = set_other xs xs' g o q set (λ e. omega arith) ∙ h q k
+
+-- a row group in which a key occurs is not before all
+pub held-from : (low : ℕ) (xs : MinMaxes) (g : ℕ) → IsFrom low xs → (at xs g ≡ None → ⊥) → low ≤ g
+held-from low xs g h held = elim (order g low) [ inl l ↦ absurd (held (h g l)) | inr l ↦ l ]
+
+pub held-below : (high : ℕ) (xs : MinMaxes) (g : ℕ) → IsBelow high xs → (at xs g ≡ None → ⊥) → g < high
+held-below high xs g h held = elim (order g high) [ inl l ↦ l | inr l ↦ absurd (held (h g l)) ]
+
+-- the first part changes at a row group of its own
+pub unchanged-before : (first split last : ℕ) (xs xs' ys : MinMaxes) (g : ℕ) (o : Option (ℤ × ℤ)) (a b : Option (ℤ × ℤ)) → IsParted first split last xs ys → first ≤ g → g < split → IsSet xs g o xs' → IsTopOf xs' a → IsTopOf ys b
+    → (IsTopOf (xs' ++ ys) (merge_two join_min_maxes a b) × IsParted first split last xs' ys) × IsSet (xs ++ ys) g o (xs' ++ ys)
+unchanged-before first split last xs xs' ys g o a b (from, below, from_split, below_last, low, high) l k set t u =
+    let below' = below-set split xs xs' g o below k set in (
+      (top-both split xs' ys a b below' from_split t u, (from-set first xs xs' g o from l set, below', from_split, below_last, low, high)),
+      λ q. at-append xs' ys q ∙ both q (order q split),
+    ) where
+      both : (q : ℕ) → (q < split) ⊎ (split ≤ q) → first_of (at xs' q) (at ys q) ≡ cond (q == g) o (at (xs ++ ys) q)
+      both q (inl m) = ap (first_of (at xs' q)) (from_split q m) ∙ first_none (at xs' q) ∙ set q ∙ ap (cond (q == g) o) (sym (at-before split xs ys q from_split m))
+      both q (inr m) =
+          ap (λ p. first_of p (at ys q)) (set_other xs xs' g o q set (λ e. omega arith) ∙ below q m)
+          ∙ sym (ap (λ c. cond c o (at (xs ++ ys) q)) (off q g (λ e. omega arith)) ∙ at-after split xs ys q below m)
+
+-- and so does the second
+pub unchanged-after : (first split last : ℕ) (xs ys ys' : MinMaxes) (g : ℕ) (o : Option (ℤ × ℤ)) (a b : Option (ℤ × ℤ)) → IsParted first split last xs ys → split ≤ g → g ≤ last → IsSet ys g o ys' → IsTopOf xs a → IsTopOf ys' b
+    → (IsTopOf (xs ++ ys') (merge_two join_min_maxes a b) × IsParted first split last xs ys') × IsSet (xs ++ ys) g o (xs ++ ys')
+unchanged-after first split last xs ys ys' g o a b (from, below, from_split, below_last, low, high) l k set t u =
+    let from' = from-set split ys ys' g o from_split l set in (
+      (top-both split xs ys' a b below from' t u, (from, below, from', below-set (last + 1) ys ys' g o below_last (omega arith) set, low, high)),
+      λ q. at-append xs ys' q ∙ both q (order q split),
+    ) where
+      both : (q : ℕ) → (q < split) ⊎ (split ≤ q) → first_of (at xs q) (at ys' q) ≡ cond (q == g) o (at (xs ++ ys) q)
+      both q (inl m) =
+          ap (first_of (at xs q)) (set_other ys ys' g o q set (λ e. omega arith) ∙ from_split q m) ∙ first_none (at xs q)
+          ∙ sym (ap (λ c. cond c o (at (xs ++ ys) q)) (off q g (λ e. omega arith)) ∙ at-before split xs ys q from_split m)
+      both q (inr m) =
+          ap (λ p. first_of p (at ys' q)) (below q m) ∙ set q ∙ ap (cond (q == g) o) (sym (at-after split xs ys q below m))
+
+-- two parts are in the range of both
+pub reach-parted : (first split last : ℕ) (xs ys : MinMaxes) → IsParted first split last xs ys → IsFrom first (xs ++ ys) × IsBelow (last + 1) (xs ++ ys)
+reach-parted first split last xs ys (from, below, from_split, below_last, low, high) = (
+  λ q l. at-append xs ys q ∙ ap (λ p. first_of p (at ys q)) (from q l) ∙ from_split q (omega arith),
+  λ q l. at-append xs ys q ∙ ap (λ p. first_of p (at ys q)) (below q (omega arith)) ∙ below_last q l,
+)
+
+-- a row group more, after all
+pub added-after : (first split last : ℕ) (xs : MinMaxes) (g : ℕ) (a : Option (ℤ × ℤ)) (x : ℤ × ℤ) → IsFrom first xs → IsBelow split xs → split ≤ g → g ≤ last → first < split → IsTopOf xs a
+    → (IsTopOf (xs ++ (g, x) ∷ []) (merge_two join_min_maxes a (Some x)) × IsParted first split last xs ((g, x) ∷ [])) × IsSet xs g (Some x) (xs ++ (g, x) ∷ [])
+added-after first split last xs g a x from below l k m t =
+    let alone : (q : ℕ) → (q ≡ g → ⊥) → at ((g, x) ∷ []) q ≡ None = λ q n. ap (λ b. cond b (Some x) None) (off q g n) in
+    let from_split : IsFrom split ((g, x) ∷ []) = λ q h. alone q (λ e. omega arith) in
+    let below_last : IsBelow (last + 1) ((g, x) ∷ []) = λ q h. alone q (λ e. omega arith) in (
+      (top-both split xs ((g, x) ∷ []) a (Some x) below from_split t (top-one g x), (from, below, from_split, below_last, m, omega arith)),
+      λ q. at-append xs ((g, x) ∷ []) q ∙ at_last q (order q split),
+    ) where
+      at_last : (q : ℕ) → (q < split) ⊎ (split ≤ q) → first_of (at xs q) (cond (q == g) (Some x) None) ≡ cond (q == g) (Some x) (at xs q)
+      at_last q (inl h) =
+          let n : (q == g) ≡ false = off q g (λ e. omega arith) in
+          ap (λ b. first_of (at xs q) (cond b (Some x) None)) n ∙ first_none (at xs q) ∙ sym (ap (λ b. cond b (Some x) (at xs q)) n)
+      at_last q (inr h) = ap (λ p. first_of p (cond (q == g) (Some x) None)) (below q h) ∙ sym (ap (cond (q == g) (Some x)) (below q h))
+
+-- or before all
+pub added-before : (first split last : ℕ) (ys : MinMaxes) (g : ℕ) (a : Option (ℤ × ℤ)) (x : ℤ × ℤ) → IsFrom split ys → IsBelow (last + 1) ys → g < split → first ≤ g → split ≤ last → IsTopOf ys a
+    → (IsTopOf ((g, x) ∷ ys) (merge_two join_min_maxes (Some x) a) × IsParted first split last ((g, x) ∷ []) ys) × IsSet ys g (Some x) ((g, x) ∷ ys)
+added-before first split last ys g a x from_split below_last l k m t =
+    let alone : (q : ℕ) → (q ≡ g → ⊥) → at ((g, x) ∷ []) q ≡ None = λ q n. ap (λ b. cond b (Some x) None) (off q g n) in
+    let from : IsFrom first ((g, x) ∷ []) = λ q h. alone q (λ e. omega arith) in
+    let below : IsBelow split ((g, x) ∷ []) = λ q h. alone q (λ e. omega arith) in
+    ((top-both split ((g, x) ∷ []) ys (Some x) a below from_split (top-one g x) t, (from, below, from_split, below_last, omega arith, m)), λ q. refl)
+
+none_of : (o p : Option (ℤ × ℤ)) → merge_two join_min_maxes o p ≡ None → (o ≡ None) × (p ≡ None)
+none_of None p h = (refl, h)
+none_of (Some s) None h = cc
+none_of (Some s) (Some t) h = cc
+
+none_below : (f : ℕ → Option (ℤ × ℤ)) (n : ℕ) → joined_to n f ≡ None → (q : ℕ) → q < n → f q ≡ None
+none_below f zero h q l = absurd (omega arith)
+none_below f (suc n) h q l =
+    let both = none_of (joined_to n f) (f n) h in
+    elim (order q n) [
+      | inl m ↦ none_below f n both.0 q m
+      | inr m ↦ let e : q ≡ n = omega arith in ap f e ∙ both.1
+    ]
+
+-- past some number there is none
+bounded : (xs : MinMaxes) → (n : ℕ) × IsBelow n xs
+bounded [] = (0, λ q l. refl)
+bounded (x ∷ xs) =
+    let rest = bounded xs in (
+      x.0 + 1 + rest.0,
+      λ q l. ap (λ b. cond b (Some x.1) (at xs q)) (off q x.0 (λ e. omega arith)) ∙ rest.1 q (omega arith),
+    )
+
+-- if no min-max is joined there is none
+pub vacant : (xs : MinMaxes) → IsTopOf xs None → (q : ℕ) → at xs q ≡ None
+vacant xs t q =
+    let n = (bounded xs).0 in
+    elim (order q n) [
+      | inl l ↦ none_below (at xs) n (t n (bounded xs).1) q l
+      | inr l ↦ (bounded xs).1 q l
+    ]
+
+-- a part without row groups changes nothing
+pub without-before : (xs ys : MinMaxes) → IsTopOf xs None → AreSame (xs ++ ys) ys
+without-before xs ys t q = sym (at-append xs ys q ∙ ap (λ o. first_of o (at ys q)) (vacant xs t q))
+
+pub without-after : (xs ys : MinMaxes) → IsTopOf ys None → AreSame (xs ++ ys) xs
+without-after xs ys t q = sym (at-append xs ys q ∙ ap (first_of (at xs q)) (vacant ys t q) ∙ first_none (at xs q))
+
+-- if the last row group went, none is left
+pub gone-last : (old new : MinMaxes) (g : ℕ) → IsSet old g None new → IsTopOf new None → IsSet old g None []
+gone-last old new g set t q = sym (vacant new t q) ∙ set q
+
+-- what stands already is put again
+pub put-again : (xs : MinMaxes) (g : ℕ) (x : ℤ × ℤ) → at xs g ≡ Some x → IsSet xs g (Some x) xs
+put-again xs g x there q = elim (q == g) as (λ b. (q == g) ≡ b → at xs q ≡ cond b (Some x) (at xs q)) [
+  | true ↦ λ e. ap (at xs) (here q g e) ∙ there
+  | false ↦ λ e. refl
+] refl
+
+-- out of the range of two parts there is none
+pub absent-parted : (first split last : ℕ) (xs ys : MinMaxes) (g : ℕ) → IsParted first split last xs ys → (first ≤ g → last < g) → at (xs ++ ys) g ≡ None
+absent-parted first split last xs ys g parted out = elim (order g first) [
+  | inl l ↦ (reach-parted first split last xs ys parted).0 g l
+  | inr l ↦ let past = out l in (reach-parted first split last xs ys parted).1 g (omega arith)
+]

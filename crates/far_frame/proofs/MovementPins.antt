@@ -1,0 +1,244 @@
+-- Which changes of objects leave their pins, and those that have some where they are.
+use Rattle.std.proofs.Common.{◌≡◌, ◌≢◌, ℕ, zero, suc, ◌+◌, ◌-◌, ◌==◌, Bool, true, false, if◌then◌else◌, List, [], ◌∷◌, ◌++◌, map, length, ℤ, Option, None, Some, refl, sym, ap, subst, ◌∙◌, arith}
+use Rattle.std.specs.Prelude.{is_some, slice_get, slice_set}
+use Rattle.std.specs.Option.{option_map_or, option_and_then}
+use Rattle.far_types.specs.declared.name.Name.{Name}
+use Rattle.far_pointer.specs.declared.pointer.At.{At}
+use Rattle.far_pointer.specs.declared.pointer.Pointer.{Pointer}
+use Rattle.far_pointer.specs.declared.pointer.Pointer.TheVariants.{Local, Remote}
+use Rattle.far_pointer.specs.Layout.{with_dirty, with_hot, with_at}
+use Rattle.far_log.specs.RegionState.{RegionState, Part, segment_of}
+use Rattle.far_scopes.specs.declared.object_record.ObjectRecord.{ObjectRecord}
+use Rattle.far_scopes.specs.declared.replacement.Replacement.{Replacement}
+use Rattle.far_scopes.specs.Memory.{Memory, at_of}
+use Rattle.far_scopes.specs.Movement.{Movement, is_local, pins_of}
+use Rattle.far_scopes.specs.Compaction.{moved_word, hot_first, offset_after, IsCompacted}
+use Rattle.far_scopes.specs.Effects.{new_record, with_record, after_create, after_write, after_overwrite, after_replace, with_lens, after_write_all, after_replace_all, after_touch, after_pin, after_unpin, after_leave, after_arrive}
+use Rattle.far_scopes.specs.Placing.{spot, with_new}
+use Rattle.far_scopes.specs.Replacing.{moved_all, replaced_all as replaced_all_in}
+use Rattle.far_vector.specs.Vector.{Vector, object_at}
+use Rattle.far_vector.specs.Effects.{is_full, next_name, next_group, objects_after_push, after_write_range}
+use Rattle.far_columns.specs.Numbers.{Numbers}
+use Rattle.far_columns.specs.NumbersTogether.{NumberColumns, objects_after_push_all}
+use Rattle.far_texts.specs.Texts.{Texts}
+use Rattle.far_texts.specs.Together.{after_create_all}
+
+false-true : {A : Type 0} → false ≡ true → A
+false-true h = absurd (let on : true ≡ false = sym h in cc)
+
+-- one element is changed
+module _ {X : Type 0} (change : X → X) where
+  abbrev with_changed : List X → ℕ → List X
+  with_changed xs o = option_map_or (λ x. slice_set xs o (change x)) (slice_get xs o) xs
+
+  changed-later : (x : X) (xs : List X) (o : ℕ) → with_changed (x ∷ xs) (suc o) ≡ x ∷ with_changed xs o
+  changed-later x xs o = found (slice_get xs o) where
+    found : (at : Option X) → option_map_or (λ y. slice_set (x ∷ xs) (suc o) (change y)) at (x ∷ xs) ≡ x ∷ option_map_or (λ y. slice_set xs o (change y)) at xs
+    found None = refl
+    found (Some y) = refl
+
+  -- what the change does not touch is seen as before, of every element
+  reads-same : {A : Type 0} (reading : Option X → A) → ((x : X) → reading (Some (change x)) ≡ reading (Some x)) → (xs : List X) (o p : ℕ) → reading (slice_get (with_changed xs o) p) ≡ reading (slice_get xs p)
+  reads-same reading same [] o p = refl
+  reads-same reading same (x ∷ xs) zero zero = same x
+  reads-same reading same (x ∷ xs) zero (suc p) = refl
+  reads-same reading same (x ∷ xs) (suc o) zero = ap (λ (l : List X). reading (slice_get l zero)) (changed-later x xs o)
+  reads-same reading same (x ∷ xs) (suc o) (suc p) = ap (λ (l : List X). reading (slice_get l (suc p))) (changed-later x xs o) ∙ reads-same reading same xs o p
+
+-- whether a word, if there is one, says that its object is local
+abbrev says_local : Option Pointer → Bool
+says_local word = is_some (option_and_then at_of word)
+
+local-after_mark : (word : Pointer) → says_local (Some (with_hot (with_dirty word) true)) ≡ says_local (Some word)
+local-after_mark (Local at dirty hot far) = refl
+local-after_mark Remote = refl
+
+local-after_heat : (word : Pointer) → says_local (Some (with_hot word true)) ≡ says_local (Some word)
+local-after_heat (Local at dirty hot far) = refl
+local-after_heat Remote = refl
+
+local-moved : (to : At) (word : Pointer) → says_local (Some (with_at word to)) ≡ says_local (Some word)
+local-moved to (Local at dirty hot far) = refl
+local-moved to Remote = refl
+
+-- a word more, and a word that says an object is local, take none away
+local-more : (words : List Pointer) (word : Pointer) (p : ℕ) → says_local (slice_get words p) ≡ true → says_local (slice_get (words ++ word ∷ []) p) ≡ true
+local-more [] word p here = false-true here
+local-more (w ∷ words) word zero here = here
+local-more (w ∷ words) word (suc p) here = local-more words word p here
+
+local-arriving : (words : List Pointer) (o : ℕ) (at : At) (dirty hot far : Bool) (p : ℕ) → says_local (slice_get words p) ≡ true → says_local (slice_get (slice_set words o (Local at dirty hot far)) p) ≡ true
+local-arriving [] o at dirty hot far p here = false-true here
+local-arriving (w ∷ words) zero at dirty hot far zero here = refl
+local-arriving (w ∷ words) zero at dirty hot far (suc p) here = here
+local-arriving (w ∷ words) (suc o) at dirty hot far zero here = here
+local-arriving (w ∷ words) (suc o) at dirty hot far (suc p) here = local-arriving words o at dirty hot far p here
+
+-- a word that says an object is away takes no other away
+local-gone : (words : List Pointer) (o p : ℕ) → (p ≡ o → ⊥) → says_local (slice_get words p) ≡ true → says_local (slice_get (slice_set words o Remote) p) ≡ true
+local-gone [] o p other here = false-true here
+local-gone (w ∷ words) zero zero other here = absurd (other refl)
+local-gone (w ∷ words) zero (suc p) other here = here
+local-gone (w ∷ words) (suc o) zero other here = here
+local-gone (w ∷ words) (suc o) (suc p) other here = local-gone words o p (λ same. other (ap suc same)) here
+
+-- a compaction takes none away
+module _ {X : Type 0} (parts : List (Part X)) (order : List ℕ) (from to : ℕ) where
+  local-either : (b : Bool) (at : At) (dirty hot far : Bool) → says_local (Some (if b then Local record { segment = to; offset = offset_after parts order at.offset } dirty false far else Local at dirty hot far)) ≡ true
+  local-either true at dirty hot far = refl
+  local-either false at dirty hot far = refl
+
+  local-word : (word : Pointer) → says_local (Some (moved_word parts order from to word)) ≡ says_local (Some word)
+  local-word (Local at dirty hot far) = local-either (at.segment == from) at dirty hot far
+  local-word Remote = refl
+
+  local-map : (words : List Pointer) (p : ℕ) → says_local (slice_get (map (moved_word parts order from to) words) p) ≡ says_local (slice_get words p)
+  local-map [] p = refl
+  local-map (w ∷ words) zero = local-word w
+  local-map (w ∷ words) (suc p) = local-map words p
+
+-- lists that are placed anew take none away
+moved-local : {X : Type 0} (rs : List (Replacement X)) (region : RegionState X) (words : List Pointer) (p : ℕ) → says_local (slice_get (moved_all region words rs) p) ≡ says_local (slice_get words p)
+moved-local [] region words p = refl
+moved-local (r ∷ rs) region words p =
+    let to = spot region (length r.list.items) in
+    reads-same (λ (word : Pointer). with_at word to) says_local (local-moved to) (moved_all (with_new region r.list.items) words rs) r.object p
+    ∙ moved-local rs (with_new region r.list.items) words p
+
+module _ {K : Type 0} where
+  -- how many pins a record, if there is one, says
+  abbrev says_pins : Option (ObjectRecord K) → ℕ
+  says_pins object_record = option_map_or (λ e. e.pins) object_record 0
+
+  pins-more : (records : List (ObjectRecord K)) (name : Name) (n p : ℕ) → says_pins (slice_get (records ++ new_record name n ∷ []) p) ≡ says_pins (slice_get records p)
+  pins-more [] name n zero = refl
+  pins-more [] name n (suc p) = refl
+  pins-more (e ∷ records) name n zero = refl
+  pins-more (e ∷ records) name n (suc p) = pins-more records name n p
+
+  pins-lens : {X : Type 0} (rs : List (Replacement X)) (records : List (ObjectRecord K)) (p : ℕ) → says_pins (slice_get (with_lens records rs) p) ≡ says_pins (slice_get records p)
+  pins-lens [] records p = refl
+  pins-lens (r ∷ rs) records p =
+      pins-lens rs (with_record records r.object (λ object_record. record object_record { len = length r.list.items })) p
+      ∙ reads-same (λ (object_record : ObjectRecord K). record object_record { len = length r.list.items }) says_pins (λ e. refl) records r.object p
+
+  abbrev one_less : ObjectRecord K → ObjectRecord K
+  one_less object_record = record object_record { pins = object_record.pins - 1 }
+
+  -- if there is no pin none is taken off
+  pins-less : (records : List (ObjectRecord K)) (o p : ℕ) → says_pins (slice_get records p) ≡ 0 → says_pins (slice_get (with_record records o one_less) p) ≡ 0
+  pins-less [] o p none = none
+  pins-less (e ∷ records) zero zero none = omega (arith, none)
+  pins-less (e ∷ records) zero (suc p) none = none
+  pins-less (e ∷ records) (suc o) zero none = ap (λ (l : List (ObjectRecord K)). says_pins (slice_get l zero)) (changed-later one_less e records o) ∙ none
+  pins-less (e ∷ records) (suc o) (suc p) none = ap (λ (l : List (ObjectRecord K)). says_pins (slice_get l (suc p))) (changed-later one_less e records o) ∙ pins-less records o p none
+
+module _ {X K : Type 0} where
+  -- each object has the pins that it had, and those that have some and are local stay local
+  pub record KeepsPinned (old new : Movement X K) : Type 0 where
+    pub pins : (o : ℕ) → pins_of new o ≡ pins_of old o
+    pub here : (o : ℕ) → pins_of old o ≢ 0 → is_local old o ≡ true → is_local new o ≡ true
+
+  pub keeps-same : (m : Movement X K) → KeepsPinned m m
+  keeps-same m = record { pins = λ o. refl; here = λ o some here. here }
+
+  pub keeps-then : (a b c : Movement X K) → KeepsPinned a b → KeepsPinned b c → KeepsPinned a c
+  keeps-then a b c h k = record { pins = λ o. k.pins o ∙ h.pins o; here = λ o some here. k.here o (λ none. some (sym (h.pins o) ∙ none)) (h.here o some here) }
+
+  keeps-after_write : (m : Movement X K) (o : ℕ) → KeepsPinned m (after_write m o)
+  keeps-after_write m o = record {
+    pins = λ p. reads-same (λ (object_record : ObjectRecord K). record object_record { version = object_record.version + 1 }) says_pins (λ e. refl) m.records o p;
+    here = λ p some here. reads-same (λ (word : Pointer). with_hot (with_dirty word) true) says_local local-after_mark m.memory.words o p ∙ here;
+  }
+
+  pub keeps-after_touch : (m : Movement X K) (o : ℕ) → KeepsPinned m (after_touch m o)
+  keeps-after_touch m o = record {
+    pins = λ p. refl;
+    here = λ p some here. reads-same (λ (word : Pointer). with_hot word true) says_local local-after_heat m.memory.words o p ∙ here;
+  }
+
+  keeps-after_overwrite : (m : Movement X K) (o i : ℕ) (ws : List X) → KeepsPinned m (after_overwrite m o i ws)
+  keeps-after_overwrite m o i ws = record { pins = λ p. refl; here = λ p some here. here }
+
+  pub keeps-after_replace : (m : Movement X K) (o : ℕ) (list : List X) → KeepsPinned m (after_replace m o list)
+  keeps-after_replace m o list = record {
+    pins = λ p.
+        reads-same (λ (object_record : ObjectRecord K). record object_record { version = object_record.version + 1 }) says_pins (λ e. refl) (with_record m.records o (λ object_record. record object_record { len = length list })) o p
+        ∙ reads-same (λ (object_record : ObjectRecord K). record object_record { len = length list }) says_pins (λ e. refl) m.records o p;
+    here = λ p some here.
+        let to = spot m.memory.state (length list) in
+        reads-same (λ (word : Pointer). with_hot (with_dirty word) true) says_local local-after_mark (with_changed (λ (word : Pointer). with_at word to) m.memory.words o) o p
+        ∙ reads-same (λ (word : Pointer). with_at word to) says_local (local-moved to) m.memory.words o p
+        ∙ here;
+  }
+
+  keeps-after_write_all : (rs : List (Replacement X)) (m : Movement X K) → KeepsPinned m (after_write_all m rs)
+  keeps-after_write_all [] m = keeps-same m
+  keeps-after_write_all (r ∷ rs) m = keeps-then m (after_write m r.object) (after_write_all (after_write m r.object) rs) (keeps-after_write m r.object) (keeps-after_write_all rs (after_write m r.object))
+
+  pub keeps-after_replace_all : (m : Movement X K) (rs : List (Replacement X)) → KeepsPinned m (after_replace_all m rs)
+  keeps-after_replace_all m rs =
+      let mid : Movement X K = record m { memory = replaced_all_in m.memory rs; records = with_lens m.records rs } in
+      keeps-then m mid (after_write_all mid rs) (record { pins = λ p. pins-lens rs m.records p; here = λ p some here. moved-local rs m.memory.state m.memory.words p ∙ here }) (keeps-after_write_all rs mid)
+
+  keeps-after_create : (m : Movement X K) (name : Name) (list : List X) → KeepsPinned m (after_create m name list)
+  keeps-after_create m name list = record {
+    pins = λ p. pins-more m.records name (length list) p;
+    here = λ p some here. local-more m.memory.words (Local (spot m.memory.state (length list)) true true false) p here;
+  }
+
+  pub keeps-after_arrive : (m : Movement X K) (o : ℕ) (list : List X) → KeepsPinned m (after_arrive m o list)
+  keeps-after_arrive m o list = record { pins = λ p. refl; here = λ p some here. local-arriving m.memory.words o (spot m.memory.state (length list)) false true true p here }
+
+  -- an object goes away that has no pin
+  pub keeps-after_leave : (m : Movement X K) (o : ℕ) (ticket : K) → pins_of m o ≡ 0 → KeepsPinned m (after_leave m o ticket)
+  keeps-after_leave m o ticket free = record {
+    pins = λ p. reads-same (λ (object_record : ObjectRecord K). record object_record { leavings = object_record.leavings + 1; ticket = Some ticket }) says_pins (λ e. refl) m.records o p;
+    here = λ p some here. local-gone m.memory.words o p (λ same. some (subst (λ (q : ℕ). pins_of m q ≡ 0) (sym same) free)) here;
+  }
+
+  pub keeps-compacted : (m new : Movement X K) (segment : ℕ) → IsCompacted m.memory new.memory segment → ((p : ℕ) → pins_of new p ≡ pins_of m p) → KeepsPinned m new
+  keeps-compacted m new segment is pins = record {
+    pins = pins;
+    here = λ p some here.
+        ap (λ (memory : Memory X). says_local (slice_get memory.words p)) is.memory
+        ∙ local-map (segment_of m.memory.state segment).parts (hot_first m.memory segment) segment is.to m.memory.words p
+        ∙ here;
+  }
+
+  keeps-range : (m : Movement X K) (v : Vector X) (i : ℕ) (range : List X) → KeepsPinned m (after_write_range m v i range)
+  keeps-range m v i range =
+      let o = object_at v i in
+      keeps-then m (after_write m o) (after_write_range m v i range) (keeps-after_write m o) (record { pins = λ p. refl; here = λ p some here. here })
+
+  pub keeps-pushed : (m : Movement X K) (v : Vector X) (x : X) → KeepsPinned m (objects_after_push m v x)
+  keeps-pushed m v x = by (is_full v) where
+    by : (b : Bool) → KeepsPinned m (if b then after_create m (next_name v) (next_group v x) else after_write_range m v v.len (x ∷ []))
+    by true = keeps-after_create m (next_name v) (next_group v x)
+    by false = keeps-range m v v.len (x ∷ [])
+
+  pub keeps-set : (m : Movement X K) (v : Vector X) (i : ℕ) (x : X) → KeepsPinned m (after_write_range m v i (x ∷ []))
+  keeps-set m v i x = keeps-range m v i (x ∷ [])
+
+  -- pins are put on and taken off where objects are
+  pub after_pin-here : (m : Movement X K) (o p : ℕ) → is_local (after_pin m o) p ≡ is_local m p
+  after_pin-here m o p = refl
+
+  pub unpinned-some : (m : Movement X K) (o p : ℕ) → pins_of (after_unpin m o) p ≢ 0 → pins_of m p ≢ 0
+  unpinned-some m o p some none = some (pins-less m.records o p none)
+
+module _ {K : Type 0} where
+  pub keeps-all_pushed : (columns : NumberColumns) (m : Movement (Option ℤ) K) (numbers : Numbers) → KeepsPinned m (objects_after_push_all m columns numbers)
+  keeps-all_pushed [] m numbers = keeps-same m
+  keeps-all_pushed (c ∷ columns) m [] = keeps-same m
+  keeps-all_pushed (c ∷ columns) m (number ∷ numbers) =
+      let mid = objects_after_push m c number in
+      keeps-then m mid (objects_after_push_all mid columns numbers) (keeps-pushed m c number) (keeps-all_pushed columns mid numbers)
+
+  pub keeps-after_create_all : (columns : List Texts) (m : Movement ℕ K) (forms : List (ℕ × List ℕ)) → KeepsPinned m (after_create_all m columns forms)
+  keeps-after_create_all [] m forms = keeps-same m
+  keeps-after_create_all (c ∷ columns) m [] = keeps-same m
+  keeps-after_create_all (c ∷ columns) m (form ∷ forms) =
+      let name : Name = record { column = c.column; group = length c.objects } in
+      let mid = after_create m name form.1 in
+      keeps-then m mid (after_create_all mid columns forms) (keeps-after_create m name form.1) (keeps-after_create_all columns mid forms)

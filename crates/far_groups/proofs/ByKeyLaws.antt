@@ -1,0 +1,102 @@
+-- What stands under no key, as the lines of one key.
+use Rattle.std.proofs.Common.{◌≡◌, ◌+◌, ◌-◌, ◌^◌, ◌≤◌, ℕ, false, [], ◌∷◌, length, refl, sym, ap, ◌∙◌, subst, Option, None, Some, IsSome, arith}
+use Rattle.std.specs.Prelude.{ℤ, ◌-ℤ◌, is_some}
+use Rattle.std.specs.List.Sorted.{IsStrictlySortedBy}
+use Rattle.std.specs.Map.{keys_of}
+use Rattle.std.specs.FinMap as fin
+use Rattle.far_types.specs.declared.key.Key.{Key}
+use Rattle.far_types.specs.Keys.{line_cmp}
+use Rattle.far_types.specs.Answers.{Totals}
+use Rattle.far_types.specs.Effects.{add_count_sums, count_in, joined_totals}
+use Rattle.far_types.proofs.AnswersByKeyMaps.{Entries, with_more, IsSet, get_at, set_inserts, joined-empty, joined-one}
+use Rattle.far_groups.specs.Live.{CanJoin}
+use Rattle.far_groups.specs.CountSums.{totals_of, IsCountSum, AreCountSums, with_count_sum, LeavesCountSum, without_count_sum}
+use Rattle.far_groups.specs.Numbers.{by_number}
+use Rattle.far_groups.specs.ByKey.{plain_totals}
+use Rattle.far_groups.proofs.CountSumsLaws.{if_found, AreCountSums-empty, AreCountSums-insert, retracted_whole, retracted_part}
+use Rattle.far_groups.proofs.NumbersLaws.{Numbers}
+
+-- the one line
+abbrev pub one_line : ℕ × ℤ → Entries (ℕ × ℤ)
+one_line count_sum = (None, count_sum) ∷ []
+
+pub one_ascends : (t : ℕ × ℤ) → IsStrictlySortedBy line_cmp (keys_of (one_line t))
+unfolding IsStrictlySortedBy
+one_ascends t = (tt, tt)
+
+-- under no key stands what is there, and under a key nothing
+pub get_plain : (t : ℕ × ℤ) → fin.get (plain_totals t) None ≡ Some t
+get_plain t = get_at (one_line t) None
+
+pub get_under_key : (t : ℕ × ℤ) (q : Option Key) → IsSome q → fin.get (plain_totals t) q ≡ None
+get_under_key t None h = cc
+get_under_key t (Some k) h = get_at (one_line t) (Some k)
+
+-- one line is another with what it has set
+set_plain : (t u : ℕ × ℤ) → IsSet (one_line t) (one_line u) None (Some u)
+set_plain t u None = refl
+set_plain t u (Some k) = refl
+
+-- and none is that with nothing set
+gone_plain : (t : ℕ × ℤ) → IsSet (one_line t) [] None None
+gone_plain t None = refl
+gone_plain t (Some k) = refl
+
+pub plain_valid_sums : (t : ℕ × ℤ) → IsCountSum t → AreCountSums (plain_totals t)
+plain_valid_sums t h = AreCountSums-insert fin.empty None t AreCountSums-empty h
+
+pub count_sum_there : (t : ℕ × ℤ) → AreCountSums (plain_totals t) → IsCountSum t
+count_sum_there t all = if_found _ _ (get_plain t) (all None)
+
+-- what comes under no key
+pub plain_added : (t more : ℕ × ℤ) → plain_totals (add_count_sums t more) ≡ with_count_sum (plain_totals t) None more
+plain_added t more =
+    set_inserts (one_line t) (one_line (add_count_sums t more)) None (add_count_sums t more) (set_plain t (add_count_sums t more))
+    ∙ ap (λ o. fin.insert (plain_totals t) None (with_more add_count_sums more o)) (sym (get_plain t))
+
+-- of numbers of which there are none
+none_there : (es : Numbers) → length es ≡ 0 → es ≡ []
+none_there [] h = refl
+none_there (e ∷ es) h = absurd (omega arith)
+
+no_key : (q : Option Key) → is_some q ≡ false → q ≡ None
+no_key None h = refl
+no_key (Some k) h = cc
+
+-- what first comes under no key
+pub plain_first : (es : Numbers) (q : Option Key) (more : ℕ × ℤ) → length es ≡ 0 → is_some q ≡ false → plain_totals more ≡ with_count_sum (by_number es) q more
+plain_first es q more empty none =
+    ap (λ o. fin.insert fin.empty None (with_more add_count_sums more o)) (sym (get_at {V = ℕ × ℤ} [] None))
+    ∙ (λ i. with_count_sum (by_number (sym (none_there es empty) i)) (sym (no_key q none) i) more)
+
+-- and what is joined by them
+pub joined_none : (m : Totals) (es : Numbers) → length es ≡ 0 → m ≡ joined_totals m (by_number es)
+joined_none m es empty = sym (joined-empty add_count_sums m) ∙ ap (λ (lines : Numbers). joined_totals m (by_number lines)) (sym (none_there es empty))
+
+-- what can be retracted is under no key
+pub retracted_key : (t less : ℕ × ℤ) (q : Option Key) → LeavesCountSum less (fin.get (plain_totals t) q) → q ≡ None
+retracted_key t less None h = refl
+retracted_key t less (Some k) h = absurd (subst (LeavesCountSum less) (get_under_key t (Some k) refl) h)
+
+pub retracted_leaves : (t less : ℕ × ℤ) (q : Option Key) → LeavesCountSum less (fin.get (plain_totals t) q) → LeavesCountSum less (Some t)
+retracted_leaves t less q h = subst (LeavesCountSum less) (ap (fin.get (plain_totals t)) (retracted_key t less q h) ∙ get_plain t) h
+
+-- if nothing is left of it, nothing is left
+pub plain_gone : (t less rest : ℕ × ℤ) (q : Option Key) → rest ≡ (t.0 - less.0, t.1 -ℤ less.1) → LeavesCountSum less (fin.get (plain_totals t) q) → rest.0 ≡ 0 → totals_of [] ≡ without_count_sum (plain_totals t) q less
+plain_gone t less rest q is there none =
+    retracted_whole (one_line t) (one_line t) [] None less t rest refl (set_plain t t) (gone_plain t) is (retracted_leaves t less q there) none
+    ∙ ap (λ k. without_count_sum (plain_totals t) k less) (sym (retracted_key t less q there))
+
+-- and else the rest
+pub plain_subtracted : (t less rest : ℕ × ℤ) (q : Option Key) → rest ≡ (t.0 - less.0, t.1 -ℤ less.1) → LeavesCountSum less (fin.get (plain_totals t) q) → (rest.0 ≡ 0 → ⊥) → plain_totals rest ≡ without_count_sum (plain_totals t) q less
+plain_subtracted t less rest q is there some =
+    retracted_part (one_line t) (one_line rest) None less t rest refl (set_plain t rest) is some
+    ∙ ap (λ k. without_count_sum (plain_totals t) k less) (sym (retracted_key t less q there))
+
+-- the space that a join has under no key
+pub plain_capacity : (m : Totals) (t : ℕ × ℤ) → CanJoin m (plain_totals t) → count_in (fin.get m None) + t.0 ≤ 2 ^ 26
+plain_capacity m t can = subst (λ o. count_in (fin.get m None) + count_in o ≤ 2 ^ 26) (get_plain t) (can None)
+
+-- and what comes of it
+pub plain_joined : (m : Totals) (t : ℕ × ℤ) → with_count_sum m None t ≡ joined_totals m (plain_totals t)
+plain_joined m t = joined-one add_count_sums m None t
