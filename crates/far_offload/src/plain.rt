@@ -41,7 +41,7 @@ pub(crate) fn count_sum_of(spec: &Spec, columns: &[Column<'_>], alive: &[bool]) 
 
 /// Returns the least and the greatest of some values with one more.
 #[inline(always)]
-pub(crate) fn min_max_with(min_max: Option<(i64, i64)>, value: i64) -> (i64, i64)
+pub(crate) fn widened(min_max: Option<(i64, i64)>, value: i64) -> (i64, i64)
     requires { MinMaxFits min_max }
     ensures value { result ≡ min_max_with value min_max }
     ensures fits { MinMaxFits (Some result) }
@@ -61,7 +61,7 @@ pub(crate) fn min_max_of(spec: &Spec, columns: &[Column<'_>], alive: &[bool]) ->
     let mut min_max = None;
     for place in 0..alive.len() {
         if let Some(value) = value_beyond(spec, columns, values, place, alive[place], min_max) {
-            min_max = Some(min_max_with(min_max, value));
+            min_max = Some(widened(min_max, value));
         }
     }
     min_max
