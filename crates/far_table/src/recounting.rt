@@ -1,5 +1,8 @@
 // An aggregate that is computed from scratch: pieces of the table are folded separately, on threads, and put together.
-ghost use Rattle.std.specs.Prelude.{◌≡◌, ◌+◌, ◌*◌, ◌<◌, ◌≤◌, ◌^◌, ◌++◌, ◌∷◌, [], ℕ, length, max, IfOk, IfErr, IsOk, OnOk, slice_index_or};
+ghost use Rattle.std.specs.Prelude.{◌≡◌, ◌+◌, ◌*◌, ◌<◌, ◌≤◌, ◌^◌, ◌++◌, ◌∷◌, [], ℕ, length, max, IfOk, IfErr, IsOk, OnOk, slice_index_or, vec_capacity};
+ghost use Rattle.std.specs.Fn.{FnReturns};
+ghost use Rattle.std.specs.Fork.{GivesEach};
+ghost use Rattle.std.specs.Thread.{IsSync, IsSend};
 ghost use Rattle.far_types.specs.Answers.{answer_over};
 ghost use Rattle.far_types.specs.Table.{groups, rows_of};
 ghost use Rattle.far_rows.specs.Jobs.{AreAt};
@@ -58,9 +61,48 @@ fn wide_cut(size: u32, places: usize, workers: u32) -> WideCut
     }
 }
 
-/// Folds at most 64 pieces, each in a thread of its own if one can be made.
+/// Calls `f` at each number below `count`, and pushes the results in order into a list that has room for them. So no call runs in vain.
 ///
-/// Refused if memory runs out.
+/// This thread makes the first call, and starts a thread for each other if one can be made. It starts them all, since a thread that
+/// starts threads begins them later: a new one may first wait for the processor of the one that started it.
+#[cycle(calls)]
+fn call_each<R: Threads + Sync, X: Send + Drop, F: Fn(usize) -> X + Sync>(
+    rt: &R,
+    count: usize,
+    f: &F,
+    mut results: Vec<X>,
+) -> Vec<X>
+    requires empty { results.items ≡ [] }
+    requires room { count ≤ vec_capacity results }
+    requires accepts { (i : ℕ) → i < count → F.pre f.now i }
+    ensures room { vec_capacity results ≤ vec_capacity result }
+    ensures len { length result.items ≡ count }
+    ensures each { GivesEach F.Fn f.now count result.items }
+{
+    if count == 0 {
+        return results;
+    }
+    if count == 1 {
+        results.push(f(0)).unwrap();
+        return results;
+    }
+    let last = count - 1;
+    let front = move || -> X
+        requires { F.pre f.now last }
+        ensures { FnReturns F.Fn f.entry.now (last, tt) result }
+    { f(last) };
+    let back = move || -> Vec<X>
+        requires { IsSync R.row × IsSync F.row × IsSend X.row × (results.items ≡ []) × (last ≤ vec_capacity results) × ((i : ℕ) → i < last → F.pre f.now i) }
+        ensures { (vec_capacity results ≤ vec_capacity result) × (length result.items ≡ last) × GivesEach F.Fn f.entry.now last result.items }
+    { call_each(rt, last, f, results) };
+    let (result, mut results) = thread::join(rt, front, back);
+    results.push(result).unwrap();
+    results
+}
+
+/// Folds at most 64 pieces: the first in this thread, each other in a thread of its own if one can be made.
+///
+/// Refused if there is no memory for the list of pieces. Then none is folded.
 fn fold_pieces<R: Threads + Sync, S: FarRead>(
     rt: &R,
     alloc: Global,
@@ -78,11 +120,12 @@ fn fold_pieces<R: Threads + Sync, S: FarRead>(
     ensures len { IfOk result (λ found. length found.items ≡ pieces) }
     ensures each { IfOk result (λ found. (i : ℕ) (d : Piece) → i < pieces → IsPiece spec.now (cut.long * rows.now.size) (places_in S.content rows.now) i (slice_index_or found.items i d)) }
 {
+    let found = Vec::with_capacity(alloc, pieces)?;
     let fold = |i: usize| -> Piece
         requires { AreAt S.is_of (S.store_id store.now) rows.now × ((group : ℕ) → group < cut.count → group * rows.now.size < length rows.now.alive) × (length rows.now.alive ≤ cut.count * rows.now.size) × MayFold rows.now spec.now × (i < 64) }
         ensures { IsPiece spec.entry.now (cut.long * rows.entry.now.size) (places_in S.content rows.entry.now) i result }
     { fold_piece(alloc, rows, store, spec, cut, i) };
-    thread::map_indices(rt, alloc, pieces, &fold)
+    Ok(call_each(rt, pieces, &fold, found))
 }
 
 // Appends the partial aggregate of a piece, if it was not refused.

@@ -20,8 +20,7 @@ impl<S: FarRead> Frame<S> {
     /// - `NoAggregate` (12): there is no such aggregate.
     /// - `OutOfRange` (14): there are not 1 to 64 workers.
     /// - `FarFault` (21): the store failed, exactly if the meter rises, by one for each piece in which it failed.
-    /// - `NoMemory` (1): an allocation fails. If it is that of the list of what the pieces come to, faults that they met are not
-    ///   counted.
+    /// - `NoMemory` (1): an allocation fails, and the store failed in no piece.
     pub fn recount<R: Threads + Sync>(
         &self,
         rt: &R,
