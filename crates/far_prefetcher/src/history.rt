@@ -48,7 +48,7 @@ impl History {
 
     /// Returns the row groups below `groups` that continue the stride of the last four; none if these have no stride. Refused with
     /// `NoMemory` (1) alone.
-    #[tactic(auto, using(crate::proofs::LastFour::proposed_by_four))]
+    #[tactic(auto, using(crate::proofs::StridesLaws::proposed_by_four))]
     pub fn proposals(&self, alloc: Global, groups: u32) -> Result<Vec<u32>, Refusal>
         ensures found { IfOk result (λ proposals. proposals.items ≡ proposed groups self.now) }
         ensures memory { IfErr result (λ e. e ≡ Refusal.NoMemory) }
@@ -93,7 +93,7 @@ fn is_stride(first: i64, second: i64, third: i64) -> bool
 }
 
 // Returns those of the next two groups of the stride that exist: each is as far from the one before as `last` is from `before`.
-#[tactic(auto, using(crate::proofs::LastFour::two_options))]
+#[tactic(auto, using(crate::proofs::StridesLaws::two_options))]
 fn next_two(alloc: Global, groups: u32, before: u32, last: u32) -> Result<Vec<u32>, Refusal>
     ensures found { IfOk result (λ found. found.items ≡ next_two groups before last) }
     ensures memory { IfErr result (λ e. e ≡ Refusal.NoMemory) }
