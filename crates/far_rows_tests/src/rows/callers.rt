@@ -8,25 +8,18 @@ use far_rows::{Object, Rows};
 use far_store::FarTickets;
 use far_types::{Kind, Refusal};
 
-// Returns the kind of the column of an object of numbers.
-fn number_owner<S: FarTickets>(rows: &Rows<S>, o: u32) -> Option<Kind>
-    requires { o < length rows.now.number_objects.records }
-    ensures { result ≡ Some Kind.Int }
+// Returns the kind of the column that an object is named by. The object is one of those that columns of this kind have.
+fn owner<S: FarTickets>(rows: &Rows<S>, kind: Kind, o: u32) -> Option<Kind>
+    requires number { kind ≡ Kind.Int → o < length rows.now.number_objects.records }
+    requires text { kind ≡ Kind.Text → o < length rows.now.text_objects.records }
+    ensures { result ≡ Some kind }
 {
     // For the proof: gives to which column each object belongs.
     let _len = rows.len();
-    let name = rows.number_objects().name(o);
-    rows.kind(name.column as usize)
-}
-
-// Returns the kind of the column of an object of texts.
-fn text_owner<S: FarTickets>(rows: &Rows<S>, o: u32) -> Option<Kind>
-    requires { o < length rows.now.text_objects.records }
-    ensures { result ≡ Some Kind.Text }
-{
-    // For the proof: gives to which column each object belongs.
-    let _len = rows.len();
-    let name = rows.text_objects().name(o);
+    let name = match kind {
+        Kind::Int => rows.number_objects().name(o),
+        Kind::Text => rows.text_objects().name(o),
+    };
     rows.kind(name.column as usize)
 }
 
@@ -66,8 +59,8 @@ pub fn have_their_objects<S: FarTickets>(rows: &Rows<S>) -> bool {
         && rows.number_objects().count() > 0
         && rows.text_objects().count() > 0
         && object_begun(rows, 1, 0).is_ok()
-        && number_owner(rows, 0) == Some(Kind::Int)
+        && owner(rows, Kind::Int, 0) == Some(Kind::Int)
         && number_len(rows, 0) == Ok(LIMITS.group)
-        && text_owner(rows, 0) == Some(Kind::Text)
+        && owner(rows, Kind::Text, 0) == Some(Kind::Text)
         && text_kind(rows, 0) == Ok(Some(Kind::Text))
 }
