@@ -171,8 +171,8 @@ pub fn first_wrong<S: FarStore, R: Threads + Sync>(
     Ok(None)
 }
 
-/// Returns whether a call returns this. It is made a second time if memory runs out. A recount is not: the first may have met a fault of
-/// the store and not counted it, if there was no memory for what its threads found.
+/// Returns whether a call returns this. It is made a second time if memory runs out. A recount is not: it would read its contents again, so
+/// a fault that the test plans would come at another call.
 pub fn is_answered<S: FarStore, R: Threads + Sync>(
     rt: &R,
     alloc: Global,
