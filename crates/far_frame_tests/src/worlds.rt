@@ -425,7 +425,7 @@ static FAULTY: [Script; 5] = [
 
 static FAULTLESS: [Script; 7] = [
     Script {
-        name: "a row group that is away is built in",
+        name: "a row group that is away is scanned",
         opening: NUMBERS,
         plans: &[SOUND],
         calls: BUILT,
