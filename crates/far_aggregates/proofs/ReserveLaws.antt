@@ -8,10 +8,10 @@ use Rattle.far_aggregates.specs.declared.aggregate.Aggregate.{Aggregate}
 use Rattle.far_aggregates.specs.declared.aggregate.Accumulator.{Accumulator}
 use Rattle.far_aggregates.specs.declared.aggregate.Accumulator.TheVariants as accumulator
 use Rattle.far_aggregates.specs.Accumulators.{RegistryEntry, registered_in, fold_of, IsUpToDate, KeepsEntry}
-use Rattle.far_aggregates.specs.Reserve.{accumulator_after_reserve, after_reserve, AccumulatorIsReserved, IsReserved}
+use Rattle.far_aggregates.specs.Reserve.{accumulator_after_reserve, entry_after_reserve, AccumulatorIsReserved, IsReserved}
 use Rattle.far_aggregates.proofs.ListLaws.{index-replicate}
 
-pub reserved-registered : (g : ℕ) (s : RegistryEntry) → registered_in (after_reserve g s) ≡ registered_in s
+pub reserved-registered : (g : ℕ) (s : RegistryEntry) → registered_in (entry_after_reserve g s) ≡ registered_in s
 reserved-registered g None = refl
 reserved-registered g (Some a) = refl
 
@@ -23,7 +23,7 @@ is_reserved g (accumulator.Extrema live) =
     let many = length-replicate (g + 1 - length live.groups) e in
     omega arith
 
-pub reserved-is : (g : ℕ) (s : RegistryEntry) → IsReserved g (after_reserve g s)
+pub reserved-is : (g : ℕ) (s : RegistryEntry) → IsReserved g (entry_after_reserve g s)
 reserved-is g None = tt
 reserved-is g (Some a) = is_reserved g a.accumulator
 
@@ -39,6 +39,6 @@ pub accumulator-same : (size : ℕ) (ps : List Place) (a b : Aggregate) (k : Acc
 accumulator-same size ps a b (accumulator.Totals live) e f h = rw (← e, ← f) h
 accumulator-same size ps a b (accumulator.Extrema live) e f h = rw (← e, ← f) h
 
-pub reserved-keeps : (g size : ℕ) (ps : List Place) (s : RegistryEntry) → KeepsEntry size ps s → KeepsEntry size ps (after_reserve g s)
+pub reserved-keeps : (g size : ℕ) (ps : List Place) (s : RegistryEntry) → KeepsEntry size ps s → KeepsEntry size ps (entry_after_reserve g s)
 reserved-keeps g size ps None h = tt
 reserved-keeps g size ps (Some a) h = (reserved-fold g a.accumulator ∙ h.0, accumulator-same size ps a (record a { accumulator = accumulator_after_reserve g a.accumulator }) (accumulator_after_reserve g a.accumulator) refl refl (accumulator-reserved g size ps a a.accumulator h.1))

@@ -27,6 +27,6 @@ accumulator_after_reserve g (accumulator.Totals live) = accumulator.Totals live
 accumulator_after_reserve g (accumulator.Extrema live) = accumulator.Extrema (record live { groups = after_reserve g live.groups })
 
 -- an entry of the registry once it is reserved for a row group
-abbrev pub after_reserve : ℕ → RegistryEntry → RegistryEntry
-after_reserve g None = None
-after_reserve g (Some a) = Some (record a { accumulator = accumulator_after_reserve g a.accumulator })
+abbrev pub entry_after_reserve : ℕ → RegistryEntry → RegistryEntry
+entry_after_reserve g None = None
+entry_after_reserve g (Some a) = Some (record a { accumulator = accumulator_after_reserve g a.accumulator })

@@ -2,13 +2,13 @@
 ghost use Rattle.std.specs.Prelude.{◌≡◌, ℕ, List, map};
 ghost use Rattle.far_types.specs.Table.{Place};
 ghost use Rattle.far_aggregates.specs.Accumulators.{Keeps, registered_in};
-ghost use Rattle.far_aggregates.specs.Reserve.{AreReserved, after_reserve};
+ghost use Rattle.far_aggregates.specs.Reserve.{AreReserved, entry_after_reserve};
 
 use super::aggregate::{Accumulator, Aggregate};
 
 /// Reserves a row group, if the aggregate is of extrema.
 fn reserve_one(entry: &mut Option<Aggregate>, group: u32)
-    ensures { entry.new ≡ after_reserve group entry.old }
+    ensures { entry.new ≡ entry_after_reserve group entry.old }
 {
     if let Some(aggregate) = entry {
         if let Accumulator::Extrema(live) = &mut aggregate.accumulator {
