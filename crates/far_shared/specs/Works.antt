@@ -11,7 +11,7 @@ use Rattle.far_table.specs.Offloading.{offload_refusal}
 use Rattle.far_table.specs.Watching.{aggregate_at, scan_refusal}
 use Rattle.far_frame.specs.declared.job.JobKind.{JobKind}
 use Rattle.far_frame.specs.declared.job.JobKind.TheVariants as kind
-use Rattle.far_frame.specs.declared.job.Work.TheVariants as work_of
+use Rattle.far_frame.specs.declared.job.JobPhase.TheVariants as work_of
 use Rattle.far_frame.specs.Jobs.{JobRecord, WorkOf, IsJobAt, IsColdestJob, IsFetchJob, IsOffloadJob, Commits, CommitRefusal, Installs, InstallRefusal, Merges, MergeRefusal}
 use Rattle.far_frame.specs.State.{State, live}
 use Rattle.far_shared.specs.Fours.{pending_in}
