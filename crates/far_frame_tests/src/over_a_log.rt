@@ -61,8 +61,7 @@ static SCRIPT: Script = Script {
     then: &[],
 };
 
-/// Returns the store, once it has put something of no bytes. So it has memory for its first keys. A put that found none for its key would
-/// have taken its bytes of the log, and the call that is made again would take them once more.
+/// Returns the store, once it has put something of no bytes. So its next puts find memory for their keys.
 fn with_keys<S: FarStore>(alloc: Global, made: Result<S, Refusal>) -> Result<S, Refusal> {
     match made {
         Ok(store) => match store.put(alloc, &mut Meter::new(), &[]).err() {
