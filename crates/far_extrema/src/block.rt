@@ -4,7 +4,7 @@ ghost use Rattle.std.specs.Option.{option_copied};
 ghost use Rattle.far_types.specs.Effects.{join_min_maxes, merge_two};
 ghost use Rattle.far_extrema.specs.Spreads.{at, IsTopOf, IsFrom, IsBelow, IsSet};
 
-use super::min_maxes::{MinMax, merge_two};
+use super::min_max::MinMax;
 use std::marker::Model;
 
 /// How many row groups a block holds.
@@ -114,7 +114,7 @@ pub fn either(min_max: Option<MinMax>, more: Option<MinMax>) -> Option<MinMax>
     ensures { result ≡ merge_two join_min_maxes min_max more }
 {
     match (min_max, more) {
-        (Some(min_max), Some(more)) => Some(merge_two(min_max, more)),
+        (Some(min_max), Some(more)) => Some(min_max.merge_two(more)),
         (Some(min_max), None) => Some(min_max),
         (None, more) => more,
     }

@@ -3,7 +3,7 @@ ghost use Rattle.std.specs.Prelude.{◌≡◌, ◌≢◌, ◌∷◌, [], None, S
 ghost use Rattle.far_types.specs.Effects.{min_max_with};
 ghost use Rattle.far_extrema.specs.Spreads.{at, IsSet, IsTopOf};
 
-use super::min_maxes::{MinMax, is_strictly_within, is_within, merge_two};
+use super::min_max::MinMax;
 use super::rows_left::RowsLeft;
 use super::tournament::{Spare, Tournament};
 use far_types::Refusal;
@@ -116,10 +116,10 @@ impl Holder {
         ensures min_maxes { IsSet self.old.min_maxes group (Some (min_max_with value (Some previous))) self.new.min_maxes }
         ensures reserved { self.new.reserved ≡ self.old.reserved }
     {
-        if is_within(value, previous) {
+        if previous.is_within(value) {
             return;
         }
-        let wide = merge_two((value, value), previous);
+        let wide = MinMax::of(value).merge_two(previous);
         self.put(group, wide);
     }
 
@@ -146,7 +146,7 @@ impl Holder {
                 Ok(Some(min_max))
             }
             None => {
-                self.add(alloc, group, (value, value))?;
+                self.add(alloc, group, MinMax::of(value))?;
                 Ok(None)
             }
         }
@@ -217,7 +217,7 @@ impl Holder {
         ensures reserved { self.new.reserved ≡ self.old.reserved }
     {
         if let Some(min_max) = self.min_max(group) {
-            if is_strictly_within(value, min_max) {
+            if min_max.is_strictly_within(value) {
                 return Some(min_max);
             }
         }

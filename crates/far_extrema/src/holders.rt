@@ -11,7 +11,8 @@ ghost use Rattle.far_extrema.specs.MinMaxes.{extrema_of};
 ghost use Rattle.far_extrema.specs.Holders.{holders_of, min_max_at, reserved_at, line_of, IsPut, IsTopped, HaveSameReserved, HaveSameMinMaxes, KeepsReserved, AreReservedFor, IsGroup, IsCleared};
 
 use super::holder::Holder;
-use super::min_maxes::{MinMax, MinMaxes};
+use super::min_max::MinMax;
+use super::min_maxes::MinMaxes;
 use super::rows_left::RowsLeft;
 use super::tournament::Spare;
 use far_types::{Key, Refusal, clone_key};
@@ -52,7 +53,7 @@ pub fn observe_in(
     match holders.get_mut(key) {
         Some(holder) => holder.observe(alloc, group, value),
         None => {
-            holders.insert(clone_key(key)?, Holder::new(group, (value, value)))?;
+            holders.insert(clone_key(key)?, Holder::new(group, MinMax::of(value)))?;
             Ok(None)
         }
     }
@@ -195,7 +196,7 @@ pub fn clear_in(holders: &mut Holders, group: u32)
 fn line(key: Option<Key>, min_max: MinMax) -> (Option<Key>, i64, i64)
     ensures { result ≡ (key, min_max.0, min_max.1) }
 {
-    (key, min_max.0, min_max.1)
+    (key, min_max.min, min_max.max)
 }
 
 /// Makes the lines of the joined min-maxes of all row groups, by key. Clones the keys. A key that is only reserved has no line.

@@ -9,11 +9,12 @@ mod holder;
 mod holders;
 pub mod laws;
 pub mod live_extrema;
+mod min_max;
 mod min_maxes;
 pub mod rows_left;
 mod tournament;
 
 pub use group_extrema::GroupExtrema;
 pub use live_extrema::LiveExtrema;
-pub use min_maxes::{MinMax, is_strictly_within};
+pub use min_max::MinMax;
 pub use rows_left::RowsLeft;

@@ -8,7 +8,7 @@ use super::holders::{
     Holders, clear_in, fill_all, leave_in, lines, min_max_in, observe_in, reserve_all, set_in,
     shrink_in,
 };
-use super::min_maxes::{MinMax, is_within, merge_two};
+use super::min_max::MinMax;
 use super::rows_left::RowsLeft;
 use far_types::{Answer, ExtremaLines, Key, Refusal};
 use std::alloc::Global;
@@ -27,7 +27,8 @@ use std::marker::Model;
 /// let first = live.observe_under(1, key, 4)?;
 /// let beyond = live.observe_under(1, key, 9);
 /// let within = live.observe_under(1, key, 5);
-/// Ok(first.is_none() && beyond == Ok(Some((4, 4))) && within == Ok(Some((4, 9))))
+/// let four_to_nine = MinMax { min: 4, max: 9 };
+/// Ok(first.is_none() && beyond == Ok(Some(MinMax::of(4))) && within == Ok(Some(four_to_nine)))
 /// ```
 ///
 /// Contracts see how many row groups are pending. For each row group that is reserved, in their order, they see the extrema of its rows.
@@ -130,10 +131,10 @@ impl LiveExtrema {
         requires previous { fin.get (group_at self.old.groups group) key.now ≡ Some previous }
         ensures { self.new ≡ record self.old { groups = slice_set self.old.groups group (with_observed (group_at self.old.groups group) (key.now, value)) } }
     {
-        if is_within(value, previous) {
+        if previous.is_within(value) {
             return;
         }
-        let wide = merge_two((value, value), previous);
+        let wide = MinMax::of(value).merge_two(previous);
         set_in(&mut self.holders, group, key, wide);
     }
 

@@ -7,37 +7,13 @@ ghost use Rattle.far_types.specs.Keys.{line_cmp};
 ghost use Rattle.far_types.specs.Effects.{join_min_maxes};
 ghost use Rattle.far_extrema.specs.MinMaxes.{extrema_of, with_min_max, put_min_max};
 
+use super::min_max::MinMax;
 use far_types::{Key, Refusal, clone_key};
 use std::alloc::Global;
 use std::collections::BTreeMap;
 
-/// The least and the greatest of the values under a key.
-pub type MinMax = (i64, i64);
-
 /// The min-maxes by key.
 pub type MinMaxes = BTreeMap<Option<Key>, MinMax>;
-
-/// Joins two min-maxes.
-pub fn merge_two(min_max: MinMax, more: MinMax) -> MinMax
-    ensures { result ≡ join_min_maxes min_max more }
-{
-    (min_max.0.min(more.0), min_max.1.max(more.1))
-}
-
-/// Returns whether a value is within a min-max, its ends included. Then it changes nothing there.
-pub fn is_within(value: i64, min_max: MinMax) -> bool
-    ensures { IsTrue result → (min_max.0 ≤ℤ value) × (value ≤ℤ min_max.1) }
-{
-    min_max.0 <= value && value <= min_max.1
-}
-
-/// Returns whether a value is strictly within a min-max, its ends excluded. Then the min-max stays if the value goes.
-#[inline(always)]
-pub fn is_strictly_within(value: i64, min_max: MinMax) -> bool
-    ensures { IsTrue result → (min_max.0 <ℤ value) × (value <ℤ min_max.1) }
-{
-    min_max.0 < value && value < min_max.1
-}
 
 /// Joins a min-max to that under a key, if the key is there. Returns whether it is. Allocates nothing.
 fn widen(min_maxes: &mut MinMaxes, key: &Option<Key>, more: MinMax) -> bool
@@ -47,7 +23,7 @@ fn widen(min_maxes: &mut MinMaxes, key: &Option<Key>, more: MinMax) -> bool
 {
     match min_maxes.get_mut(key) {
         Some(min_max) => {
-            *min_max = merge_two(*min_max, more);
+            *min_max = min_max.merge_two(more);
             true
         }
         None => false,
@@ -115,7 +91,7 @@ pub fn lines(alloc: Global, min_maxes: &MinMaxes) -> Result<Vec<(Option<Key>, i6
 {
     let mut lines = Vec::with_capacity(alloc, min_maxes.len())?;
     for (key, min_max) in min_maxes {
-        lines.push((clone_key(key)?, min_max.0, min_max.1))?;
+        lines.push((clone_key(key)?, min_max.min, min_max.max))?;
     }
     Ok(lines)
 }

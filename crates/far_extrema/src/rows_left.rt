@@ -1,7 +1,7 @@
 // The min-max of the rows that are left under a key.
 ghost use Rattle.std.specs.Prelude.{◌≡◌, Option, ℤ};
 
-use super::min_maxes::MinMax;
+use super::min_max::MinMax;
 
 /// The rows of a row group that are left under one key once a row is removed. Extrema keep no rows, so a caller that has them reads them.
 ///

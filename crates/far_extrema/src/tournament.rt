@@ -5,7 +5,7 @@ ghost use Rattle.far_extrema.specs.Blocks.{present};
 ghost use Rattle.far_extrema.specs.Spreads.{at, IsTopOf, IsFrom, IsBelow, IsSet, AreSame};
 
 use super::block::{MinMaxBlock, either, range_of};
-use super::min_maxes::MinMax;
+use super::min_max::MinMax;
 use far_types::Refusal;
 use std::alloc::Global;
 use std::marker::Model;
@@ -70,8 +70,8 @@ impl Spare {
             first: 0,
             split: 0,
             last: 0,
-            before: Tournament::new(0, (0, 0)),
-            after: Tournament::new(0, (0, 0)),
+            before: Tournament::new(0, MinMax::of(0)),
+            after: Tournament::new(0, MinMax::of(0)),
         };
         Ok(Spare {
             block: Box::new(alloc, MinMaxBlock::new(0, None))?,
@@ -207,9 +207,9 @@ impl Tournament {
             Node::Several(_, branch) => {
                 let branch = &mut **branch;
                 if branch.before.top().is_none() {
-                    mem::replace(&mut branch.after, Tournament::new(0, (0, 0)))
+                    mem::replace(&mut branch.after, Tournament::new(0, MinMax::of(0)))
                 } else if branch.after.top().is_none() {
-                    mem::replace(&mut branch.before, Tournament::new(0, (0, 0)))
+                    mem::replace(&mut branch.before, Tournament::new(0, MinMax::of(0)))
                 } else {
                     return;
                 }

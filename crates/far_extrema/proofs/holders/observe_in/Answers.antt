@@ -1,4 +1,4 @@
-use Rattle.std.proofs.Common.{◌≡◌, ◌∙◌, refl, IsSome, sym, ap, subst, Option, Some, None, cond, true}
+use Rattle.std.proofs.Common.{◌≡◌, ◌∙◌, ◌∷◌, [], refl, IsSome, sym, ap, subst, Option, Some, None, cond, true}
 use Rattle.std.specs.Prelude.{ℤ, IfOk}
 use Rattle.std.specs.FinMap as fin
 use Rattle.std.proofs.lemmas.Int.{to_z-of_z}
@@ -67,7 +67,7 @@ returns-in_ok-insert-in-None-clause-ok c =
     let none = ap (λ o. min_max_in o c.args.group) absent in
     subst (λ (n : Holders). IsPut m c.args.group c.args.key.now (Some (min_max_with c.args.value (min_max_at m c.args.group c.args.key.now))) n) (sym inserted)
     (subst (λ (o : Option (ℤ × ℤ)). IsPut m c.args.group c.args.key.now (Some (min_max_with c.args.value o)) (fin.insert m c.args.key.now c.new.result)) (sym none)
-    (put-new m c.args.key.now c.new.result c.args.group (c.args.value, c.args.value) absent (simp to_z-of_z at c.new.ensures.min_maxes)))
+    (put-new m c.args.key.now c.new.result c.args.group (c.args.value, c.args.value) absent (c.new.ensures.min_maxes ∙ ap (λ (x : ℤ × ℤ). (c.args.group, x) ∷ []) (simp to_z-of_z at c.of.ensures))))
 
 pub returns-in_ok-insert-in-None-clause-reserved : goal.returns-in_ok-insert-in-None-clause-reserved
 returns-in_ok-insert-in-None-clause-reserved c =

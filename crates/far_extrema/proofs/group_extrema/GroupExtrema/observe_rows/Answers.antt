@@ -1,6 +1,5 @@
 use Rattle.std.proofs.Common.{ap, ◌∙◌, Ok, Err, OnOk}
 use Rattle.std.specs.Prelude.{Result}
-use Rattle.std.proofs.lemmas.Int.{to_z-of_z}
 use Rattle.std.specs.FinMap as fin
 use Rattle.far_types.specs.Effects.{join_min_maxes, joined_extrema}
 use Rattle.far_types.proofs.AnswersByKeyMaps.{joined-one}
@@ -13,8 +12,6 @@ on_ok (Err e) f h = tt
 
 pub returns-clause-ok : goal.returns-clause-ok
 returns-clause-ok c =
-    let low = c.ranges.least in
-    let high = c.ranges.greatest in
     on_ok c.observe.result (λ observed.
-    simp to_z-of_z at observed ∙ joined-one join_min_maxes (extrema_of c.self.inside.min_maxes.entries) c.args.key (c.args.least, c.args.greatest)
-    ∙ ap (λ m. joined_extrema m (fin.insert fin.empty c.args.key (c.args.least, c.args.greatest))) c.self.view_is) c.observe.ensures.ok
+    observed ∙ joined-one join_min_maxes (extrema_of c.self.inside.min_maxes.entries) c.args.key c.args.min_max
+    ∙ ap (λ m. joined_extrema m (fin.insert fin.empty c.args.key c.args.min_max)) c.self.view_is) c.observe.ensures.ok

@@ -13,4 +13,5 @@ returns-in-Some-clause-ok c =
 pub returns-in_ok-add-in-None-clause-ok : goal.returns-in_ok-add-in-None-clause-ok
 returns-in_ok-add-in-None-clause-ok c =
     let fits = c.ranges.value in
-    subst (λ (o : Option (ℤ × ℤ)). IsSet c.args.self.now.min_maxes c.args.group (Some (min_max_with c.args.value o)) c.add.new.self.min_maxes) c.in-None.ensures (simp to_z-of_z at c.in_ok-add-in-None.ensures.ok)
+    subst (λ (o : Option (ℤ × ℤ)). IsSet c.args.self.now.min_maxes c.args.group (Some (min_max_with c.args.value o)) c.add.new.self.min_maxes) c.in-None.ensures
+    (subst (λ (x : ℤ × ℤ). IsSet c.args.self.now.min_maxes c.args.group (Some x) c.add.new.self.min_maxes) (simp to_z-of_z at c.of.ensures) c.in_ok-add-in-None.ensures.ok)

@@ -1,0 +1,63 @@
+// The least and the greatest of some values.
+ghost use Rattle.std.specs.Prelude.{◌≡◌, ◌≤ℤ◌, ◌<ℤ◌, IsTrue};
+ghost use Rattle.far_types.specs.Effects.{join_min_maxes};
+
+use std::marker::Model;
+
+/// The least and the greatest of some values.
+///
+/// Contracts see the pair of the two.
+#[derive(Clone, Copy, Debug, PartialEq, Eq)]
+pub struct MinMax {
+    /// The least value.
+    pub min: i64,
+    /// The greatest value.
+    pub max: i64,
+}
+
+impl Model for MinMax {
+    ghost use Rattle.std.specs.Prelude.{ℤ};
+
+    ghost Value = { ℤ × ℤ };
+
+    ghost view = { λ min_max. (min_max.min, min_max.max) };
+
+    ghost inverse = { λ pair. record { min = pair.0; max = pair.1 } };
+}
+
+impl MinMax {
+    /// Makes the min-max of one value.
+    pub fn of(value: i64) -> MinMax
+        ensures { result ≡ (value, value) }
+    {
+        MinMax {
+            min: value,
+            max: value,
+        }
+    }
+
+    /// Joins two min-maxes.
+    pub fn merge_two(self, more: MinMax) -> MinMax
+        ensures { result ≡ join_min_maxes self more }
+    {
+        MinMax {
+            min: self.min.min(more.min),
+            max: self.max.max(more.max),
+        }
+    }
+
+    /// Returns whether a value is within the min-max, its ends included. Then it changes nothing there.
+    pub fn is_within(self, value: i64) -> bool
+        ensures { IsTrue result → (self.0 ≤ℤ value) × (value ≤ℤ self.1) }
+    {
+        self.min <= value && value <= self.max
+    }
+
+    /// Returns whether a value is strictly within the min-max, its ends excluded. Then the min-max stays if the value goes.
+    #[inline(always)]
+    pub fn is_strictly_within(self, value: i64) -> bool
+        ensures { IsTrue result → (self.0 <ℤ value) × (value <ℤ self.1) }
+    {
+        self.min < value && value < self.max
+    }
+}
