@@ -28,6 +28,13 @@ less_of_one m k v (Some t) = refl
 pub without_count_sum-one : (m : Totals) (k : Option Key) (v : ℤ) → without_count_sum m k (1, v) ≡ without_pair m (k, v)
 without_count_sum-one m k v = less_of_one m k v (fin.get m k)
 
+-- the count that a body reads is that of the pair
+pub no_count : {t : ℕ × ℤ} {count : ℕ} {sum : ℤ} → (count, sum) ≡ t → count ≡ 0 → t.0 ≡ 0
+no_count is none = ap (λ (u : ℕ × ℤ). u.0) (sym is) ∙ none
+
+pub some_count : {t : ℕ × ℤ} {count : ℕ} {sum : ℤ} → (count, sum) ≡ t → (count ≡ 0 → ⊥) → t.0 ≡ 0 → ⊥
+some_count is some none = some (ap (λ (u : ℕ × ℤ). u.0) is ∙ none)
+
 pub if_found : (o : Option (ℕ × ℤ)) (t : ℕ × ℤ) → o ≡ Some t → IfSome o IsCountSum → IsCountSum t
 if_found o t e h = subst (λ o. IfSome o IsCountSum) e h
 

@@ -11,7 +11,8 @@ ghost use Rattle.far_groups.specs.Numbers.{number_key, number_of, by_number};
 ghost use Rattle.far_groups.specs.Dense.{place_key, by_place};
 ghost use Rattle.far_groups.specs.ByKey.{plain_totals, in_form, totals_in, MayBeElsewhere};
 
-use super::count_sums::{self, CountSum, CountSums, merge_two, subtract};
+use super::count_sum::{CountSum, NO_VALUES};
+use super::count_sums::{self, CountSums};
 use super::dense::{self, Dense, may_place, numbers_of, place_of};
 use super::joins::join_all;
 use super::numbers::{self, Numbers, keyed};
@@ -221,10 +222,10 @@ pub fn add_under(by_key: &mut ByKey, key: &Option<Key>, more: CountSum) -> Resul
     match &mut by_key.form {
         Form::Plain(count_sum) => match key {
             None => {
-                *count_sum = merge_two(*count_sum, more);
+                *count_sum = count_sum.merge_two(more);
                 Ok(())
             }
-            Some(_) => add_elsewhere(by_key, key, more.0, more.1),
+            Some(_) => add_elsewhere(by_key, key, more.count, more.sum),
         },
         Form::Dense(dense) => {
             if let Some(place) = place_in(key) {
@@ -232,10 +233,10 @@ pub fn add_under(by_key: &mut ByKey, key: &Option<Key>, more: CountSum) -> Resul
                     return Ok(());
                 }
             }
-            add_elsewhere(by_key, key, more.0, more.1)
+            add_elsewhere(by_key, key, more.count, more.sum)
         }
-        Form::Numbered(_) => add_elsewhere(by_key, key, more.0, more.1),
-        Form::Keyed(_) => add_elsewhere(by_key, key, more.0, more.1),
+        Form::Numbered(_) => add_elsewhere(by_key, key, more.count, more.sum),
+        Form::Keyed(_) => add_elsewhere(by_key, key, more.count, more.sum),
     }
 }
 
@@ -259,7 +260,7 @@ fn add_elsewhere(
     ensures only_new { OnErr result (fin.get (totals_in by_key.old) key.now ≡ None) }
     ensures memory { IfErr result (λ e. e ≡ Refusal.NoMemory) }
 {
-    let more = (count, sum);
+    let more = CountSum { count, sum };
     match &mut by_key.form {
         Form::Plain(count_sum) => {
             by_key.form = Form::Keyed(plain_with_key(by_key.alloc, *count_sum, key, more)?);
@@ -293,8 +294,8 @@ pub fn take(by_key: &mut ByKey, key: &Option<Key>, less: CountSum)
 {
     match &mut by_key.form {
         Form::Plain(count_sum) => {
-            let rest = subtract(*count_sum, less);
-            if rest.0 == 0 {
+            let rest = count_sum.subtract(less);
+            if rest.count == 0 {
                 by_key.form = Form::Dense(Vec::new(by_key.alloc));
             } else {
                 *count_sum = rest;
@@ -427,7 +428,7 @@ fn plain_line(alloc: Global, count_sum: CountSum) -> Result<Vec<(Option<Key>, u6
     ensures memory { IfErr result (λ e. e ≡ Refusal.NoMemory) }
 {
     let mut lines = Vec::with_capacity(alloc, 1)?;
-    lines.push((None, count_sum.0, count_sum.1))?;
+    lines.push((None, count_sum.count, count_sum.sum))?;
     Ok(lines)
 }
 
@@ -450,8 +451,8 @@ pub fn plain(by_key: &ByKey) -> CountSum
 {
     match &by_key.form {
         Form::Plain(count_sum) => *count_sum,
-        Form::Dense(_) => (0, 0),
-        Form::Numbered(_) => (0, 0),
-        Form::Keyed(keys) => keys.get(&None).copied().unwrap_or((0, 0)),
+        Form::Dense(_) => NO_VALUES,
+        Form::Numbered(_) => NO_VALUES,
+        Form::Keyed(keys) => keys.get(&None).copied().unwrap_or(NO_VALUES),
     }
 }

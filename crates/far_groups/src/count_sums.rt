@@ -8,46 +8,13 @@ ghost use Rattle.far_types.specs.Effects.{add_count_sums, count_in, joined_total
 ghost use Rattle.far_groups.specs.Live.{CanJoin};
 ghost use Rattle.far_groups.specs.CountSums.{totals_of, IsCountSum, AreCountSums, with_count_sum, LeavesCountSum, without_count_sum, CanRetractAll, without_all};
 
+use super::count_sum::CountSum;
 use far_types::{Key, Refusal, clone_key};
 use std::alloc::Global;
 use std::collections::BTreeMap;
 
-/// The count of the values under a key, at least 1, and their sum.
-pub type CountSum = (u64, i128);
-
 /// Counts and sums by key. No key has a count of 0.
 pub type CountSums = BTreeMap<Option<Key>, CountSum>;
-
-/// Returns the count and the sum of one value.
-#[inline(always)]
-pub fn count_sum_of(value: i64) -> CountSum
-    ensures value { result ≡ (1, value) }
-    ensures valid_sums { IsCountSum result }
-{
-    (1, i128::from(value))
-}
-
-/// Adds two counts and sums.
-#[inline(always)]
-pub fn merge_two(count_sum: CountSum, more: CountSum) -> CountSum
-    requires valid_sums { IsCountSum count_sum }
-    requires more_valid_sums { IsCountSum more }
-    requires capacity { count_sum.0 + more.0 ≤ 2 ^ 26 }
-    ensures value { result ≡ add_count_sums count_sum more }
-    ensures valid_sums { IsCountSum result }
-{
-    (count_sum.0 + more.0, count_sum.1 + more.1)
-}
-
-/// Subtracts a count and a sum from another.
-#[inline(always)]
-pub fn subtract(count_sum: CountSum, less: CountSum) -> CountSum
-    requires valid_sums { IsCountSum count_sum }
-    requires there { LeavesCountSum less (Some count_sum) }
-    ensures { result ≡ (count_sum.0 - less.0, count_sum.1 -ℤ less.1) }
-{
-    (count_sum.0 - less.0, count_sum.1 - less.1)
-}
 
 /// Adds a count and a sum under a key, if it is there. Returns whether it is. Allocates nothing.
 pub fn add_existing(count_sums: &mut CountSums, key: &Option<Key>, more: CountSum) -> bool
@@ -61,7 +28,7 @@ pub fn add_existing(count_sums: &mut CountSums, key: &Option<Key>, more: CountSu
 {
     match count_sums.get_mut(key) {
         Some(count_sum) => {
-            *count_sum = merge_two(*count_sum, more);
+            *count_sum = count_sum.merge_two(more);
             true
         }
         None => false,
@@ -117,8 +84,8 @@ pub fn take(count_sums: &mut CountSums, key: &Option<Key>, less: CountSum)
     match count_sums.get_mut(key) {
         None => {}
         Some(count_sum) => {
-            let rest = subtract(*count_sum, less);
-            if rest.0 == 0 {
+            let rest = count_sum.subtract(less);
+            if rest.count == 0 {
                 count_sums.remove(key);
             } else {
                 *count_sum = rest;
@@ -177,7 +144,7 @@ pub fn lines(
 {
     let mut lines = Vec::with_capacity(alloc, count_sums.len())?;
     for (key, count_sum) in count_sums {
-        lines.push((clone_key(key)?, count_sum.0, count_sum.1))?;
+        lines.push((clone_key(key)?, count_sum.count, count_sum.sum))?;
     }
     Ok(lines)
 }

@@ -8,7 +8,7 @@ ghost use Rattle.far_groups.specs.CountSums.{IsCountSum, AreCountSums, with_coun
 ghost use Rattle.far_groups.specs.Numbers.{by_number, number_lines};
 ghost use Rattle.far_groups.specs.Dense.{place_key, standing, entries_from, by_place};
 
-use super::count_sums::{CountSum, merge_two, subtract};
+use super::count_sum::{CountSum, NO_VALUES};
 use super::numbers::{self, Numbers};
 use far_types::{Key, Refusal};
 use std::alloc::Global;
@@ -58,10 +58,10 @@ fn added(count_sum: CountSum, more: CountSum) -> CountSum
     ensures value { result ≡ option_map_or (λ there. add_count_sums there more) (standing count_sum) more }
     ensures valid_sums { IsCountSum result }
 {
-    if count_sum.0 == 0 {
+    if count_sum.count == 0 {
         return more;
     }
-    merge_two(count_sum, more)
+    count_sum.merge_two(more)
 }
 
 /// Adds a count and a sum at a place, if the list has it. Returns whether it does. Allocates nothing.
@@ -91,7 +91,7 @@ fn grow(dense: &mut Dense, len: usize) -> Result<(), Refusal>
     ensures memory { IfErr result (λ e. e ≡ Refusal.NoMemory) }
 {
     for _place in dense.len()..len {
-        dense.push((0, 0))?;
+        dense.push(NO_VALUES)?;
     }
     Ok(())
 }
@@ -124,7 +124,7 @@ pub fn take(dense: &mut Dense, place: usize, less: CountSum)
     ensures less { by_place dense.new.items ≡ without_count_sum (by_place dense.old.items) (place_key place) less }
 {
     if place < dense.len() {
-        dense[place] = subtract(dense[place], less);
+        dense[place] = dense[place].subtract(less);
     }
 }
 
@@ -141,7 +141,7 @@ pub fn join(dense: &mut Dense, other: &Dense) -> Result<(), Refusal>
     grow(dense, other.len())?;
     for place in 0..other.len() {
         let more = other[place];
-        if more.0 != 0 {
+        if more.count != 0 {
             let _there = add_existing(dense, place, more);
         }
     }
@@ -157,7 +157,7 @@ pub fn numbers_of(alloc: Global, dense: &Dense) -> Result<Numbers, Refusal>
     let mut numbers = BTreeMap::new(alloc);
     for place in 0..dense.len() {
         let count_sum = dense[place];
-        if count_sum.0 != 0 {
+        if count_sum.count != 0 {
             numbers::add(&mut numbers, &number_at(place), count_sum)?;
         }
     }
@@ -169,7 +169,7 @@ fn line(place: usize, count_sum: CountSum) -> (Option<Key>, u64, i128)
     requires { place < 2 ^ 63 }
     ensures { result ≡ (place_key place, count_sum.0, count_sum.1) }
 {
-    (Some(Key::Int(number_at(place))), count_sum.0, count_sum.1)
+    (Some(Key::Int(number_at(place))), count_sum.count, count_sum.sum)
 }
 
 /// Makes the lines of the places with a count above 0, by their numbers.
@@ -180,7 +180,7 @@ pub fn lines(alloc: Global, dense: &Dense) -> Result<Vec<(Option<Key>, u64, i128
     let mut lines = Vec::with_capacity(alloc, dense.len())?;
     for place in 0..dense.len() {
         let count_sum = dense[place];
-        if count_sum.0 != 0 {
+        if count_sum.count != 0 {
             lines.push(line(place, count_sum))?;
         }
     }

@@ -6,7 +6,7 @@ ghost use Rattle.far_groups.specs.ByKey.{totals_in};
 ghost use Rattle.far_groups.specs.Folds.{with_pairs, CanFoldAll, HasFolded};
 
 use super::by_key::{ByKey, add_under, take};
-use super::count_sums::count_sum_of;
+use super::count_sum::CountSum;
 use far_types::{Key, Refusal};
 
 /// A folded row: its key, none in an aggregate without key column, and its value.
@@ -21,7 +21,7 @@ fn undo_first(count_sums: &mut ByKey, pairs: &[Pair], count: usize)
 {
     for done in 0..count {
         let pair = &pairs[count - 1 - done];
-        take(count_sums, &pair.0, count_sum_of(pair.1));
+        take(count_sums, &pair.0, CountSum::of(pair.1));
     }
 }
 
@@ -36,7 +36,7 @@ pub fn fold_all(count_sums: &mut ByKey, pairs: &[Pair]) -> Result<(), Refusal>
 {
     for i in 0..pairs.len() {
         let pair = &pairs[i];
-        match add_under(count_sums, &pair.0, count_sum_of(pair.1)) {
+        match add_under(count_sums, &pair.0, CountSum::of(pair.1)) {
             Ok(()) => {}
             Err(refusal) => {
                 undo_first(count_sums, pairs, i);

@@ -9,7 +9,8 @@ ghost use Rattle.far_groups.specs.Live.{CanJoin};
 ghost use Rattle.far_groups.specs.CountSums.{totals_of, AreCountSums, IsAddend, AreAddends};
 ghost use Rattle.far_groups.specs.Walks.{count_sum_at, new_lines, added_to};
 
-use super::count_sums::{CountSum, CountSums, join};
+use super::count_sum::{CountSum, NO_VALUES};
+use super::count_sums::{CountSums, join};
 use far_types::{Key, Refusal, clone_key};
 use std::alloc::Global;
 use std::cmp::Ordering;
@@ -83,7 +84,7 @@ fn new_lines(
     let mut walk = Walk::new(count_sums);
     for (key, _) in other {
         if walk.find(key).is_none() {
-            lines.push((clone_key(key)?, (0, 0)))?;
+            lines.push((clone_key(key)?, NO_VALUES))?;
         }
     }
     Ok(lines)
@@ -110,7 +111,7 @@ fn reserve_keys(alloc: Global, count_sums: &mut CountSums, other: &CountSums) ->
     match count_sums.append(&mut fresh) {
         Ok(()) => Ok(()),
         Err(_) => {
-            count_sums.retain(|_, count_sum| count_sum.0 != 0);
+            count_sums.retain(|_, count_sum| count_sum.count != 0);
             Err(Refusal::NoMemory)
         }
     }
@@ -120,10 +121,10 @@ fn reserve_keys(alloc: Global, count_sums: &mut CountSums, other: &CountSums) ->
 fn added(count_sum: CountSum, more: CountSum) -> CountSum
     ensures { IsAddend count_sum → IsAddend more → result ≡ add_count_sums count_sum more }
 {
-    (
-        count_sum.0.wrapping_add(more.0),
-        count_sum.1.wrapping_add(more.1),
-    )
+    CountSum {
+        count: count_sum.count.wrapping_add(more.count),
+        sum: count_sum.sum.wrapping_add(more.sum),
+    }
 }
 
 /// Adds the counts and sums of the other map under each key that both have. Allocates nothing.

@@ -2,6 +2,7 @@
 //! Totals by key that are kept up to date: the count and the sum of the rows folded under each key.
 
 mod by_key;
+mod count_sum;
 mod count_sums;
 mod dense;
 mod folds;
@@ -10,6 +11,7 @@ pub mod laws;
 pub mod live_totals;
 mod numbers;
 
-pub use count_sums::{CountSum, CountSums};
+pub use count_sum::CountSum;
+pub use count_sums::CountSums;
 pub use folds::Pair;
 pub use live_totals::LiveTotals;

@@ -2,7 +2,7 @@
 ghost use Rattle.std.specs.Prelude.{◌≡◌, ◌≢◌, ◌+◌, ◌-◌, ◌^◌, ◌<◌, ◌≤◌, pos, None, Some, Err, unwrap_or, OnOk, OnErr, IfOk, IfErr};
 
 use super::by_key::{ByKey, add, add_under, join, lines, nothing, plain, take};
-use super::count_sums::count_sum_of;
+use super::count_sum::CountSum;
 use super::folds::{Pair, fold_all};
 use far_types::{Answer, Key, Refusal, TotalLines};
 use std::alloc::Global;
@@ -15,9 +15,9 @@ use std::marker::Model;
 ///
 /// ```
 /// let mut live = LiveTotals::new(alloc, 0);
-/// let (count, sum) = count_sum_of(spec, columns, alive);
-/// if count != 0 {
-///     live.add_rows(None, count, sum)?;
+/// let count_sum = count_sum_of(spec, columns, alive);
+/// if count_sum.count != 0 {
+///     live.add_rows(None, count_sum)?;
 /// }
 /// Ok(live)
 /// ```
@@ -80,7 +80,7 @@ impl LiveTotals {
         ensures only_new { OnErr result (fin.get self.old.totals key ≡ None) }
         ensures memory { IfErr result (λ e. e ≡ Refusal.NoMemory) }
     {
-        add(&mut self.count_sums, key, count_sum_of(value))
+        add(&mut self.count_sums, key, CountSum::of(value))
     }
 
     /// Adds a folded row, as `add` does, for a caller that keeps the key. Clones the key if it is new.
@@ -92,20 +92,20 @@ impl LiveTotals {
         ensures only_new { OnErr result (fin.get self.old.totals key.now ≡ None) }
         ensures memory { IfErr result (λ e. e ≡ Refusal.NoMemory) }
     {
-        add_under(&mut self.count_sums, key, count_sum_of(value))
+        add_under(&mut self.count_sums, key, CountSum::of(value))
     }
 
     /// Adds folded rows, at least one, all under one key: their count and their sum, which the caller computed. Refused as `add` is. Then
     /// nothing is changed.
-    pub fn add_rows(&mut self, key: Option<Key>, count: u64, sum: i128) -> Result<(), Refusal>
-        requires valid_sums { IsCountSum (count, sum) }
-        requires capacity { count_in (fin.get self.old.totals key) + count ≤ 2 ^ 26 }
-        ensures ok { OnOk result (self.new ≡ record self.old { totals = joined_totals self.old.totals (fin.insert fin.empty key (count, sum)) }) }
+    pub fn add_rows(&mut self, key: Option<Key>, count_sum: CountSum) -> Result<(), Refusal>
+        requires valid_sums { IsCountSum count_sum }
+        requires capacity { count_in (fin.get self.old.totals key) + count_sum.0 ≤ 2 ^ 26 }
+        ensures ok { OnOk result (self.new ≡ record self.old { totals = joined_totals self.old.totals (fin.insert fin.empty key count_sum) }) }
         ensures err { OnErr result (self.new ≡ self.old) }
         ensures only_new { OnErr result (fin.get self.old.totals key ≡ None) }
         ensures memory { IfErr result (λ e. e ≡ Refusal.NoMemory) }
     {
-        add(&mut self.count_sums, key, (count, sum))
+        add(&mut self.count_sums, key, count_sum)
     }
 
     /// Removes a folded row, one of those that are in. If no row is left under its key, removes the key too. Allocates nothing.
@@ -114,7 +114,7 @@ impl LiveTotals {
         requires { CanRetract value (fin.get self.old.totals key.now) }
         ensures { self.new ≡ record self.old { totals = without_pair self.old.totals (key.now, value) } }
     {
-        take(&mut self.count_sums, key, count_sum_of(value));
+        take(&mut self.count_sums, key, CountSum::of(value));
     }
 
     /// Joins the rows of another to these, key by key. One row group less is pending. Of the other it reads nothing else. Refused with
@@ -175,6 +175,7 @@ impl LiveTotals {
     pub fn plain(&self) -> (u64, i128)
         ensures { result ≡ unwrap_or (fin.get self.now.totals None) (0, pos 0) }
     {
-        plain(&self.count_sums)
+        let count_sum = plain(&self.count_sums);
+        (count_sum.count, count_sum.sum)
     }
 }

@@ -8,7 +8,8 @@ ghost use Rattle.far_groups.specs.Live.{CanJoin};
 ghost use Rattle.far_groups.specs.CountSums.{IsCountSum, AreCountSums, with_count_sum, LeavesCountSum, without_count_sum, CanRetractAll, without_all};
 ghost use Rattle.far_groups.specs.Numbers.{number_key, numbered, by_number, number_line, number_lines};
 
-use super::count_sums::{CountSum, CountSums, merge_two, subtract};
+use super::count_sum::CountSum;
+use super::count_sums::CountSums;
 use super::joins::map_of;
 use far_types::{Key, Refusal};
 use std::alloc::Global;
@@ -29,7 +30,7 @@ fn add_existing(numbers: &mut Numbers, number: &i64, more: CountSum) -> bool
 {
     match numbers.get_mut(number) {
         Some(count_sum) => {
-            *count_sum = merge_two(*count_sum, more);
+            *count_sum = count_sum.merge_two(more);
             true
         }
         None => false,
@@ -64,8 +65,8 @@ pub fn take(numbers: &mut Numbers, number: &i64, less: CountSum)
     match numbers.get_mut(number) {
         None => {}
         Some(count_sum) => {
-            let rest = subtract(*count_sum, less);
-            if rest.0 == 0 {
+            let rest = count_sum.subtract(less);
+            if rest.count == 0 {
                 numbers.remove(number);
             } else {
                 *count_sum = rest;
@@ -139,7 +140,7 @@ pub fn keyed(alloc: Global, numbers: &Numbers) -> Result<CountSums, Refusal>
 fn line(number: &i64, count_sum: &CountSum) -> (Option<Key>, u64, i128)
     ensures { result ≡ number_line (number.now, count_sum.now) }
 {
-    (Some(Key::Int(*number)), count_sum.0, count_sum.1)
+    (Some(Key::Int(*number)), count_sum.count, count_sum.sum)
 }
 
 /// Makes the lines of the counts and sums, by their numbers.

@@ -4,7 +4,7 @@ use Rattle.far_groups.specs.declared.by_key.Form.{Form}
 use Rattle.far_groups.specs.CountSums.{AreCountSums, LeavesCountSum, without_count_sum}
 use Rattle.far_groups.specs.Dense.{by_place}
 use Rattle.far_groups.specs.ByKey.{in_form, totals_in}
-use Rattle.far_groups.proofs.CountSumsLaws.{AreCountSums-without}
+use Rattle.far_groups.proofs.CountSumsLaws.{no_count, some_count, AreCountSums-without}
 use Rattle.far_groups.proofs.NumbersLaws.{get_other}
 use Rattle.far_groups.proofs.DensePlaces.{get_elsewhere}
 use Rattle.far_groups.proofs.ByKeyLaws.{count_sum_there, retracted_leaves, plain_gone, plain_subtracted}
@@ -22,13 +22,13 @@ pub returns-then-rest-eq0-clause-less : goal.returns-then-rest-eq0-clause-less
 returns-then-rest-eq0-clause-less c =
     let there = subst (λ (form : Form). LeavesCountSum c.args.less (fin.get (in_form form) c.args.key.now)) c.in-Plain.is c.requires.there in
     ap by_place c.new.ensures.items
-    ∙ plain_gone c.in-Plain.count_sum c.args.less c.subtract-rest.result c.args.key.now c.subtract-rest.ensures there c.if-rest-eq0.true
+    ∙ plain_gone c.in-Plain.count_sum c.args.less c.subtract-rest.result c.args.key.now c.subtract-rest.ensures there (no_count c.rest.view_is c.if-rest-eq0.true)
     ∙ ap (λ (form : Form). without_count_sum (in_form form) c.args.key.now c.args.less) (sym c.in-Plain.is)
 
 pub returns-else-rest-eq0-clause-less : goal.returns-else-rest-eq0-clause-less
 returns-else-rest-eq0-clause-less c =
     let there = subst (λ (form : Form). LeavesCountSum c.args.less (fin.get (in_form form) c.args.key.now)) c.in-Plain.is c.requires.there in
-    plain_subtracted c.in-Plain.count_sum c.args.less c.subtract-rest.result c.args.key.now c.subtract-rest.ensures there c.if-rest-eq0.false
+    plain_subtracted c.in-Plain.count_sum c.args.less c.subtract-rest.result c.args.key.now c.subtract-rest.ensures there (some_count c.rest.view_is c.if-rest-eq0.false)
     ∙ ap (λ (form : Form). without_count_sum (in_form form) c.args.key.now c.args.less) (sym c.in-Plain.is)
 
 pub returns-then-rest-eq0-clause-valid_sums : goal.returns-then-rest-eq0-clause-valid_sums

@@ -1,7 +1,7 @@
 use Rattle.std.proofs.Common.{refl, IsSome, sym, ◌∙◌, subst}
 use Rattle.far_types.proofs.AnswersByKeyMaps.{get_at}
 use Rattle.far_groups.specs.CountSums.{totals_of, AreCountSums, LeavesCountSum}
-use Rattle.far_groups.proofs.CountSumsLaws.{if_found, AreCountSums-without, retracted_whole, retracted_part}
+use Rattle.far_groups.proofs.CountSumsLaws.{no_count, some_count, if_found, AreCountSums-without, retracted_whole, retracted_part}
 use Rattle.far_groups.proofs.count_sums.take.Goals as goal
 
 pub subtract-rest-requires-clause-valid_sums : goal.subtract-rest-requires-clause-valid_sums
@@ -21,14 +21,14 @@ returns-then-rest-eq0-clause-less c =
     let there = subst IsSome c.in-Some.ensures.value refl in
     let unchanged = c.get_mut.follows.holds c.in-Some.count_sum.now in
     retracted_whole c.args.count_sums.now.entries (c.get_mut.follows.lender c.in-Some.count_sum.now).entries c.remove.new.self.entries c.args.key.now c.args.less c.in-Some.count_sum.now c.subtract-rest.result
-    c.in-Some.ensures.value (unchanged.3 there).0 c.remove.ensures.updates.0 c.subtract-rest.ensures (subst (LeavesCountSum c.args.less) (get_at c.args.count_sums.now.entries c.args.key.now) c.requires.there) c.if-rest-eq0.true
+    c.in-Some.ensures.value (unchanged.3 there).0 c.remove.ensures.updates.0 c.subtract-rest.ensures (subst (LeavesCountSum c.args.less) (get_at c.args.count_sums.now.entries c.args.key.now) c.requires.there) (no_count c.rest.view_is c.if-rest-eq0.true)
 
 pub returns-else-rest-eq0-clause-less : goal.returns-else-rest-eq0-clause-less
 returns-else-rest-eq0-clause-less c =
     let there = subst IsSome c.in-Some.ensures.value refl in
     let written = c.get_mut.follows.holds c.subtract-rest.result in
     retracted_part c.args.count_sums.now.entries (c.get_mut.follows.lender c.subtract-rest.result).entries c.args.key.now c.args.less c.in-Some.count_sum.now c.subtract-rest.result
-    c.in-Some.ensures.value (written.3 there).0 c.subtract-rest.ensures c.if-rest-eq0.false
+    c.in-Some.ensures.value (written.3 there).0 c.subtract-rest.ensures (some_count c.rest.view_is c.if-rest-eq0.false)
 
 pub returns-then-rest-eq0-clause-valid_sums : goal.returns-then-rest-eq0-clause-valid_sums
 returns-then-rest-eq0-clause-valid_sums c =

@@ -5,6 +5,7 @@ use Rattle.far_types.specs.Effects.{count_in, joined_totals}
 use Rattle.far_groups.specs.CountSums.{AreCountSums, with_count_sum}
 use Rattle.far_groups.specs.Numbers.{by_number}
 use Rattle.far_groups.specs.Dense.{place_key, by_place}
+use Rattle.far_groups.proofs.CountSumsLaws.{no_count, some_count}
 use Rattle.far_groups.proofs.DensePlaces.{next_none, next_joined, next_count_sum, next_capacity, no_places}
 use Rattle.far_groups.proofs.dense.join.Goals as goal
 use Rattle.far_groups.proofs.dense.join.Goals.{then-more-ne0, else-more-ne0}
@@ -18,13 +19,13 @@ loop-place-init c = record {
 
 pub add_existing-there-requires-clause-more_valid_sums : goal.add_existing-there-requires-clause-more_valid_sums
 add_existing-there-requires-clause-more_valid_sums c =
-    next_count_sum c.args.other.now.items c.loop-place.place c.index-more.result.now (omega arith) c.index-more.ensures c.if-more-ne0.true c.requires.other_valid_sums
+    next_count_sum c.args.other.now.items c.loop-place.place c.index-more.result.now (omega arith) c.index-more.ensures (some_count c.more.view_is c.if-more-ne0.true) c.requires.other_valid_sums
 
 pub add_existing-there-requires-clause-capacity : goal.add_existing-there-requires-clause-capacity
 add_existing-there-requires-clause-capacity c =
     let more = c.index-more.result.now in
     subst (λ (m : Totals). count_in (fin.get m (place_key c.loop-place.place)) + more.0 ≤ 2 ^ 26) (sym c.loop-place.invariant.joined)
-    (next_capacity c.args.other.now.items c.loop-place.place more (omega arith) c.index-more.ensures c.if-more-ne0.true (by_place c.args.dense.now.items) c.requires.can_join)
+    (next_capacity c.args.other.now.items c.loop-place.place more (omega arith) c.index-more.ensures (some_count c.more.view_is c.if-more-ne0.true) (by_place c.args.dense.now.items) c.requires.can_join)
 
 pub loop-place-preserved : goal.loop-place-preserved
 loop-place-preserved c =
@@ -42,9 +43,9 @@ loop-place-preserved c =
           let joined =
           added.added there
           ∙ ap (λ (m : Totals). with_count_sum m (place_key place) more) invariant.joined
-          ∙ next_joined others place more within c.index-more.ensures w.if-more-ne0.true start in
+          ∙ next_joined others place more within c.index-more.ensures (some_count c.more.view_is w.if-more-ne0.true) start in
           rw w.dense-is (record { valid_sums = added.valid_sums; long = omega (arith, long, invariant.long); joined = joined })
       | else-more-ne0 w ↦
-          let joined = invariant.joined ∙ ap (λ es. joined_totals start (by_number es)) (sym (next_none others place more within c.index-more.ensures w.if-more-ne0.false)) in
+          let joined = invariant.joined ∙ ap (λ es. joined_totals start (by_number es)) (sym (next_none others place more within c.index-more.ensures (no_count c.more.view_is w.if-more-ne0.false))) in
           rw w.dense-is (record { valid_sums = invariant.valid_sums; long = invariant.long; joined = joined })
     ]

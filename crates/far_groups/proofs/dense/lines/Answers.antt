@@ -1,5 +1,6 @@
 use Rattle.std.proofs.Common.{◌<◌, ◌++◌, ◌∷◌, [], length, sym, ap, ◌∙◌, arith}
 use Rattle.far_groups.specs.Numbers.{number_lines}
+use Rattle.far_groups.proofs.CountSumsLaws.{no_count, some_count}
 use Rattle.far_groups.proofs.DensePlaces.{next_none, next_line}
 use Rattle.far_groups.proofs.dense.lines.Goals as goal
 use Rattle.far_groups.proofs.dense.lines.Goals.{then-count_sum-ne0+in_ok-push, else-count_sum-ne0}
@@ -14,7 +15,7 @@ loop-place-preserved c =
       | then-count_sum-ne0+in_ok-push w ↦
           ap (λ lines. lines.items) w.lines-is ∙ w.in_ok-push.ensures.items
           ∙ (λ i. c.loop-place.invariant i ++ w.line.ensures i ∷ [])
-          ∙ sym (next_line places place count_sum within c.index-count_sum.ensures w.if-count_sum-ne0.true)
+          ∙ sym (next_line places place count_sum within c.index-count_sum.ensures (some_count c.count_sum.view_is w.if-count_sum-ne0.true))
       | else-count_sum-ne0 w ↦
-          ap (λ lines. lines.items) w.lines-is ∙ c.loop-place.invariant ∙ ap number_lines (sym (next_none places place count_sum within c.index-count_sum.ensures w.if-count_sum-ne0.false))
+          ap (λ lines. lines.items) w.lines-is ∙ c.loop-place.invariant ∙ ap number_lines (sym (next_none places place count_sum within c.index-count_sum.ensures (no_count c.count_sum.view_is w.if-count_sum-ne0.false)))
     ]

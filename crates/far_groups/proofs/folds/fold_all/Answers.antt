@@ -18,7 +18,7 @@ add_under-requires-clause-capacity c =
     let there = slice_get_read pairs _ c.loop-i.i pair refl (omega arith) c.index-pairs-i.is in
     let may = can_at (totals_in c.args.count_sums.now) pairs c.loop-i.i pair there c.requires.can in
     let few : count_in (fin.get (totals_in c.loop-i.count_sums) pair.0) < 2 ^ 26 = subst (λ (m : Totals). count_in (fin.get m pair.0) < 2 ^ 26) (sym c.loop-i.invariant.folded) may.1 in
-    let one : c.count_sum_of.result.0 ≡ 1 = ap (λ (t : ℕ × ℤ). t.0) c.count_sum_of.ensures.value in
+    let one : c.of.result.0 ≡ 1 = ap (λ (t : ℕ × ℤ). t.0) c.of.ensures.value in
     omega arith
 
 pub undo_first-requires-clause-folded : goal.undo_first-requires-clause-folded
@@ -42,7 +42,7 @@ loop-i-preserved c =
     let pair = c.index-pairs-i.result in
     let there = slice_get_read pairs _ c.loop-i.i pair refl (omega arith) c.index-pairs-i.is in
     let may = can_at start pairs c.loop-i.i pair there c.requires.can in
-    let one : c.count_sum_of.result ≡ (1, pair.1) = c.count_sum_of.ensures.value ∙ ap (λ (v : ℤ). (1, v)) (to_z-of_z w64 pair.1 may.0) in
+    let one : c.of.result ≡ (1, pair.1) = c.of.ensures.value ∙ ap (λ (v : ℤ). (1, v)) (to_z-of_z w64 pair.1 may.0) in
     record {
       valid_sums = c.in-Ok.ensures.valid_sums;
       folded =

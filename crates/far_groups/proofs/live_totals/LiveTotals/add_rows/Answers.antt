@@ -1,6 +1,5 @@
 use Rattle.std.proofs.Common.{ap, ◌∙◌, Ok, Err, OnOk}
 use Rattle.std.specs.Prelude.{Result}
-use Rattle.std.proofs.lemmas.Int.{to_z-of_z}
 use Rattle.std.specs.FinMap as fin
 use Rattle.far_types.specs.Effects.{add_count_sums, joined_totals}
 use Rattle.far_types.proofs.AnswersByKeyMaps.{joined-one}
@@ -13,7 +12,6 @@ on_ok (Err e) f h = tt
 
 pub returns-clause-ok : goal.returns-clause-ok
 returns-clause-ok c =
-    let fits = c.ranges.sum in
     on_ok c.add.result (λ added.
-    ap (λ m. record { left = c.self.inside.left; totals = m }) (simp to_z-of_z at added ∙ joined-one add_count_sums (totals_in c.self.inside.count_sums) c.args.key (c.args.count, c.args.sum))
-    ∙ ap (λ live. record { left = live.left; totals = joined_totals live.totals (fin.insert fin.empty c.args.key (c.args.count, c.args.sum)) }) c.self.view_is) c.add.ensures.ok
+    ap (λ m. record { left = c.self.inside.left; totals = m }) (added ∙ joined-one add_count_sums (totals_in c.self.inside.count_sums) c.args.key c.args.count_sum)
+    ∙ ap (λ live. record { left = live.left; totals = joined_totals live.totals (fin.insert fin.empty c.args.key c.args.count_sum) }) c.self.view_is) c.add.ensures.ok
