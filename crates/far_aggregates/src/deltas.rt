@@ -34,7 +34,7 @@ fn undo_one(entry: &mut Option<Aggregate>, group: u32, delta: &Option<Delta>)
                 Accumulator::Extrema(live) => live.put_min_max(
                     group,
                     &delta.pair.0,
-                    delta.previous,
+                    &delta.previous,
                 ),
             }
         }

@@ -60,18 +60,21 @@ fn noted_in(plain: &[Option<MinMax>], group: usize) -> Option<MinMax>
     ensures { IfSome result (λ min_max. slice_get plain.now group ≡ Some (Some min_max)) }
 {
     match plain.get(group) {
-        Some(Some((least, greatest))) => Some((*least, *greatest)),
+        Some(Some(min_max)) => Some(MinMax {
+            min: min_max.min,
+            max: min_max.max,
+        }),
         _ => None,
     }
 }
 
 /// Returns whether a value is within a min-max, if there is one.
 #[inline(always)]
-fn is_within_noted(value: i64, min_max: Option<MinMax>) -> bool
-    ensures { IsTrue result → (s : ℤ × ℤ) × (min_max ≡ Some s) × (s.0 ≤ℤ value) × (value ≤ℤ s.1) }
+fn is_within_noted(value: i64, min_max: &Option<MinMax>) -> bool
+    ensures { IsTrue result → (s : ℤ × ℤ) × (min_max.now ≡ Some s) × (s.0 ≤ℤ value) × (value ≤ℤ s.1) }
 {
     match min_max {
-        Some((least, greatest)) => least <= value && value <= greatest,
+        Some(min_max) => min_max.is_within(value),
         None => false,
     }
 }
@@ -102,12 +105,12 @@ fn observe_noted(
 
 /// Returns the least and the greatest with one more value.
 #[inline(always)]
-fn wider(value: i64, previous: Option<MinMax>) -> MinMax
-    ensures { result ≡ min_max_with value previous }
+fn wider(value: i64, previous: &Option<MinMax>) -> MinMax
+    ensures { result ≡ min_max_with value previous.now }
 {
     match previous {
-        Some((least, greatest)) => (value.min(least), value.max(greatest)),
-        None => (value, value),
+        Some(min_max) => min_max.with(value),
+        None => MinMax::of(value),
     }
 }
 
@@ -157,7 +160,7 @@ impl KnownExtrema {
         ensures memory { IfErr result (λ e. e ≡ Refusal.NoMemory) }
     {
         let noted = noted_in(self.plain.as_slice(), group as usize);
-        if is_within_noted(value, noted) {
+        if is_within_noted(value, &noted) {
             return Ok(noted);
         }
         make_place(&mut self.plain, group as usize);
@@ -165,7 +168,7 @@ impl KnownExtrema {
         note(
             &mut self.plain,
             group as usize,
-            Some(wider(value, previous)),
+            Some(wider(value, &previous)),
         );
         Ok(previous)
     }
@@ -192,14 +195,14 @@ impl KnownExtrema {
     }
 
     /// Does what `LiveExtrema::put_min_max` does.
-    pub fn put_min_max(&mut self, group: u32, key: &Option<Key>, min_max: Option<MinMax>)
+    pub fn put_min_max(&mut self, group: u32, key: &Option<Key>, min_max: &Option<MinMax>)
         requires reserved { group < length self.old.groups }
         requires there { fin.get (group_at self.old.groups group) key.now ≢ None }
-        ensures { self.new ≡ record self.old { groups = slice_set self.old.groups group (put_min_max (group_at self.old.groups group) key.now min_max) } }
+        ensures { self.new ≡ record self.old { groups = slice_set self.old.groups group (put_min_max (group_at self.old.groups group) key.now min_max.now) } }
     {
-        self.live.put_min_max(group, key, min_max);
+        self.live.put_min_max(group, key, *min_max);
         if key.is_none() {
-            note(&mut self.plain, group as usize, min_max);
+            note(&mut self.plain, group as usize, *min_max);
         }
     }
 
@@ -211,7 +214,7 @@ impl KnownExtrema {
         ensures { self.new ≡ record self.old { groups = slice_set self.old.groups group (put_min_max (group_at self.old.groups group) None (R.extremes rows.now)) } }
     {
         if let Some(min_max) = noted_in(self.plain.as_slice(), group as usize) {
-            if min_max.0 < value && value < min_max.1 {
+            if min_max.is_strictly_within(value) {
                 return;
             }
         }

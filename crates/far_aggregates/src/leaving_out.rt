@@ -5,7 +5,7 @@ ghost use Rattle.far_aggregates.specs.LeavingOut.{NeedNotRetract, IsLeftOut, Eac
 
 use super::deltas::Delta;
 use super::spare_keys::SpareKeys;
-use far_extrema::{MinMax, is_strictly_within};
+use far_extrema::MinMax;
 use far_groups::Pair;
 use far_types::Key;
 
@@ -26,7 +26,7 @@ fn are_same(key: &Option<Key>, other: &Option<Key>) -> bool
 fn wide(min_max: MinMax, pair: &Pair) -> MinMax
     ensures { result ≡ min_max_with pair.now.1 (Some min_max) }
 {
-    (pair.1.min(min_max.0), pair.1.max(min_max.1))
+    min_max.with(pair.1)
 }
 
 /// Returns whether a pair need not be retracted: its value is strictly within the min-max under its key since the delta was
@@ -37,7 +37,7 @@ fn need_not_retract(delta: &Option<Delta>, to_retract: &Option<Pair>) -> bool
     if let Some(delta) = delta {
         if let Some(min_max) = delta.previous {
             if let Some(pair) = to_retract {
-                return is_strictly_within(pair.1, wide(min_max, &delta.pair))
+                return wide(min_max, &delta.pair).is_strictly_within(pair.1)
                     && are_same(&delta.pair.0, &pair.0);
             }
         }

@@ -119,8 +119,7 @@ impl Holder {
         if previous.is_within(value) {
             return;
         }
-        let wide = MinMax::of(value).merge_two(previous);
-        self.put(group, wide);
+        self.put(group, previous.with(value));
     }
 
     /// Observes a value in a row group, and leaves the reserved memory as it is. Returns the previous min-max there, or `None` if the key

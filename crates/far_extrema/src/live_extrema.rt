@@ -134,7 +134,7 @@ impl LiveExtrema {
         if previous.is_within(value) {
             return;
         }
-        let wide = MinMax::of(value).merge_two(previous);
+        let wide = previous.with(value);
         set_in(&mut self.holders, group, key, wide);
     }
 

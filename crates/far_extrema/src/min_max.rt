@@ -1,6 +1,6 @@
 // The least and the greatest of some values.
-ghost use Rattle.std.specs.Prelude.{◌≡◌, ◌≤ℤ◌, ◌<ℤ◌, IsTrue};
-ghost use Rattle.far_types.specs.Effects.{join_min_maxes};
+ghost use Rattle.std.specs.Prelude.{◌≡◌, ◌≤ℤ◌, ◌<ℤ◌, Some, IsTrue};
+ghost use Rattle.far_types.specs.Effects.{join_min_maxes, min_max_with};
 
 use std::marker::Model;
 
@@ -27,12 +27,24 @@ impl Model for MinMax {
 
 impl MinMax {
     /// Makes the min-max of one value.
+    #[inline(always)]
     pub fn of(value: i64) -> MinMax
         ensures { result ≡ (value, value) }
     {
         MinMax {
             min: value,
             max: value,
+        }
+    }
+
+    /// Returns the min-max with one more value.
+    #[inline(always)]
+    pub fn with(self, value: i64) -> MinMax
+        ensures { result ≡ min_max_with value (Some self) }
+    {
+        MinMax {
+            min: value.min(self.min),
+            max: value.max(self.max),
         }
     }
 
@@ -47,6 +59,7 @@ impl MinMax {
     }
 
     /// Returns whether a value is within the min-max, its ends included. Then it changes nothing there.
+    #[inline(always)]
     pub fn is_within(self, value: i64) -> bool
         ensures { IsTrue result → (self.0 ≤ℤ value) × (value ≤ℤ self.1) }
     {

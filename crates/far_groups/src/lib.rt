@@ -11,7 +11,7 @@ pub mod laws;
 pub mod live_totals;
 mod numbers;
 
-pub use count_sum::CountSum;
+pub use count_sum::{CountSum, NO_VALUES};
 pub use count_sums::CountSums;
 pub use folds::Pair;
 pub use live_totals::LiveTotals;

@@ -7,6 +7,7 @@ ghost use Rattle.far_offload.specs.Columns.{column_of, cell_of};
 ghost use Rattle.far_offload.specs.Partials.{value_at, IsWithin};
 
 use crate::column::{Column, find};
+use far_extrema::MinMax;
 use far_types::{CellRef, LendCells, Spec};
 
 /// A place of columns at hand. It lends its cells by the number of the column.
@@ -77,11 +78,11 @@ fn number_alive(values: Option<&Column<'_>>, place: usize, alive: bool) -> Optio
 
 /// Returns whether a value is within a min-max, so that it changes nothing there.
 #[inline(always)]
-fn is_within(min_max: Option<(i64, i64)>, value: i64) -> bool
-    ensures { IsTrue result → IsWithin min_max (Some value) }
+fn is_within(min_max: &Option<MinMax>, value: i64) -> bool
+    ensures { IsTrue result → IsWithin min_max.now (Some value) }
 {
     match min_max {
-        Some((least, greatest)) => least <= value && value <= greatest,
+        Some(min_max) => min_max.is_within(value),
         None => false,
     }
 }
@@ -95,11 +96,11 @@ pub(crate) fn value_beyond(
     values: Option<&Column<'_>>,
     place: usize,
     alive: bool,
-    min_max: Option<(i64, i64)>,
+    min_max: &Option<MinMax>,
 ) -> Option<i64>
     requires { option_copied values ≡ column_of columns.now spec.now.value }
     ensures beyond { IfSome result (λ value. Some value ≡ value_at spec.now columns.now (place, alive)) }
-    ensures within { IfNone result (IsWithin min_max (value_at spec.now columns.now (place, alive))) }
+    ensures within { IfNone result (IsWithin min_max.now (value_at spec.now columns.now (place, alive))) }
     ensures fits { IfSome result (FitsSigned w64) }
 {
     let Some(value) = number_alive(values, place, alive) else {

@@ -28,9 +28,9 @@ fn plain_totals(
     ensures memory { IfErr result (λ e. e ≡ Refusal.NoMemory) }
 {
     let mut live = LiveTotals::new(alloc, 0);
-    let (count, sum) = count_sum_of(spec, columns, alive);
-    if count != 0 {
-        live.add_rows(None, count, sum)?;
+    let count_sum = count_sum_of(spec, columns, alive);
+    if count_sum.count != 0 {
+        live.add_rows(None, count_sum)?;
     }
     Ok(live)
 }

@@ -24,7 +24,7 @@ fn observe_plain(
     ensures memory { IfErr result (λ e. e ≡ Refusal.NoMemory) }
 {
     match min_max_of(spec, columns, alive) {
-        Some((least, greatest)) => observed.observe_rows(None, least, greatest),
+        Some(min_max) => observed.observe_rows(None, min_max),
         None => Ok(()),
     }
 }

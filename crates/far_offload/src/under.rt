@@ -16,6 +16,7 @@ use crate::column::{Column, find};
 use crate::filtering::{value_at, value_beyond};
 use crate::plain::widened;
 use far_codec::LentInts;
+use far_extrema::MinMax;
 use far_types::{Key, Spec};
 
 /// Returns the column of the keys, if there is one and it is at hand.
@@ -99,7 +100,7 @@ fn min_max_under_number<N: NumberKeys>(
     alive: &[bool],
     keys: &N,
     number: &i64,
-) -> Option<(i64, i64)>
+) -> Option<MinMax>
     requires { AreKeys columns.now spec.now.key (N.numbers keys.now) }
     ensures min_max { result ≡ fin.get (extrema (pairs_over spec.now columns.now alive.now)) (Some (key_of.Int number.now)) }
     ensures fits { MinMaxFits result }
@@ -122,7 +123,7 @@ fn min_max_under_key(
     columns: &[Column<'_>],
     alive: &[bool],
     key: &Option<Key>,
-) -> Option<(i64, i64)>
+) -> Option<MinMax>
     ensures min_max { result ≡ fin.get (extrema (pairs_over spec.now columns.now alive.now)) key.now }
     ensures fits { MinMaxFits result }
 {
@@ -131,7 +132,7 @@ fn min_max_under_key(
     let mut min_max = None;
     for place in 0..alive.len() {
         if stands_under(spec, columns, keys, place, key) {
-            if let Some(value) = value_beyond(spec, columns, values, place, alive[place], min_max) {
+            if let Some(value) = value_beyond(spec, columns, values, place, alive[place], &min_max) {
                 min_max = Some(widened(min_max, value));
             }
         }
@@ -146,7 +147,7 @@ pub fn min_max_under(
     columns: &[Column<'_>],
     alive: &[bool],
     key: &Option<Key>,
-) -> Option<(i64, i64)>
+) -> Option<MinMax>
     ensures min_max { result ≡ fin.get (extrema (pairs_over spec.now columns.now alive.now)) key.now }
     ensures fits { MinMaxFits result }
 {

@@ -11,7 +11,7 @@ ghost use Rattle.far_types.specs.Answers.{answer_of, totals, extrema, total_line
 ghost use Rattle.far_types.specs.Effects.{add_count_sums, join_min_maxes};
 ghost use Rattle.far_groups.specs.CountSums.{totals_of};
 
-use far_extrema::GroupExtrema;
+use far_extrema::{GroupExtrema, MinMax};
 use far_groups::{CountSum, CountSums};
 use far_types::{Answer, ExtremaLines, Key, Refusal, TotalLines, clone_key};
 use std::alloc::Global;
@@ -26,13 +26,13 @@ fn with_more(before: Option<CountSum>, more: CountSum) -> Result<CountSum, Refus
     let Some(count_sum) = before else {
         return Ok(more);
     };
-    let Some(count) = count_sum.0.checked_add(more.0) else {
+    let Some(count) = count_sum.count.checked_add(more.count) else {
         return Err(Refusal::NoMemory);
     };
-    let Some(sum) = count_sum.1.checked_add(more.1) else {
+    let Some(sum) = count_sum.sum.checked_add(more.sum) else {
         return Err(Refusal::NoMemory);
     };
-    Ok((count, sum))
+    Ok(CountSum { count, sum })
 }
 
 /// Adds a count and a sum to a key. Refused with `NoMemory` (1) alone.
@@ -53,7 +53,7 @@ fn add_totals(count_sums: &mut CountSums, lines: TotalLines) -> Result<(), Refus
     for (key, count, sum) in lines.into_lines() {
         // The line of an answer over no rows has no rows to add.
         if count != 0 {
-            add(count_sums, key, (count, sum))?;
+            add(count_sums, key, CountSum { count, sum })?;
         }
     }
     Ok(())
@@ -67,7 +67,7 @@ fn lines_of(alloc: Global, count_sums: &CountSums) -> Result<TotalLines, Refusal
 {
     let mut lines = Vec::with_capacity(alloc, count_sums.len())?;
     for (key, count_sum) in count_sums {
-        lines.push((clone_key(key)?, count_sum.0, count_sum.1))?;
+        lines.push((clone_key(key)?, count_sum.count, count_sum.sum))?;
     }
     Ok(TotalLines::new(lines))
 }
@@ -93,17 +93,16 @@ pub(crate) fn merge_totals(
     Ok(Answer::Totals(lines))
 }
 
-/// Takes a least and a greatest value into a key. Refused with `NoMemory` (1) alone.
+/// Joins a min-max to that under a key. Refused with `NoMemory` (1) alone.
 fn observe(
     min_maxes: &mut GroupExtrema,
     key: Option<Key>,
-    least: i64,
-    greatest: i64,
+    min_max: MinMax,
 ) -> Result<(), Refusal>
-    ensures ok { OnOk result (min_maxes.new ≡ fin.insert min_maxes.old key (option_map_or (λ there. join_min_maxes there (least, greatest)) (fin.get min_maxes.old key) (least, greatest))) }
+    ensures ok { OnOk result (min_maxes.new ≡ fin.insert min_maxes.old key (option_map_or (λ there. join_min_maxes there min_max) (fin.get min_maxes.old key) min_max)) }
     ensures memory { IfErr result (λ e. e ≡ Refusal.NoMemory) }
 {
-    min_maxes.observe_rows(key, least, greatest)
+    min_maxes.observe_rows(key, min_max)
 }
 
 /// Takes in the rows of one answer. Refused with `NoMemory` (1) alone.
@@ -111,8 +110,8 @@ fn add_extrema(min_maxes: &mut GroupExtrema, lines: ExtremaLines) -> Result<(), 
     ensures ok { OnOk result ((some : List Pair) → (others : List Pair) → min_maxes.old ≡ extrema some → lines ≡ extrema_lines (extrema others) → min_maxes.new ≡ extrema (some ++ others)) }
     ensures memory { IfErr result (λ e. e ≡ Refusal.NoMemory) }
 {
-    for (key, least, greatest) in lines.into_lines() {
-        observe(min_maxes, key, least, greatest)?;
+    for (key, min, max) in lines.into_lines() {
+        observe(min_maxes, key, MinMax { min, max })?;
     }
     Ok(())
 }

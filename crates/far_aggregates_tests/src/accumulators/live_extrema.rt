@@ -158,10 +158,11 @@ fn follows_rows(live: &mut LiveExtrema, key: &Option<Key>) -> Result<bool, Refus
     live.make_room(1);
     live.observe_under(1, key, 4)?;
     live.observe_under(1, key, 9)?;
-    if live.min_max(1, key) != Some((4, 9)) {
+    if live.min_max(1, key) != Some(MinMax { min: 4, max: 9 }) {
         return Ok(false);
     }
-    Ok(live.shrink(1, key, 9, &Left(Some((4, 4)))) == Some((4, 4)))
+    let four = Some(MinMax::of(4));
+    Ok(live.shrink(1, key, 9, &Left(four)) == four)
 }
 
 fn follows_rows_under_a_text(alloc: Global) -> Result<bool, Refusal> {
@@ -181,7 +182,8 @@ fn knows_a_key(live: &mut LiveExtrema, key: &Option<Key>) -> Result<bool, Refusa
     let first = live.observe_under(1, key, 4)?;
     let beyond = live.observe_under(1, key, 9);
     let within = live.observe_under(1, key, 5);
-    Ok(first.is_none() && beyond == Ok(Some((4, 4))) && within == Ok(Some((4, 9))))
+    let four_to_nine = MinMax { min: 4, max: 9 };
+    Ok(first.is_none() && beyond == Ok(Some(MinMax::of(4))) && within == Ok(Some(four_to_nine)))
 }
 
 fn knows_a_text(alloc: Global) -> Result<bool, Refusal> {

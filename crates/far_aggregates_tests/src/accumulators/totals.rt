@@ -7,7 +7,7 @@ ghost use Rattle.far_groups.specs.Live.{CanJoin};
 
 use crate::cases::{NamedCase, all_are_right, must_be};
 use crate::lines::{Lines, Name, Row, key_of};
-use far_groups::LiveTotals;
+use far_groups::{CountSum, LiveTotals};
 use far_types::{Answer, Key, Refusal};
 use std::alloc::Global;
 
@@ -209,7 +209,7 @@ fn folded(alloc: Global, live: &mut LiveTotals) -> Result<(u64, i128), Refusal>
     requires { live.old.totals ≡ fin.empty }
 {
     add_all(alloc, live, &ONE_ROW)?;
-    live.add_rows(None, 3, -6)?;
+    live.add_rows(None, CountSum { count: 3, sum: -6 })?;
     Ok(live.plain())
 }
 

@@ -1,8 +1,5 @@
-use Rattle.std.proofs.Common.{ℤ, List, None, to_z, of_z, sym, ap, ◌∙◌}
-use Rattle.std.specs.Int.{w64}
-use Rattle.std.proofs.lemmas.Int.{to_z-of_z}
+use Rattle.std.proofs.Common.{List, sym, ap, ◌∙◌}
 use Rattle.std.proofs.lemmas.Result.{on_ok_weaker}
-use Rattle.std.specs.FinMap as fin
 use Rattle.std.specs.List.{enumerate_from}
 use Rattle.far_types.specs.Pairs.{Pair}
 use Rattle.far_types.specs.Answers.{extrema}
@@ -20,9 +17,7 @@ returns-in-Some-clause-ok c =
     let pairs = ap (λ (ps : List Pair). joined_extrema before (extrema ps)) (sym (plain-pairs spec c.args.columns.now (enumerate_from 0 c.args.alive.now) c.requires)) in
     on_ok_weaker c.observe_rows.result (λ is.
     is
-    ∙ ap (λ (l : ℤ). joined_extrema before (fin.insert fin.empty None (l, to_z w64 (of_z w64 c.in-Some.greatest)))) (to_z-of_z w64 c.in-Some.least c.in-Some.ensures.fits.0)
-    ∙ ap (λ (g : ℤ). joined_extrema before (fin.insert fin.empty None (c.in-Some.least, g))) (to_z-of_z w64 c.in-Some.greatest c.in-Some.ensures.fits.1)
-    ∙ observed-plain before values c.in-Some.least c.in-Some.greatest c.in-Some.ensures.min_max
+    ∙ observed-plain before values c.in-Some.min_max.0 c.in-Some.min_max.1 c.in-Some.ensures.min_max
     ∙ pairs) c.observe_rows.ensures.ok
 
 pub returns-in-None-clause-ok : goal.returns-in-None-clause-ok

@@ -1,6 +1,5 @@
 use Rattle.std.proofs.Common.{sym, ◌∙◌, Ok, Err, OnOk}
 use Rattle.std.specs.Prelude.{Result}
-use Rattle.std.proofs.lemmas.Int.{to_z-of_z}
 use Rattle.far_types.specs.Effects.{join_min_maxes}
 use Rattle.far_types.proofs.AnswersByKeyMaps.{joined-one}
 use Rattle.far_shared.proofs.merging.observe.Goals as goal
@@ -11,6 +10,4 @@ on_ok (Err e) f h = tt
 
 pub returns-clause-ok : goal.returns-clause-ok
 returns-clause-ok c =
-    let low = c.ranges.least in
-    let high = c.ranges.greatest in
-    on_ok c.observe_rows.result (λ seen. (simp to_z-of_z at seen) ∙ sym (joined-one join_min_maxes c.args.min_maxes.now c.args.key (c.args.least, c.args.greatest))) c.observe_rows.ensures.ok
+    on_ok c.observe_rows.result (λ seen. seen ∙ sym (joined-one join_min_maxes c.args.min_maxes.now c.args.key c.args.min_max)) c.observe_rows.ensures.ok

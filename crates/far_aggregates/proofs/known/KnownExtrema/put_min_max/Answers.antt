@@ -13,7 +13,7 @@ invariant_of-self c =
     let key = c.args.key.now in
     let reserved : c.args.group < length groups = subst (λ (live : ExtremaState). c.args.group < length live.groups) (sym c.self.view_is) c.requires.reserved in
     let is = ap (λ (live : ExtremaState). live.groups) c.put_min_max.ensures in
-    subst (AreKnown c.note.new.plain.items) (sym is) (known-noted plain c.note.new.plain.items groups c.args.group (put_min_max m key c.args.min_max) c.args.min_max reserved (put-plain m key c.args.min_max c.if-is_none.ensures) c.self.invariant c.note.ensures)
+    subst (AreKnown c.note.new.plain.items) (sym is) (known-noted plain c.note.new.plain.items groups c.args.group (put_min_max m key c.args.min_max.now) c.args.min_max.now reserved (put-plain m key c.args.min_max.now c.if-is_none.ensures) c.self.invariant c.note.ensures)
 
 pub invariant_of-self-else-is_none : goal.invariant_of-self-else-is_none
 invariant_of-self-else-is_none c =
@@ -23,4 +23,4 @@ invariant_of-self-else-is_none c =
     let key = c.args.key.now in
     let reserved : c.args.group < length groups = subst (λ (live : ExtremaState). c.args.group < length live.groups) (sym c.self.view_is) c.requires.reserved in
     let is = ap (λ (live : ExtremaState). live.groups) c.put_min_max.ensures in
-    subst (AreKnown plain) (sym is) (known-elsewhere plain groups c.args.group (put_min_max m key c.args.min_max) reserved (put-elsewhere m key c.args.min_max c.if-is_none.ensures) c.self.invariant)
+    subst (AreKnown plain) (sym is) (known-elsewhere plain groups c.args.group (put_min_max m key c.args.min_max.now) reserved (put-elsewhere m key c.args.min_max.now c.if-is_none.ensures) c.self.invariant)

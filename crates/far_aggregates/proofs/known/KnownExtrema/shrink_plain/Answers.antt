@@ -1,5 +1,6 @@
-use Rattle.std.proofs.Common.{rules, ◌<◌, List, Option, length, None, refl, sym, ap, ◌∙◌, subst, slice_get}
-use Rattle.std.specs.Prelude.{ℤ}
+use Rattle.std.proofs.Common.{◌<◌, List, Option, length, None, refl, sym, ap, ◌∙◌, subst, slice_get}
+use Rattle.std.specs.Prelude.{ℤ, ◌<ℤ◌}
+use Rattle.std.proofs.lemmas.Int.{to_z-of_z}
 use Rattle.std.specs.FinMap as fin
 use Rattle.far_types.specs.Answers.{Extrema}
 use Rattle.far_extrema.specs.Live.{ExtremaState, group_at}
@@ -9,12 +10,14 @@ use Rattle.far_aggregates.proofs.AccumulatorsExtrema.{left-within}
 use Rattle.far_aggregates.proofs.KnownLaws.{known-noted, put-plain}
 use Rattle.far_aggregates.proofs.known.KnownExtrema.shrink_plain.Goals as goal
 
-pub returns-then-value-min_max : goal.returns-then-value-min_max
-returns-then-value-min_max g c =
+pub returns-then-is_strictly_within : goal.returns-then-is_strictly_within
+returns-then-is_strictly_within g c =
+    let fits = c.ranges.value in
     let groups = c.args.self.now.groups in
+    let inside : (c.in-Some.min_max.0 <ℤ c.args.value) × (c.args.value <ℤ c.in-Some.min_max.1) = simp to_z-of_z at c.if-is_strictly_within.ensures refl in
     let found = ap (λ (live : ExtremaState). fin.get (group_at live.groups c.args.group) None) (sym c.self.view_is) ∙ c.self.invariant c.args.group c.in-Some.min_max (sym (ap (λ (plain : List (Option (ℤ × ℤ))). slice_get plain c.args.group) c.as_slice.ensures.value) ∙ c.in-Some.ensures) in
     ap (λ (gs : List Extrema). record c.args.self.now { groups = gs })
-    (left-within c.args.group groups None c.args.value (g.R.RowsLeft.extremes c.args.rows.now) c.in-Some.min_max c.requires.previous found (search rules) (search rules))
+    (left-within c.args.group groups None c.args.value (g.R.RowsLeft.extremes c.args.rows.now) c.in-Some.min_max c.requires.previous found inside.0 inside.1)
 
 pub invariant_of-self : goal.invariant_of-self
 invariant_of-self g c =

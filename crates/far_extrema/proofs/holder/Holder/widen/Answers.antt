@@ -1,7 +1,7 @@
 use Rattle.std.proofs.Common.{◌≡◌, refl, sym, ap, subst, ◌∙◌, Some}
 use Rattle.std.specs.Prelude.{ℤ, ◌≤ℤ◌}
 use Rattle.std.proofs.lemmas.Int.{to_z-of_z}
-use Rattle.far_types.specs.Effects.{join_min_maxes, min_max_with}
+use Rattle.far_types.specs.Effects.{min_max_with}
 use Rattle.far_extrema.specs.Spreads.{IsSet}
 use Rattle.far_extrema.proofs.HoldersLaws.{widened_within}
 use Rattle.far_extrema.proofs.SpreadsLaws.{put-again}
@@ -17,6 +17,5 @@ returns-then-is_within-clause-min_maxes c =
 pub returns-clause-min_maxes : goal.returns-clause-min_maxes
 returns-clause-min_maxes c =
     let fits = c.ranges.value in
-    let joined : c.merge_two-wide.result ≡ min_max_with c.args.value (Some c.args.previous) =
-    c.merge_two-wide.ensures ∙ ap (λ (x : ℤ × ℤ). join_min_maxes x c.args.previous) (simp to_z-of_z at c.of.ensures) in
+    let joined : c.with.result ≡ min_max_with c.args.value (Some c.args.previous) = simp to_z-of_z at c.with.ensures in
     subst (λ (x : ℤ × ℤ). IsSet c.args.self.now.min_maxes c.args.group (Some x) c.put.new.self.min_maxes) joined c.put.ensures.min_maxes

@@ -4,7 +4,7 @@ use Rattle.std.proofs.lemmas.Int.{to_z-of_z}
 use Rattle.std.specs.FinMap as fin
 use Rattle.far_types.specs.declared.key.Key.{Key}
 use Rattle.far_types.specs.Answers.{Extrema}
-use Rattle.far_types.specs.Effects.{join_min_maxes, with_observed, min_max_with}
+use Rattle.far_types.specs.Effects.{with_observed, min_max_with}
 use Rattle.far_extrema.specs.Live.{ExtremaState, group_at}
 use Rattle.far_extrema.specs.Holders.{Holders, holders_of, min_max_at, groups_in, AreReserved, IsPut}
 use Rattle.far_extrema.proofs.MinMaxesRemoval.{put-same}
@@ -36,7 +36,7 @@ invariant_of-self c =
     let m = holders_of c.self.inside.holders.entries in
     let groups = ap (λ (live : ExtremaState). live.groups) c.self.view_is in
     let less : c.args.group < c.self.inside.reserved_groups = omega (arith, ap length groups, length-groups_in m c.self.inside.reserved_groups, c.requires.reserved) in
-    reserved-put m (holders_of c.set_in.new.holders.entries) c.self.inside.reserved_groups c.args.group c.args.key.now (Some c.merge_two-wide.result) c.self.invariant less c.set_in.ensures.min_maxes
+    reserved-put m (holders_of c.set_in.new.holders.entries) c.self.inside.reserved_groups c.args.group c.args.key.now (Some c.with-wide.result) c.self.invariant less c.set_in.ensures.min_maxes
 
 pub returns-then-is_within : goal.returns-then-is_within
 returns-then-is_within c =
@@ -54,8 +54,7 @@ returns c =
     let groups = ap (λ (live : ExtremaState). live.groups) c.self.view_is in
     let less : c.args.group < c.self.inside.reserved_groups = omega (arith, ap length groups, length-groups_in m c.self.inside.reserved_groups, c.requires.reserved) in
     let there = previous m c.self.inside.reserved_groups c.args.group c.args.self.now.groups c.args.key.now c.args.previous groups c.self.invariant c.requires.previous in
-    let joined : c.merge_two-wide.result ≡ min_max_with c.args.value (Some c.args.previous) =
-    c.merge_two-wide.ensures ∙ ap (λ (x : ℤ × ℤ). join_min_maxes x c.args.previous) (simp to_z-of_z at c.of.ensures) in
+    let joined : c.with-wide.result ≡ min_max_with c.args.value (Some c.args.previous) = simp to_z-of_z at c.with-wide.ensures in
     let put = subst (λ (x : ℤ × ℤ). IsPut m c.args.group c.args.key.now (Some x) (holders_of c.set_in.new.holders.entries)) joined c.set_in.ensures.min_maxes in
     let new =
     observed-in m (holders_of c.set_in.new.holders.entries) c.self.inside.reserved_groups c.args.group c.args.key.now c.args.value (Some c.args.previous) c.self.invariant there less put
