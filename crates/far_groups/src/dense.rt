@@ -169,7 +169,11 @@ fn line(place: usize, count_sum: CountSum) -> (Option<Key>, u64, i128)
     requires { place < 2 ^ 63 }
     ensures { result ≡ (place_key place, count_sum.0, count_sum.1) }
 {
-    (Some(Key::Int(number_at(place))), count_sum.count, count_sum.sum)
+    (
+        Some(Key::Int(number_at(place))),
+        count_sum.count,
+        count_sum.sum,
+    )
 }
 
 /// Makes the lines of the places with a count above 0, by their numbers.

@@ -132,7 +132,14 @@ fn min_max_under_key(
     let mut min_max = None;
     for place in 0..alive.len() {
         if stands_under(spec, columns, keys, place, key) {
-            if let Some(value) = value_beyond(spec, columns, values, place, alive[place], &min_max) {
+            if let Some(value) = value_beyond(
+                spec,
+                columns,
+                values,
+                place,
+                alive[place],
+                &min_max,
+            ) {
                 min_max = Some(widened(min_max, value));
             }
         }

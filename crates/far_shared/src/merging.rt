@@ -94,11 +94,7 @@ pub(crate) fn merge_totals(
 }
 
 /// Joins a min-max to that under a key. Refused with `NoMemory` (1) alone.
-fn observe(
-    min_maxes: &mut GroupExtrema,
-    key: Option<Key>,
-    min_max: MinMax,
-) -> Result<(), Refusal>
+fn observe(min_maxes: &mut GroupExtrema, key: Option<Key>, min_max: MinMax) -> Result<(), Refusal>
     ensures ok { OnOk result (min_maxes.new ≡ fin.insert min_maxes.old key (option_map_or (λ there. join_min_maxes there min_max) (fin.get min_maxes.old key) min_max)) }
     ensures memory { IfErr result (λ e. e ≡ Refusal.NoMemory) }
 {

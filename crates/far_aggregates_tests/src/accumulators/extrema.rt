@@ -1,7 +1,7 @@
 // Extrema by key of one row group.
 use crate::cases::must_be;
 use crate::lines::{Lines, Name, Row, key_of};
-use far_extrema::GroupExtrema;
+use far_extrema::{GroupExtrema, MinMax};
 use far_types::Refusal;
 use std::alloc::Global;
 
@@ -30,7 +30,7 @@ static LINES: Lines<'static> = Lines::Extrema(&[(Name::Nobody, -6, 5), (Name::Wo
 fn observes_all(alloc: Global, group: &mut GroupExtrema) -> Result<bool, Refusal> {
     observe_all(alloc, group, &ROWS)?;
     group.see(None, 5)?;
-    group.observe_rows(None, -6, 3)?;
+    group.observe_rows(None, MinMax { min: -6, max: 3 })?;
     LINES.are_of(group.answer(alloc))
 }
 
