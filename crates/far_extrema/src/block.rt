@@ -4,6 +4,7 @@ ghost use Rattle.std.specs.Option.{option_copied};
 ghost use Rattle.far_types.specs.Effects.{join_min_maxes, merge_two};
 ghost use Rattle.far_extrema.specs.Spreads.{at, IsTopOf, IsFrom, IsBelow, IsSet};
 
+use super::group_range::GroupRange;
 use super::min_max::MinMax;
 use std::marker::Model;
 
@@ -43,14 +44,17 @@ impl MinMaxBlock {
         }
     }
 
-    /// Returns the first and the last row group that may be here.
-    pub fn reach(&self) -> (u32, u32)
-        ensures first { result.0 ≡ self.now.first }
-        ensures last { result.1 ≡ self.now.first + 15 }
-        ensures from { IsFrom result.0 self.now.min_maxes }
-        ensures below { IsBelow (result.1 + 1) self.now.min_maxes }
+    /// Returns the row groups that may be here.
+    pub fn reach(&self) -> GroupRange
+        ensures first { result.first ≡ self.now.first }
+        ensures last { result.last ≡ self.now.first + 15 }
+        ensures from { IsFrom result.first self.now.min_maxes }
+        ensures below { IsBelow (result.last + 1) self.now.min_maxes }
     {
-        (self.first, self.first + (BLOCK_SIZE - 1))
+        GroupRange {
+            first: self.first,
+            last: self.first + (BLOCK_SIZE - 1),
+        }
     }
 
     /// Returns whether a row group is in the range.
@@ -98,15 +102,18 @@ impl MinMaxBlock {
     }
 }
 
-/// Returns the first and the last row group of the aligned range in which a row group is.
-pub fn range_of(group: u32) -> (u32, u32)
-    ensures first { result.0 ≡ group - group % 16 }
-    ensures last { result.1 ≡ result.0 + 15 }
-    ensures from { result.0 ≤ group }
-    ensures below { group ≤ result.1 }
+/// Returns the aligned range in which a row group is.
+pub fn range_of(group: u32) -> GroupRange
+    ensures first { result.first ≡ group - group % 16 }
+    ensures last { result.last ≡ result.first + 15 }
+    ensures from { result.first ≤ group }
+    ensures below { group ≤ result.last }
 {
     let first = group - group % BLOCK_SIZE;
-    (first, first + (BLOCK_SIZE - 1))
+    GroupRange {
+        first,
+        last: first + (BLOCK_SIZE - 1),
+    }
 }
 
 /// Joins two min-maxes, as far as they are there.

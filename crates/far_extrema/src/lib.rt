@@ -5,6 +5,7 @@
 
 mod block;
 pub mod group_extrema;
+mod group_range;
 mod holder;
 mod holders;
 pub mod laws;

@@ -5,6 +5,7 @@ ghost use Rattle.far_extrema.specs.Blocks.{present};
 ghost use Rattle.far_extrema.specs.Spreads.{at, IsTopOf, IsFrom, IsBelow, IsSet, AreSame};
 
 use super::block::{MinMaxBlock, either, range_of};
+use super::group_range::GroupRange;
 use super::min_max::MinMax;
 use far_types::Refusal;
 use std::alloc::Global;
@@ -223,7 +224,7 @@ impl Tournament {
         requires { at self.old.min_maxes group ≡ None }
         ensures { IsSet self.old.min_maxes group (Some min_max) self.new.min_maxes }
     {
-        let (first, last) = self.reach();
+        let GroupRange { first, last } = self.reach();
         if group < first {
             self.add_before(spare, group, min_max, first, last);
             return;
@@ -253,13 +254,13 @@ impl Tournament {
         }
     }
 
-    /// Returns the first and the last row group that may be here.
-    fn reach(&self) -> (u32, u32)
-        ensures first { result.0 ≡ self.now.first }
-        ensures last { result.1 ≡ self.now.last }
-        ensures from { IsFrom result.0 self.now.min_maxes }
-        ensures below { IsBelow (result.1 + 1) self.now.min_maxes }
-        ensures order { result.0 ≤ result.1 }
+    /// Returns the row groups that may be here.
+    fn reach(&self) -> GroupRange
+        ensures first { result.first ≡ self.now.first }
+        ensures last { result.last ≡ self.now.last }
+        ensures from { IsFrom result.first self.now.min_maxes }
+        ensures below { IsBelow (result.last + 1) self.now.min_maxes }
+        ensures order { result.first ≤ result.last }
     {
         match &self.node {
             Node::One(group, _) => range_of(*group),
@@ -269,7 +270,10 @@ impl Tournament {
             }
             Node::Several(_, branch) => {
                 let branch = &**branch;
-                (branch.first, branch.last)
+                GroupRange {
+                    first: branch.first,
+                    last: branch.last,
+                }
             }
         }
     }
@@ -282,13 +286,13 @@ impl Tournament {
         requires before { group < first }
         ensures { IsSet self.old.min_maxes group (Some min_max) self.new.min_maxes }
     {
-        let split = middle(group, first);
+        let halves = halves_around(group, first);
         let top = either(Some(min_max), self.top());
         let mut branch = spare.branch;
         *branch = Branch {
-            first: split.0.min(group),
-            split: split.1,
-            last: split.2.max(last),
+            first: halves.first.min(group),
+            split: halves.second,
+            last: halves.last.max(last),
             before: Tournament::new(group, min_max),
             after: mem::replace(self, Tournament::new(group, min_max)),
         };
@@ -303,13 +307,13 @@ impl Tournament {
         requires after { last < group }
         ensures { IsSet self.old.min_maxes group (Some min_max) self.new.min_maxes }
     {
-        let split = middle(last, group);
+        let halves = halves_around(last, group);
         let top = either(self.top(), Some(min_max));
         let mut branch = spare.branch;
         *branch = Branch {
-            first: split.0.min(first),
-            split: split.1,
-            last: split.2.max(group),
+            first: halves.first.min(first),
+            split: halves.second,
+            last: halves.last.max(group),
             before: mem::replace(self, Tournament::new(group, min_max)),
             after: Tournament::new(group, min_max),
         };
@@ -339,15 +343,30 @@ fn widened(
     }
 }
 
-/// Returns the least aligned range that has two numbers: its first number, the first of its second half, and its last.
+/// A range of row groups, cut in two halves.
+#[derive(Clone, Copy)]
+struct Halves {
+    /// The first row group of the first half.
+    first: u32,
+    /// The first row group of the second half.
+    second: u32,
+    /// The last row group of the second half.
+    last: u32,
+}
+
+/// Returns the halves of the least aligned range that has two row groups.
 ///
 /// For the proof: `max` and `min` make the bounds of the split obvious without the bits. The split lies within them as it is.
-fn middle(low: u32, high: u32) -> (u32, u32, u32)
+fn halves_around(low: u32, high: u32) -> Halves
     requires { low < high }
-    ensures above { low < result.1 }
-    ensures below { result.1 ≤ high }
+    ensures above { low < result.second }
+    ensures below { result.second ≤ high }
 {
     let bits = u32::MAX.wrapping_shr((low ^ high).leading_zeros());
     let split = high & !(bits >> 1);
-    (low & !bits, split.max(low + 1).min(high), high | bits)
+    Halves {
+        first: low & !bits,
+        second: split.max(low + 1).min(high),
+        last: high | bits,
+    }
 }

@@ -97,8 +97,8 @@ impl<'a> IntoIterator for &'a TotalLines {
 /// A loop over the lines:
 ///
 /// ```
-/// for (key, least, greatest) in lines.into_lines() {
-///     observe(min_maxes, key, least, greatest)?;
+/// for (key, min, max) in lines.into_lines() {
+///     observe(min_maxes, key, MinMax { min, max })?;
 /// }
 /// ```
 #[derive(Drop, Debug)]
