@@ -1,14 +1,24 @@
 #![tactic(auto)]
-//! Tests of what stands below objects: the words of the table (far_types), pointer words (far_pointer), encodings (far_codec), far
-//! stores (far_store), local memory (far_log), proposals of row groups (far_prefetcher), quotients
-//! (far_reciprocal), and scripts as text (far_script).
+//! Tests of what has no objects: the words of the table (far_types), pointer words (far_pointer), encodings (far_codec), far stores
+//! (far_store), local memory (far_log), proposals of row groups (far_prefetcher), quotients (far_reciprocal), scripts as text (far_script),
+//! accumulators (far_groups, far_extrema), partial aggregates (far_offload), and edits (far_aggregates).
 
+#[cfg(test)]
+mod accumulators;
 #[cfg(test)]
 mod cases;
 #[cfg(test)]
 mod codec;
 #[cfg(test)]
+mod edits;
+#[cfg(test)]
+mod lines;
+#[cfg(test)]
 mod log;
+#[cfg(test)]
+mod named_cases;
+#[cfg(test)]
+mod offload;
 #[cfg(test)]
 mod pointer;
 #[cfg(test)]

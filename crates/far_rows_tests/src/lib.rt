@@ -1,10 +1,20 @@
 #![tactic(auto)]
-//! Tests of columns (far_columns, far_texts) and of rows (far_rows). No clause says that calls succeed. These tests do, and that worked
-//! examples come out as they should.
+//! Tests of objects (far_scopes), of lists over them (far_vector), of jobs that move them (far_evacuator), of columns (far_columns,
+//! far_texts) and of rows (far_rows). No clause says that calls succeed. These tests do, and that worked examples come out as they should.
 
 #[cfg(test)]
 mod cell;
 #[cfg(test)]
 mod columns;
 #[cfg(test)]
+mod evacuator;
+#[cfg(test)]
+mod fixtures;
+#[cfg(test)]
 mod rows;
+#[cfg(test)]
+mod scopes;
+#[cfg(test)]
+mod vector;
+#[cfg(test)]
+mod writing;

@@ -1,9 +1,9 @@
 // Scripts: calls on a table, and facts that should hold between them. They are data, since the proof of a test grows with its steps. One
 // player makes the stores and the table for all scripts.
 use crate::cell::Cell;
+use crate::fixtures::agent;
 use crate::rows::fixture::{Fixture, LIMITS, Values};
 use crate::rows::look::{Look, is_so};
-use far_fixtures::agent;
 use far_store::FarStore;
 use far_types::Refusal;
 use std::alloc::Global;
