@@ -100,22 +100,22 @@ const ALL_AWAY: Calls = &[
 /// three bytes and six, and of the second, five bytes and eight. A row group of numbers is as long as it can be.
 const IN_ORDER: u64 = 22_22_23_23_17_20_15_18;
 
-/// Moves a world to another store.
+/// Returns why something was refused. The types of what came out and of what came back are parameters: a function that knows a world has
+/// each of its fields in its proof.
+fn outcome<T: Drop, U: Drop>(moved: Result<T, (Refusal, U)>) -> Result<(), Refusal> {
+    match moved {
+        Ok(_) => Ok(()),
+        Err((refusal, _)) => Err(refusal),
+    }
+}
+
+/// Moves a world to another store, if it met no fault before.
 fn moved<S: FarStore, N: FarStore>(world: World<S>, store: N) -> Result<(), Refusal> {
     if world.faults() > 0 {
         drop(world);
         return Err(Refusal::FarFault);
     }
-    match world.migrate(store) {
-        Ok(world) => {
-            drop(world);
-            Ok(())
-        }
-        Err((refusal, world)) => {
-            drop(world);
-            Err(refusal)
-        }
-    }
+    outcome(world.migrate(store))
 }
 
 /// Returns whether all objects of a world go away, as they should, and then to another store.

@@ -384,8 +384,8 @@ const SMALL: Plan = Plan {
     ..SOUND
 };
 
-// The scripts stand in two lists, each with a test of its own: the proof of a test writes its whole list out.
-static FAULTY: [Script; 5] = [
+// The scripts stand in four lists, each with a test of its own: the proof of a test writes its whole list out.
+static MOVED: [Script; 3] = [
     Script {
         name: "all moved while the first put and the first get fail",
         opening: TWELVE,
@@ -407,6 +407,9 @@ static FAULTY: [Script; 5] = [
         calls: THIRD_OF_EACH,
         then: &[],
     },
+];
+
+static REPEATED: [Script; 2] = [
     Script {
         name: "a carry that met a fault is repeated",
         opening: EIGHT,
@@ -423,7 +426,7 @@ static FAULTY: [Script; 5] = [
     },
 ];
 
-static FAULTLESS: [Script; 7] = [
+static BUILDS: [Script; 4] = [
     Script {
         name: "a row group that is away is scanned",
         opening: NUMBERS,
@@ -452,6 +455,9 @@ static FAULTLESS: [Script; 7] = [
         calls: UNCARRIED,
         then: &[],
     },
+];
+
+static STAYING: [Script; 3] = [
     Script {
         name: "an object stays where the store is full",
         opening: NUMBERS,
@@ -476,13 +482,21 @@ static FAULTLESS: [Script; 7] = [
 ];
 
 #[test]
-fn a_world_serves_steps_while_its_store_fails(rt: HostRuntime) -> Result<(), Fail> {
-    answered(play_all(&rt, rt.alloc(), &FAULTY))
+fn all_are_moved_while_the_store_of_a_world_fails(rt: HostRuntime) -> Result<(), Fail> {
+    answered(play_all(&rt, rt.alloc(), &MOVED))
 }
 
 #[test]
-fn a_world_serves_steps_over_a_store_that_never_fails_or_is_full(
-    rt: HostRuntime,
-) -> Result<(), Fail> {
-    answered(play_all(&rt, rt.alloc(), &FAULTLESS))
+fn what_met_a_fault_is_repeated(rt: HostRuntime) -> Result<(), Fail> {
+    answered(play_all(&rt, rt.alloc(), &REPEATED))
+}
+
+#[test]
+fn row_groups_of_a_world_are_scanned_while_they_are_away(rt: HostRuntime) -> Result<(), Fail> {
+    answered(play_all(&rt, rt.alloc(), &BUILDS))
+}
+
+#[test]
+fn objects_stay_where_the_store_is_full_and_parts_are_lent(rt: HostRuntime) -> Result<(), Fail> {
+    answered(play_all(&rt, rt.alloc(), &STAYING))
 }
