@@ -1,5 +1,4 @@
-//! Lendings, jobs and offloaded builds as steps of a world, over stores that fail or are full. Scripts of the shell show how a world goes
-//! on with another store.
+//! Lendings, jobs and offloaded builds as steps of a world, over stores that fail or are full.
 use crate::answers::Due;
 use crate::call::Value::{Int, Missing, Text};
 use crate::call::{Call, TOTALS};
@@ -384,7 +383,6 @@ const SMALL: Plan = Plan {
     ..SOUND
 };
 
-// The scripts stand in four lists, each with a test of its own: the proof of a test writes its whole list out.
 static MOVED: [Script; 3] = [
     Script {
         name: "all moved while the first put and the first get fail",

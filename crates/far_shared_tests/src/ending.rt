@@ -1,6 +1,4 @@
 // How a scene ends: the table is closed, first without one of its sessions.
-ghost use Rattle.std.specs.Prelude.{IfErr};
-
 use crate::playing::Played;
 use crate::scenes::{End, Left, NO_ROW};
 use far_frame::Frame;
@@ -50,16 +48,11 @@ fn is_ok_and<T: Drop, E: Drop, F: FnOnce(&T) -> bool + Drop>(
     }
 }
 
-// Returns whether a result is `Err` with an error that passes a test. The type of the error is a parameter too.
-fn is_err_and<T: Drop, E: Drop, F: FnOnce(E) -> bool + Drop>(
-    answer: Result<T, E>,
-    does_right: F,
-) -> bool
-    requires { IfErr answer (F.pre does_right) }
-{
+// Returns the error of a result, if it is one. The type of the value is a parameter too.
+fn error_of<T: Drop, E: Drop>(answer: Result<T, E>) -> Option<E> {
     match answer {
-        Ok(_) => false,
-        Err(error) => does_right(error),
+        Ok(_) => None,
+        Err(error) => Some(error),
     }
 }
 
@@ -90,10 +83,13 @@ fn closes_again<N: PlanTag, B: TableTag, S: FarTickets, R: Wait>(
     left: &[Left; 4],
 ) -> bool {
     let (refusal, shared, sessions) = refused;
-    let is_closed = with_last(sessions, last).map(|sessions: Vec<Session<B>>| -> bool {
-        closes(rt, shared, sessions, left)
-    });
-    is_closed.unwrap_or(false) && refusal == Refusal::OutOfRange
+    match with_last(sessions, last) {
+        Ok(sessions) => closes(rt, shared, sessions, left) && refusal == Refusal::OutOfRange,
+        Err(_) => {
+            drop(shared);
+            false
+        }
+    }
 }
 
 // Returns whether a shared table comes back with its sessions if one is missing, and is closed when it is there again.
@@ -107,10 +103,13 @@ fn closes_with_all<N: PlanTag, B: TableTag, S: FarTickets, R: Wait>(
         last,
         left,
     } = finale;
-    is_err_and(
-        shared.close(rt, sessions),
-        |refused: Refused<N, B, S>| -> bool { closes_again(rt, refused, last, &left) },
-    )
+    match error_of(shared.close(rt, sessions)) {
+        Some(refused) => closes_again(rt, refused, last, &left),
+        None => {
+            drop(last);
+            false
+        }
+    }
 }
 
 // The same, once all roles came out.
@@ -119,7 +118,13 @@ pub fn ends<N: PlanTag, B: TableTag, S: FarTickets, R: Wait>(
     shared: Shared<N, B, S>,
     finale: Result<Finale<Session<B>>, Refusal>,
 ) -> Result<bool, Refusal> {
-    finale.map(|finale: Finale<Session<B>>| -> bool { closes_with_all(rt, shared, finale) })
+    match finale {
+        Ok(finale) => Ok(closes_with_all(rt, shared, finale)),
+        Err(refusal) => {
+            drop(shared);
+            Err(refusal)
+        }
+    }
 }
 
 // Returns what four sessions at least say that they left, in order.
