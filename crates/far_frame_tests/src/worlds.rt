@@ -1,4 +1,5 @@
-//! Lendings, jobs and offloaded builds as steps of a world, over stores that fail or are full.
+//! Lendings, jobs and offloaded builds as steps of a world, over stores that fail or are full. Scripts of the shell show how a world goes
+//! on with another store.
 use crate::answers::Due;
 use crate::call::Value::{Int, Missing, Text};
 use crate::call::{Call, TOTALS};
@@ -383,7 +384,8 @@ const SMALL: Plan = Plan {
     ..SOUND
 };
 
-static MOVED: [Script; 3] = [
+// The scripts stand in two lists, each with a test of its own: the proof of a test writes its whole list out.
+static FAULTY: [Script; 5] = [
     Script {
         name: "all moved while the first put and the first get fail",
         opening: TWELVE,
@@ -405,9 +407,6 @@ static MOVED: [Script; 3] = [
         calls: THIRD_OF_EACH,
         then: &[],
     },
-];
-
-static REPEATED: [Script; 2] = [
     Script {
         name: "a carry that met a fault is repeated",
         opening: EIGHT,
@@ -424,7 +423,7 @@ static REPEATED: [Script; 2] = [
     },
 ];
 
-static BUILDS: [Script; 4] = [
+static FAULTLESS: [Script; 7] = [
     Script {
         name: "a row group that is away is scanned",
         opening: NUMBERS,
@@ -453,9 +452,6 @@ static BUILDS: [Script; 4] = [
         calls: UNCARRIED,
         then: &[],
     },
-];
-
-static STAYING: [Script; 3] = [
     Script {
         name: "an object stays where the store is full",
         opening: NUMBERS,
@@ -480,21 +476,13 @@ static STAYING: [Script; 3] = [
 ];
 
 #[test]
-fn all_are_moved_while_the_store_of_a_world_fails(rt: HostRuntime) -> Result<(), Fail> {
-    answered(play_all(&rt, rt.alloc(), &MOVED))
+fn a_world_serves_steps_while_its_store_fails(rt: HostRuntime) -> Result<(), Fail> {
+    answered(play_all(&rt, rt.alloc(), &FAULTY))
 }
 
 #[test]
-fn what_met_a_fault_is_repeated(rt: HostRuntime) -> Result<(), Fail> {
-    answered(play_all(&rt, rt.alloc(), &REPEATED))
-}
-
-#[test]
-fn row_groups_of_a_world_are_scanned_while_they_are_away(rt: HostRuntime) -> Result<(), Fail> {
-    answered(play_all(&rt, rt.alloc(), &BUILDS))
-}
-
-#[test]
-fn objects_stay_where_the_store_is_full_and_parts_are_lent(rt: HostRuntime) -> Result<(), Fail> {
-    answered(play_all(&rt, rt.alloc(), &STAYING))
+fn a_world_serves_steps_over_a_store_that_never_fails_or_is_full(
+    rt: HostRuntime,
+) -> Result<(), Fail> {
+    answered(play_all(&rt, rt.alloc(), &FAULTLESS))
 }
