@@ -47,19 +47,11 @@ const BUILT: Calls = &[
     (Call::Ask(0), Due::Lines(&[(Missing, 8, 36)])),
 ];
 
-/// Adds an element to a list, if it was made.
-fn push_made<T: Drop>(list: &mut Vec<T>, made: Result<T, Refusal>) -> Result<(), Refusal> {
-    match made {
-        Ok(made) => Ok(list.push(made)?),
-        Err(refusal) => Err(refusal),
-    }
-}
-
 /// Returns the steps of calls.
 fn steps(alloc: Global, calls: Calls) -> Result<Vec<Step>, Refusal> {
     let mut steps = Vec::new(alloc);
     for (call, _) in calls {
-        push_made(&mut steps, step(alloc, *call))?;
+        steps.push(step(alloc, *call)?)?;
     }
     Ok(steps)
 }
