@@ -20,6 +20,9 @@ const NO_TEXTS: Due<'static> = Due::Refused(Refusal::Absent {
     group: 0,
 });
 
+/// A row group was scanned, or its columns are not where they are needed.
+const NOT_NOW: Due<'static> = Due::Refused(Refusal::StaleJob);
+
 /// Edits name the lowest column that is away, whichever they are of.
 const REFUSED: Calls = &[
     FIRST,
@@ -73,13 +76,19 @@ const SCANNED: Calls = &[
     (Call::Evac(1, 0), Due::Job(0)),
     (Call::Carry(0), Due::Done),
     (Call::Commit(0), Due::Done),
+    (Call::MayScan(0, 0), NOT_NOW),
     (Call::Scan(0, 0), NO_TEXTS),
+    (Call::MayScan(1, 0), Due::Done),
     (Call::Scan(1, 0), Due::Done),
+    (Call::MayScan(1, 0), NOT_NOW),
     (Call::Ask(1), Due::Lines(&[(Missing, 1, 4)])),
+    (Call::MayOffload(0, 0), NOT_NOW),
     (Call::Evac(0, 0), Due::Job(1)),
     (Call::Carry(1), Due::Done),
     (Call::Commit(1), Due::Done),
     (Call::Scan(0, 0), NO_NUMBERS),
+    (Call::MayOffload(0, 0), Due::Done),
+    (Call::MayOffload(1, 0), NOT_NOW),
 ];
 
 const BACK: Calls = &[
@@ -95,6 +104,10 @@ const BACK: Calls = &[
     (Call::Set(0, 0, Int(9)), Due::Done),
     (Call::Row(0), Due::Row(&[Int(9), Text("pear")])),
     (Call::Ask(0), Due::Lines(&[(Missing, 1, 9)])),
+    (Call::IsAlive(0), Due::Done),
+    (Call::Remove(0), Due::Done),
+    (Call::IsAlive(0), Due::Refused(Refusal::RemovedRow)),
+    (Call::IsAlive(1), Due::Refused(Refusal::NoRow)),
 ];
 
 const PINNED: Calls = &[
