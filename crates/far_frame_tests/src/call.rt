@@ -5,31 +5,11 @@ use far_types::{Cell, Edit, Filter, Fold, Kind, Op, Refusal, Row, Spec, Test, Te
 use std::alloc::Global;
 
 /// What a cell has.
-#[derive(Clone, Copy, PartialEq, Eq)]
+#[derive(Clone, Copy)]
 pub enum Value {
     Missing,
     Int(i64),
     Text(&'static str),
-}
-
-/// The values of a row of four columns.
-pub type Values = [Value; 4];
-
-/// A row of the first so many of these values.
-#[derive(Clone, Copy)]
-pub struct DrawnRow {
-    pub first: Value,
-    pub second: Value,
-    pub third: Value,
-    pub fourth: Value,
-    pub width: u32,
-}
-
-impl DrawnRow {
-    /// All its values, also those behind its width.
-    pub fn values(&self) -> Values {
-        [self.first, self.second, self.third, self.fourth]
-    }
 }
 
 /// A test of a number: its column, how it stands to a constant, and the constant.
@@ -80,8 +60,6 @@ pub const EXTREMA_BY_TEXT: Watched = Watched {
 #[derive(Clone, Copy)]
 pub enum Call {
     Insert(&'static [Value]),
-    /// A row that is drawn.
-    InsertDrawn(DrawnRow),
     /// The place, the column and the value.
     Set(u32, u32, Value),
     Remove(u32),
@@ -150,11 +128,6 @@ fn insert(alloc: Global, values: &[Value]) -> Result<Step, Refusal> {
     }
 }
 
-fn insert_drawn(alloc: Global, row: DrawnRow) -> Result<Step, Refusal> {
-    let values = row.values();
-    insert(alloc, values.get(..row.width as usize).unwrap_or(&[]))
-}
-
 fn set(alloc: Global, place: u32, column: u32, value: Value) -> Result<Step, Refusal> {
     match cell(alloc, value) {
         Ok(cell) => Ok(Step::Edit(Edit::Set {
@@ -206,7 +179,6 @@ fn watch(alloc: Global, watched: Watched) -> Result<Step, Refusal> {
 pub fn step(alloc: Global, call: Call) -> Result<Step, Refusal> {
     match call {
         Call::Insert(values) => insert(alloc, values),
-        Call::InsertDrawn(row) => insert_drawn(alloc, row),
         Call::Set(place, column, value) => set(alloc, place, column, value),
         Call::Watch(watched) => watch(alloc, watched),
         call => Ok(plain_step(call)),

@@ -1,7 +1,7 @@
 #![tactic(auto)]
-//! Tests of the table: scripts, of which one player makes the calls one by one; and random runs of the same calls against plain lists.
-//! What a script of the shell shows stands in examples/. What owns much is dropped by a call of `drop`: the proof of a function that
-//! drops a table itself is long.
+//! Tests of the table: scripts, of which one player makes the calls one by one. What a script of the shell shows stands in examples/, and
+//! tools/random-tables draws random ones. What owns much is dropped by a call of `drop`: the proof of a function that drops a table itself
+//! is long.
 
 #[cfg(test)]
 mod answers;
@@ -19,8 +19,6 @@ mod moving;
 mod opening;
 #[cfg(test)]
 mod over_a_log;
-#[cfg(test)]
-mod random_steps;
 #[cfg(test)]
 mod recounts;
 #[cfg(test)]

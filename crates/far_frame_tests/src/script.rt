@@ -171,9 +171,9 @@ pub fn first_wrong<S: FarStore, R: Threads + Sync>(
     Ok(None)
 }
 
-/// Returns whether a call returns this. It is made a second time if memory runs out. A recount is not: it would read its contents again, so
-/// a fault that the test plans would come at another call.
-pub fn is_answered<S: FarStore, R: Threads + Sync>(
+// Returns whether a call returns this. It is made a second time if memory runs out. A recount is not: it would read its contents again, so
+// a fault that the test plans would come at another call.
+fn is_answered<S: FarStore, R: Threads + Sync>(
     rt: &R,
     alloc: Global,
     world: &mut World<S>,
@@ -192,8 +192,8 @@ fn is_recount(call: Call) -> bool {
     matches!(call, Call::Recount(_, _))
 }
 
-/// Returns whether a call returns this. Nothing can be said if memory runs out.
-pub fn is_answered_once<S: FarStore, R: Threads + Sync>(
+// Returns whether a call returns this. Nothing can be said if memory runs out.
+fn is_answered_once<S: FarStore, R: Threads + Sync>(
     rt: &R,
     alloc: Global,
     world: &mut World<S>,

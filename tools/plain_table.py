@@ -1,0 +1,615 @@
+"""A plain table: what each command of a script replies, as docs/SCRIPT.md says it.
+
+Read it beside that page. Rows are a list, each answer is folded anew, and the store is a count of its contents. Of each object it is known
+where it lies, since that decides which others fit. A command is a method of Table: it returns the reply, or raises Refused. How many pins
+an object may have is left out.
+"""
+import operator
+from dataclasses import dataclass
+
+REFUSALS = {
+    **{"BadSpec": 3, "NoColumn": 4, "WrongKind": 5, "RowWidth": 6, "TextTooLong": 7, "NoRow": 8, "RemovedRow": 9, "TableFull": 10},
+    **{"ChunkFull": 11, "NoAggregate": 12, "TooManyAggregates": 13, "OutOfRange": 14, "Building": 15, "Absent": 16, "RegionFull": 17},
+    **{"NotPinned": 18, "Pinned": 19, "StaleJob": 20, "FarFull": 22, "EditsUsedUp": 24},
+}
+LONGEST_TEXT = 4096
+MOST_AGGREGATES = 32
+MOST_TESTS = 4
+# How many contents the first store of a script takes.
+FIRST_STORE = 1_048_576
+TESTS = {
+    **{"=": operator.eq, "!=": operator.ne, "<": operator.lt, "<=": operator.le, ">": operator.gt, ">=": operator.ge},
+    "^=": str.startswith,
+}
+TEXT_TESTS = ("=", "^=")
+
+
+class Refused(Exception):
+    """Why a command is refused: a name, and the numbers that stand behind it."""
+
+    def __init__(self, name, *carried):
+        super().__init__(name)
+        self.name = name
+        self.carried = carried
+
+    def __str__(self):
+        return " ".join(["refused", str(REFUSALS[self.name]), self.name, *map(str, self.carried)])
+
+
+def refuse_if(is_due, name, *carried):
+    """Refuses a command if that is due."""
+    if is_due:
+        raise Refused(name, *carried)
+
+
+def field_of(cell):
+    """A cell as a field of a record: quoted only if it must be."""
+    text = "\\N" if cell is None else str(cell)
+    return text if frozenset(',"\r\n').isdisjoint(text) else '"' + text.replace('"', '""') + '"'
+
+
+def record(cells):
+    """Cells as a record. A record of one empty field is written in quotes."""
+    return ",".join(map(field_of, cells)) or '""'
+
+
+def is_long(text):
+    """Whether this is a text of more bytes than one may have."""
+    return isinstance(text, str) and len(text.encode()) > LONGEST_TEXT
+
+
+def text_length(texts):
+    """How many bytes an object of these texts takes: a head, a bit for each text if one is missing, where each ends, and the texts."""
+    mask = -(-len(texts) // 8) if None in texts else 0
+    return 6 + mask + 4 * len(texts) + sum(len(text.encode()) for text in texts if text is not None)
+
+
+@dataclass
+class Limits:
+    """The numbers of a first line, in its order."""
+
+    group: int
+    places: int
+    edits: int
+    int_segments: int
+    int_size: int
+    text_segments: int
+    text_size: int
+
+
+def usual_limits(group):
+    """The limits of a table whose first line names none."""
+    return Limits(group, 16_777_216, 1_099_511_627_776, 64, max(group, 4096), 64, 65_536)
+
+
+@dataclass(eq=False)
+class Part:
+    """Where the cells of an object lie."""
+
+    segment: int
+    offset: int
+    length: int
+
+
+class Region:
+    """The segments of one kind, which have one size. Each has parts by ascending offset."""
+
+    def __init__(self, count, size):
+        self.size = size
+        self.segments = [[] for _ in range(count)]
+
+    def place(self, length):
+        """Makes a part in the lowest segment that has space behind its last part."""
+        for number in range(len(self.segments)):
+            if self.end(number) + length <= self.size:
+                return self.append(number, length)
+        raise Refused("RegionFull")
+
+    def end(self, number):
+        """Where the last part of a segment ends."""
+        parts = self.segments[number]
+        return parts[-1].offset + parts[-1].length if parts else 0
+
+    def append(self, number, length):
+        """Makes a part behind the last one of a segment."""
+        part = Part(number, self.end(number), length)
+        self.segments[number].append(part)
+        return part
+
+    def drop(self, part):
+        """Takes a part away. What lies behind it stays where it is."""
+        self.segments[part.segment].remove(part)
+
+    def free_beside(self, number):
+        """The lowest other segment without parts."""
+        for other, parts in enumerate(self.segments):
+            if other != number and not parts:
+                return other
+        raise Refused("RegionFull")
+
+
+@dataclass(eq=False)
+class Object:
+    """The cells of one row group of one column."""
+
+    # where it lies, if it is local
+    part: Part = None
+    # the store does not have it as it is now
+    dirty: bool = True
+    # it was written, lent or brought back since a compaction moved it
+    hot: bool = True
+    pins: int = 0
+    # how often it was written, and how often it went away
+    version: int = 0
+    leavings: int = 0
+
+    def state(self):
+        """What a job of it rests on."""
+        return self.version, self.leavings
+
+    def write(self):
+        """Counts a write."""
+        self.dirty = self.hot = True
+        self.version += 1
+
+
+@dataclass(eq=False)
+class Aggregate:
+    """What was registered, and the row groups that are still pending. A test has a column, an operator and a constant."""
+
+    fold: str
+    value: int
+    key: int
+    tests: tuple
+    pending: set
+
+    def columns(self):
+        """The columns that it needs, in order."""
+        keys = [] if self.key is None else [self.key]
+        return sorted({self.value, *keys, *(column for column, _, _ in self.tests)})
+
+    def keeps(self, cells):
+        """Whether a row has a value and a key and passes all tests. A cell without a value passes none."""
+        if cells[self.value] is None or self.key is not None and cells[self.key] is None:
+            return False
+        return all(cells[column] is not None and TESTS[op](cells[column], constant) for column, op, constant in self.tests)
+
+    def answer(self, rows):
+        """The lines over these rows, in the order of their keys. Texts are in the order of their bytes, which is that of their letters."""
+        by_key = {None: []} if self.fold == "totals" and self.key is None else {}
+        for cells in filter(self.keeps, rows):
+            key = None if self.key is None else cells[self.key]
+            by_key.setdefault(key, []).append(cells[self.value])
+        keys = by_key if self.key is None else sorted(by_key)
+        return "\n".join(self.line(key, by_key[key]) for key in keys) or "none"
+
+    def line(self, key, values):
+        """The line of a key."""
+        first = "" if key is None else record([key]) + " "
+        if self.fold == "totals":
+            return f"{first}count {len(values)} sum {sum(values)}"
+        return f"{first}min {min(values)} max {max(values)}"
+
+
+@dataclass(eq=False)
+class Job:
+    """A job whose number is not spent, and what it rests on. An offload is of an aggregate and a row group, the others of an object."""
+
+    kind: str
+    column: int = None
+    object: Object = None
+    a: int = None
+    aggregate: Aggregate = None
+    group: int = None
+    state: object = None
+    # its carry puts a content into the store
+    puts: bool = False
+    carried: bool = False
+
+
+@dataclass
+class Store:
+    """A store that takes so many contents, and how many it has."""
+
+    capacity: int
+    contents: int = 0
+
+    def put(self):
+        """Takes one more."""
+        refuse_if(self.contents == self.capacity, "FarFull")
+        self.contents += 1
+
+
+class Table:
+    """A table, with its store and the jobs whose numbers are not spent. Its kinds are "int" and "text", one for each column."""
+
+    def __init__(self, kinds, limits):
+        self.kinds = kinds
+        self.limits = limits
+        self.regions = {
+            "int": Region(limits.int_segments, limits.int_size),
+            "text": Region(limits.text_segments, limits.text_size),
+        }
+        # the cells of each place, and whether its row is still there
+        self.rows = []
+        self.alive = []
+        # the objects of each column, and the row groups of it that were lent last
+        self.objects = [[] for _ in kinds]
+        self.lent = [[] for _ in kinds]
+        self.aggregates = [None] * MOST_AGGREGATES
+        self.jobs = {}
+        self.begun = 0
+        self.edits = 0
+        self.commands = 1
+        self.store = Store(FIRST_STORE)
+
+    def reply(self, verb, *arguments):
+        """Takes a command, and returns its reply."""
+        self.commands += 1
+        try:
+            return getattr(self, verb)(*arguments)
+        except Refused as refused:
+            return str(refused)
+
+    def no_command(self, _):
+        """The reply to a line that is no command."""
+        return f"syntax command {self.commands}"
+
+    # What is there.
+
+    def groups(self):
+        """How many row groups have a place."""
+        return len(self.objects[0])
+
+    def places_of(self, group):
+        """The places of a row group that are there."""
+        first = group * self.limits.group
+        return range(first, min(first + self.limits.group, len(self.rows)))
+
+    def live_rows(self):
+        """The rows that were not removed."""
+        return [cells for cells, alive in zip(self.rows, self.alive) if alive]
+
+    def need_column(self, column):
+        """Refuses a column that is not there."""
+        refuse_if(column >= len(self.kinds), "NoColumn")
+
+    def object(self, column, group):
+        """The object of a row group of a column."""
+        self.need_column(column)
+        refuse_if(group >= self.groups(), "OutOfRange")
+        return self.objects[column][group]
+
+    def need_local(self, columns, group):
+        """Refuses a row group of which an object is away."""
+        for column in columns:
+            refuse_if(self.objects[column][group].part is None, "Absent", column, group)
+
+    def region(self, column):
+        """Where the objects of a column lie."""
+        return self.regions[self.kinds[column]]
+
+    def length(self, column, cells):
+        """How long an object with these cells of a column is. One of numbers has space for a whole row group."""
+        return self.limits.group if self.kinds[column] == "int" else text_length(cells)
+
+    # Edits.
+
+    def is_of_other_kind(self, column, cell):
+        """Whether a column refuses a cell."""
+        return cell is not None and isinstance(cell, int) != (self.kinds[column] == "int")
+
+    def insert(self, cells):
+        """Appends a row."""
+        place = len(self.rows)
+        refuse_if(any(self.is_of_other_kind(column, cell) for column, cell in zip(range(len(self.kinds)), cells)), "WrongKind")
+        refuse_if(len(cells) != len(self.kinds), "RowWidth")
+        refuse_if(any(map(is_long, cells)), "TextTooLong")
+        refuse_if(place == self.limits.places, "TableFull")
+        if place % self.limits.group:
+            self.need_local(range(len(self.kinds)), place // self.limits.group)
+        self.write(place, dict(enumerate(cells)))
+        self.rows.append(list(cells))
+        self.alive.append(True)
+        return f"place {place}"
+
+    def set(self, place, column, cell):
+        """Replaces a cell."""
+        self.need_column(column)
+        refuse_if(self.is_of_other_kind(column, cell), "WrongKind")
+        refuse_if(is_long(cell), "TextTooLong")
+        self.need_row(place)
+        self.write(place, {column: cell})
+        self.rows[place][column] = cell
+        return "ok"
+
+    def remove(self, place):
+        """Removes a row."""
+        self.need_row(place)
+        self.count_edit()
+        self.alive[place] = False
+        return "ok"
+
+    def need_row(self, place):
+        """Refuses a place without a row, or with one that is not all local."""
+        refuse_if(place >= len(self.rows), "NoRow")
+        refuse_if(not self.alive[place], "RemovedRow")
+        self.need_local(range(len(self.kinds)), place // self.limits.group)
+
+    def count_edit(self):
+        """Counts an edit."""
+        refuse_if(self.edits == self.limits.edits, "EditsUsedUp")
+        self.edits += 1
+
+    def write(self, place, cells):
+        """Writes the objects of a place that gets these cells, by column. Numbers are written where they lie. Texts are placed anew, beside
+        what they replace, and so is a new row group."""
+        group = place // self.limits.group
+        lengths = {column: self.length_with(place, column, cell) for column, cell in cells.items() if self.is_placed(column, group)}
+        refuse_if(any(length > self.region(column).size for column, length in lengths.items()), "ChunkFull")
+        parts = {}
+        try:
+            for column, length in lengths.items():
+                parts[column] = self.region(column).place(length)
+            self.count_edit()
+        except Refused:
+            for column, part in parts.items():
+                self.region(column).drop(part)
+            raise
+        for column in cells:
+            self.replace(column, group, parts.get(column))
+
+    def is_placed(self, column, group):
+        """Whether a write places the object anew."""
+        return self.kinds[column] == "text" or group == self.groups()
+
+    def length_with(self, place, column, cell):
+        """How long an object is once one of its places has this cell."""
+        cells = {it: self.rows[it][column] for it in self.places_of(place // self.limits.group)}
+        return self.length(column, list({**cells, place: cell}.values()))
+
+    def replace(self, column, group, part):
+        """Counts a write to an object, which lies in this part then, if there is one."""
+        objects = self.objects[column]
+        if group == len(objects):
+            objects.append(Object())
+        it = objects[group]
+        if part is not None:
+            if it.part is not None:
+                self.region(column).drop(it.part)
+            it.part = part
+        it.write()
+
+    # Aggregates.
+
+    def aggregate(self, a):
+        """The aggregate of a number."""
+        refuse_if(a >= MOST_AGGREGATES or self.aggregates[a] is None, "NoAggregate")
+        return self.aggregates[a]
+
+    def watch(self, fold, value, key, tests):
+        """Registers an aggregate. Each row group that has a place is pending."""
+        it = Aggregate(fold, value, key, tests, set(range(self.groups())))
+        refuse_if(len(tests) > MOST_TESTS or any(is_long(constant) for _, _, constant in tests), "BadSpec")
+        for column in it.columns():
+            self.need_column(column)
+        refuse_if(self.kinds[value] != "int" or any(map(self.is_of_other_test, tests)), "WrongKind")
+        refuse_if(None not in self.aggregates, "TooManyAggregates")
+        a = self.aggregates.index(None)
+        self.aggregates[a] = it
+        return f"aggregate {a}"
+
+    def is_of_other_test(self, test):
+        """Whether a test is none of its column. A number may be a text, and in a column of texts it is one."""
+        column, op, constant = test
+        if self.kinds[column] == "int":
+            return op == "^=" or isinstance(constant, str)
+        return op not in TEXT_TESTS or isinstance(constant, int)
+
+    def unwatch(self, a):
+        """Forgets an aggregate."""
+        self.aggregate(a)
+        self.aggregates[a] = None
+        return "ok"
+
+    def need_pending(self, a, group):
+        """The aggregate of a number, if a row group is pending there."""
+        it = self.aggregate(a)
+        refuse_if(group >= self.groups(), "OutOfRange")
+        refuse_if(group not in it.pending, "StaleJob")
+        return it
+
+    def scan(self, a, group):
+        """Builds a row group into an aggregate."""
+        it = self.need_pending(a, group)
+        self.need_local(it.columns(), group)
+        it.pending.remove(group)
+        return "ok"
+
+    def ask(self, a):
+        """Asks an aggregate."""
+        it = self.aggregate(a)
+        refuse_if(it.pending, "Building", len(it.pending))
+        return it.answer(self.live_rows())
+
+    def recount(self, a):
+        """Computes an aggregate from scratch."""
+        return self.aggregate(a).answer(self.live_rows())
+
+    # Lent parts.
+
+    def lend(self, column, start, stop):
+        """Lends a part of a column."""
+        self.need_column(column)
+        refuse_if(start > stop or stop > len(self.rows), "OutOfRange")
+        groups = sorted({place // self.limits.group for place in range(start, stop)})
+        for group in groups:
+            self.need_local([column], group)
+        for group in groups:
+            self.objects[column][group].hot = True
+        self.lent[column] = [*self.lent[column], *groups][-4:]
+        return "\n".join(self.piece(column, group, start, stop) for group in groups) or "empty"
+
+    def piece(self, column, group, start, stop):
+        """The line of a row group of which some places are lent."""
+        places = [it for it in self.places_of(group) if start <= it < stop]
+        marks = "".join("+" if self.alive[it] else "-" for it in places)
+        return f"piece {marks} {record(self.rows[it][column] for it in places)}"
+
+    def prefetch(self, column):
+        """Proposes the next two row groups, if the last four that were lent lie equally far apart."""
+        self.need_column(column)
+        lent = self.lent[column]
+        strides = {there - here for here, there in zip(lent, lent[1:])}
+        if len(lent) < 4 or len(strides) > 1 or 0 in strides:
+            return "next none"
+        stride = strides.pop()
+        proposed = [it for it in (lent[-1] + stride, lent[-1] + 2 * stride) if 0 <= it < self.groups()]
+        return " ".join(["next", *map(str, proposed or ["none"])])
+
+    # Objects and jobs.
+
+    def pin(self, column, group):
+        """Adds a pin to an object."""
+        it = self.object(column, group)
+        self.need_local([column], group)
+        it.pins += 1
+        return "ok"
+
+    def unpin(self, column, group):
+        """Removes a pin."""
+        it = self.object(column, group)
+        refuse_if(it.pins == 0, "NotPinned")
+        it.pins -= 1
+        return "ok"
+
+    def begin(self, job):
+        """Gives a job the next number."""
+        refuse_if(self.begun == self.limits.edits, "EditsUsedUp")
+        self.jobs[self.begun] = job
+        self.begun += 1
+        return f"job {self.begun - 1}"
+
+    def evac(self, column, group):
+        """Begins to send an object away. Its carry puts nothing if the store has it as it is."""
+        it = self.object(column, group)
+        self.need_local([column], group)
+        return self.begin(Job("evac", column=column, group=group, object=it, state=it.state(), puts=it.dirty))
+
+    def fetch(self, column, group):
+        """Begins to bring an object back."""
+        it = self.object(column, group)
+        refuse_if(it.part is not None, "StaleJob")
+        return self.begin(Job("fetch", column=column, group=group, object=it, state=it.state()))
+
+    def offload(self, a, group):
+        """Begins to build a row group into an aggregate from the store, which must have its columns as they are now."""
+        it = self.need_pending(a, group)
+        refuse_if(any(self.objects[column][group].dirty for column in it.columns()), "StaleJob")
+        return self.begin(Job("offload", a=a, aggregate=it, group=group, state=self.build_state(it, group)))
+
+    def build_state(self, aggregate, group):
+        """What an offloaded build rests on: the cells of its columns, and which rows there are."""
+        versions = [self.objects[column][group].version for column in aggregate.columns()]
+        return versions, [self.alive[it] for it in self.places_of(group)]
+
+    def carry(self, n):
+        """Carries a job."""
+        job = self.jobs.get(n)
+        refuse_if(job is None or job.carried, "StaleJob")
+        if job.puts:
+            self.store.put()
+        job.carried = True
+        return "carried"
+
+    def commit(self, n):
+        """Ends an evacuation."""
+        return self.end(n, "evac", self.leave)
+
+    def install(self, n):
+        """Ends a fetch."""
+        return self.end(n, "fetch", self.arrive)
+
+    def merge(self, n):
+        """Ends an offloaded build."""
+        return self.end(n, "offload", self.build)
+
+    def end(self, n, kind, ending):
+        """Ends a job. Its number is spent, unless it is refused for a reason that may pass."""
+        job = self.jobs.pop(n, None)
+        refuse_if(job is None or job.kind != kind, "StaleJob")
+        try:
+            ending(job)
+        except Refused as refused:
+            if refused.name != "StaleJob":
+                self.jobs[n] = job
+            raise
+        return "ok"
+
+    def leave(self, job):
+        """Sends the object of a job away, if it was neither written nor away since the job began."""
+        it = job.object
+        refuse_if(not job.carried or it.part is None or it.state() != job.state, "StaleJob")
+        refuse_if(it.pins, "Pinned")
+        self.region(job.column).drop(it.part)
+        it.part, it.dirty = None, False
+        it.leavings += 1
+
+    def arrive(self, job):
+        """Brings the object of a job back, if it was not back since the job began."""
+        it = job.object
+        refuse_if(not job.carried or it.part is not None or it.state() != job.state, "StaleJob")
+        cells = [self.rows[place][job.column] for place in self.places_of(job.group)]
+        it.part = self.region(job.column).place(self.length(job.column, cells))
+        it.hot = True
+
+    def build(self, job):
+        """Builds the row group of a job into its aggregate, if nothing that the job rests on has changed."""
+        it = self.aggregate(job.a)
+        refuse_if(not job.carried or it is not job.aggregate or job.group not in it.pending, "StaleJob")
+        refuse_if(self.build_state(it, job.group) != job.state, "StaleJob")
+        it.pending.remove(job.group)
+
+    def compact(self, kind, segment):
+        """Moves the parts of a segment into the lowest free one: those of hot objects first, else in the order in which they lie."""
+        region = self.regions[kind]
+        refuse_if(segment >= len(region.segments), "OutOfRange")
+        free = region.free_beside(segment)
+        objects = [it for column in range(len(self.kinds)) if self.kinds[column] == kind for it in self.objects[column]]
+        moved = [it for it in objects if it.part is not None and it.part.segment == segment]
+        for it in sorted(moved, key=lambda it: (not it.hot, it.part.offset)):
+            region.drop(it.part)
+            it.part = region.append(free, it.part.length)
+            it.hot = False
+        return "ok"
+
+    # Whole tables.
+
+    def renew(self, capacity):
+        """Goes on with a new store, into which all that is away is put. What is local has no copy there."""
+        store = Store(capacity)
+        objects = [it for column in self.objects for it in column]
+        for it in objects:
+            if it.part is None:
+                store.put()
+        for it in objects:
+            it.dirty = it.part is not None
+        self.store = store
+        self.jobs.clear()
+        return "renewed"
+
+    def load(self, rows):
+        """Inserts rows up to the first that is refused."""
+        for count, cells in enumerate(rows):
+            try:
+                self.insert(cells)
+            except Refused as refused:
+                return f"loaded {count}\n{refused}"
+        return f"loaded {len(rows)}"
+
+    def dump(self):
+        """Writes the rows."""
+        for group in range(self.groups()):
+            self.need_local(range(len(self.kinds)), group)
+        rows = self.live_rows()
+        return "\n".join([f"rows {len(rows)}", *map(record, rows)])
