@@ -1,7 +1,7 @@
 //! Calls on a world, as data: every step of the table, and looks at what no step returns.
 use crate::opening::push;
 use far_frame::Step;
-use far_types::{Cell, Edit, Filter, Fold, Kind, Op, Refusal, Row, Spec, Test, Text};
+use far_types::{Cell, Edit, Filter, Fold, Kind, Refusal, Row, Spec, Text};
 use std::alloc::Global;
 
 /// What a cell has.
@@ -12,16 +12,12 @@ pub enum Value {
     Text(&'static str),
 }
 
-/// A test of a number: its column, how it stands to a constant, and the constant.
-pub type Compare = (u32, Op, i64);
-
-/// An aggregate. Its tests are of numbers.
+/// An aggregate of all rows.
 #[derive(Clone, Copy)]
 pub struct Watched {
     pub fold: Fold,
     pub value: u32,
     pub key: Option<u32>,
-    pub tests: &'static [Compare],
 }
 
 /// Count and sum of column 0.
@@ -29,7 +25,6 @@ pub const TOTALS: Watched = Watched {
     fold: Fold::Totals,
     value: 0,
     key: None,
-    tests: &[],
 };
 
 /// The same under each text of column 1.
@@ -37,7 +32,6 @@ pub const TOTALS_BY_TEXT: Watched = Watched {
     fold: Fold::Totals,
     value: 0,
     key: Some(1),
-    tests: &[],
 };
 
 /// The least and the greatest of column 0.
@@ -45,7 +39,6 @@ pub const EXTREMA: Watched = Watched {
     fold: Fold::Extrema,
     value: 0,
     key: None,
-    tests: &[],
 };
 
 /// The same under each text of column 1.
@@ -53,7 +46,6 @@ pub const EXTREMA_BY_TEXT: Watched = Watched {
     fold: Fold::Extrema,
     value: 0,
     key: Some(1),
-    tests: &[],
 };
 
 /// A call on a world. Columns stand before places and row groups, aggregates before row groups.
@@ -139,39 +131,13 @@ fn set(alloc: Global, place: u32, column: u32, value: Value) -> Result<Step, Ref
     }
 }
 
-fn compare(test: Compare) -> Test {
-    Test::Int {
-        column: test.0,
-        op: test.1,
-        value: test.2,
-    }
-}
-
 /// Returns the specification of an aggregate.
-pub fn spec(alloc: Global, watched: Watched) -> Result<Spec, Refusal> {
-    let mut tests = Vec::new(alloc);
-    let mut refusal = None;
-    for test in watched.tests {
-        refusal = refusal.or(push(&mut tests, Ok(compare(*test))));
-    }
-    match refusal {
-        None => Ok(Spec {
-            fold: watched.fold,
-            value: watched.value,
-            key: watched.key,
-            filter: Filter::new(tests),
-        }),
-        Some(refusal) => {
-            drop(tests);
-            Err(refusal)
-        }
-    }
-}
-
-fn watch(alloc: Global, watched: Watched) -> Result<Step, Refusal> {
-    match spec(alloc, watched) {
-        Ok(spec) => Ok(Step::Watch(spec)),
-        Err(refusal) => Err(refusal),
+pub fn spec(alloc: Global, watched: Watched) -> Spec {
+    Spec {
+        fold: watched.fold,
+        value: watched.value,
+        key: watched.key,
+        filter: Filter::new(Vec::new(alloc)),
     }
 }
 
@@ -180,7 +146,7 @@ pub fn step(alloc: Global, call: Call) -> Result<Step, Refusal> {
     match call {
         Call::Insert(values) => insert(alloc, values),
         Call::Set(place, column, value) => set(alloc, place, column, value),
-        Call::Watch(watched) => watch(alloc, watched),
+        Call::Watch(watched) => Ok(Step::Watch(spec(alloc, watched))),
         call => Ok(plain_step(call)),
     }
 }

@@ -58,10 +58,7 @@ pub fn insert<S: FarTickets>(
 pub fn watch_totals<S: FarTickets>(alloc: Global, frame: &mut Frame<S>) -> Result<(), Refusal>
     ensures { (id : List ℕ) → AreAt S.is_of id frame.old.rows → AreAt S.is_of id frame.new.rows }
 {
-    match spec(alloc, TOTALS) {
-        Ok(spec) => watch(frame, spec).and(Ok(())),
-        Err(refusal) => Err(refusal),
-    }
+    watch(frame, spec(alloc, TOTALS)).and(Ok(()))
 }
 
 /// Gives a table a row, and an aggregate into which its row group is not yet scanned.
