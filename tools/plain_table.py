@@ -4,64 +4,22 @@ Read it beside that page. Rows are a list, each answer is folded anew, and the s
 where it lies, since that decides which others fit. A command is a method of Table: it returns the reply, or raises Refused. How many pins
 an object may have is left out.
 """
-import operator
 from dataclasses import dataclass
 
-REFUSALS = {
-    **{"BadSpec": 3, "NoColumn": 4, "WrongKind": 5, "RowWidth": 6, "TextTooLong": 7, "NoRow": 8, "RemovedRow": 9, "TableFull": 10},
-    **{"ChunkFull": 11, "NoAggregate": 12, "TooManyAggregates": 13, "OutOfRange": 14, "Building": 15, "Absent": 16, "RegionFull": 17},
-    **{"NotPinned": 18, "Pinned": 19, "StaleJob": 20, "FarFull": 22, "EditsUsedUp": 24},
-}
+from plain_aggregates import Aggregate, record
+from plain_objects import Object, Refused, Region, Store, refuse_if, text_length
+
 LONGEST_TEXT = 4096
 MOST_AGGREGATES = 32
 MOST_TESTS = 4
 # How many contents the first store of a script takes.
 FIRST_STORE = 1_048_576
-TESTS = {
-    **{"=": operator.eq, "!=": operator.ne, "<": operator.lt, "<=": operator.le, ">": operator.gt, ">=": operator.ge},
-    "^=": str.startswith,
-}
 TEXT_TESTS = ("=", "^=")
-
-
-class Refused(Exception):
-    """Why a command is refused: a name, and the numbers that stand behind it."""
-
-    def __init__(self, name, *carried):
-        super().__init__(name)
-        self.name = name
-        self.carried = carried
-
-    def __str__(self):
-        return " ".join(["refused", str(REFUSALS[self.name]), self.name, *map(str, self.carried)])
-
-
-def refuse_if(is_due, name, *carried):
-    """Refuses a command if that is due."""
-    if is_due:
-        raise Refused(name, *carried)
-
-
-def field_of(cell):
-    """A cell as a field of a record: quoted only if it must be."""
-    text = "\\N" if cell is None else str(cell)
-    return text if frozenset(',"\r\n').isdisjoint(text) else '"' + text.replace('"', '""') + '"'
-
-
-def record(cells):
-    """Cells as a record. A record of one empty field is written in quotes."""
-    return ",".join(map(field_of, cells)) or '""'
 
 
 def is_long(text):
     """Whether this is a text of more bytes than one may have."""
     return isinstance(text, str) and len(text.encode()) > LONGEST_TEXT
-
-
-def text_length(texts):
-    """How many bytes an object of these texts takes: a head, a bit for each text if one is missing, where each ends, and the texts."""
-    mask = -(-len(texts) // 8) if None in texts else 0
-    return 6 + mask + 4 * len(texts) + sum(len(text.encode()) for text in texts if text is not None)
 
 
 @dataclass
@@ -83,115 +41,6 @@ def usual_limits(group):
 
 
 @dataclass(eq=False)
-class Part:
-    """Where the cells of an object lie."""
-
-    segment: int
-    offset: int
-    length: int
-
-
-class Region:
-    """The segments of one kind, which have one size. Each has parts by ascending offset."""
-
-    def __init__(self, count, size):
-        self.size = size
-        self.segments = [[] for _ in range(count)]
-
-    def place(self, length):
-        """Makes a part in the lowest segment that has space behind its last part."""
-        for number in range(len(self.segments)):
-            if self.end(number) + length <= self.size:
-                return self.append(number, length)
-        raise Refused("RegionFull")
-
-    def end(self, number):
-        """Where the last part of a segment ends."""
-        parts = self.segments[number]
-        return parts[-1].offset + parts[-1].length if parts else 0
-
-    def append(self, number, length):
-        """Makes a part behind the last one of a segment."""
-        part = Part(number, self.end(number), length)
-        self.segments[number].append(part)
-        return part
-
-    def drop(self, part):
-        """Takes a part away. What lies behind it stays where it is."""
-        self.segments[part.segment].remove(part)
-
-    def free_beside(self, number):
-        """The lowest other segment without parts."""
-        for other, parts in enumerate(self.segments):
-            if other != number and not parts:
-                return other
-        raise Refused("RegionFull")
-
-
-@dataclass(eq=False)
-class Object:
-    """The cells of one row group of one column."""
-
-    # where it lies, if it is local
-    part: Part = None
-    # the store does not have it as it is now
-    dirty: bool = True
-    # it was written, lent or brought back since a compaction moved it
-    hot: bool = True
-    pins: int = 0
-    # how often it was written, and how often it went away
-    version: int = 0
-    leavings: int = 0
-
-    def state(self):
-        """What a job of it rests on."""
-        return self.version, self.leavings
-
-    def write(self):
-        """Counts a write."""
-        self.dirty = self.hot = True
-        self.version += 1
-
-
-@dataclass(eq=False)
-class Aggregate:
-    """What was registered, and the row groups that are still pending. A test has a column, an operator and a constant."""
-
-    fold: str
-    value: int
-    key: int
-    tests: tuple
-    pending: set
-
-    def columns(self):
-        """The columns that it needs, in order."""
-        keys = [] if self.key is None else [self.key]
-        return sorted({self.value, *keys, *(column for column, _, _ in self.tests)})
-
-    def keeps(self, cells):
-        """Whether a row has a value and a key and passes all tests. A cell without a value passes none."""
-        if cells[self.value] is None or self.key is not None and cells[self.key] is None:
-            return False
-        return all(cells[column] is not None and TESTS[op](cells[column], constant) for column, op, constant in self.tests)
-
-    def answer(self, rows):
-        """The lines over these rows, in the order of their keys. Texts are in the order of their bytes, which is that of their letters."""
-        by_key = {None: []} if self.fold == "totals" and self.key is None else {}
-        for cells in filter(self.keeps, rows):
-            key = None if self.key is None else cells[self.key]
-            by_key.setdefault(key, []).append(cells[self.value])
-        keys = by_key if self.key is None else sorted(by_key)
-        return "\n".join(self.line(key, by_key[key]) for key in keys) or "none"
-
-    def line(self, key, values):
-        """The line of a key."""
-        first = "" if key is None else record([key]) + " "
-        if self.fold == "totals":
-            return f"{first}count {len(values)} sum {sum(values)}"
-        return f"{first}min {min(values)} max {max(values)}"
-
-
-@dataclass(eq=False)
 class Job:
     """A job whose number is not spent, and what it rests on. An offload is of an aggregate and a row group, the others of an object."""
 
@@ -205,19 +54,6 @@ class Job:
     # its carry puts a content into the store
     puts: bool = False
     carried: bool = False
-
-
-@dataclass
-class Store:
-    """A store that takes so many contents, and how many it has."""
-
-    capacity: int
-    contents: int = 0
-
-    def put(self):
-        """Takes one more."""
-        refuse_if(self.contents == self.capacity, "FarFull")
-        self.contents += 1
 
 
 class Table:
