@@ -8,6 +8,11 @@ use std::process::Abort;
 
 /// A row of a table of tests.
 pub trait Case {
+    /// Returns what the row shows, if its values do not say it.
+    fn name(&self) -> &'static str {
+        ""
+    }
+
     /// Returns whether all calls return what the row says.
     fn is_right(&self, alloc: Global) -> Result<bool, Refusal>;
 }
@@ -15,7 +20,8 @@ pub trait Case {
 /// Ends the test at the first case that is not right.
 pub fn all_are_right<R: Abort, C: Case>(rt: &R, alloc: Global, cases: &[C]) {
     for (i, case) in cases.iter().enumerate() {
-        assert!(rt; case.is_right(alloc) == Ok(true), "case {i}");
+        let name = case.name();
+        assert!(rt; case.is_right(alloc) == Ok(true), "case {i} {name}");
     }
 }
 

@@ -16,8 +16,6 @@ mod lines;
 #[cfg(test)]
 mod log;
 #[cfg(test)]
-mod named_cases;
-#[cfg(test)]
 mod offload;
 #[cfg(test)]
 mod pointer;

@@ -3,9 +3,8 @@ ghost use Rattle.std.specs.Prelude.{◌≡◌, ◌≢◌, ◌-◌, [], OnOk};
 ghost use Rattle.far_extrema.specs.Live.{after_reserve, IsReservedFor};
 
 use crate::accumulators::extrema::observe_all;
-use crate::cases::must_be;
+use crate::cases::{Case, all_are_right, must_be};
 use crate::lines::{Lines, Name, Row, key_of};
-use crate::named_cases::{NamedCase, all_are_right};
 use far_extrema::{GroupExtrema, LiveExtrema, MinMax, RowsLeft};
 use far_types::{Answer, Key, Refusal};
 use std::alloc::Global;
@@ -110,7 +109,7 @@ impl Groups {
     }
 }
 
-impl NamedCase for Groups {
+impl Case for Groups {
     fn name(&self) -> &'static str {
         self.name
     }

@@ -5,9 +5,8 @@ ghost use Rattle.far_types.specs.declared.key.Key.{Key};
 ghost use Rattle.far_types.specs.Effects.{count_in};
 ghost use Rattle.far_groups.specs.Live.{CanJoin};
 
-use crate::cases::must_be;
+use crate::cases::{Case, all_are_right, must_be};
 use crate::lines::{Lines, Name, Row, key_of};
-use crate::named_cases::{NamedCase, all_are_right};
 use far_groups::{CountSum, LiveTotals};
 use far_types::{Answer, Key, Refusal};
 use std::alloc::Global;
@@ -103,7 +102,7 @@ impl Merged {
     }
 }
 
-impl NamedCase for Merged {
+impl Case for Merged {
     fn name(&self) -> &'static str {
         self.name
     }

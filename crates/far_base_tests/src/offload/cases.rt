@@ -1,10 +1,10 @@
 // Row groups whose columns are at hand, and the lines of their answers.
+use crate::cases::all_are_right;
 use crate::lines::{Lines, Name};
-use crate::named_cases::all_are_right;
-use crate::offload::folding::{Case, RowGroup};
+use crate::offload::folding::{Folded, RowGroup};
 
-static CASES: [Case; 2] = [
-    Case {
+static CASES: [Folded; 2] = [
+    Folded {
         name: "a dead place is not folded",
         rows: RowGroup {
             numbers: &[Some(1), Some(2), Some(3), Some(4)],
@@ -16,7 +16,7 @@ static CASES: [Case; 2] = [
         lines: Lines::Totals(&[(Name::Nobody, 3, 8)]),
     },
     // Three rows under `ab`, of which one has no value and one is dead, one under `b`, one under `ac` and one under no key.
-    Case {
+    Folded {
         name: "extrema are those of the rows that pass, under their texts",
         rows: RowGroup {
             numbers: &[Some(3), Some(4), None, Some(5), Some(7), Some(9)],

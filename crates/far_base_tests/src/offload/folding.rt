@@ -2,8 +2,8 @@
 ghost use Rattle.std.specs.Prelude.{◌<◌, ◌^◌, length, IsTrue};
 ghost use Rattle.far_codec.specs.TextForm.{IsTextsForm};
 
+use crate::cases::Case;
 use crate::lines::{Lines, text};
-use crate::named_cases::NamedCase;
 use crate::offload::rows::form_of;
 use far_offload::{Column, PartialDone, fold};
 use far_types::{Answer, Filter, Fold, Refusal, Spec, Test};
@@ -18,7 +18,7 @@ pub struct RowGroup {
 }
 
 /// A fold of the numbers of a row group by the keys of a column, if there is one, and its lines.
-pub struct Case {
+pub struct Folded {
     pub name: &'static str,
     pub rows: RowGroup,
     pub key: Option<u32>,
@@ -70,7 +70,7 @@ impl RowGroup {
     }
 }
 
-impl Case {
+impl Folded {
     fn spec(&self, alloc: Global) -> Result<Spec, Refusal> {
         let fold = match self.lines {
             Lines::Totals(_) => Fold::Totals,
@@ -85,7 +85,7 @@ impl Case {
     }
 }
 
-impl NamedCase for Case {
+impl Case for Folded {
     fn name(&self) -> &'static str {
         self.name
     }
