@@ -1,5 +1,5 @@
 // The least and the greatest of some values.
-ghost use Rattle.std.specs.Prelude.{◌≡◌, ◌≤ℤ◌, ◌<ℤ◌, Some, IsTrue};
+ghost use Rattle.std.specs.Prelude.{◌≡◌, ◌≤ℤ◌, ◌<ℤ◌, Some, IsTrue, ◌↔◌};
 ghost use Rattle.far_types.specs.Effects.{join_min_maxes, min_max_with};
 
 use std::marker::Model;
@@ -70,7 +70,7 @@ impl MinMax {
     /// Returns whether a value is within the min-max, its ends included. Then it changes nothing there.
     #[inline(always)]
     pub fn is_within(self, value: i64) -> bool
-        ensures { IsTrue result → (self.0 ≤ℤ value) × (value ≤ℤ self.1) }
+        ensures { IsTrue result ↔ ((self.0 ≤ℤ value) × (value ≤ℤ self.1)) }
     {
         self.min <= value && value <= self.max
     }
@@ -78,7 +78,7 @@ impl MinMax {
     /// Returns whether a value is strictly within the min-max, its ends excluded. Then the min-max stays if the value goes.
     #[inline(always)]
     pub fn is_strictly_within(self, value: i64) -> bool
-        ensures { IsTrue result → (self.0 <ℤ value) × (value <ℤ self.1) }
+        ensures { IsTrue result ↔ ((self.0 <ℤ value) × (value <ℤ self.1)) }
     {
         self.min < value && value < self.max
     }

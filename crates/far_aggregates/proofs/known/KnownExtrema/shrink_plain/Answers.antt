@@ -14,7 +14,7 @@ pub returns-then-is_strictly_within : goal.returns-then-is_strictly_within
 returns-then-is_strictly_within g c =
     let fits = c.ranges.value in
     let groups = c.args.self.now.groups in
-    let inside : (c.in-Some.min_max.0 <ℤ c.args.value) × (c.args.value <ℤ c.in-Some.min_max.1) = simp to_z-of_z at c.if-is_strictly_within.ensures refl in
+    let inside : (c.in-Some.min_max.0 <ℤ c.args.value) × (c.args.value <ℤ c.in-Some.min_max.1) = simp to_z-of_z at c.if-is_strictly_within.ensures.0 refl in
     let found = ap (λ (live : ExtremaState). fin.get (group_at live.groups c.args.group) None) (sym c.self.view_is) ∙ c.self.invariant c.args.group c.in-Some.min_max (sym (ap (λ (plain : List (Option (ℤ × ℤ))). slice_get plain c.args.group) c.as_slice.ensures.value) ∙ c.in-Some.ensures) in
     ap (λ (gs : List Extrema). record c.args.self.now { groups = gs })
     (left-within c.args.group groups None c.args.value (g.R.RowsLeft.extremes c.args.rows.now) c.in-Some.min_max c.requires.previous found inside.0 inside.1)

@@ -11,7 +11,7 @@ pub returns-then-is_within-clause-min_maxes : goal.returns-then-is_within-clause
 returns-then-is_within-clause-min_maxes c =
     let fits = c.ranges.value in
     let min_maxes = c.args.self.now.min_maxes in
-    let within : (c.args.previous.0 ≤ℤ c.args.value) × (c.args.value ≤ℤ c.args.previous.1) = simp to_z-of_z at c.if-is_within.ensures refl in
+    let within : (c.args.previous.0 ≤ℤ c.args.value) × (c.args.value ≤ℤ c.args.previous.1) = simp to_z-of_z at c.if-is_within.ensures.0 refl in
     subst (λ (x : ℤ × ℤ). IsSet min_maxes c.args.group (Some x) min_maxes) (sym (widened_within c.args.value c.args.previous within.0 within.1)) (put-again min_maxes c.args.group c.args.previous c.requires)
 
 pub returns-clause-min_maxes : goal.returns-clause-min_maxes

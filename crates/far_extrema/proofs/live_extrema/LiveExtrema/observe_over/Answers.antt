@@ -42,7 +42,7 @@ pub returns-then-is_within : goal.returns-then-is_within
 returns-then-is_within c =
     let fits = c.ranges.value in
     let groups = c.args.self.now.groups in
-    let within : (c.args.previous.0 ≤ℤ c.args.value) × (c.args.value ≤ℤ c.args.previous.1) = simp to_z-of_z at c.if-is_within.ensures refl in
+    let within : (c.args.previous.0 ≤ℤ c.args.value) × (c.args.value ≤ℤ c.args.previous.1) = simp to_z-of_z at c.if-is_within.ensures.0 refl in
     let new = sym (ap (slice_set groups c.args.group) (observed_within (group_at groups c.args.group) c.args.key.now c.args.value c.args.previous c.requires.previous within.0 within.1) ∙ set_own groups c.args.group) in
     λ i. record { left = c.args.self.now.left; groups = new i; reserved = c.args.self.now.reserved }
 
