@@ -1,5 +1,5 @@
 -- Searches for space that skip segments of which it is known that they have none.
-use Rattle.std.proofs.Common.{◌≡◌, ◌≢◌, ◌⊎◌, ℕ, zero, suc, ◌+◌, ◌-◌, ◌<◌, ◌≤◌, true, false, List, [], ◌∷◌, length, map, drop, Some, None, refl, sym, ap, subst, ◌∙◌, inl, inr, arith, get_or-set_same, get_or-set_other}
+use Rattle.std.proofs.Common.{◌≡◌, ◌⊎◌, ℕ, zero, suc, ◌+◌, ◌-◌, ◌<◌, ◌≤◌, true, false, List, [], ◌∷◌, length, map, drop, Some, None, refl, sym, ap, subst, ◌∙◌, inl, inr, arith, get_or-set_same, get_or-set_other}
 use Rattle.std.specs.Prelude.{nat_le}
 use Rattle.std.specs.List.{list_all}
 use Rattle.std.specs.Option.{option_map_or}
@@ -7,11 +7,11 @@ use Rattle.std.proofs.lemmas.Bool.{le-leb, lt-leb, cases_eq, cases_lt}
 use Rattle.std.proofs.lemmas.List.{drop_all}
 use Rattle.far_log.specs.declared.skip.Skip.{Skip}
 use Rattle.far_log.specs.RegionState.{SegmentState, RegionState, space_in, segment_of, target_of}
-use Rattle.far_log.specs.Effects.{with_segment, with_part, after_write}
+use Rattle.far_log.specs.Effects.{with_segment, after_write}
 use Rattle.far_log.specs.Fitting.{after_fill, waiting_fit}
 use Rattle.far_log.specs.Skipping.{IsSkip, IsSpaced}
 use Rattle.far_log.proofs.FittingLaws.{lowest-first, lowest-later, after_fill-first}
-use Rattle.far_log.proofs.RegionStateLayouts.{space-with_part, space-after_write}
+use Rattle.far_log.proofs.RegionStateLayouts.{space-after_write}
 
 -- lengths of lists that wait, or that were placed and are 0
 abbrev pub AreLong : ℕ → List ℕ → Type 0

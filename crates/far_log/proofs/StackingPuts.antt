@@ -1,7 +1,7 @@
 -- What is written at a place of a block, within it or behind its end.
-use Rattle.std.proofs.Common.{◌≡◌, ◌⊎◌, ℕ, ◌+◌, ◌-◌, ◌<◌, ◌≤◌, List, [], ◌∷◌, ◌++◌, length, get_or, take, drop, replicate, refl, sym, ap, subst, ◌∙◌, inl, inr, arith, length-take, length-drop, length-append, get_or-take, get_or-drop}
+use Rattle.std.proofs.Common.{◌≡◌, ℕ, ◌+◌, ◌-◌, ◌<◌, ◌≤◌, List, [], ◌++◌, length, get_or, take, drop, replicate, refl, sym, ap, subst, ◌∙◌, inl, inr, arith, length-take, length-drop, length-append, get_or-take, get_or-drop}
 use Rattle.std.proofs.lemmas.Bool.{cases_lt}
-use Rattle.std.proofs.lemmas.List.{same_lists, get_or_append_left, get_or-append_right, append-nil, append_assoc, drop-append-le, take-append-le, take_at, drop-drop, drop_all, take_all, length-replicate}
+use Rattle.std.proofs.lemmas.List.{same_lists, get_or_append_left, get_or-append_right, append-nil, append_assoc, drop-append-le, take-append-le, take_at, drop-drop, drop_all, length-replicate}
 use Rattle.far_log.specs.Stacking.{IsPut}
 use Rattle.far_log.proofs.StorageWrites.{block_over}
 

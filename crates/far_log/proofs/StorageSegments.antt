@@ -1,15 +1,14 @@
 -- Segments that are kept in stacks and tables: what each shows, and what a change of one is for all.
-use Rattle.std.proofs.Common.{◌≡◌, ◌≢◌, ℕ, zero, suc, ◌+◌, ◌-◌, ◌*◌, ◌<◌, ◌≤◌, ◌^◌, List, [], ◌∷◌, ◌++◌, length, get_or, take, drop, map, replicate, Option, Some, None, IsSome, refl, sym, ap, subst, ◌∙◌, arith, length-take, length-drop}
+use Rattle.std.proofs.Common.{◌≡◌, ℕ, zero, suc, ◌+◌, ◌<◌, ◌≤◌, ◌^◌, List, [], ◌∷◌, length, get_or, take, drop, replicate, Option, Some, None, IsSome, refl, sym, ap, subst, ◌∙◌, arith, length-take, length-drop}
 use Rattle.std.specs.Prelude.{slice_set, sum_by, IsSomeAnd, All}
 use Rattle.std.proofs.lemmas.List.{get_or_default, nil_from_length, length-map}
 use Rattle.std.proofs.lemmas.List.Elements.{All-head, All-tail}
 use Rattle.std.proofs.lemmas.List.Sums.{sum_by-cons}
-use Rattle.far_pointer.specs.declared.pointer.At.{At}
 use Rattle.far_log.specs.declared.extents.Extent.{Extent}
 use Rattle.far_log.specs.declared.part_entry.PartEntry.{PartEntry}
 use Rattle.far_log.specs.declared.table.Table.{Table}
-use Rattle.far_log.specs.RegionState.{Part, SegmentState, RegionState, fill_of, space_in, used_in, used_of, capacity_of, segment_of, part_of, list_at, IsLayout}
-use Rattle.far_log.specs.Storage.{extents_of, links_of, parts_in, extents_end, AreAdjacent, IsStored, IsSegmentStored, segment_states, AreSegmentsStored}
+use Rattle.far_log.specs.RegionState.{SegmentState, RegionState, fill_of, space_in, used_in, used_of, capacity_of, segment_of, list_at, IsLayout}
+use Rattle.far_log.specs.Storage.{extents_of, parts_in, extents_end, AreAdjacent, IsSegmentStored, segment_states, AreSegmentsStored}
 use Rattle.far_log.proofs.StorageParts.{stored-fill, begin-le-end, count-le-end, layout-parts}
 use Rattle.far_log.proofs.EffectsGathering.{some-list, list-is}
 use Rattle.far_log.proofs.StorageExtents.{some-extent, extent-within, IsExtentOf}

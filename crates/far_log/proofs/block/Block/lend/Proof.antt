@@ -1,12 +1,12 @@
 -- `lend` lends what `slice_mut` lends, under another name: the block ends with the first `most` elements of what is left there.
 -- The borrow checker follows no slice that a call got from another call, so this proof walks the code by hand.
 use mathlib.Core.Path.{◌≡◌, refl, sym, ap, ◌∙◌}
-use Prim.Native.Nat.{ℕ, ◌-◌, ◌*◌, ◌^◌, ◌<◌, ◌≤◌}
+use Prim.Native.Nat.{ℕ, ◌-◌, ◌≤◌}
 use native.Mathlib.Omega.{arith}
 use mathlib.Core.List.{List, [], ◌∷◌}
 use lib.ListN.{length, take, drop as drop_list, length-take}
 use seplogic.Ra.Ura.{Ura}
-use mir.Syntax.{Fn, named, w64, a_type}
+use mir.Syntax.{named, w64, a_type}
 use mir.MapTy.{inst_fn}
 use mir.Val.{Val, vptr, vint}
 use base.Logic.{SProp, ent, sep, ex, emp, guard, id⊢}
@@ -19,7 +19,7 @@ use types.SemTy.{cells, Arr, Body}
 use contract.BorrowLft.{◌⊑◌}
 use contract.Monad.{fact, fact_i}
 use contract.Running.{tables}
-use types.Kit.{Item, ‵, ◌⊛◌, raw, given, some, later, ◌$◌, ◌∵◌, !, qed, by, move, keep, drop, split, split3, join, learn, check, rewrite, fsplit, fsplit3, fjoin, feq_l, feq_i, use0, use1, use2, await, pick, suffices, frame, updating, group, now, show, done}
+use types.Kit.{Item, ‵, ◌⊛◌, raw, given, some, later, ◌$◌, ◌∵◌, !, qed, move, keep, drop, split, split3, join, learn, check, rewrite, fsplit, fsplit3, fjoin, feq_l, feq_i, use0, use1, use2, await, pick, suffices, frame, updating, group, now, show, done}
 use types.Run.{stop, addr, and_then, no_more, returns, enter}
 use types.ByLocal.{alloc_all, pass_all, free_all, look_at, get, through, sets, lands_as}
 use denote.Array.{Array}
@@ -37,7 +37,7 @@ use denote.Signature.{plain, mut_ref_to}
 use denote.Slice.{MutSlice, Room, room, slice_val, mut_slice_vals}
 use denote.Steps.{nothing, heard, only}
 use denote.Triple.Call.{calls_at}
-use denote.Triple.Clauses.{Ended, lasts}
+use denote.Triple.Clauses.{lasts}
 use denote.Triple.Spec.{triple_of}
 use denote.Triple.Table.{framed}
 use denote.Triple.Walked.{says, Stays, stay_dropped, walk_of, ends_at, Goes-dropped, Goes-spent_ref}

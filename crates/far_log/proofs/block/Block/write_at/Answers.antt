@@ -1,4 +1,4 @@
-use Rattle.std.proofs.Common.{◌<◌, ◌+◌, length, arith}
+use Rattle.std.proofs.Common.{arith}
 use Rattle.far_log.proofs.StackingPuts.{put-within, put-behind}
 use Rattle.far_log.proofs.block.Block.write_at.Goals as goal
 

@@ -1,11 +1,10 @@
-use Rattle.std.proofs.Common.{◌≡◌, ◌+◌, ◌<◌, ◌≤◌, ◌∷◌, [], ℕ, length, get_or, map, drop, refl, sym, ap, subst, ◌∙◌, inl, inr, arith, rules}
-use Rattle.std.proofs.lemmas.Bool.{cases_lt}
+use Rattle.std.proofs.Common.{◌≡◌, ◌+◌, ◌<◌, ◌≤◌, ◌∷◌, [], length, map, drop, sym, ap, subst, ◌∙◌, inl, inr, arith, rules}
 use Rattle.std.proofs.lemmas.List.{drop_more, drop_all}
 use Rattle.far_log.specs.declared.skip.Skip.{Skip}
 use Rattle.far_log.specs.RegionState.{RegionState, space_in, segment_of, spaces_of}
 use Rattle.far_log.specs.Fitting.{waiting_fit}
 use Rattle.far_log.specs.Skipping.{IsSkip}
-use Rattle.far_log.proofs.SkippingLaws.{AreLong, skip-nothing, skip-either, before-first, skipped-fit, long-all, long-any, long-after_fill}
+use Rattle.far_log.proofs.SkippingLaws.{AreLong, skip-nothing, before-first, skipped-fit, long-all, long-any, long-after_fill}
 use Rattle.far_log.proofs.FittingLaws.{after_fill-first, none-left, none-waiting, all-waiting}
 use Rattle.far_log.proofs.region.Region.fits_in_order.Goals as goal
 

@@ -1,4 +1,3 @@
-use Rattle.std.proofs.Common.{arith}
 use Rattle.far_log.proofs.RegionStateLaws.{region-new}
 use Rattle.far_log.proofs.SkippingLaws.{skip-nothing}
 use Rattle.far_log.proofs.region.Region.new.Goals as goal

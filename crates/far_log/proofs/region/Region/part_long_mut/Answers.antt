@@ -1,6 +1,6 @@
 use Rattle.std.proofs.Common.{◌≡◌, ◌≤◌, ◌+◌, ℕ, List, length, Option, Some, None, refl, sym, ap, subst, ◌∙◌, arith}
 use Rattle.std.specs.Prelude.{IsSome, IsSomeAnd, slice_range}
-use Rattle.far_log.specs.RegionState.{RegionState, IsRegion, part_of, list_at}
+use Rattle.far_log.specs.RegionState.{RegionState, IsRegion, part_of}
 use Rattle.far_log.proofs.RegionStateLayouts.{layout-after_write, whole-range}
 use Rattle.far_log.proofs.RegionStateLaws.{region-set, layout-segment, part-there, writes-whole}
 use Rattle.far_log.proofs.SkippingLaws.{skip-after_write}

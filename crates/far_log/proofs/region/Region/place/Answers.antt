@@ -1,4 +1,4 @@
-use Rattle.std.proofs.Common.{◌≡◌, refl, sym, ap, subst, ◌∙◌, arith, length, length-set, get_or-set_same}
+use Rattle.std.proofs.Common.{◌≡◌, sym, ap, subst, ◌∙◌, arith, length, length-set, get_or-set_same}
 use Rattle.far_pointer.specs.declared.pointer.At.{At}
 use Rattle.far_log.specs.RegionState.{SegmentState, RegionState, fill_of, segment_of, space_in}
 use Rattle.far_log.specs.Effects.{with_segment, with_part}

@@ -1,6 +1,6 @@
-use Rattle.std.proofs.Common.{◌≡◌, ◌+◌, ap, arith}
+use Rattle.std.proofs.Common.{ap, arith}
 use Rattle.std.specs.Prelude.{sum_by}
-use Rattle.far_log.specs.RegionState.{fill_of, space_in, capacity_of, IsRegion}
+use Rattle.far_log.specs.RegionState.{fill_of, IsRegion}
 use Rattle.far_log.proofs.StorageSegments.{space-rest}
 use Rattle.far_log.proofs.region.Region.space.Goals as goal
 

@@ -1,4 +1,4 @@
-use Rattle.std.proofs.Common.{◌≡◌, ◌<◌, [], length, get_or, take, refl, sym, ap, subst, ◌∙◌, arith}
+use Rattle.std.proofs.Common.{[], length, refl, ap, arith}
 use Rattle.far_log.proofs.StorageSegments.{default_value, segment-with, kept-default_value, count-states, count-tables, states-set, kept-set}
 use Rattle.far_log.proofs.segments.Segments.clear.Goals as goal
 

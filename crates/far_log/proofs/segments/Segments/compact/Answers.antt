@@ -1,4 +1,4 @@
-use Rattle.std.proofs.Common.{◌<◌, length, arith}
+use Rattle.std.proofs.Common.{arith}
 use Rattle.far_log.proofs.segments.Segments.compact.Goals as goal
 
 pub clear-requires : goal.clear-requires

@@ -1,7 +1,7 @@
-use Rattle.std.proofs.Common.{◌≡◌, ◌<◌, [], length, get_or, take, map, IsSome, refl, sym, ap, ◌∙◌, arith, length-set, get_or-set_same, get_or-set_other}
+use Rattle.std.proofs.Common.{◌≡◌, length, get_or, take, IsSome, refl, sym, ap, ◌∙◌, arith, length-set, get_or-set_same, get_or-set_other}
 use Rattle.std.proofs.lemmas.List.{map_push, set-set}
 use Rattle.std.proofs.lemmas.List.Elements.{All-get_or}
-use Rattle.far_log.specs.RegionState.{Part, SegmentState, RegionState, segment_of, list_at, fill_of, space_in}
+use Rattle.far_log.specs.RegionState.{Part, SegmentState, RegionState, segment_of, list_at}
 use Rattle.far_log.specs.Effects.{gathered, with_segment, with_part, list_or_none}
 use Rattle.far_log.proofs.EffectsGathering.{next-fits, gathered-more}
 use Rattle.far_log.proofs.EffectsCompaction.{emptied-unchanged, emptied-again}

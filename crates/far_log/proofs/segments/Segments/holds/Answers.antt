@@ -1,4 +1,4 @@
-use Rattle.std.proofs.Common.{◌<◌, IsSome, length, ap, sym, subst, eq-eqb, arith}
+use Rattle.std.proofs.Common.{IsSome, length, ap, subst, eq-eqb, arith}
 use Rattle.std.proofs.lemmas.Bool.{eqb-true}
 use Rattle.far_log.specs.RegionState.{list_at}
 use Rattle.far_log.specs.Storage.{extents_of}

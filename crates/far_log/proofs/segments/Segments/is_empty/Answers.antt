@@ -1,4 +1,4 @@
-use Rattle.std.proofs.Common.{◌≡◌, [], ap, ◌∙◌, sym, arith, length, eq-eqb}
+use Rattle.std.proofs.Common.{ap, ◌∙◌, sym, arith, length, eq-eqb}
 use Rattle.std.proofs.lemmas.Bool.{eqb-true}
 use Rattle.far_log.specs.RegionState.{fill_from}
 use Rattle.far_log.specs.Storage.{extents_of}

@@ -1,5 +1,5 @@
-use Rattle.std.proofs.Common.{◌≡◌, ap, ◌∙◌, arith, replicate}
-use Rattle.far_log.proofs.StorageSegments.{default_value, states-none, kept-none}
+use Rattle.std.proofs.Common.{◌≡◌, arith}
+use Rattle.far_log.proofs.StorageSegments.{states-none, kept-none}
 use Rattle.far_log.proofs.segments.Segments.new.Goals as goal
 
 pub invariant_of-result : goal.invariant_of-result

@@ -1,4 +1,4 @@
-use Rattle.std.proofs.Common.{◌<◌, ◌≡◌, ◌+◌, ◌≤◌, IsSome, length, sym, ap, subst, ◌∙◌, arith}
+use Rattle.std.proofs.Common.{IsSome, length, ap, subst, arith}
 use Rattle.far_log.specs.RegionState.{list_at}
 use Rattle.far_log.specs.Storage.{extents_of}
 use Rattle.far_log.proofs.StorageExtents.{extent-found, none-found, extent-within}

@@ -1,4 +1,4 @@
-use Rattle.std.proofs.Common.{◌≡◌, Option, Some, None, IsSome, length, refl, sym, ap, subst, ◌∙◌, arith}
+use Rattle.std.proofs.Common.{◌≡◌, Option, Some, None, IsSome, length, refl, ap, subst, arith}
 use Rattle.std.specs.Prelude.{IsSomeAnd}
 use Rattle.far_log.specs.RegionState.{list_at}
 use Rattle.far_log.specs.Storage.{extents_of}

@@ -1,5 +1,5 @@
-use Rattle.std.proofs.Common.{◌≡◌, ◌-◌, ◌+◌, ◌++◌, [], true, ◌<◌, length, get_or, refl, sym, ap, subst, ◌∙◌, arith}
-use Rattle.far_log.specs.RegionState.{SegmentState, segment_of, space_in}
+use Rattle.std.proofs.Common.{◌≡◌, ◌-◌, ◌++◌, [], true, length, get_or, refl, sym, ap, ◌∙◌, arith}
+use Rattle.far_log.specs.RegionState.{segment_of, space_in}
 use Rattle.far_log.specs.declared.extents.Extent.{Extent}
 use Rattle.far_log.specs.Storage.{extents_of}
 use Rattle.far_log.proofs.StoragePartChanges.{stored-push, used-le-end, shown-push}

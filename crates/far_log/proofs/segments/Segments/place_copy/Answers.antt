@@ -1,6 +1,6 @@
-use Rattle.std.proofs.Common.{ℕ, ◌≡◌, ◌-◌, ◌+◌, ◌++◌, [], ◌∷◌, true, ◌<◌, ◌≤◌, Some, length, get_or, take, drop, refl, sym, ap, subst, ◌∙◌, arith, length-take, length-drop}
+use Rattle.std.proofs.Common.{ℕ, ◌≡◌, ◌-◌, ◌+◌, ◌++◌, [], ◌∷◌, true, ◌<◌, Some, length, get_or, take, drop, refl, sym, ap, subst, ◌∙◌, arith, length-take, length-drop}
 use Rattle.std.specs.Prelude.{IsSomeAnd}
-use Rattle.far_log.specs.RegionState.{SegmentState, segment_of, space_in, list_at}
+use Rattle.far_log.specs.RegionState.{segment_of, space_in, list_at}
 use Rattle.far_log.specs.Effects.{list_or_none}
 use Rattle.far_log.specs.declared.extents.Extent.{Extent}
 use Rattle.far_log.specs.Storage.{extents_of, IsStored}

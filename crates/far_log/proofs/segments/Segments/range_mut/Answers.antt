@@ -1,7 +1,6 @@
-use Rattle.std.proofs.Common.{◌≡◌, ◌+◌, ◌-◌, ◌≤◌, List, [], Option, Some, None, IsSome, length, get_or, take, drop, refl, sym, ap, subst, ◌∙◌, arith}
+use Rattle.std.proofs.Common.{◌+◌, ◌≤◌, List, [], Option, Some, None, IsSome, length, get_or, refl, ap, subst, arith}
 use Rattle.std.specs.Prelude.{IsSomeAnd}
-use Rattle.far_log.specs.RegionState.{SegmentState, list_at}
-use Rattle.far_log.specs.Effects.{after_write}
+use Rattle.far_log.specs.RegionState.{list_at}
 use Rattle.far_log.specs.Storage.{extents_of}
 use Rattle.far_log.proofs.RegionStateLaws.{range-there}
 use Rattle.far_log.proofs.StorageWrites.{range-of, stored-after_write, shown-after_write}

@@ -1,4 +1,4 @@
-use Rattle.std.proofs.Common.{◌<◌, ap, ◌∙◌, sym, arith, length}
+use Rattle.std.proofs.Common.{ap, arith, length}
 use Rattle.far_log.proofs.StorageSegments.{segment-is, count-states, count-tables}
 use Rattle.far_log.proofs.segments.Segments.space.Goals as goal
 

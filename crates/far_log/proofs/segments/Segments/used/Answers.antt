@@ -1,4 +1,4 @@
-use Rattle.std.proofs.Common.{◌≤◌, ap, ◌∙◌, length, arith}
+use Rattle.std.proofs.Common.{ap, ◌∙◌, length, arith}
 use Rattle.std.specs.Prelude.{sum_by}
 use Rattle.far_log.specs.declared.table.Table.{Table}
 use Rattle.far_log.specs.RegionState.{used_of}

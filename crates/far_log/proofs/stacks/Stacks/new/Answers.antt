@@ -1,4 +1,4 @@
-use Rattle.std.proofs.Common.{ℕ, ◌≡◌, ap, ◌∙◌, refl, arith, length, replicate}
+use Rattle.std.proofs.Common.{ℕ, ◌≡◌, refl, arith, replicate}
 use Rattle.std.proofs.lemmas.List.{length-replicate}
 use Rattle.far_log.proofs.StackingLaws.{stacks-none, within-none}
 use Rattle.far_log.proofs.stacks.Stacks.new.Goals as goal

@@ -1,4 +1,4 @@
-use Rattle.std.proofs.Common.{◌≡◌, ◌+◌, ◌-◌, ◌*◌, ◌≤◌, ◌++◌, length, get_or, take, drop, refl, sym, ap, ◌∙◌, arith, length-set, length-take, length-drop}
+use Rattle.std.proofs.Common.{◌≡◌, ◌+◌, ◌-◌, ◌*◌, length, get_or, take, drop, refl, sym, ap, ◌∙◌, arith, length-set, length-take, length-drop}
 use Rattle.std.proofs.lemmas.List.{get_or_read}
 use Rattle.far_log.specs.Stacking.{stack_of}
 use Rattle.far_log.proofs.StackingLaws.{stack-is, stacks-put, within-put}

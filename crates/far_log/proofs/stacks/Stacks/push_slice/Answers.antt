@@ -1,4 +1,4 @@
-use Rattle.std.proofs.Common.{◌≡◌, ◌+◌, ◌*◌, ◌≤◌, ◌++◌, length, get_or, refl, sym, ap, ◌∙◌, arith, length-set}
+use Rattle.std.proofs.Common.{◌≡◌, ◌+◌, ◌*◌, length, get_or, refl, arith, length-set}
 use Rattle.std.proofs.lemmas.List.{get_or_read}
 use Rattle.far_log.proofs.StackingLaws.{stack-is, stacks-put, within-put}
 use Rattle.far_log.proofs.stacks.Stacks.push_slice.Goals as goal

@@ -1,4 +1,4 @@
-use Rattle.std.proofs.Common.{◌≡◌, ◌+◌, ◌-◌, ◌*◌, ◌≤◌, length, get_or, take, drop, sym, ap, ◌∙◌, arith, length-take, length-drop}
+use Rattle.std.proofs.Common.{◌≡◌, ◌+◌, ◌-◌, ◌*◌, get_or, take, drop, sym, ap, ◌∙◌, arith, length-take, length-drop}
 use Rattle.far_log.proofs.StackingLaws.{stack-is}
 use Rattle.far_log.proofs.StorageWrites.{range-at}
 use Rattle.far_log.proofs.stacks.Stacks.slice.Goals as goal

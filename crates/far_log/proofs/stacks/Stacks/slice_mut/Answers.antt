@@ -1,5 +1,5 @@
-use Rattle.std.proofs.Common.{◌≡◌, ◌+◌, ◌-◌, ◌*◌, ◌≤◌, List, [], length, get_or, take, drop, refl, sym, ap, ◌∙◌, arith, length-take, length-drop}
-use Rattle.far_log.specs.Stacking.{Stacked, stacks_from}
+use Rattle.std.proofs.Common.{◌≡◌, ◌+◌, ◌-◌, ◌*◌, List, [], get_or, take, drop, refl, sym, ap, ◌∙◌, arith, length-take, length-drop}
+use Rattle.far_log.specs.Stacking.{stacks_from}
 use Rattle.far_log.proofs.StackingLaws.{stack-is, length-stack, stacks-over, over-cut}
 use Rattle.far_log.proofs.StorageWrites.{range-at, length-block_over}
 use Rattle.far_log.proofs.stacks.Stacks.slice_mut.Goals as goal

@@ -1,5 +1,4 @@
-use Rattle.std.proofs.Common.{◌≡◌, length, get_or, refl, sym, ap, ◌∙◌, arith, length-set}
-use Rattle.far_log.specs.Stacking.{Stacked, with_stack, stack_of}
+use Rattle.std.proofs.Common.{length, get_or, refl, arith, length-set}
 use Rattle.far_log.proofs.StackingLaws.{stack-is, stacks-cut, within-cut}
 use Rattle.far_log.proofs.stacks.Stacks.truncate.Goals as goal
 
