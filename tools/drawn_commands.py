@@ -1,4 +1,4 @@
-"""Draws the commands of a random script: most of them near to what a plain table has."""
+"""Draws the commands of a random script: most of them near to what a table has."""
 import bisect
 import itertools
 import random
@@ -8,6 +8,8 @@ TEXTS = ("", "fig", "pear", "plum of a tree as old as hills", "quince", "é", "a
 TEXTS_OF_LOADS = (*TEXTS, "two\nlines")
 CONSTANTS = ("fig", "pe", "plum", "qu", "é", "a,", '"', "5")
 NUMBERS = (-4, -3, -2, -1, 0, 1, 2, 3, 4, -(2**63), 2**63 - 1)
+# The highest number that a word may be, except EDITS and those of jobs.
+HIGHEST = 2**32 - 1
 NUMBER_OPS = ("=", "!=", "<", "<=", ">", ">=")
 # Lines that are no command of any table.
 NO_COMMANDS = (
@@ -67,17 +69,17 @@ class Drawer:
         return getattr(self, verb)(verb)
 
     def place(self):
-        """A place, or the next one."""
-        return self.draws.below(len(self.table.rows) + 1)
+        """A place, or the next one, or now and then the highest number."""
+        return HIGHEST if self.draws.one_in(60) else self.draws.below(len(self.table.rows) + 1)
 
     def column(self):
         """A column, or now and then the one behind the last."""
         return self.draws.below(8 * self.width + 1) // 8
 
     def group(self):
-        """A row group, or now and then the next one."""
+        """A row group, or now and then the next one, or the highest number."""
         size = self.table.limits.group
-        return self.draws.below(len(self.table.rows) + size) // size
+        return HIGHEST if self.draws.one_in(60) else self.draws.below(len(self.table.rows) + size) // size
 
     def number(self):
         """The number of an aggregate, mostly of one that is there."""
@@ -95,7 +97,7 @@ class Drawer:
         last = range(max(self.table.begun - 6, 0), self.table.begun)
         due = [n for n in last if n in jobs and jobs[n].carried == is_carried]
         n = self.table.begun - self.draws.below(7)
-        # (before the first job stands the highest number that a word may be)
+        # (before the first job stand the highest numbers that a word may be)
         return self.draws.pick(due) if due and not self.draws.one_in(5) else n % 2**64
 
     def cell(self, column, texts=TEXTS):
@@ -104,9 +106,13 @@ class Drawer:
         if self.draws.one_in(9):
             return None
         if is_text:
-            return "x" * (4096 + self.draws.below(2)) if self.draws.one_in(150) else self.draws.pick(texts)
+            return self.long_text() if self.draws.one_in(150) else self.draws.pick(texts)
         value = self.draws.pick(NUMBERS)
         return value if column < self.width and self.table.kinds[column] == "int" else str(value)
+
+    def long_text(self):
+        """A text of as many bytes as one may have, or of one more. It has half as many characters."""
+        return "é" * 2047 + "x" * (2 + self.draws.below(2))
 
     def row(self, texts=TEXTS):
         """A row, one time in eleven too short or too long."""
@@ -147,8 +153,8 @@ class Drawer:
     def odd_test(self, column, is_text):
         """A test of the other kind, or with a long constant."""
         if self.draws.one_in(2):
-            return column, "^=", "x" * (4096 + self.draws.below(2))
-        return (column, "<", 5) if is_text else (column, self.draws.pick(("<", "^=")), "fig")
+            return column, "^=", self.long_text()
+        return column, *self.draws.pick((("<", 5), ("!=", 5)) if is_text else (("=", "fig"), ("<", "fig"), ("^=", "fig"), ("^=", 5)))
 
     def unwatch(self, verb):
         return verb, self.number()
@@ -178,7 +184,7 @@ class Drawer:
             first = max(2 * lent[-1] - lent[-2], 0) * self.table.limits.group
             return verb, column, first, first + 1
         start = self.place()
-        stop = start + self.draws.below(3 * self.table.limits.group)
+        stop = min(start + self.draws.below(3 * self.table.limits.group), HIGHEST)
         return (verb, column, stop, start) if self.draws.one_in(8) else (verb, column, start, stop)
 
     def prefetch(self, verb):
@@ -203,7 +209,7 @@ class Drawer:
         return end_of(self.table, n), n
 
     def trip(self, _):
-        """The first command of some by which an object moves."""
+        """The first command of some by which an object moves. If there is none, the trip before goes on, or the table is dumped."""
         column, group = self.column(), self.group()
         if column < self.width and group < self.table.groups():
             moves = self.packed(column, group) if self.draws.one_in(4) else ()
@@ -211,10 +217,10 @@ class Drawer:
         return next(self.trips, ("dump",))
 
     def away_and_back(self, column, group):
-        """An object goes away, if it is local. Mostly it comes back."""
-        is_away = self.table.objects[column][group].part is None
-        ways = [("evac", "commit"), ("fetch", "install")]
-        for begin, end in ways[1:] if is_away else ways[: 1 + (not self.draws.one_in(3))]:
+        """A local object goes away, and mostly comes back. One that is away comes back."""
+        leaves = self.table.objects[column][group].part is not None
+        returns = not leaves or not self.draws.one_in(3)
+        for begin, end in [("evac", "commit")] * leaves + [("fetch", "install")] * returns:
             n = self.table.begun
             yield begin, column, group
             yield "carry", n
@@ -239,9 +245,8 @@ class Drawer:
         a = self.number() if job.a is None else job.a
         place = job.group * self.table.limits.group + self.draws.below(self.table.limits.group)
         about_object = [(verb, column, job.group) for verb in ("evac", "fetch", "pin", "unpin")]
-        return self.draws.pick(
-            (*about_object, ("set", place, column, self.cell(column)), ("remove", place), ("scan", a, job.group), ("unwatch", a))
-        )
+        about_rows = [("set", place, column, self.cell(column)), ("remove", place), ("remove", place), ("insert", self.row())]
+        return self.draws.pick((*about_object, *about_rows, ("scan", a, job.group), ("unwatch", a)))
 
     def compact(self, verb):
         kind = self.draws.pick(("int", "text"))
@@ -257,6 +262,10 @@ class Drawer:
         return (verb,)
 
     def no_command(self, verb):
+        """A line that is no command: now and then a test of neither kind, on a column of texts."""
+        texts = [column for column, kind in enumerate(self.table.kinds) if kind == "text"]
+        if texts and self.draws.one_in(9):
+            return verb, f"watch totals 0 if {self.draws.pick(texts)} < b"
         return verb, self.draws.pick(NO_COMMANDS)
 
 
@@ -277,7 +286,8 @@ def objects(table):
 
 
 def look(draws, table, is_whole):
-    """Commands that show a table and leave it as it is: a pin is removed at once. They show the whole table, or the most of it."""
+    """Commands that show a table and leave it as it is: a pin is removed at once. They show the rows, and all aggregates and objects
+    or a third of them."""
     yield ("dump",)
     for a, it in enumerate(table.aggregates):
         if it and (is_whole or draws.one_in(3)):
@@ -302,7 +312,8 @@ def jobs_end(table):
 
 
 def all_move(table):
-    """All objects go away, so the regions are empty. Then as many come back as fit, and are lent. No job is left for that in some runs."""
+    """All objects go away, so the regions are empty. Then as many come back as fit, and are lent: forwards in the even columns, backwards
+    in the odd ones. Some runs have no job left for that, or too few."""
     yield "renew", 1_000
     if table.begun == table.limits.edits:
         return
@@ -311,12 +322,14 @@ def all_move(table):
             yield "evac", column, group
             yield "carry", table.begun - 1
             yield "commit", table.begun - 1
-    for column, group in objects(table):
-        yield "fetch", column, group
-        yield "carry", table.begun - 1
-        yield "install", table.begun - 1
-        places = table.places_of(group)
-        yield "lend", column, places.start, places.stop
+    for column in range(len(table.kinds)):
+        groups = range(table.groups())
+        for group in reversed(groups) if column % 2 else groups:
+            yield "fetch", column, group
+            yield "carry", table.begun - 1
+            yield "install", table.begun - 1
+            places = table.places_of(group)
+            yield "lend", column, places.start, places.stop
 
 
 def all_are_scanned(table):

@@ -1,13 +1,14 @@
-"""A plain table: what each command of a script replies, as docs/SCRIPT.md says it.
+"""The reference model of a table: what each command of a script replies, as docs/SCRIPT.md says it.
 
-Read it beside that page. Rows are a list, each answer is folded anew, and the store is a count of its contents. Of each object it is known
-where it lies, since that decides which others fit. A command is a method of Table: it returns the reply, or raises Refused. How many pins
-an object may have is left out.
+Read it beside that page. Rows are a list, each answer is folded anew, and the store is a count of its contents. Where each object lies
+decides which others fit, and is no rule of that page: `text_length` is that of docs/FORMATS.md, and `Region` and `compact` place parts as
+crates/far_log/specs/Effects.antt says. A command is a method of Table: it returns the reply, or raises Refused. Left out are `threads`,
+first lines that open no table, and how many pins an object may have.
 """
 from dataclasses import dataclass
 
-from plain_aggregates import Aggregate, record
-from plain_objects import Object, Refused, Region, Store, refuse_if, text_length
+from reference_aggregates import Aggregate, record
+from reference_objects import Object, Refused, Region, Store, refuse_if, text_length
 
 LONGEST_TEXT = 4096
 MOST_AGGREGATES = 32
@@ -205,7 +206,7 @@ class Table:
         return self.length(column, list({**cells, place: cell}.values()))
 
     def replace(self, column, group, part):
-        """Counts a write to an object, which lies in this part then, if there is one."""
+        """Notes that an object was written, or made. If a part is given, it lies there from now on."""
         objects = self.objects[column]
         if group == len(objects):
             objects.append(Object())
@@ -236,11 +237,11 @@ class Table:
         return f"aggregate {a}"
 
     def is_of_other_test(self, test):
-        """Whether a test is none of its column. A number may be a text, and in a column of texts it is one."""
+        """Whether a test is of the other kind than its column. In a column of texts a constant like a number is a text."""
         column, op, constant = test
         if self.kinds[column] == "int":
             return op == "^=" or isinstance(constant, str)
-        return op not in TEXT_TESTS or isinstance(constant, int)
+        return op not in TEXT_TESTS
 
     def unwatch(self, a):
         """Forgets an aggregate."""

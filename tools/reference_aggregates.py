@@ -1,4 +1,4 @@
-"""The aggregates of a plain table: each answer is folded anew, and written as a script shows it."""
+"""The aggregates of the reference model: each answer is folded anew, and written as a script shows it."""
 import operator
 from dataclasses import dataclass
 
@@ -21,16 +21,17 @@ def record(cells):
 
 @dataclass(eq=False)
 class Aggregate:
-    """What was registered, and the row groups that are still pending. A test has a column, an operator and a constant."""
+    """What was registered, and the row groups that are still pending. The key is None if there is none. A test has a column, an operator
+    and a constant."""
 
     fold: str
     value: int
     key: int
-    tests: tuple
+    tests: list
     pending: set
 
     def columns(self):
-        """The columns that it needs, in order."""
+        """The columns that it needs, in ascending order."""
         keys = [] if self.key is None else [self.key]
         return sorted({self.value, *keys, *(column for column, _, _ in self.tests)})
 
@@ -41,7 +42,7 @@ class Aggregate:
         return all(cells[column] is not None and TESTS[op](cells[column], constant) for column, op, constant in self.tests)
 
     def answer(self, rows):
-        """The lines over these rows, in the order of their keys. Texts are in the order of their bytes, which is that of their letters."""
+        """The lines over these rows, in the order of their keys. The order of texts is that of their bytes, and so of their code points."""
         by_key = {None: []} if self.fold == "totals" and self.key is None else {}
         for cells in filter(self.keeps, rows):
             key = None if self.key is None else cells[self.key]

@@ -1,4 +1,4 @@
-"""The objects of a plain table, the regions in which they lie, its store, and why a command is refused."""
+"""The objects of the reference model, the regions in which they lie, its store, and why a command is refused."""
 from dataclasses import dataclass
 
 REFUSALS = {
