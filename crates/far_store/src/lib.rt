@@ -9,9 +9,12 @@
 //! - [`EngineStore`] over an [`Engine`] of your own (docs/FAR_STORE.md);
 //! - [`FaultyStore`] and [`GateStore`], to try what happens when a call fails or takes long.
 //!
+//! A store that reaches nothing itself is a [`FarDelivery`]: the calling program keeps the contents, and delivers what is to be read.
+//!
 //! Stores are shared by threads, and nothing is ever removed from one.
 
 mod agent;
+mod delivery;
 mod drawn;
 mod engine;
 mod engine_store;
@@ -21,6 +24,7 @@ mod meter;
 mod store;
 
 pub use agent::AgentStore;
+pub use delivery::FarDelivery;
 pub use engine::{Engine, Failure};
 pub use engine_store::{EngineStore, EngineTicket};
 pub use faulty::FaultyStore;

@@ -6,7 +6,7 @@ use std::marker::Model;
 /// How many faults a caller has met. Contracts see the number.
 ///
 /// Threads share a far store, so the caller keeps the count. Each call that may fault takes the caller's meter, and adds one to it exactly
-/// if it returns `FarFault` (21). Only a store of this crate counts a fault.
+/// if it returns `FarFault` (21). So only a store calls [`Meter::rise`], whichever crate it stands in.
 ///
 /// Numbers are put into a store:
 ///
@@ -51,8 +51,8 @@ impl Meter {
         self.faults += other.faults;
     }
 
-    /// Counts one fault more. Only a store may, and only if it returns `FarFault`.
-    pub(crate) fn rise(&mut self)
+    /// Counts one fault more. It is for a store that is about to return `FarFault` (21), and for nobody else. Allocates nothing.
+    pub fn rise(&mut self)
         requires { self.old < 2 ^ 63 }
         ensures { self.new ≡ self.old + 1 }
     {

@@ -1,0 +1,2 @@
+mod DigestLaws
+mod LaneLaws

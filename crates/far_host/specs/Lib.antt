@@ -1,0 +1,4 @@
+pub mod ContentDigest
+pub mod HostTickets
+pub mod Lanes
+pub mod Spots

@@ -1,0 +1,12 @@
+// Contents that were delivered.
+ghost use Rattle.std.specs.Prelude.{◌≡◌};
+
+use crate::ticket::HostTicket;
+
+/// The content of a ticket.
+#[derive(Drop)]
+pub(crate) struct Contents {
+    pub(crate) ticket: HostTicket,
+    pub(crate) bytes: Vec<u8>,
+    pub(crate) ghost same: { bytes.items ≡ ticket.content },
+}

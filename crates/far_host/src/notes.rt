@@ -1,0 +1,122 @@
+// The notes of a store, by number.
+ghost use Rattle.std.specs.Prelude.{◌≡◌, IfSome};
+ghost use Rattle.far_host.specs.HostTickets.{IsOf};
+
+use crate::note::Note;
+use crate::spot::{CHUNK, GROUPS, Spot};
+use crate::ticket::HostTicket;
+use boxcar::slot::{OnceSlot, SlotRule, Written};
+use boxcar::tag::Tag;
+use std::alloc::{AllocError, Global};
+use std::marker::Model;
+
+/// The rule of slots that take whatever is written.
+pub(crate) struct Anything;
+
+impl<T> SlotRule<T> for Anything {
+    ghost use Rattle.std.specs.Prelude.{⊤};
+
+    ghost holds = { λ _ _. ⊤ };
+}
+
+/// Slots that are each written once.
+type Row<T> = Vec<OnceSlot<T, Anything>>;
+
+pub(crate) type Chunk = Row<Note>;
+
+pub(crate) type Group = Row<Chunk>;
+
+// What a number costs.
+const _: () = prove!(size_of::<OnceSlot<Note, Anything>>() == 56);
+
+/// The notes of a store. A note is written once and stays. Contracts see the ids of the groups' slots, which no other store has.
+///
+/// Chunks are made as their numbers are drawn, and groups double. So a store costs next to nothing before it is used, whatever its
+/// capacity is. Later at most one chunk is not full, and the groups take less than a byte a number.
+#[derive(Drop)]
+pub(crate) struct Notes {
+    groups: Row<Group>,
+}
+
+impl Model for Notes {
+    ghost use Rattle.std.specs.Prelude.{ℕ, List};
+    ghost use Rattle.far_host.specs.Spots.{ids};
+
+    ghost Value = { List ℕ };
+
+    ghost view = { λ n. ids n.groups.items };
+}
+
+impl Notes {
+    pub(crate) fn new(alloc: Global) -> Result<Notes, AllocError> {
+        Ok(Notes {
+            groups: row_of(alloc, GROUPS)?,
+        })
+    }
+
+    /// Makes the chunk of a number, unless it is there. Returns nothing if there is no memory for it, or another thread is just making it.
+    pub(crate) fn reserve(&self, alloc: Global, number: u64) -> Option<()> {
+        let spot = Spot::of(number);
+        let slot = self.groups.get(spot.group)?;
+        let group = made(alloc, slot, spot.chunks)?;
+        made(alloc, slot.value(&group).get(spot.chunk)?, CHUNK)?;
+        Some(())
+    }
+
+    /// Writes the note of a number. Returns nothing if there is no memory for its chunk, or another thread is just making it.
+    pub(crate) fn write(&self, alloc: Global, number: u64, note: Note) -> Option<HostTicket>
+        ensures here { IfSome result (λ ticket. IsOf ticket self.now) }
+        ensures number { IfSome result (λ ticket. ticket.number ≡ number) }
+        ensures content { IfSome result (λ ticket. ticket.content ≡ note.content.numbers) }
+    {
+        let spot = Spot::of(number);
+        let slot = self.groups.get(spot.group)?;
+        let group = made(alloc, slot, spot.chunks)?;
+        let slot = slot.value(&group).get(spot.chunk)?;
+        let chunk = made(alloc, slot, CHUNK)?;
+        let slot = slot.value(&chunk).get(spot.place)?;
+        let note = slot.set_written(note).ok()?;
+        Some(HostTicket {
+            number,
+            group,
+            chunk,
+            note,
+        })
+    }
+
+    /// Returns the note of a ticket's content.
+    pub(crate) fn note(&self, ticket: &HostTicket) -> &Note
+        requires { IsOf ticket.now self.now }
+        ensures { result.now.content.numbers ≡ ticket.now.content }
+    {
+        let spot = Spot::of(ticket.number);
+        let chunks = self.groups[spot.group].value(&ticket.group);
+        let notes = chunks[spot.chunk].value(&ticket.chunk);
+        notes[spot.place].value(&ticket.note)
+    }
+}
+
+// Makes slots as many as asked for in this slot, unless they are there. Of two threads that make them, one has made its own in vain, and
+// takes the other's. If those are still being written, nothing is returned, since no call here waits.
+fn made<T: Drop>(
+    alloc: Global,
+    slot: &OnceSlot<Row<T>, Anything>,
+    length: usize,
+) -> Option<Written<Row<T>>>
+    ensures { IfSome result (λ written. written.of ≡ slot.now.id) }
+{
+    if let Some(written) = slot.witness() {
+        return Some(written);
+    }
+    match slot.set_written(row_of(alloc, length).ok()?) {
+        Ok(written) => Some(written),
+        Err(_) => slot.witness(),
+    }
+}
+
+// Slots as many as asked for, with nothing in them.
+fn row_of<T: Drop>(alloc: Global, length: usize) -> Result<Row<T>, AllocError> {
+    let mut slots = Vec::with_capacity(alloc, length)?;
+    slots.resize_with(length, || OnceSlot::new(&Tag::empty()))?;
+    Ok(slots)
+}

@@ -1,0 +1,208 @@
+// The store.
+ghost use Rattle.std.specs.Prelude.{◌≡◌, ◌<◌, ◌≤◌, [], ◌∷◌, IfOk, IfErr, IfSome};
+ghost use Rattle.far_store.specs.Faults.{RefusedBy};
+ghost use Rattle.far_host.specs.HostTickets.{IsOf};
+
+use crate::contents::Contents;
+use crate::note::Note;
+use crate::notes::Notes;
+use crate::ticket::HostTicket;
+use far_store::{FarDelivery, FarRead, FarStore, FarTickets, Meter};
+use far_types::Refusal;
+use std::alloc::Global;
+use std::collections::BTreeMap;
+use std::marker::Model;
+use std::sync::atomic::{AtomicU64, Ordering};
+
+/// A far store whose contents the calling program keeps: in a file, a server, wherever it likes. Contracts see its id and its capacity.
+///
+/// - A put draws a number, and notes the length and the digest of the bytes. It keeps no byte: whoever put them hands them to the
+///   program, with the ticket's number.
+/// - A get reads what the program delivered for the ticket. If nothing was delivered, the get is a fault.
+/// - [`FarDelivery::deliver`] takes bytes that the program kept. If their length or their digest is another than what was noted, it is
+///   a fault, and nothing changes.
+///
+/// A content is hashed once on its way out and once on its way in. A note takes 56 bytes, and is never let go. Notes are made in chunks
+/// of 256 as numbers are drawn, so an unused store takes some 2 KB, whatever its capacity is.
+///
+/// No call waits. If two threads put at the same moment and both make one chunk, a put may be refused with `NoMemory` (1), and then be
+/// made again.
+///
+/// Bytes are put. Later the same bytes are delivered and read:
+///
+/// ```
+/// let ticket = store.put(alloc, &mut meter, bytes)?;
+/// let number = store.number(&ticket);
+/// store.deliver(alloc, &mut meter, &ticket, bytes)?;
+/// let mut buffer = Vec::new(alloc);
+/// store.get(alloc, &mut meter, &ticket, &mut buffer)?;
+/// store.forget(&ticket);
+/// Ok((number, buffer))
+/// ```
+#[derive(Drop)]
+pub struct HostStore {
+    capacity: u64,
+    drawn: AtomicU64,
+    notes: Notes,
+    delivered: BTreeMap<u64, Contents>,
+}
+
+impl Model for HostStore {
+    ghost use Rattle.std.specs.Prelude.{◌≡◌, ℕ, IfSome};
+    ghost use Rattle.std.specs.Ordering.{nat_cmp};
+    ghost use Rattle.std.specs.BTreeMap.{get};
+    ghost use Rattle.far_store.specs.StoreState.{StoreState, store_coded};
+    ghost use Rattle.far_host.specs.HostTickets.{IsOf};
+
+    ghost Value = { StoreState };
+
+    ghost coded = { store_coded };
+
+    ghost view = { λ s. record { id = s.notes; capacity = s.capacity } };
+
+    // What was delivered under a number is of a ticket with that number.
+    ghost invariant = { λ s. (n : ℕ) →
+        IfSome (get nat_cmp s.delivered n) (λ contents.
+        (contents.ticket.number ≡ n) × IsOf contents.ticket s.notes) };
+}
+
+impl HostStore {
+    /// Makes an empty store that gives out the numbers below `capacity`. Refused with `NoMemory` (1) alone.
+    pub fn new(alloc: Global, capacity: u64) -> Result<HostStore, Refusal>
+        ensures capacity { IfOk result (λ s. s.capacity ≡ capacity) }
+        ensures memory { IfErr result (λ e. e ≡ Refusal.NoMemory) }
+    {
+        Ok(HostStore {
+            capacity,
+            drawn: AtomicU64::new(0),
+            notes: Notes::new(alloc)?,
+            delivered: BTreeMap::new(alloc),
+        })
+    }
+
+    /// Returns how many numbers were given out. Allocates nothing.
+    pub fn drawn(&self) -> u64
+        ensures { result ≤ self.now.capacity }
+    {
+        self.drawn.load(Ordering::SeqCst).min(self.capacity)
+    }
+
+    // The bytes that were delivered for a ticket.
+    fn delivered(&self, ticket: &HostTicket) -> Option<&[u8]>
+        requires { IsOf ticket.now self.now.id }
+        ensures { IfSome result (λ bytes. bytes.now ≡ ticket.now.content) }
+    {
+        let contents = self.delivered.get(&ticket.number)?;
+        contents.ticket.agrees(ticket);
+        Some(&contents.bytes)
+    }
+}
+
+impl FarTickets for HostStore {
+    type Ticket = HostTicket;
+
+    ghost content = { λ t. t.content };
+
+    ghost number_of = { λ t. t.number };
+
+    ghost store_id = { λ s. s.id };
+
+    ghost is_of = { IsOf };
+
+    ghost capacity_of = { λ s. s.capacity };
+
+    fn again(&self, ticket: &HostTicket) -> HostTicket {
+        ticket.copy()
+    }
+
+    fn number(&self, ticket: &HostTicket) -> u64 {
+        ticket.number
+    }
+
+    fn same(&self, a: &HostTicket, b: &HostTicket) -> bool {
+        if a.number != b.number {
+            return false;
+        }
+        a.agrees(b);
+        true
+    }
+}
+
+impl FarRead for HostStore {
+    fn get(
+        &self,
+        _alloc: Global,
+        meter: &mut Meter,
+        ticket: &HostTicket,
+        buffer: &mut Vec<u8>,
+    ) -> Result<(), Refusal> {
+        buffer.clear();
+        let Some(bytes) = self.delivered(ticket) else {
+            meter.rise();
+            return Err(Refusal::FarFault);
+        };
+        buffer.extend_from_slice(bytes)?;
+        Ok(())
+    }
+}
+
+impl FarStore for HostStore {
+    fn put(&self, alloc: Global, meter: &mut Meter, bytes: &[u8]) -> Result<HostTicket, Refusal>
+        ensures here { IfOk result (λ ticket. IsOf ticket self.now.id) }
+        ensures content { IfOk result (λ ticket. ticket.content ≡ bytes.now) }
+        ensures number { IfOk result (λ ticket. ticket.number < self.now.capacity) }
+        ensures faultless { meter.new ≡ meter.old }
+        ensures refused { RefusedBy (22 ∷ 1 ∷ []) result }
+    {
+        let next = self.drawn.load(Ordering::SeqCst);
+        // A full store hashes nothing.
+        if next >= self.capacity {
+            return Err(Refusal::FarFull);
+        }
+        // The chunk comes first, so that a put that finds no memory for it uses up no number.
+        if self.notes.reserve(alloc, next).is_none() {
+            return Err(Refusal::NoMemory);
+        }
+        let note = Note::of(bytes);
+        let number = self.drawn.fetch_add(1, Ordering::SeqCst);
+        if number >= self.capacity {
+            return Err(Refusal::FarFull);
+        }
+        self.notes
+            .write(alloc, number, note)
+            .ok_or(Refusal::NoMemory)
+    }
+}
+
+impl FarDelivery for HostStore {
+    ghost use Rattle.far_host.specs.HostTickets.{HasDigestOf};
+
+    ghost matches = { λ t bytes. HasDigestOf t.content bytes };
+
+    fn deliver(
+        &mut self,
+        alloc: Global,
+        meter: &mut Meter,
+        ticket: &HostTicket,
+        bytes: &[u8],
+    ) -> Result<(), Refusal> {
+        if !self.notes.note(ticket).fits(bytes) {
+            meter.rise();
+            return Err(Refusal::FarFault);
+        }
+        let contents = Contents {
+            ticket: ticket.copy(),
+            bytes: Vec::from_slice(alloc, bytes)?,
+        };
+        self.delivered.insert(ticket.number, contents)?;
+        Ok(())
+    }
+
+    fn forget(&mut self, ticket: &HostTicket) {
+        self.delivered.remove(&ticket.number);
+    }
+
+    fn forget_all(&mut self) {
+        self.delivered.clear();
+    }
+}

@@ -1,0 +1,58 @@
+// A far store whose contents the calling program keeps.
+ghost use Rattle.std.specs.Prelude.{◌≡◌, ℕ, ◌+◌, ◌<◌, ◌^◌, ◌↔◌, List, [], ◌∷◌, IsErrOf, OnOk};
+ghost use Rattle.far_store.specs.Faults.{faults_in, RefusedBy};
+
+use crate::Meter;
+use crate::store::FarStore;
+use far_types::Refusal;
+use std::alloc::Global;
+
+/// A far store whose contents the calling program keeps: it delivers them for the gets that follow.
+///
+/// A get reads what was delivered for its ticket, and is a fault of the store if nothing was. The store believes nobody: it compares what
+/// comes back with what it noted at the put.
+///
+/// A content is delivered, a second time if the first call runs out of memory:
+///
+/// ```
+/// match store.deliver(alloc, &mut Meter::new(), ticket, content) {
+///     Err(Refusal::NoMemory) => store.deliver(alloc, &mut Meter::new(), ticket, content),
+///     answer => answer,
+/// }
+/// ```
+pub trait FarDelivery: FarStore {
+    /// What the store noted of a ticket's content holds of these bytes: their length and their digest, say.
+    ghost matches: { Self.Ticket → List ℕ → Type 0 };
+
+    /// Takes the bytes that were kept for a ticket, for the gets that follow. They replace what was delivered for it before. If it is
+    /// refused, the store is as it was. Refused with:
+    /// - `FarFault` (21) if the bytes are not what the store noted of the ticket's content;
+    /// - `NoMemory` (1).
+    fn deliver(
+        &mut self,
+        alloc: Global,
+        meter: &mut Meter,
+        ticket: &Self::Ticket,
+        bytes: &[u8],
+    ) -> Result<(), Refusal>
+        requires few { meter.old < 2 ^ 63 }
+        requires here { Self.is_of ticket.now (Self.store_id self.old) }
+        requires no_collision { Self.matches ticket.now bytes.now → bytes.now ≡ Self.content ticket.now }
+        ensures same { Self.store_id self.new ≡ Self.store_id self.old }
+        ensures capacity { Self.capacity_of self.new ≡ Self.capacity_of self.old }
+        ensures content { OnOk result (bytes.now ≡ Self.content ticket.now) }
+        ensures other { IsErrOf result Refusal.FarFault ↔ (Self.matches ticket.now bytes.now → ⊥) }
+        ensures faults { meter.new ≡ meter.old + faults_in result }
+        ensures refused { RefusedBy (21 ∷ 1 ∷ []) result };
+
+    /// Lets go of what was delivered for a ticket, if anything was. Allocates nothing.
+    fn forget(&mut self, ticket: &Self::Ticket)
+        requires { Self.is_of ticket.now (Self.store_id self.old) }
+        ensures same { Self.store_id self.new ≡ Self.store_id self.old }
+        ensures capacity { Self.capacity_of self.new ≡ Self.capacity_of self.old };
+
+    /// Lets go of all that was delivered. Allocates nothing.
+    fn forget_all(&mut self)
+        ensures same { Self.store_id self.new ≡ Self.store_id self.old }
+        ensures capacity { Self.capacity_of self.new ≡ Self.capacity_of self.old };
+}
