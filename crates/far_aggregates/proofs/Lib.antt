@@ -21,3 +21,4 @@ pub mod ReserveLaws
 pub mod ScansLaws
 pub mod LendingNeeds
 pub mod UntilLaws
+mod PendingFirst

@@ -8,6 +8,7 @@ pub mod Known
 pub mod LeavingOut
 pub mod Lending
 pub mod Pending
+pub mod PendingCounts
 pub mod Readings
 pub mod Recounting
 pub mod Reserve

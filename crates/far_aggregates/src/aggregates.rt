@@ -79,6 +79,7 @@ impl Aggregates {
     ghost use Rattle.far_aggregates.specs.Retract.{EachIsPlain};
     ghost use Rattle.far_aggregates.specs.Accumulators.{Keeps, PlacesFit, registered_of};
     ghost use Rattle.far_aggregates.specs.Lending.{EntryIsServed, AreServed};
+    ghost use Rattle.far_aggregates.specs.PendingCounts.{pending_of};
     ghost use Rattle.far_aggregates.specs.Readings.{plain_in};
     ghost use Rattle.far_aggregates.specs.Scans.{entry_after_scan};
     ghost use Rattle.far_aggregates.specs.Pending.{AreUpToDate, KeepsAsBefore, IsAliveAt, MayUndoAll, after_undo_all, UndoesAll, MayRetractAll, after_retract_all, RetractsAll};
@@ -185,6 +186,15 @@ impl Aggregates {
             Some(aggregate) => aggregate.pending.has(group as usize),
             None => false,
         }
+    }
+
+    /// Returns how many row groups are pending in the aggregate of a number, and the first of them, if there is one. `None` if
+    /// there is no such aggregate. Allocates nothing.
+    pub fn pending(&self, a: u32) -> Option<(u32, Option<u32>)>
+        ensures { result ≡ option_map pending_of (aggregate_in self.now a) }
+    {
+        let aggregate = aggregate_at(self.registry.as_slice(), a)?;
+        Some((aggregate.pending.count(), aggregate.pending.first()))
     }
 
     /// Returns an aggregate and a row group that is pending in it, or `None` if there is none. Allocates nothing.

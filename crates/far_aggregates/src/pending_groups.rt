@@ -1,5 +1,7 @@
 // The row groups that are pending: not yet scanned into an aggregate.
 ghost use Rattle.std.specs.Prelude.{◌≡◌, ◌<◌, ◌^◌, ℕ, length, IfOk, IfSome, IfNone, replicate, true, false, slice_set, slice_index_or};
+ghost use Rattle.std.specs.List.{position};
+ghost use Rattle.far_types.specs.Table.{left};
 
 use std::alloc::{AllocError, Global};
 use std::marker::Model;
@@ -22,7 +24,7 @@ impl Model for PendingGroups {
 }
 
 impl PendingGroups {
-    ghost use Rattle.far_types.specs.Table.{is_pending};
+    ghost use Rattle.far_types.specs.Table.{is_pending, left};
 
     /// Returns the flags of row groups: the first `groups` are pending.
     pub fn all(alloc: Global, groups: usize) -> Result<PendingGroups, AllocError>
@@ -48,8 +50,16 @@ impl PendingGroups {
     pub fn first(&self) -> Option<u32>
         ensures some { IfSome result (λ g. is_pending self.now g ≡ true) }
         ensures none { IfNone result ((g : ℕ) → is_pending self.now g ≡ false) }
+        ensures exact { result ≡ position (λ flag. flag) self.now }
     {
         first_set(self.flags.as_slice())
+    }
+
+    /// Returns how many row groups are pending.
+    pub fn count(&self) -> u32
+        ensures { result ≡ left self.now }
+    {
+        count_set(self.flags.as_slice())
     }
 
     /// Marks the row group as scanned. Allocates nothing.
@@ -67,6 +77,7 @@ fn first_set(flags: &[bool]) -> Option<u32>
     requires { length flags.now < 2 ^ 32 }
     ensures some { IfSome result (λ i. slice_index_or flags.now i false ≡ true) }
     ensures none { IfNone result ((i : ℕ) → slice_index_or flags.now i false ≡ false) }
+    ensures exact { result ≡ position (λ flag. flag) flags.now }
 {
     for i in 0..flags.len() {
         if flags[i] {
@@ -74,4 +85,18 @@ fn first_set(flags: &[bool]) -> Option<u32>
         }
     }
     None
+}
+
+/// Returns how many flags are set.
+fn count_set(flags: &[bool]) -> u32
+    requires { length flags.now < 2 ^ 32 }
+    ensures { result ≡ left flags.now }
+{
+    let mut count = 0;
+    for flag in flags {
+        if *flag {
+            count += 1;
+        }
+    }
+    count
 }

@@ -102,6 +102,21 @@ impl IntColumn {
         self.vector.get(objects, place)
     }
 
+    /// Borrows the number of a place, which is not read. Allocates nothing.
+    ///
+    /// Refused as `get` is.
+    pub fn get_ref<'a, S: FarTickets>(
+        &self,
+        objects: &'a Objects<Option<i64>, S>,
+        place: usize,
+    ) -> Result<&'a Option<i64>, Refusal>
+        requires { IsVector (number_lists S.content objects.now) self.now }
+        ensures number { IfOk result (λ number. slice_get (numbers_in S.content objects.now self.now) place ≡ Some number.now) }
+        ensures refused { refusal_in result ≡ get_refusal objects.now self.now place }
+    {
+        self.vector.get_ref(objects, place)
+    }
+
     /// Adds a number at the end. If the last row group is full, it makes the object of a new one. `unpush` undoes a push that
     /// made an object (`undone`).
     ///

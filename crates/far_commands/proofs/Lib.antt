@@ -9,3 +9,4 @@ pub mod LoadingLaws
 pub mod RenewingFaults
 pub mod LoadingLines
 pub mod PiecesLending
+pub mod PlainAnswers

@@ -9,13 +9,13 @@ use far_script::field::{kind_of, lone_cell, row};
 use far_script::opening::read_kind;
 use far_script::verb::{Movement, Verb, read_verb};
 use far_script::watch::spec;
-use far_types::{Edit, Kind, Name, Refusal};
+use far_types::{Cell, Edit, Kind, Name, Refusal};
 use std::alloc::Global;
 
 /// A command of a script, behind the line that opens the table.
 ///
 /// ```
-/// match row(alloc, kinds, text)? {
+/// match row(alloc, spare, kinds, text)? {
 ///     Some(row) => Ok(Some(Command::Step(Step::Edit(Edit::Insert(row))))),
 ///     None => Ok(None),
 /// }
@@ -39,14 +39,19 @@ pub enum Command {
 }
 
 /// Reads `CSV`: exactly one record.
-fn insert(alloc: Global, kinds: &[Kind], words: Words) -> Result<Option<Command>, Refusal>
+fn insert(
+    alloc: Global,
+    spare: Vec<Cell>,
+    kinds: &[Kind],
+    words: Words,
+) -> Result<Option<Command>, Refusal>
     ensures command { IfOk result (λ command. command ≡ insert_of kinds.now words.entry) }
     ensures memory { IfErr result (λ e. e ≡ Refusal.NoMemory) }
 {
     let Some(text) = words.rest() else {
         return Ok(None);
     };
-    match row(alloc, kinds, text)? {
+    match row(alloc, spare, kinds, text)? {
         Some(row) => Ok(Some(Command::Step(Step::Edit(Edit::Insert(row))))),
         None => Ok(None),
     }
@@ -200,6 +205,7 @@ fn movement(verb: Movement, words: Words) -> Option<Command>
 /// Reads the rest of the line of a verb.
 fn complete(
     alloc: Global,
+    spare: Vec<Cell>,
     kinds: &[Kind],
     verb: Verb,
     words: Words,
@@ -208,7 +214,7 @@ fn complete(
     ensures memory { IfErr result (λ e. e ≡ Refusal.NoMemory) }
 {
     match verb {
-        Verb::Insert => insert(alloc, kinds, words),
+        Verb::Insert => insert(alloc, spare, kinds, words),
         Verb::Set => set(alloc, kinds, words),
         Verb::Remove => Ok(remove(words)),
         Verb::Watch => watch(alloc, kinds, words),
@@ -236,8 +242,14 @@ fn complete(
     }
 }
 
-/// Returns the command that a line spells over a table of these columns, or `None` if it spells none. Refused with `NoMemory` (1) alone.
-pub fn parse(alloc: Global, kinds: &[Kind], line: &str) -> Result<Option<Command>, Refusal>
+/// Returns the command that a line spells over a table of these columns, or `None` if it spells none. A row is made in the memory of cells that
+/// are no longer needed. Refused with `NoMemory` (1) alone.
+pub fn parse(
+    alloc: Global,
+    spare: Vec<Cell>,
+    kinds: &[Kind],
+    line: &str,
+) -> Result<Option<Command>, Refusal>
     ensures command { IfOk result (λ command. command ≡ command_of kinds.now line.now) }
     ensures memory { IfErr result (λ e. e ≡ Refusal.NoMemory) }
 {
@@ -246,7 +258,7 @@ pub fn parse(alloc: Global, kinds: &[Kind], line: &str) -> Result<Option<Command
         return Ok(None);
     };
     match read_verb(word) {
-        Some(verb) => complete(alloc, kinds, verb, words),
+        Some(verb) => complete(alloc, spare, kinds, verb, words),
         None => Ok(None),
     }
 }

@@ -5,6 +5,7 @@ ghost use Rattle.far_commands.specs.Cuts.{Fails, FailsBy, IsListing, PrintsCut};
 ghost use Rattle.far_script.specs.Faults.{IfInput};
 ghost use Rattle.far_script.specs.Flow.{Holds, IsShort, Prints, Reads, Stops, has_failed, bytes_in};
 ghost use Rattle.far_script.specs.Printing.{numbered_text};
+ghost use Rattle.far_commands.specs.Commands.{command_of};
 ghost use Rattle.far_commands.specs.Listings.{listing_of};
 ghost use Rattle.far_commands.specs.Replies.{Serves, Takes, done_text, reply_text, AnswersLine};
 
@@ -18,7 +19,7 @@ use super::recounting::recount;
 use super::renewing::renew;
 use super::resources::Resources;
 use far_frame::{Reply, Step, World};
-use far_script::print::{answer, numbered, refused};
+use far_script::print::{answer, numbered, refused, total};
 use far_script::{ByteRange, Input, Output, Page, ShellFault, Sink, Source};
 use far_store::FarStore;
 use far_types::Refusal;
@@ -98,6 +99,34 @@ fn take_lend<S: FarStore>(
     print_reply(reply, "ok\n", &given)
 }
 
+/// Answers an ask of totals without key column as they are kept, so that no lines are made. Returns false if there are no such totals, or row
+/// groups are still pending.
+fn answer_plain<S: FarStore>(world: &World<S>, a: u32, reply: &mut Page) -> Result<bool, Refusal>
+    ensures plain { IfOk result (λ plain. plain ≡ true → Takes S.FarTickets world.now (Step.Ask a) reply.new world.now) }
+    ensures memory { IfErr result (λ e. e ≡ Refusal.NoMemory) }
+{
+    let Some((count, sum)) = world.frame().plain(a) else {
+        return Ok(false);
+    };
+    reply.truncate(0);
+    total(reply, &(None, count, sum))?;
+    Ok(true)
+}
+
+/// Takes the step that asks an aggregate, and prints its reply.
+fn take_ask<S: FarStore>(world: &mut World<S>, a: u32, reply: &mut Page) -> Result<(), Refusal>
+    requires few { world.old.faults < 2 ^ 62 }
+    ensures ok { OnOk result (Takes S.FarTickets world.old (Step.Ask a) reply.new world.new) }
+    ensures faults { world.new.faults ≤ world.old.faults + 1 }
+    ensures memory { IfErr result (λ e. e ≡ Refusal.NoMemory) }
+{
+    if answer_plain(world, a, reply)? {
+        return Ok(());
+    }
+    let given = world.serve(Step::Ask(a));
+    print_reply(reply, "ok\n", &given)
+}
+
 /// Takes a step, and prints its reply. An edit, which most steps are, takes the shorter way to the table.
 fn take_step<S: FarStore>(world: &mut World<S>, step: Step, reply: &mut Page) -> Result<(), Refusal>
     requires few { world.old.faults < 2 ^ 62 }
@@ -110,6 +139,7 @@ fn take_step<S: FarStore>(world: &mut World<S>, step: Step, reply: &mut Page) ->
             let given = world.edit(edit);
             print_reply(reply, "ok\n", &given)
         }
+        Step::Ask(a) => take_ask(world, a, reply),
         Step::Lend { column, from, to } => take_lend(world, column, from, to, reply),
         other => {
             let done = done(&other);
@@ -186,6 +216,20 @@ fn print_syntax<W: Sink>(output: &mut Output<W>, number: u32) -> Result<(), Shel
     output.add_printed(printed)
 }
 
+/// Returns the command that a line spells over a world's table, or `None` if it spells none. A row is made in the memory of the row before.
+fn parse_line<S: FarStore>(
+    alloc: Global,
+    world: &mut World<S>,
+    line: &str,
+) -> Result<Option<Command>, Refusal>
+    ensures command { IfOk result (λ command. command ≡ command_of world.old.state.table.schema line.now) }
+    ensures same { world.new ≡ world.old }
+    ensures memory { IfErr result (λ e. e ≡ Refusal.NoMemory) }
+{
+    let spare = world.spare_cells();
+    parse(alloc, spare, world.frame().schema().as_slice(), line)
+}
+
 /// Answers a line: an empty one is no command, and any other the next one.
 pub fn answer_line<S: FarStore, A: Resources<S>, R: Source + Drop, W: Sink>(
     resources: &A,
@@ -207,11 +251,7 @@ pub fn answer_line<S: FarStore, A: Resources<S>, R: Source + Drop, W: Sink>(
         return Ok(());
     }
     progress.number += 1;
-    match parse(
-        resources.alloc(),
-        progress.world.frame().schema().as_slice(),
-        input.text(line)?,
-    ) {
+    match parse_line(resources.alloc(), &mut progress.world, input.text(line)?) {
         Ok(Some(command)) => serve_command(
             resources,
             &mut progress.world,

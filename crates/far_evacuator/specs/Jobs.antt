@@ -1,5 +1,5 @@
 -- Jobs: what they rest on and what they hold.
-use Rattle.std.specs.Prelude.{◌≡◌, ℕ, List}
+use Rattle.std.specs.Prelude.{◌≡◌, ℕ, List, Option, None, Some}
 use Rattle.far_evacuator.specs.declared.evacuation.EvacForm.{EvacForm}
 use Rattle.far_evacuator.specs.declared.evacuation.EvacForm.TheVariants.{Dirty, Clean}
 
@@ -38,6 +38,15 @@ module _ {K : Type 0} where
   abbrev pub IsDirtyForm : EvacForm K → Type 0
   IsDirtyForm (Dirty bytes) = Unit {0}
   IsDirtyForm (Clean ticket) = ⊥
+
+  -- this ticket if the form is to be put
+  abbrev pub if_put : EvacForm K → K → Option K
+  if_put (Dirty bytes) ticket = Some ticket
+  if_put (Clean own) ticket = None
+
+  -- the ticket of what a carried evacuation put: none if its object was clean
+  abbrev pub put_ticket : CarriedEvacuation K → Option K
+  put_ticket carried = if_put carried.job.form carried.ticket
 
   -- the far store has the form under this ticket: its content is the bytes that were put, or the object had it
   abbrev pub IsFormTicket : (K → List ℕ) → EvacForm K → K → Type 0

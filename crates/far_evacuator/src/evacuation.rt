@@ -1,8 +1,8 @@
 // Evacuations: jobs that send objects away.
-ghost use Rattle.std.specs.Prelude.{◌≡◌, ◌+◌, ◌<◌, ◌^◌, [], ◌∷◌, IfOk, IfErr, IsErr};
+ghost use Rattle.std.specs.Prelude.{◌≡◌, ◌+◌, ◌<◌, ◌^◌, [], ◌∷◌, IfOk, IfErr, IsErr, option_map};
 ghost use Rattle.far_store.specs.Faults.{faults_in, outcome, RefusedBy};
 ghost use Rattle.far_codec.specs.Spelling.{IsSpelled};
-ghost use Rattle.far_evacuator.specs.Jobs.{IsFormTicket, IsFormOf, IsSpelledForm, IsDirtyForm};
+ghost use Rattle.far_evacuator.specs.Jobs.{IsFormTicket, IsFormOf, IsSpelledForm, IsDirtyForm, put_ticket};
 
 use crate::far_form::FarForm;
 use far_codec::Elem;
@@ -141,6 +141,21 @@ impl<T: Elem, S: FarStore> EvacJob<T, S> {
         match &self.form {
             EvacForm::Dirty(form) => store.put(alloc, meter, &form.bytes),
             EvacForm::Clean(ticket) => Ok(store.again(ticket)),
+        }
+    }
+}
+
+impl<T: Elem, S: FarTickets> Carried<T, S> {
+    /// Returns the number of the ticket under which the job put its far form, and borrows the bytes of that. `None` exactly if the job was
+    /// begun on a clean object: the store had its far form already. Allocates nothing.
+    pub fn outgoing(&self, store: &S) -> Option<(u64, &[u8])>
+        requires here { S.is_of self.now.ticket (S.store_id store.now) }
+        ensures number { option_map (λ out. out.0) result ≡ option_map S.number_of (put_ticket self.now) }
+        ensures bytes { option_map (λ out. out.1.now) result ≡ option_map S.content (put_ticket self.now) }
+    {
+        match &self.job.form {
+            EvacForm::Dirty(form) => Some((store.number(&self.ticket), &form.bytes)),
+            EvacForm::Clean(_) => None,
         }
     }
 }

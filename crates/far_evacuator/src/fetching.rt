@@ -67,6 +67,24 @@ impl<S: FarTickets> Model for Fetched<S> {
     ghost invariant = { λ fetched. fetched.bytes.items ≡ S.content fetched.job.ticket };
 }
 
+impl<S: FarTickets> FetchJob<S> {
+    /// Returns the ticket of the content that the job reads. Allocates nothing.
+    pub fn ticket(&self) -> &S::Ticket
+        ensures { result.now ≡ self.now.ticket }
+    {
+        &self.ticket
+    }
+}
+
+impl<S: FarTickets> Fetched<S> {
+    /// Returns the ticket of the content that the job read. Allocates nothing.
+    pub fn ticket(&self) -> &S::Ticket
+        ensures { result.now ≡ self.now.job.ticket }
+    {
+        self.job.ticket()
+    }
+}
+
 impl<S: FarRead> FetchJob<S> {
     /// Reads the content of the job's ticket.
     ///

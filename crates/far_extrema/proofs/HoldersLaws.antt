@@ -352,3 +352,12 @@ line-skipped made all e rest from none steps before =
     sym (ap (λ (o : Option (ℤ × ℤ)). made ++ cons_option {X = Option Key × ℤ × ℤ} (option_map (λ (top : ℤ × ℤ). (e.0, top.0, top.1)) o) (filter_map line_of rest)) none)
     ∙ sym (ap (λ es. made ++ filter_map line_of es) steps)
     ∙ before
+
+pub line-pushed : (made new all : Lines) (e : Option Key × Holding) (rest from : Entries) (key : Option Key) (top : ℤ × ℤ) → e.1.top ≡ Some top → from ≡ e ∷ rest → key ≡ e.0 → new ≡ made ++ (key, top.0, top.1) ∷ [] → made ++ filter_map line_of from ≡ all → new ++ filter_map line_of rest ≡ all
+line-pushed made new all e rest from key top some steps same is before =
+    ap (λ n. n ++ filter_map line_of rest) is
+    ∙ append_assoc made ((key, top.0, top.1) ∷ []) (filter_map line_of rest)
+    ∙ ap (λ (k : Option Key). made ++ (k, top.0, top.1) ∷ filter_map line_of rest) same
+    ∙ sym (ap (λ (o : Option (ℤ × ℤ)). made ++ cons_option {X = Option Key × ℤ × ℤ} (option_map (λ (top : ℤ × ℤ). (e.0, top.0, top.1)) o) (filter_map line_of rest)) some)
+    ∙ sym (ap (λ es. made ++ filter_map line_of es) steps)
+    ∙ before

@@ -2,6 +2,8 @@ pub mod MinMaxesRemoval
 pub mod LiveGroups
 pub mod HoldersLaws
 pub mod HoldersReserve
-pub mod BlocksLaws
 pub mod SpreadsLaws
-pub mod TournamentsLaws
+pub mod RunsLaws
+pub mod LastLaws
+pub mod PartsLaws
+pub mod ApartLaws

@@ -6,7 +6,6 @@ use Rattle.std.proofs.lemmas.Int.{ints, int_min_is, int_max_is}
 use Rattle.std.proofs.lemmas.Bool.Decides.{nat_tests}
 use Rattle.far_types.specs.Effects.{join_min_maxes, merge_two}
 use Rattle.far_extrema.specs.Spreads.{MinMaxes, at, IsFrom, IsBelow, IsTopOf, IsSet, AreSame, joined_to}
-use Rattle.far_extrema.specs.Tournaments.{IsParted}
 
 min_swap : (x y : ℤ) → int_min x y ≡ int_min y x
 min_swap x y = omega (arith, ints, int_min_is x y, int_min_is y x)
@@ -46,11 +45,11 @@ exchange o p q r =
     ∙ sym (regroup o q (merge_two join_min_maxes p r))
 
 -- the first of two that is there
-abbrev first_of : Option (ℤ × ℤ) → Option (ℤ × ℤ) → Option (ℤ × ℤ)
+abbrev pub first_of : Option (ℤ × ℤ) → Option (ℤ × ℤ) → Option (ℤ × ℤ)
 first_of None p = p
 first_of (Some s) p = Some s
 
-at-append : (xs ys : MinMaxes) (q : ℕ) → at (xs ++ ys) q ≡ first_of (at xs q) (at ys q)
+pub at-append : (xs ys : MinMaxes) (q : ℕ) → at (xs ++ ys) q ≡ first_of (at xs q) (at ys q)
 at-append [] ys q = refl
 at-append (x ∷ xs) ys q =
     elim (q == x.0) as (λ b. cond b (Some x.1) (at (xs ++ ys) q) ≡ first_of (cond b (Some x.1) (at xs q)) (at ys q)) [
@@ -58,7 +57,7 @@ at-append (x ∷ xs) ys q =
       | false ↦ at-append xs ys q
     ]
 
-first_none : (o : Option (ℤ × ℤ)) → first_of o None ≡ o
+pub first_none : (o : Option (ℤ × ℤ)) → first_of o None ≡ o
 first_none None = refl
 first_none (Some s) = refl
 
@@ -70,7 +69,7 @@ at-before s xs ys q h l = at-append xs ys q ∙ ap (first_of (at xs q)) (h q l) 
 pub at-after : (s : ℕ) (xs ys : MinMaxes) (q : ℕ) → IsBelow s xs → s ≤ q → at (xs ++ ys) q ≡ at ys q
 at-after s xs ys q h l = at-append xs ys q ∙ ap (λ o. first_of o (at ys q)) (h q l)
 
-both_none : (o p : Option (ℤ × ℤ)) → first_of o p ≡ None → (o ≡ None) × (p ≡ None)
+pub both_none : (o p : Option (ℤ × ℤ)) → first_of o p ≡ None → (o ≡ None) × (p ≡ None)
 both_none None p h = (refl, h)
 both_none (Some s) p h = cc
 
@@ -147,15 +146,15 @@ off q g n = grind (arith, nat_tests)
 pub set_other : (xs xs' : MinMaxes) (g : ℕ) (o : Option (ℤ × ℤ)) (q : ℕ) → IsSet xs g o xs' → (q ≡ g → ⊥) → at xs' q ≡ at xs q
 set_other xs xs' g o q set n = set q ∙ ap (λ b. cond b o (at xs q)) (off q g n)
 
-set_here : (xs xs' : MinMaxes) (g : ℕ) (o : Option (ℤ × ℤ)) (q : ℕ) → IsSet xs g o xs' → q ≡ g → at xs' q ≡ o
+pub set_here : (xs xs' : MinMaxes) (g : ℕ) (o : Option (ℤ × ℤ)) (q : ℕ) → IsSet xs g o xs' → q ≡ g → at xs' q ≡ o
 set_here xs xs' g o q set e =
     let own : (q == g) ≡ true = grind (arith, nat_tests) in
     set q ∙ ap (λ b. cond b o (at xs q)) own
 
-from-set : (low : ℕ) (xs xs' : MinMaxes) (g : ℕ) (o : Option (ℤ × ℤ)) → IsFrom low xs → low ≤ g → IsSet xs g o xs' → IsFrom low xs'
+pub from-set : (low : ℕ) (xs xs' : MinMaxes) (g : ℕ) (o : Option (ℤ × ℤ)) → IsFrom low xs → low ≤ g → IsSet xs g o xs' → IsFrom low xs'
 from-set low xs xs' g o h l set q k = set_other xs xs' g o q set (λ e. omega arith) ∙ h q k
 
-below-set : (high : ℕ) (xs xs' : MinMaxes) (g : ℕ) (o : Option (ℤ × ℤ)) → IsBelow high xs → g < high → IsSet xs g o xs' → IsBelow high xs'
+pub below-set : (high : ℕ) (xs xs' : MinMaxes) (g : ℕ) (o : Option (ℤ × ℤ)) → IsBelow high xs → g < high → IsSet xs g o xs' → IsBelow high xs'
 below-set high xs xs' g o h l set q k = set_other xs xs' g o q set (λ e. omega arith) ∙ h q k
 
 -- a row group in which a key occurs is not before all
@@ -164,67 +163,6 @@ held-from low xs g h held = elim (order g low) [ inl l ↦ absurd (held (h g l))
 
 pub held-below : (high : ℕ) (xs : MinMaxes) (g : ℕ) → IsBelow high xs → (at xs g ≡ None → ⊥) → g < high
 held-below high xs g h held = elim (order g high) [ inl l ↦ l | inr l ↦ absurd (held (h g l)) ]
-
--- the first part changes at a row group of its own
-pub unchanged-before : (first split last : ℕ) (xs xs' ys : MinMaxes) (g : ℕ) (o : Option (ℤ × ℤ)) (a b : Option (ℤ × ℤ)) → IsParted first split last xs ys → first ≤ g → g < split → IsSet xs g o xs' → IsTopOf xs' a → IsTopOf ys b
-    → (IsTopOf (xs' ++ ys) (merge_two join_min_maxes a b) × IsParted first split last xs' ys) × IsSet (xs ++ ys) g o (xs' ++ ys)
-unchanged-before first split last xs xs' ys g o a b (from, below, from_split, below_last, low, high) l k set t u =
-    let below' = below-set split xs xs' g o below k set in (
-      (top-both split xs' ys a b below' from_split t u, (from-set first xs xs' g o from l set, below', from_split, below_last, low, high)),
-      λ q. at-append xs' ys q ∙ both q (order q split),
-    ) where
-      both : (q : ℕ) → (q < split) ⊎ (split ≤ q) → first_of (at xs' q) (at ys q) ≡ cond (q == g) o (at (xs ++ ys) q)
-      both q (inl m) = ap (first_of (at xs' q)) (from_split q m) ∙ first_none (at xs' q) ∙ set q ∙ ap (cond (q == g) o) (sym (at-before split xs ys q from_split m))
-      both q (inr m) =
-          ap (λ p. first_of p (at ys q)) (set_other xs xs' g o q set (λ e. omega arith) ∙ below q m)
-          ∙ sym (ap (λ c. cond c o (at (xs ++ ys) q)) (off q g (λ e. omega arith)) ∙ at-after split xs ys q below m)
-
--- and so does the second
-pub unchanged-after : (first split last : ℕ) (xs ys ys' : MinMaxes) (g : ℕ) (o : Option (ℤ × ℤ)) (a b : Option (ℤ × ℤ)) → IsParted first split last xs ys → split ≤ g → g ≤ last → IsSet ys g o ys' → IsTopOf xs a → IsTopOf ys' b
-    → (IsTopOf (xs ++ ys') (merge_two join_min_maxes a b) × IsParted first split last xs ys') × IsSet (xs ++ ys) g o (xs ++ ys')
-unchanged-after first split last xs ys ys' g o a b (from, below, from_split, below_last, low, high) l k set t u =
-    let from' = from-set split ys ys' g o from_split l set in (
-      (top-both split xs ys' a b below from' t u, (from, below, from', below-set (last + 1) ys ys' g o below_last (omega arith) set, low, high)),
-      λ q. at-append xs ys' q ∙ both q (order q split),
-    ) where
-      both : (q : ℕ) → (q < split) ⊎ (split ≤ q) → first_of (at xs q) (at ys' q) ≡ cond (q == g) o (at (xs ++ ys) q)
-      both q (inl m) =
-          ap (first_of (at xs q)) (set_other ys ys' g o q set (λ e. omega arith) ∙ from_split q m) ∙ first_none (at xs q)
-          ∙ sym (ap (λ c. cond c o (at (xs ++ ys) q)) (off q g (λ e. omega arith)) ∙ at-before split xs ys q from_split m)
-      both q (inr m) =
-          ap (λ p. first_of p (at ys' q)) (below q m) ∙ set q ∙ ap (cond (q == g) o) (sym (at-after split xs ys q below m))
-
--- two parts are in the range of both
-pub reach-parted : (first split last : ℕ) (xs ys : MinMaxes) → IsParted first split last xs ys → IsFrom first (xs ++ ys) × IsBelow (last + 1) (xs ++ ys)
-reach-parted first split last xs ys (from, below, from_split, below_last, low, high) = (
-  λ q l. at-append xs ys q ∙ ap (λ p. first_of p (at ys q)) (from q l) ∙ from_split q (omega arith),
-  λ q l. at-append xs ys q ∙ ap (λ p. first_of p (at ys q)) (below q (omega arith)) ∙ below_last q l,
-)
-
--- a row group more, after all
-pub added-after : (first split last : ℕ) (xs : MinMaxes) (g : ℕ) (a : Option (ℤ × ℤ)) (x : ℤ × ℤ) → IsFrom first xs → IsBelow split xs → split ≤ g → g ≤ last → first < split → IsTopOf xs a
-    → (IsTopOf (xs ++ (g, x) ∷ []) (merge_two join_min_maxes a (Some x)) × IsParted first split last xs ((g, x) ∷ [])) × IsSet xs g (Some x) (xs ++ (g, x) ∷ [])
-added-after first split last xs g a x from below l k m t =
-    let alone : (q : ℕ) → (q ≡ g → ⊥) → at ((g, x) ∷ []) q ≡ None = λ q n. ap (λ b. cond b (Some x) None) (off q g n) in
-    let from_split : IsFrom split ((g, x) ∷ []) = λ q h. alone q (λ e. omega arith) in
-    let below_last : IsBelow (last + 1) ((g, x) ∷ []) = λ q h. alone q (λ e. omega arith) in (
-      (top-both split xs ((g, x) ∷ []) a (Some x) below from_split t (top-one g x), (from, below, from_split, below_last, m, omega arith)),
-      λ q. at-append xs ((g, x) ∷ []) q ∙ at_last q (order q split),
-    ) where
-      at_last : (q : ℕ) → (q < split) ⊎ (split ≤ q) → first_of (at xs q) (cond (q == g) (Some x) None) ≡ cond (q == g) (Some x) (at xs q)
-      at_last q (inl h) =
-          let n : (q == g) ≡ false = off q g (λ e. omega arith) in
-          ap (λ b. first_of (at xs q) (cond b (Some x) None)) n ∙ first_none (at xs q) ∙ sym (ap (λ b. cond b (Some x) (at xs q)) n)
-      at_last q (inr h) = ap (λ p. first_of p (cond (q == g) (Some x) None)) (below q h) ∙ sym (ap (cond (q == g) (Some x)) (below q h))
-
--- or before all
-pub added-before : (first split last : ℕ) (ys : MinMaxes) (g : ℕ) (a : Option (ℤ × ℤ)) (x : ℤ × ℤ) → IsFrom split ys → IsBelow (last + 1) ys → g < split → first ≤ g → split ≤ last → IsTopOf ys a
-    → (IsTopOf ((g, x) ∷ ys) (merge_two join_min_maxes (Some x) a) × IsParted first split last ((g, x) ∷ []) ys) × IsSet ys g (Some x) ((g, x) ∷ ys)
-added-before first split last ys g a x from_split below_last l k m t =
-    let alone : (q : ℕ) → (q ≡ g → ⊥) → at ((g, x) ∷ []) q ≡ None = λ q n. ap (λ b. cond b (Some x) None) (off q g n) in
-    let from : IsFrom first ((g, x) ∷ []) = λ q h. alone q (λ e. omega arith) in
-    let below : IsBelow split ((g, x) ∷ []) = λ q h. alone q (λ e. omega arith) in
-    ((top-both split ((g, x) ∷ []) ys (Some x) a below from_split (top-one g x) t, (from, below, from_split, below_last, omega arith, m)), λ q. refl)
 
 none_of : (o p : Option (ℤ × ℤ)) → merge_two join_min_maxes o p ≡ None → (o ≡ None) × (p ≡ None)
 none_of None p h = (refl, h)
@@ -241,7 +179,7 @@ none_below f (suc n) h q l =
     ]
 
 -- past some number there is none
-bounded : (xs : MinMaxes) → (n : ℕ) × IsBelow n xs
+pub bounded : (xs : MinMaxes) → (n : ℕ) × IsBelow n xs
 bounded [] = (0, λ q l. refl)
 bounded (x ∷ xs) =
     let rest = bounded xs in (
@@ -276,9 +214,10 @@ put-again xs g x there q = elim (q == g) as (λ b. (q == g) ≡ b → at xs q �
   | false ↦ λ e. refl
 ] refl
 
--- out of the range of two parts there is none
-pub absent-parted : (first split last : ℕ) (xs ys : MinMaxes) (g : ℕ) → IsParted first split last xs ys → (first ≤ g → last < g) → at (xs ++ ys) g ≡ None
-absent-parted first split last xs ys g parted out = elim (order g first) [
-  | inl l ↦ (reach-parted first split last xs ys parted).0 g l
-  | inr l ↦ let past = out l in (reach-parted first split last xs ys parted).1 g (omega arith)
-]
+-- a list of which nothing stands anywhere is empty
+pub empty_of : (xs : MinMaxes) → IsTopOf xs None → xs ≡ []
+empty_of [] t = refl
+empty_of (x ∷ xs) t =
+    let own : (x.0 == x.0) ≡ true = grind (arith, nat_tests) in
+    let none : Some x.1 ≡ None = sym (ap (λ b. cond b (Some x.1) (at xs x.0)) own) ∙ vacant (x ∷ xs) t x.0 in
+    absurd (some_none x.1 none)

@@ -6,18 +6,13 @@ use Rattle.std.specs.FinMap as fin
 use Rattle.far_types.specs.declared.key.Key.{Key}
 use Rattle.far_types.specs.Keys.{line_cmp}
 use Rattle.far_types.specs.Answers.{ByKey, Extrema}
-use Rattle.far_extrema.specs.Spreads.{MinMaxes, Spread, at, IsTopOf, IsSet}
+use Rattle.far_extrema.specs.Spreads.{MinMaxes, at, IsTopOf, IsSet}
 
 -- the min-maxes of the row groups in which a key occurs, their joined min-max, and whether the key is reserved for one more
 pub record Holding : Type 0 where
   pub min_maxes : MinMaxes
   pub top : Option (ℤ × ℤ)
   pub reserved : Bool
-
--- what is held of a key: its spread, if it has one, and whether it is reserved
-abbrev pub held : Option Spread → Bool → Holding
-held None reserved = record { min_maxes = []; top = None; reserved = reserved }
-held (Some spread) reserved = record { min_maxes = spread.min_maxes; top = spread.top; reserved = reserved }
 
 -- for each key the row groups in which it occurs
 abbrev pub Holders : Type 0

@@ -6,15 +6,6 @@ use Rattle.far_types.specs.Effects.{join_min_maxes, merge_two}
 abbrev pub MinMaxes : Type 0
 MinMaxes = List (ℕ × (ℤ × ℤ))
 
--- the min-maxes of the row groups in which a key occurs, and their joined min-max if there are some. The depth is the most branches on the
--- way to one, and the range from the first to the last has them all
-pub record Spread : Type 0 where
-  pub min_maxes : MinMaxes
-  pub top : Option (ℤ × ℤ)
-  pub depth : ℕ
-  pub first : ℕ
-  pub last : ℕ
-
 -- the min-max of a row group
 abbrev pub at : MinMaxes → ℕ → Option (ℤ × ℤ)
 at [] q = None

@@ -1,29 +1,126 @@
 // The row groups of one key.
 ghost use Rattle.std.specs.Prelude.{◌≡◌, ◌≢◌, ◌∷◌, [], None, Some, true, false, IsTrue, OnOk, OnErr, IfOk, IfErr};
 ghost use Rattle.far_types.specs.Effects.{min_max_with};
-ghost use Rattle.far_extrema.specs.Spreads.{at, IsSet, IsTopOf};
+ghost use Rattle.far_extrema.specs.Spreads.{at, IsSet, AreSame, IsTopOf};
+ghost use Rattle.far_extrema.specs.Runs.{with_last, min_maxes_of, top_of, is_of, IsApart};
 
-use super::min_max::MinMax;
+use super::min_max::{MinMax, either};
 use super::rows_left::RowsLeft;
-use super::tournament::{Spare, Tournament};
+use super::runs::Runs;
 use far_types::Refusal;
 use std::alloc::Global;
 use std::marker::Model;
 
 /// The row groups in which a key occurs, and whether memory for one more of them is reserved. A key that is only reserved occurs in none.
+///
+/// The last row group that was added stands beside the others. Its place is the reserved memory.
 #[derive(Drop)]
 pub struct Holder {
-    groups: Option<Tournament>,
-    spare: Option<Spare>,
+    last: Option<(u32, MinMax)>,
+    reserved: bool,
+    others: Option<Box<Runs>>,
 }
 
 impl Model for Holder {
-    ghost use Rattle.std.specs.Prelude.{is_some};
-    ghost use Rattle.far_extrema.specs.Holders.{Holding, held};
+    ghost use Rattle.std.specs.Prelude.{◌≡◌, true, None};
+    ghost use Rattle.far_types.specs.Effects.{join_min_maxes, merge_two};
+    ghost use Rattle.far_extrema.specs.Holders.{Holding};
+    ghost use Rattle.far_extrema.specs.Runs.{with_last, min_maxes_of, top_of, value_of, IsApart};
 
     ghost Value = { Holding };
 
-    ghost view = { λ holder. held holder.groups (is_some holder.spare) };
+    ghost view = { λ holder. record { min_maxes = with_last holder.last (min_maxes_of holder.others); top = merge_two join_min_maxes (top_of holder.others) (value_of holder.last); reserved = holder.reserved } };
+
+    ghost invariant = { λ holder. IsApart holder.last (min_maxes_of holder.others) × (holder.reserved ≡ true → holder.last ≡ None) };
+}
+
+/// Returns whether it is this row group.
+fn is_at(last: &Option<(u32, MinMax)>, group: u32) -> bool
+    ensures { result ≡ is_of last.now group }
+{
+    match last {
+        Some((last, _)) => group == *last,
+        None => false,
+    }
+}
+
+/// Adds a row group to the others. Refused with `NoMemory` (1) alone. Then nothing is changed.
+fn add_to(
+    others: &mut Option<Box<Runs>>,
+    alloc: Global,
+    group: u32,
+    min_max: MinMax,
+) -> Result<(), Refusal>
+    requires { at (min_maxes_of others.old) group ≡ None }
+    ensures ok { OnOk result (IsSet (min_maxes_of others.old) group (Some min_max) (min_maxes_of others.new)) }
+    ensures err { OnErr result (others.new ≡ others.old) }
+    ensures memory { IfErr result (λ e. e ≡ Refusal.NoMemory) }
+{
+    match others {
+        Some(runs) => runs.add(alloc, group, min_max),
+        None => {
+            let mut runs = Box::new(alloc, Runs::new(alloc))?;
+            runs.add(alloc, group, min_max)?;
+            *others = Some(runs);
+            Ok(())
+        }
+    }
+}
+
+/// Adds the last row group to the others, if there is one. Refused with `NoMemory` (1) alone. Then nothing is changed.
+fn settle(
+    last: &Option<(u32, MinMax)>,
+    others: &mut Option<Box<Runs>>,
+    alloc: Global,
+) -> Result<(), Refusal>
+    requires { IsApart last.now (min_maxes_of others.old) }
+    ensures ok { OnOk result (AreSame (with_last last.now (min_maxes_of others.old)) (min_maxes_of others.new)) }
+    ensures err { OnErr result (others.new ≡ others.old) }
+    ensures memory { IfErr result (λ e. e ≡ Refusal.NoMemory) }
+{
+    if let Some((group, min_max)) = last {
+        add_to(others, alloc, *group, *min_max)?;
+    }
+    Ok(())
+}
+
+/// Sets the min-max of one of the others. Allocates nothing.
+fn put_in(others: &mut Option<Box<Runs>>, group: u32, min_max: MinMax)
+    requires { at (min_maxes_of others.old) group ≢ None }
+    ensures { IsSet (min_maxes_of others.old) group (Some min_max) (min_maxes_of others.new) }
+{
+    match others {
+        Some(runs) => runs.put(group, min_max),
+        None => unreachable!(),
+    }
+}
+
+/// Removes one of the others. Allocates nothing.
+fn leave_in(others: &mut Option<Box<Runs>>, group: u32)
+    requires { at (min_maxes_of others.old) group ≢ None }
+    ensures { IsSet (min_maxes_of others.old) group None (min_maxes_of others.new) }
+{
+    match others {
+        Some(runs) => {
+            runs.leave(group);
+            if !runs.is_empty() {
+                return;
+            }
+        }
+        None => unreachable!(),
+    }
+    *others = None;
+}
+
+/// Returns the joined min-max of the others, or `None` if there is none.
+fn top_in(others: &Option<Box<Runs>>) -> Option<MinMax>
+    ensures is { result ≡ top_of others.now }
+    ensures top { IsTopOf (min_maxes_of others.now) result }
+{
+    match others {
+        Some(runs) => runs.top(),
+        None => None,
+    }
 }
 
 impl Holder {
@@ -33,19 +130,21 @@ impl Holder {
         ensures reserved { result.reserved ≡ false }
     {
         Holder {
-            groups: Some(Tournament::new(group, min_max)),
-            spare: None,
+            last: Some((group, min_max)),
+            reserved: false,
+            others: None,
         }
     }
 
     /// Makes a holder without a row group, with memory for one. Allocates nothing.
-    pub fn with_spare(spare: Spare) -> Holder
+    pub fn with_place() -> Holder
         ensures min_maxes { result.min_maxes ≡ [] }
         ensures reserved { result.reserved ≡ true }
     {
         Holder {
-            groups: None,
-            spare: Some(spare),
+            last: None,
+            reserved: true,
+            others: None,
         }
     }
 
@@ -53,8 +152,13 @@ impl Holder {
     pub fn min_max(&self, group: u32) -> Option<MinMax>
         ensures { result ≡ at self.now.min_maxes group }
     {
-        match &self.groups {
-            Some(groups) => groups.min_max(group),
+        if let Some((last, min_max)) = &self.last {
+            if *last == group {
+                return Some(*min_max);
+            }
+        }
+        match &self.others {
+            Some(runs) => runs.min_max(group),
             None => None,
         }
     }
@@ -64,9 +168,9 @@ impl Holder {
         ensures is { result ≡ self.now.top }
         ensures top { IsTopOf self.now.min_maxes result }
     {
-        match &self.groups {
-            Some(groups) => groups.top(),
-            None => None,
+        match &self.last {
+            Some((_, min_max)) => either(top_in(&self.others), Some(*min_max)),
+            None => top_in(&self.others),
         }
     }
 
@@ -75,19 +179,19 @@ impl Holder {
         ensures min_maxes { IsTrue result → self.now.min_maxes ≡ [] }
         ensures reserved { IsTrue result → self.now.reserved ≡ false }
     {
-        self.groups.is_none() && self.spare.is_none()
+        self.last.is_none() && !self.reserved && self.others.is_none()
     }
 
     /// Reserves memory for one more row group. Refused with `NoMemory` (1) alone. Then nothing is changed.
     pub fn reserve(&mut self, alloc: Global) -> Result<(), Refusal>
-        ensures min_maxes { self.new.min_maxes ≡ self.old.min_maxes }
+        ensures min_maxes { AreSame self.old.min_maxes self.new.min_maxes }
         ensures reserved { OnOk result (self.new.reserved ≡ true) }
         ensures err { OnErr result (self.new ≡ self.old) }
         ensures memory { IfErr result (λ e. e ≡ Refusal.NoMemory) }
     {
-        if self.spare.is_none() {
-            self.spare = Some(Spare::new(alloc)?);
-        }
+        settle(&self.last, &mut self.others, alloc)?;
+        self.last = None;
+        self.reserved = true;
         Ok(())
     }
 
@@ -99,14 +203,11 @@ impl Holder {
         ensures err { OnErr result (self.new ≡ self.old) }
         ensures memory { IfErr result (λ e. e ≡ Refusal.NoMemory) }
     {
-        match &mut self.groups {
-            Some(groups) => {
-                if !groups.set(group, Some(min_max)) {
-                    groups.add(Spare::new(alloc)?, group, min_max);
-                }
-            }
-            None => self.groups = Some(Tournament::new(group, min_max)),
+        if self.reserved {
+            return add_to(&mut self.others, alloc, group, min_max);
         }
+        settle(&self.last, &mut self.others, alloc)?;
+        self.last = Some((group, min_max));
         Ok(())
     }
 
@@ -157,17 +258,8 @@ impl Holder {
         requires new { at self.old.min_maxes group ≡ None }
         ensures { IsSet self.old.min_maxes group (Some min_max) self.new.min_maxes }
     {
-        match self.spare.take() {
-            Some(spare) => match &mut self.groups {
-                Some(groups) => {
-                    if !groups.set(group, Some(min_max)) {
-                        groups.add(spare, group, min_max);
-                    }
-                }
-                None => self.groups = Some(Tournament::new(group, min_max)),
-            },
-            None => unreachable!(),
-        }
+        self.last = Some((group, min_max));
+        self.reserved = false;
     }
 
     /// Sets the min-max of a row group in which the key occurs. Allocates nothing.
@@ -176,14 +268,11 @@ impl Holder {
         ensures min_maxes { IsSet self.old.min_maxes group (Some min_max) self.new.min_maxes }
         ensures reserved { self.new.reserved ≡ self.old.reserved }
     {
-        match &mut self.groups {
-            Some(groups) => {
-                if !groups.set(group, Some(min_max)) {
-                    unreachable!();
-                }
-            }
-            None => unreachable!(),
+        if is_at(&self.last, group) {
+            self.last = Some((group, min_max));
+            return;
         }
+        put_in(&mut self.others, group, min_max);
     }
 
     /// Removes a row group. Allocates nothing.
@@ -192,18 +281,11 @@ impl Holder {
         ensures min_maxes { IsSet self.old.min_maxes group None self.new.min_maxes }
         ensures reserved { self.new.reserved ≡ self.old.reserved }
     {
-        match &mut self.groups {
-            Some(groups) => {
-                if !groups.set(group, None) {
-                    unreachable!();
-                }
-                if groups.top().is_some() {
-                    return;
-                }
-            }
-            None => unreachable!(),
+        if is_at(&self.last, group) {
+            self.last = None;
+            return;
         }
-        self.groups = None;
+        leave_in(&mut self.others, group);
     }
 
     /// Removes a value from a row group. `rows` are the rows that are left, which it reads only if the value was the least or the greatest.

@@ -14,7 +14,6 @@ use super::holder::Holder;
 use super::min_max::MinMax;
 use super::min_maxes::MinMaxes;
 use super::rows_left::RowsLeft;
-use super::tournament::Spare;
 use far_types::{Key, Refusal, clone_key};
 use std::alloc::Global;
 use std::collections::BTreeMap;
@@ -129,8 +128,7 @@ fn reserve_in(holders: &mut Holders, alloc: Global, key: &Option<Key>) -> Result
     match holders.get_mut(key) {
         Some(holder) => holder.reserve(alloc),
         None => {
-            let spare = Spare::new(alloc)?;
-            holders.insert(clone_key(key)?, Holder::with_spare(spare))?;
+            holders.insert(clone_key(key)?, Holder::with_place())?;
             Ok(())
         }
     }

@@ -3,9 +3,7 @@
 //!
 //! They are kept row group by row group. So if a row group loses a row, only its rows are read again.
 
-mod block;
 pub mod group_extrema;
-mod group_range;
 mod holder;
 mod holders;
 pub mod laws;
@@ -13,7 +11,8 @@ pub mod live_extrema;
 mod min_max;
 mod min_maxes;
 pub mod rows_left;
-mod tournament;
+mod run;
+mod runs;
 
 pub use group_extrema::GroupExtrema;
 pub use live_extrema::LiveExtrema;

@@ -18,8 +18,8 @@ use std::marker::Model;
 /// The least and the greatest value under each key, kept up to date row group by row group. It also counts the row groups that are pending:
 /// not yet scanned.
 ///
-/// Each key has a tournament of the row groups in which it occurs. So a changed min-max costs a look-up by key, and a few steps for each
-/// doubling of the row groups. The cost of an answer does not depend on the row groups.
+/// Each key has the row groups in which it occurs in runs of at most 64. So a changed min-max costs a look-up by key, a search for the run,
+/// and one in it. The cost of an answer does not depend on the row groups.
 ///
 /// The first row under a key in row group 1 had none before it. Each further row returns the min-max before it:
 ///

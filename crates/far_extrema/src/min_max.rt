@@ -1,6 +1,6 @@
 // The least and the greatest of some values.
 ghost use Rattle.std.specs.Prelude.{◌≡◌, ◌≤ℤ◌, ◌<ℤ◌, Some, IsTrue, ◌↔◌};
-ghost use Rattle.far_types.specs.Effects.{join_min_maxes, min_max_with};
+ghost use Rattle.far_types.specs.Effects.{join_min_maxes, merge_two, min_max_with};
 
 use std::marker::Model;
 
@@ -81,5 +81,32 @@ impl MinMax {
         ensures { IsTrue result ↔ ((self.0 <ℤ value) × (value <ℤ self.1)) }
     {
         self.min < value && value < self.max
+    }
+
+    /// Returns whether another min-max is within this one, its ends included.
+    #[inline(always)]
+    pub fn covers(self, less: MinMax) -> bool
+        ensures { IsTrue result → (self.0 ≤ℤ less.0) × (less.1 ≤ℤ self.1) }
+    {
+        self.min <= less.min && less.max <= self.max
+    }
+
+    /// Returns whether another min-max is strictly within this one, its ends excluded.
+    #[inline(always)]
+    pub fn surpasses(self, less: MinMax) -> bool
+        ensures { IsTrue result → (self.0 <ℤ less.0) × (less.1 <ℤ self.1) }
+    {
+        self.min < less.min && less.max < self.max
+    }
+}
+
+/// Joins two min-maxes, as far as they are there.
+pub fn either(min_max: Option<MinMax>, more: Option<MinMax>) -> Option<MinMax>
+    ensures { result ≡ merge_two join_min_maxes min_max more }
+{
+    match (min_max, more) {
+        (Some(min_max), Some(more)) => Some(min_max.merge_two(more)),
+        (Some(min_max), None) => Some(min_max),
+        (None, more) => more,
     }
 }

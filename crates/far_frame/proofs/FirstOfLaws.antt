@@ -26,7 +26,7 @@ free-plain ((true, e) ∷ xs) a n c d free = absurd cc
 free-plain ((false, e) ∷ xs) a n c d free = free-plain xs a n c d free
 
 module _ (P : Refusal → Type 0) where
-  found-last : (n : List (Bool × Refusal)) (d : Bool × Refusal) (g : Refusal) → AllTell P n → first_of (n ++ d ∷ []) ≡ Some g → (first_of (d ∷ []) ≡ Some g) ⊎ P g
+  pub found-last : (n : List (Bool × Refusal)) (d : Bool × Refusal) (g : Refusal) → AllTell P n → first_of (n ++ d ∷ []) ≡ Some g → (first_of (d ∷ []) ≡ Some g) ⊎ P g
   found-last [] d g all due = inl due
   found-last ((true, e) ∷ n) d g all due = (let is : e ≡ g = cc in inr (subst P is (all.0 refl)))
   found-last ((false, e) ∷ n) d g all due = found-last n d g all.1 due

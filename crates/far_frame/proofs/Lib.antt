@@ -8,6 +8,8 @@ mod ViewsLaws
 mod EffectsLaws
 mod WaitingLaws
 mod WorldsLaws
+mod CarryingLaws
+mod ObjectsLaws
 pub mod LendingLaws
 mod LendingReplies
 mod LendingAccesses
@@ -16,3 +18,14 @@ mod WaitingNumbers
 pub mod FirstOfLaws
 pub mod PlainEditsLaws
 mod JobsAcceptance
+mod TableLaws
+mod TableObjects
+mod TablePins
+mod TableRows
+mod MovementAway
+mod RowsAway
+mod TableNames
+mod TableChunks
+mod TableDue
+mod TableRenewal
+mod TableKept

@@ -23,22 +23,22 @@ use Rattle.far_columns.specs.NumbersTogether.{NumberColumns, objects_after_push_
 use Rattle.far_texts.specs.Texts.{Texts}
 use Rattle.far_texts.specs.Together.{after_create_all}
 
-false-true : {A : Type 0} → false ≡ true → A
+pub false-true : {A : Type 0} → false ≡ true → A
 false-true h = absurd (let on : true ≡ false = sym h in cc)
 
 -- one element is changed
 module _ {X : Type 0} (change : X → X) where
-  abbrev with_changed : List X → ℕ → List X
+  abbrev pub with_changed : List X → ℕ → List X
   with_changed xs o = option_map_or (λ x. slice_set xs o (change x)) (slice_get xs o) xs
 
-  changed-later : (x : X) (xs : List X) (o : ℕ) → with_changed (x ∷ xs) (suc o) ≡ x ∷ with_changed xs o
+  pub changed-later : (x : X) (xs : List X) (o : ℕ) → with_changed (x ∷ xs) (suc o) ≡ x ∷ with_changed xs o
   changed-later x xs o = found (slice_get xs o) where
     found : (at : Option X) → option_map_or (λ y. slice_set (x ∷ xs) (suc o) (change y)) at (x ∷ xs) ≡ x ∷ option_map_or (λ y. slice_set xs o (change y)) at xs
     found None = refl
     found (Some y) = refl
 
   -- what the change does not touch is seen as before, of every element
-  reads-same : {A : Type 0} (reading : Option X → A) → ((x : X) → reading (Some (change x)) ≡ reading (Some x)) → (xs : List X) (o p : ℕ) → reading (slice_get (with_changed xs o) p) ≡ reading (slice_get xs p)
+  pub reads-same : {A : Type 0} (reading : Option X → A) → ((x : X) → reading (Some (change x)) ≡ reading (Some x)) → (xs : List X) (o p : ℕ) → reading (slice_get (with_changed xs o) p) ≡ reading (slice_get xs p)
   reads-same reading same [] o p = refl
   reads-same reading same (x ∷ xs) zero zero = same x
   reads-same reading same (x ∷ xs) zero (suc p) = refl
@@ -46,7 +46,7 @@ module _ {X : Type 0} (change : X → X) where
   reads-same reading same (x ∷ xs) (suc o) (suc p) = ap (λ (l : List X). reading (slice_get l (suc p))) (changed-later x xs o) ∙ reads-same reading same xs o p
 
 -- whether a word, if there is one, says that its object is local
-abbrev says_local : Option Pointer → Bool
+abbrev pub says_local : Option Pointer → Bool
 says_local word = is_some (option_and_then at_of word)
 
 local-after_mark : (word : Pointer) → says_local (Some (with_hot (with_dirty word) true)) ≡ says_local (Some word)
@@ -107,22 +107,22 @@ moved-local (r ∷ rs) region words p =
 
 module _ {K : Type 0} where
   -- how many pins a record, if there is one, says
-  abbrev says_pins : Option (ObjectRecord K) → ℕ
+  abbrev pub says_pins : Option (ObjectRecord K) → ℕ
   says_pins object_record = option_map_or (λ e. e.pins) object_record 0
 
-  pins-more : (records : List (ObjectRecord K)) (name : Name) (n p : ℕ) → says_pins (slice_get (records ++ new_record name n ∷ []) p) ≡ says_pins (slice_get records p)
+  pub pins-more : (records : List (ObjectRecord K)) (name : Name) (n p : ℕ) → says_pins (slice_get (records ++ new_record name n ∷ []) p) ≡ says_pins (slice_get records p)
   pins-more [] name n zero = refl
   pins-more [] name n (suc p) = refl
   pins-more (e ∷ records) name n zero = refl
   pins-more (e ∷ records) name n (suc p) = pins-more records name n p
 
-  pins-lens : {X : Type 0} (rs : List (Replacement X)) (records : List (ObjectRecord K)) (p : ℕ) → says_pins (slice_get (with_lens records rs) p) ≡ says_pins (slice_get records p)
+  pub pins-lens : {X : Type 0} (rs : List (Replacement X)) (records : List (ObjectRecord K)) (p : ℕ) → says_pins (slice_get (with_lens records rs) p) ≡ says_pins (slice_get records p)
   pins-lens [] records p = refl
   pins-lens (r ∷ rs) records p =
       pins-lens rs (with_record records r.object (λ object_record. record object_record { len = length r.list.items })) p
       ∙ reads-same (λ (object_record : ObjectRecord K). record object_record { len = length r.list.items }) says_pins (λ e. refl) records r.object p
 
-  abbrev one_less : ObjectRecord K → ObjectRecord K
+  abbrev pub one_less : ObjectRecord K → ObjectRecord K
   one_less object_record = record object_record { pins = object_record.pins - 1 }
 
   -- if there is no pin none is taken off

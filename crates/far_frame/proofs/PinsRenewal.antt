@@ -45,7 +45,7 @@ module _ {K L : Type 0} where
   rows-local r tickets (object.Text o) = ap is_some (place-renewed r.text_objects.memory.words o)
 
   module _ (content : K → List ℕ) (new_content : L → List ℕ) where
-    rows-pinned : (r : Rows K) (tickets : RowsTickets L) → RenewsRows content new_content r tickets → (o : Object) → pins_at (renewed_rows r tickets) o ≡ pins_at r o
+    pub rows-pinned : (r : Rows K) (tickets : RowsTickets L) → RenewsRows content new_content r tickets → (o : Object) → pins_at (renewed_rows r tickets) o ≡ pins_at r o
     rows-pinned r tickets renews (object.Number o) = object_record-pins r.number_objects.records tickets.numbers renews.numbers.same_length o
     rows-pinned r tickets renews (object.Text o) = object_record-pins r.text_objects.records tickets.texts renews.texts.same_length o
 

@@ -181,7 +181,7 @@ module _ {K : Type 0} (content : K → List ℕ) (number_of : K → ℕ) where
   changed-rows old new s (reply.Job n) h = accepted-rows old new s (reply.Job n) h
   changed-rows old new s (reply.Next found) h = accepted-rows old new s (reply.Next found) h
 
-  commits-table : (old : State K) (w : WorkOf K) (new : State K) → Commits number_of old w new → new.table ≡ old.table
+  pub commits-table : (old : State K) (w : WorkOf K) (new : State K) → Commits number_of old w new → new.table ≡ old.table
   commits-table old (work.Carried carried) new h = h.changed.table
   commits-table old (work.Evac evac) new h = absurd h
   commits-table old (work.Fetch fetch) new h = absurd h
@@ -194,7 +194,7 @@ module _ {K : Type 0} (content : K → List ℕ) (number_of : K → ℕ) where
       let found : IsSomeAnd (Some job) (λ j. Commits number_of old.state j.work new.state) = subst (λ (o : Option (JobRecord K)). IsSomeAnd o (λ j. Commits number_of old.state j.work new.state)) is k.ended in
       pins (subst (λ (w : WorkOf K). Commits number_of old.state w new.state) phase found).changed.rows.free
 
-  installs-table : (old : State K) (w : WorkOf K) (new : State K) → Installs number_of old content w new → new.table ≡ old.table
+  pub installs-table : (old : State K) (w : WorkOf K) (new : State K) → Installs number_of old content w new → new.table ≡ old.table
   installs-table old (work.Fetched fetched) new h = h.changed.table
   installs-table old (work.Evac evac) new h = absurd h
   installs-table old (work.Carried carried) new h = absurd h

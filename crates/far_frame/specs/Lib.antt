@@ -9,4 +9,11 @@ pub mod Pins
 pub mod Views
 pub mod Jobs
 pub mod Renewing
+pub mod Carrying
+pub mod Ending
+pub mod Delivering
+pub mod Objects
 pub mod PlainEdits
+pub mod TableRefusals
+pub mod TableRuns
+pub mod TableViews

@@ -11,10 +11,12 @@ ghost use Rattle.far_frame.specs.Effects.{Accepts, Refuses};
 ghost use Rattle.far_frame.specs.State.{empty_state, live};
 ghost use Rattle.far_frame.specs.declared.step.Step.TheVariants as step;
 ghost use Rattle.far_frame.specs.declared.step.Reply.TheVariants as reply;
+ghost use Rattle.far_frame.specs.TableViews.{IsKept};
 
 mod lending;
 mod moving;
 mod offloading;
+mod reading;
 mod recounting;
 mod renewing;
 
@@ -220,6 +222,17 @@ impl<S: FarTickets> Frame<S> {
         ensures bounds { AreLimits self.now.table.limits }
     {
         self.table.rows().limits()
+    }
+
+    /// For the proof: gives what always holds of a table, its rows and their objects. It does nothing.
+    #[inline(always)]
+    pub(crate) fn keeps(&self)
+        ensures { IsKept S.content self.now }
+    {
+        let rows = self.table.rows();
+        let _limits = rows.limits();
+        let held = rows.held();
+        held.each_object_has_a_word();
     }
 
     /// Returns how many places there are, dead ones too. Allocates nothing.

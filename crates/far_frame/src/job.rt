@@ -1,7 +1,8 @@
 // Jobs that move objects, of every kind and in every phase.
-ghost use Rattle.std.specs.Prelude.{◌≡◌, ◌+◌, ◌<◌, ◌^◌, is_none, IfOk, IfErr};
+ghost use Rattle.std.specs.Prelude.{◌≡◌, ◌+◌, ◌<◌, ◌^◌, is_none, IfOk, IfErr, option_copied, option_map, slice_get};
 ghost use Rattle.far_store.specs.Faults.{faults_in, outcome};
 ghost use Rattle.far_frame.specs.Jobs.{IsWorkAt, IsWorkCarried, WorkRefusal, IsJobAt, IsCarried, CarryRefusal, is_offload, job_kind};
+ghost use Rattle.far_frame.specs.Carrying.{is_carried, outgoing_of, tickets_of_work, wanted_of};
 
 use far_rows::{RowsCarried, RowsEvac, RowsFetch, RowsFetched};
 use far_store::{FarStore, FarTickets, Meter};
@@ -137,6 +138,73 @@ impl<S: FarTickets> Job<S> {
         ensures offload { is_none result ≡ is_offload self.now.work }
     {
         self.name
+    }
+
+    /// Returns whether the job was carried. Allocates nothing.
+    pub fn is_carried(&self) -> bool
+        ensures { result ≡ is_carried self.now.work }
+    {
+        match &self.work {
+            JobPhase::Evac(_) => false,
+            JobPhase::Carried(_) => true,
+            JobPhase::Fetch(_) => false,
+            JobPhase::Fetched(_) => true,
+            JobPhase::Offload(_) => false,
+            JobPhase::Offloaded(_) => true,
+        }
+    }
+
+    /// Returns the number of the ticket under which the job put its object's far form, and borrows the bytes of that. `None`
+    /// unless it is a carried evacuation of an object that was dirty: of a clean one the store has the far form already.
+    /// Allocates nothing.
+    pub fn outgoing(&self, store: &S) -> Option<(u64, &[u8])>
+        requires here { IsJobAt S.is_of (S.store_id store.now) self.now }
+        ensures number { option_map (λ out. out.0) result ≡ option_map S.number_of (outgoing_of self.now.work) }
+        ensures bytes { option_map (λ out. out.1.now) result ≡ option_map S.content (outgoing_of self.now.work) }
+    {
+        match &self.work {
+            JobPhase::Carried(carried) => carried.outgoing(store),
+            JobPhase::Evac(_) => None,
+            JobPhase::Fetch(_) => None,
+            JobPhase::Fetched(_) => None,
+            JobPhase::Offload(_) => None,
+            JobPhase::Offloaded(_) => None,
+        }
+    }
+
+    /// Returns the ticket at an index of those whose contents the job reads, or has read; `None` if there are no more than
+    /// `index` of them. A fetch has one, an offloaded build one for each column that its aggregate needs, an evacuation none.
+    /// Allocates nothing.
+    pub fn ticket(&self, index: usize) -> Option<&S::Ticket>
+        ensures { option_copied result ≡ slice_get (tickets_of_work self.now.work) index }
+    {
+        match &self.work {
+            JobPhase::Evac(_) => None,
+            JobPhase::Carried(_) => None,
+            JobPhase::Fetch(fetch) => (index == 0).then_some(fetch.ticket()),
+            JobPhase::Fetched(fetched) => (index == 0).then_some(fetched.ticket()),
+            JobPhase::Offload(build) => build.ticket(index),
+            JobPhase::Offloaded(carried) => carried.ticket(index),
+        }
+    }
+
+    /// Returns the ticket of a number, of those whose contents the job has still to read; `None` if none has it, or the job was
+    /// carried. Allocates nothing.
+    pub fn wanted(&self, store: &S, number: u64) -> Option<&S::Ticket>
+        requires here { IsJobAt S.is_of (S.store_id store.now) self.now }
+        ensures { option_copied result ≡ wanted_of S.number_of self.now.work number }
+    {
+        match &self.work {
+            JobPhase::Evac(_) => None,
+            JobPhase::Carried(_) => None,
+            JobPhase::Fetch(fetch) => {
+                let ticket = fetch.ticket();
+                (store.number(ticket) == number).then_some(ticket)
+            }
+            JobPhase::Fetched(_) => None,
+            JobPhase::Offload(build) => build.ticket_of(store, number),
+            JobPhase::Offloaded(_) => None,
+        }
     }
 }
 

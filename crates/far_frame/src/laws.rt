@@ -39,6 +39,9 @@ ghost use Rattle.far_frame.specs.Waiting.{job_at, without_job};
 ghost use Rattle.far_frame.specs.State.{State, live};
 ghost use Rattle.far_frame.specs.Steps.{IsStep, IsRun};
 ghost use Rattle.far_frame.specs.Worlds.{AreNumbered, IsSpent, World};
+ghost use Rattle.far_frame.specs.TableRefusals.{TableState};
+ghost use Rattle.far_frame.specs.TableRuns.{ArePinnedLocal, IsTableRun, IsTableStep};
+ghost use Rattle.far_frame.specs.TableViews.{IsKept, table_of};
 
 use far_store::FarTickets;
 
@@ -186,4 +189,19 @@ pub fn a_number_names_one_job<S: FarTickets, N: FarTickets>()
 /// Serving lists of steps one after another is serving one list.
 pub fn runs_join<S: FarTickets>()
     ensures { (old : World S.Ticket) → (steps : List Step) → (replies : List Reply) → (mid : World S.Ticket) → (more : List Step) → (others : List Reply) → (new : World S.Ticket) → IsRun S.content S.number_of old steps replies mid → IsRun S.content S.number_of mid more others new → IsRun S.content S.number_of old (steps ++ more) (replies ++ others) new }
+{}
+
+/// A step of a world is a step of its table in a user's words.
+pub fn a_step_is_one_of_its_table<S: FarTickets>()
+    ensures { (old : World S.Ticket) → IsKept S.content old.state → (s : Step) → (given : Reply) → (new : World S.Ticket) → IsStep S.content S.number_of old s given new → IsTableStep (table_of old.state) s given (table_of new.state) }
+{}
+
+/// A chunk that has a pin is local, after any run of a table in a user's words.
+pub fn a_pinned_chunk_is_local()
+    ensures { (old : TableState) → (steps : List Step) → (replies : List Reply) → (new : TableState) → IsTableRun old steps replies new → ArePinnedLocal old → ArePinnedLocal new }
+{}
+
+/// After any run of a table in a user's words the rows are those of the plain list under the accepted edits.
+pub fn table_rows_are_those_of_the_plain_list()
+    ensures { (old : TableState) → (steps : List Step) → (replies : List Reply) → (new : TableState) → IsTableRun old steps replies new → new.table.places ≡ plain_rows steps replies old.table.places }
 {}

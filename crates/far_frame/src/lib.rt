@@ -5,7 +5,9 @@
 pub mod frame;
 pub mod job;
 pub mod laws;
+pub mod object;
 pub mod piece;
+pub mod space;
 pub mod step;
 pub mod view;
 mod waiting;
@@ -13,7 +15,9 @@ pub mod world;
 
 pub use frame::Frame;
 pub use job::{Job, JobKind};
+pub use object::ObjectState;
 pub use piece::{IntPiece, TextPiece};
+pub use space::Space;
 pub use step::{Reply, Step};
 pub use view::View;
 pub use world::{World, run};

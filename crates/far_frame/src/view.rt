@@ -83,7 +83,7 @@ impl<'a, S: FarTickets> View<'a, S> {
     ///
     /// - `NoRow` (8): the place is past the end.
     /// - `Absent` (16): an object of the place's row group is away. It names the first in the order of the columns.
-    pub fn row(&self, place: u32) -> Result<LentRow<'_>, Refusal>
+    pub fn row(&self, place: u32) -> Result<LentRow<'a>, Refusal>
         ensures row { IfOk result (λ row. option_map (λ p. p.cells) (slice_get self.now.table.places place) ≡ Some row) }
         ensures past { length self.now.table.places ≤ place → refusal_in result ≡ Some Refusal.NoRow }
         ensures refused { place < length self.now.table.places → refusal_in result ≡ first_of (absents self.now.rows (place / self.now.table.limits.group)) }
@@ -143,7 +143,7 @@ impl<'a, S: FarTickets> View<'a, S> {
     /// - `WrongKind` (5): the column is of texts.
     /// - `OutOfRange` (14): `from` is above `to`, or `to` is past the places.
     /// - `Absent` (16): the object of a row group with some of them is away. It names the first such.
-    pub fn ints(&self, column: u32, from: u32, to: u32) -> Result<Lents<'_, S>, Refusal>
+    pub fn ints(&self, column: u32, from: u32, to: u32) -> Result<Lents<'a, S>, Refusal>
         ensures lent { IfOk result (λ lents. map ints_lent lents ≡ lent_part self.now.table column from to) }
         ensures refused { refusal_in result ≡ ints_refusal self.now.rows column from to }
     {
@@ -164,7 +164,7 @@ impl<'a, S: FarTickets> View<'a, S> {
     /// - `WrongKind` (5): the column is of numbers.
     /// - `OutOfRange` (14): `from` is above `to`, or `to` is past the places.
     /// - `Absent` (16): the object of a row group with some of them is away. It names the first such.
-    pub fn texts(&self, column: u32, from: u32, to: u32) -> Result<TextCells<'_, S>, Refusal>
+    pub fn texts(&self, column: u32, from: u32, to: u32) -> Result<TextCells<'a, S>, Refusal>
         ensures cells { IfOk result (λ lent. map (λ cell. text_cell cell.0) lent ≡ part column from to self.now.table.places) }
         ensures flags { IfOk result (λ lent. map (λ cell. cell.1) lent ≡ slice_range (flags_of self.now.table.places) from to) }
         ensures refused { refusal_in result ≡ texts_refusal self.now.rows column from to }
@@ -184,7 +184,7 @@ impl<'a, S: FarTickets> View<'a, S> {
     /// - `WrongKind` (5): the column is of numbers.
     /// - `NoRow` (8): the place is past the end.
     /// - `Absent` (16): the object of the place's row group is away.
-    pub fn text(&self, column: u32, place: u32) -> Result<Option<&str>, Refusal>
+    pub fn text(&self, column: u32, place: u32) -> Result<Option<&'a str>, Refusal>
         ensures text { IfOk result (λ text. slice_get (column_of column self.now.table.places) place ≡ Some (text_cell (option_copied text))) }
         ensures refused { refusal_in result ≡ text_refusal self.now.rows column place }
     {

@@ -1,5 +1,5 @@
 // The jobs of a world, by number.
-ghost use Rattle.std.specs.Prelude.{◌≡◌, ◌+◌, ◌<◌, ◌^◌, [], None, Some, IfSome, IfErr, OnOk, OnErr, cond, option_copied};
+ghost use Rattle.std.specs.Prelude.{◌≡◌, ◌+◌, ◌<◌, ◌^◌, [], None, Some, IfSome, IfErr, OnOk, OnErr, cond, length, option_copied};
 ghost use Rattle.far_store.specs.Faults.{faults_in};
 ghost use Rattle.far_frame.specs.Jobs.{IsJobAt, CarryRefusal};
 ghost use Rattle.far_frame.specs.Waiting.{job_at, one_more, with_job, without_job, spends, AreJobsAt, IsCarriedAt, RefusalAt};
@@ -46,6 +46,13 @@ impl<S: FarTickets> Waiting<S> {
         }
     }
 
+    /// Returns how many numbers are not spent.
+    pub(crate) fn count(&self) -> u64
+        ensures { result ≡ length self.now }
+    {
+        self.jobs.len() as u64
+    }
+
     /// Takes the job of a number out, while it is carried.
     fn take(&mut self, n: u64) -> Option<Job<S>>
         ensures value { result ≡ job_at self.old n }
@@ -78,7 +85,7 @@ impl<S: FarTickets> Waiting<S> {
     }
 
     /// Spends the number of a job.
-    fn spend(&mut self, n: u64)
+    pub(crate) fn spend(&mut self, n: u64)
         ensures { self.new ≡ without_job self.old n }
     {
         let_go(self.jobs.remove(&n));

@@ -4,10 +4,16 @@ ghost use Rattle.far_scopes.specs.Refusing.{refusal_in};
 ghost use Rattle.far_rows.specs.Jobs.{AreAt};
 ghost use Rattle.far_frame.specs.Lending.{IsReplyOf, lend_refusal, lent_part};
 ghost use Rattle.far_frame.specs.Steps.{IsStep, IsRun};
+ghost use Rattle.far_frame.specs.TableRefusals.{due};
+ghost use Rattle.far_frame.specs.TableRuns.{IsTableStep, IsTableRun};
+ghost use Rattle.far_frame.specs.TableViews.{table_of};
 ghost use Rattle.far_frame.specs.Worlds.{IsSpent};
 
+mod carrying;
+mod delivering;
 mod jobs;
 mod lending;
+mod recounting;
 mod renewing;
 mod serving;
 
@@ -106,8 +112,11 @@ impl<S: FarStore> World<S> {
     #[inline(always)]
     pub fn edit(&mut self, edit: Edit) -> Reply
         ensures step { IsStep S.content S.number_of self.old (Step.Edit edit) result self.new }
+        ensures table { IsTableStep (table_of self.old.state) (Step.Edit edit) result (table_of self.new.state) }
         ensures faults { self.new.faults ≡ self.old.faults }
     {
+        // For the proof: gives what always holds of the table.
+        self.frame.keeps();
         serving::edit(&mut self.frame, edit)
     }
 
@@ -125,14 +134,31 @@ impl<S: FarStore> World<S> {
     pub fn record_lending(&mut self, column: u32, from: u32, to: u32) -> Result<(), Refusal>
         ensures ok { OnOk result ((given : Reply) × IsReplyOf (slice_get self.old.state.table.schema column) (lent_part self.old.state.table column from to) given × IsStep S.content S.number_of self.old (Step.Lend column from to) given self.new) }
         ensures refused { refusal_in result ≡ lend_refusal self.old.state.rows column from to }
+        ensures due { refusal_in result ≡ due (table_of self.old.state) (Step.Lend column from to) }
         ensures err { OnErr result (self.new ≡ self.old) }
+        ensures table { table_of self.new.state ≡ table_of self.old.state }
         ensures faults { self.new.faults ≡ self.old.faults }
     {
+        // For the proof: gives what always holds of the table.
+        self.frame.keeps();
         self.frame.record_lending(column, from, to)
     }
 
     /// Serves one step. It always has a reply. If that is a refusal, no row, column, aggregate or object changed.
     pub fn serve(&mut self, step: Step) -> Reply
+        requires few { self.old.faults < 2 ^ 63 }
+        ensures step { IsStep S.content S.number_of self.old step result self.new }
+        ensures table { IsTableStep (table_of self.old.state) step result (table_of self.new.state) }
+        ensures faults { self.new.faults ≤ self.old.faults + 1 }
+    {
+        // For the proof: gives what always holds of the table.
+        self.frame.keeps();
+        self.serve_step(step)
+    }
+
+    /// Serves one step.
+    #[inline(always)]
+    fn serve_step(&mut self, step: Step) -> Reply
         requires few { self.old.faults < 2 ^ 63 }
         ensures step { IsStep S.content S.number_of self.old step result self.new }
         ensures faults { self.new.faults ≤ self.old.faults + 1 }
@@ -178,6 +204,7 @@ impl<S: FarStore> World<S> {
 pub fn run<S: FarStore>(world: &mut World<S>, steps: Vec<Step>) -> Result<Vec<Reply>, Refusal>
     requires few { world.old.faults + length steps.items < 2 ^ 63 }
     ensures run { IfOk result (λ replies. IsRun S.content S.number_of world.old steps.items replies.items world.new) }
+    ensures table { IfOk result (λ replies. IsTableRun (table_of world.old.state) steps.items replies.items (table_of world.new.state)) }
     ensures spent { (n : ℕ) → IsSpent n world.old → IsSpent n world.new }
     ensures unchanged { OnErr result (world.new ≡ world.old) }
     ensures memory { IfErr result (λ e. e ≡ Refusal.NoMemory) }

@@ -20,6 +20,8 @@ mod opening;
 #[cfg(test)]
 mod over_a_log;
 #[cfg(test)]
+mod readers;
+#[cfg(test)]
 mod recounts;
 #[cfg(test)]
 mod repeating;

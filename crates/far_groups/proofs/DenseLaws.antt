@@ -1,13 +1,8 @@
--- What is found in a list that has a place for each number from 0 on, and how it changes with one place.
+-- What is found in a list that has a place for each small number, and how it changes with one place.
 use Rattle.std.proofs.Common.{◌≡◌, ℕ, zero, suc, ◌+◌, ◌≤◌, ◌<◌, ◌==◌, Bool, true, false, cond, List, [], ◌∷◌, ◌++◌, length, get_or, refl, sym, ap, ◌∙◌, subst, Option, None, Some, arith, slice_set}
-use Rattle.std.specs.Prelude.{ℤ, pos}
-use Rattle.std.specs.List.{AllByRecursion}
-use Rattle.std.specs.List.Sorted.{IsStrictlySortedBy}
-use Rattle.std.specs.Map.{keys_of}
+use Rattle.std.specs.Prelude.{ℤ}
 use Rattle.std.specs.BTreeMap.{is_at}
-use Rattle.std.specs.Cmp.{eq_by_cmp_equiv, int_cmp_is}
-use Rattle.std.specs.declared.cmp.Ordering.TheVariants.{Less}
-use Rattle.std.proofs.lemmas.Int.{ints}
+use Rattle.std.specs.Cmp.{eq_by_cmp_equiv}
 use Rattle.std.proofs.lemmas.Bool.Decides.{nat_tests}
 use Rattle.far_types.specs.declared.key.Key.{Key}
 use Rattle.far_types.specs.Keys.{line_cmp}
@@ -15,7 +10,8 @@ use Rattle.far_types.specs.KeyOrder.{line_total}
 use Rattle.far_types.proofs.AnswersGrouping.{same_key, own_key}
 use Rattle.far_types.proofs.AnswersByKeyMaps.{Entries, at, IsSet}
 use Rattle.far_groups.specs.Numbers.{numbered}
-use Rattle.far_groups.specs.Dense.{place_key, standing, entries_from}
+use Rattle.far_groups.specs.Dense.{place_number, place_key, standing, entries_from}
+use Rattle.far_groups.proofs.PlaceNumbers.{key_of_place}
 
 abbrev pub Places : Type 0
 Places = List (ℕ × ℤ)
@@ -30,7 +26,7 @@ either true o = refl
 either false o = refl
 
 at_cons : (n : ℕ) (t : ℕ × ℤ) (ts : Places) (q : Option Key) → at (lines_from n (t ∷ ts)) q ≡ cond (t.0 == 0) (at (lines_from (n + 1) ts) q) (cond (is_at (line_cmp q) (place_key n)) (Some t) (at (lines_from (n + 1) ts) q))
-at_cons n t ts q = elim (t.0 == 0) as (λ b. at (numbered (cond b (entries_from (n + 1) ts) ((pos n, t) ∷ entries_from (n + 1) ts))) q ≡ cond b (at (lines_from (n + 1) ts) q) (cond (is_at (line_cmp q) (place_key n)) (Some t) (at (lines_from (n + 1) ts) q))) [ true ↦ refl | false ↦ refl ]
+at_cons n t ts q = elim (t.0 == 0) as (λ b. at (numbered (cond b (entries_from (n + 1) ts) ((place_number n, t) ∷ entries_from (n + 1) ts))) q ≡ cond b (at (lines_from (n + 1) ts) q) (cond (is_at (line_cmp q) (place_key n)) (Some t) (at (lines_from (n + 1) ts) q))) [ true ↦ refl | false ↦ refl ]
 
 -- at a key that is not the first place's the rest is looked at
 at_rest : (n : ℕ) (t : ℕ × ℤ) (ts : Places) (q : Option Key) → is_at (line_cmp q) (place_key n) ≡ false → at (lines_from n (t ∷ ts)) q ≡ at (lines_from (n + 1) ts) q
@@ -39,10 +35,10 @@ at_rest n t ts q other =
     ∙ ap (λ b. cond (t.0 == 0) (at (lines_from (n + 1) ts) q) (cond b (Some t) (at (lines_from (n + 1) ts) q))) other
     ∙ either (t.0 == 0) (at (lines_from (n + 1) ts) q)
 
-other_place : (i n : ℕ) → (i ≡ n → ⊥) → is_at (line_cmp (place_key i)) (place_key n) ≡ false
+pub other_place : (i n : ℕ) → (i ≡ n → ⊥) → is_at (line_cmp (place_key i)) (place_key n) ≡ false
 other_place i n other = at_test (is_at (line_cmp (place_key i)) (place_key n)) refl where
   at_test : (b : Bool) → is_at (line_cmp (place_key i)) (place_key n) ≡ b → is_at (line_cmp (place_key i)) (place_key n) ≡ false
-  at_test true is = let same = same_key (place_key i) (place_key n) is in absurd (other cc)
+  at_test true is = absurd (other (key_of_place i n (same_key (place_key i) (place_key n) is)))
   at_test false is = is
 
 -- nothing is found below the first place
@@ -128,33 +124,5 @@ push_place n k (x ∷ ts) t is = set_behind n k x ts (ts ++ t ∷ []) (standing 
 
 -- at which nothing stands
 pub push_none : (n : ℕ) (ts : Places) (t : ℕ × ℤ) → t.0 ≡ 0 → entries_from n (ts ++ t ∷ []) ≡ entries_from n ts
-push_none n [] t none = let test : (t.0 == 0) ≡ true = grind (arith, nat_tests) in ap (λ b. cond b [] ((pos n, t) ∷ [])) test
-push_none n (x ∷ ts) t none = ap (λ (es : List (ℤ × (ℕ × ℤ))). cond (x.0 == 0) es ((pos n, x) ∷ es)) (push_none (n + 1) ts t none)
-
--- and one at which something stands is one line more
-pub push_line : (n k : ℕ) (ts : Places) (t : ℕ × ℤ) → k ≡ n + length ts → entries_from n (ts ++ t ∷ []) ≡ entries_from n ts ++ entries_from k (t ∷ [])
-push_line n k [] t is = let first : n ≡ k = omega arith in ap (λ (m : ℕ). entries_from m (t ∷ [])) first
-push_line n k (x ∷ ts) t is =
-    ap (λ (es : List (ℤ × (ℕ × ℤ))). cond (x.0 == 0) es ((pos n, x) ∷ es)) (push_line (n + 1) k ts t (omega arith))
-    ∙ elim (x.0 == 0) as (λ b. cond b (entries_from (n + 1) ts ++ entries_from k (t ∷ [])) ((pos n, x) ∷ (entries_from (n + 1) ts ++ entries_from k (t ∷ []))) ≡ cond b (entries_from (n + 1) ts) ((pos n, x) ∷ entries_from (n + 1) ts) ++ entries_from k (t ∷ [])) [ true ↦ refl | false ↦ refl ]
-
-less_place : (m n : ℕ) → m < n → line_cmp (place_key m) (place_key n) ≡ Less
-less_place m n low = sym (int_cmp_is (pos m) (pos n) Less (omega (arith, ints)))
-
-below_all : (m n : ℕ) (ts : Places) → m < n → AllByRecursion (λ k. line_cmp (place_key m) k ≡ Less) (keys_of (lines_from n ts))
-below_all m n [] low = tt
-below_all m n (t ∷ ts) low =
-    elim (t.0 == 0) as (λ b. AllByRecursion (λ k. line_cmp (place_key m) k ≡ Less) (keys_of (numbered (cond b (entries_from (n + 1) ts) ((pos n, t) ∷ entries_from (n + 1) ts))))) [
-      | true ↦ below_all m (n + 1) ts (omega arith)
-      | false ↦ (less_place m n low, below_all m (n + 1) ts (omega arith))
-    ]
-
--- the lines ascend
-pub places_ascend : (n : ℕ) (ts : Places) → IsStrictlySortedBy line_cmp (keys_of (lines_from n ts))
-unfolding IsStrictlySortedBy
-places_ascend n [] = tt
-places_ascend n (t ∷ ts) =
-    elim (t.0 == 0) as (λ b. IsStrictlySortedBy line_cmp (keys_of (numbered (cond b (entries_from (n + 1) ts) ((pos n, t) ∷ entries_from (n + 1) ts))))) [
-      | true ↦ places_ascend (n + 1) ts
-      | false ↦ (below_all n (n + 1) ts (omega arith), places_ascend (n + 1) ts)
-    ]
+push_none n [] t none = let test : (t.0 == 0) ≡ true = grind (arith, nat_tests) in ap (λ b. cond b [] ((place_number n, t) ∷ [])) test
+push_none n (x ∷ ts) t none = ap (λ (es : List (ℤ × (ℕ × ℤ))). cond (x.0 == 0) es ((place_number n, x) ∷ es)) (push_none (n + 1) ts t none)

@@ -1,9 +1,9 @@
 -- Totals whose counts and sums stand at places, with more or less at one place, and with those of another list.
 use Rattle.std.proofs.Common.{◌≡◌, ℕ, ◌+◌, ◌-◌, ◌^◌, ◌≤◌, ◌<◌, ◌==◌, Bool, true, false, cond, suc, [], ◌∷◌, ◌++◌, length, get_or, take, refl, sym, ap, ◌∙◌, subst, Option, None, Some, arith, slice_set}
-use Rattle.std.specs.Prelude.{ℤ, pos, ◌-ℤ◌, IfSome}
+use Rattle.std.specs.Prelude.{ℤ, ◌-ℤ◌, IfSome}
 use Rattle.std.specs.FinMap as fin
 use Rattle.std.proofs.Math.Seq.{take-suc}
-use Rattle.std.proofs.lemmas.List.{map-append, length-take-le}
+use Rattle.std.proofs.lemmas.List.{length-take-le}
 use Rattle.std.proofs.lemmas.Bool.Decides.{nat_tests}
 use Rattle.far_types.specs.declared.key.Key.{Key}
 use Rattle.far_types.specs.Answers.{Totals}
@@ -12,10 +12,9 @@ use Rattle.far_types.proofs.AnswersGrouping.{get-joined}
 use Rattle.far_types.proofs.AnswersByKeyMaps.{IsSet, with_more, get_at, set_inserts, set_removes, joined-empty, merge_two_none, moved_out}
 use Rattle.far_groups.specs.Live.{CanJoin}
 use Rattle.far_groups.specs.CountSums.{IsCountSum, AreCountSums, with_count_sum, LeavesCountSum, without_less, without_count_sum}
-use Rattle.far_groups.specs.Numbers.{number_line, number_lines}
 use Rattle.far_groups.specs.Dense.{place_key, standing, entries_from, by_place}
 use Rattle.far_groups.proofs.CountSumsLaws.{last_goes, rest_stays}
-use Rattle.far_groups.proofs.DenseLaws.{Places, lines_from, none_behind, none_elsewhere, at_place, set_place, push_place, push_none, push_line}
+use Rattle.far_groups.proofs.DenseLaws.{Places, lines_from, none_behind, none_elsewhere, at_place, set_place, push_place, push_none}
 
 -- what is found at a place
 pub get_place : (ts : Places) (k : ℕ) (t : ℕ × ℤ) → k < length ts → t ≡ get_or ts k t → fin.get (by_place ts) (place_key k) ≡ standing t
@@ -111,14 +110,6 @@ module _ (ts : Places) (k : ℕ) (t : ℕ × ℤ) (within : k < length ts) (is :
       let own = get-joined add_count_sums m (by_place (take k ts)) (place_key k) ∙ ap (merge_two add_count_sums (fin.get m (place_key k))) next_new ∙ merge_two_none add_count_sums (fin.get m (place_key k)) in
       subst (λ o. count_in o + t.0 ≤ 2 ^ 26) (sym own)
       (subst (λ o. count_in (fin.get m (place_key k)) + count_in o ≤ 2 ^ 26) (get_place ts k t within is ∙ stands t some) (can (place_key k)))
-
-  -- the line of the place
-  pub next_line : number_lines (entries_from 0 (take (k + 1) ts)) ≡ number_lines (entries_from 0 (take k ts)) ++ (place_key k, t.0, t.1) ∷ []
-  next_line =
-      let test : (t.0 == 0) ≡ false = grind (arith, nat_tests) in
-      ap (λ us. number_lines (entries_from 0 us)) (next_place ts k t within is)
-      ∙ ap number_lines (push_line 0 k (take k ts) t (omega (arith, len)) ∙ ap (λ b. entries_from 0 (take k ts) ++ cond b [] ((pos k, t) ∷ [])) test)
-      ∙ map-append number_line (entries_from 0 (take k ts)) ((pos k, t) ∷ [])
 
 -- nothing is joined by no places
 pub no_places : (m : Totals) (ts : Places) → joined_totals m (by_place (take 0 ts)) ≡ m

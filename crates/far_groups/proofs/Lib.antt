@@ -1,4 +1,6 @@
+pub mod PlaceNumbers
 pub mod DenseLaws
+pub mod RankedLaws
 pub mod FoldsLaws
 pub mod CountSumsMerge
 pub mod WalksNewLines

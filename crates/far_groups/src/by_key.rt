@@ -65,15 +65,14 @@ fn number_of(key: &Option<Key>) -> Option<&i64>
     }
 }
 
-/// Returns the place of a key that is a number, if that is not below 0.
+/// Returns the place of a key that is a number.
 #[inline(always)]
 fn place_in(key: &Option<Key>) -> Option<usize>
     ensures some { IfSome result (λ place. key.now ≡ place_key place) }
-    ensures fits { IfSome result (λ place. place < 2 ^ 63) }
     ensures none { IfNone result ((place : ℕ) → key.now ≡ place_key place → ⊥) }
 {
     match key {
-        Some(Key::Int(number)) => place_of(*number),
+        Some(Key::Int(number)) => Some(place_of(*number)),
         _ => None,
     }
 }

@@ -1,12 +1,12 @@
-// Counts and sums by small number, in a list with a place for each number from 0 on. A look-up is an index.
-ghost use Rattle.std.specs.Prelude.{◌≡◌, ◌+◌, ◌^◌, ◌≤◌, ◌<◌, ◌<ℤ◌, pos, None, false, true, IsTrue, IfSome, IfNone, IfOk, IfErr, OnOk, OnErr, length};
+// Counts and sums by small number, in a list with a place for each number, from 0 on to both sides. A look-up is an index.
+ghost use Rattle.std.specs.Prelude.{◌≡◌, ◌+◌, ◌*◌, ◌^◌, ◌≤◌, ◌<◌, None, false, true, IsTrue, IfSome, IfOk, IfErr, OnOk, OnErr, length};
 ghost use Rattle.std.specs.Option.{option_map_or};
 ghost use Rattle.std.specs.FinMap as fin;
 ghost use Rattle.far_types.specs.Effects.{add_count_sums, count_in, joined_totals};
 ghost use Rattle.far_groups.specs.Live.{CanJoin};
 ghost use Rattle.far_groups.specs.CountSums.{IsCountSum, AreCountSums, with_count_sum, LeavesCountSum, without_count_sum};
 ghost use Rattle.far_groups.specs.Numbers.{by_number, number_lines};
-ghost use Rattle.far_groups.specs.Dense.{place_key, standing, entries_from, by_place};
+ghost use Rattle.far_groups.specs.Dense.{place_number, place_key, standing, by_place, rank_place, in_order};
 
 use super::count_sum::{CountSum, NO_VALUES};
 use super::numbers::{self, Numbers};
@@ -14,37 +14,37 @@ use far_types::{Key, Refusal};
 use std::alloc::Global;
 use std::collections::BTreeMap;
 
-/// Counts and sums by number, from 0 on. A count of 0 says that the number does not occur.
+/// Counts and sums by number: of 0, -1, 1, -2, and so on. A count of 0 says that the number does not occur.
 pub type Dense = Vec<CountSum>;
 
-/// The numbers below this always get a place. A list of as many places takes 32 KB.
-const PLACES: usize = 1024;
+/// A number from -1,024 to 1,023 always gets a place. A list of as many places takes 64 KB.
+const PLACES: usize = 2048;
 
-/// Returns the place of a number, if it is not below 0.
+/// Returns the place of a number.
 #[inline(always)]
-pub fn place_of(number: i64) -> Option<usize>
-    ensures some { IfSome result (λ place. number ≡ pos place) }
-    ensures fits { IfSome result (λ place. place < 2 ^ 63) }
-    ensures none { IfNone result (number <ℤ pos 0) }
+pub fn place_of(number: i64) -> usize
+    ensures { number ≡ place_number result }
 {
     if number < 0 {
-        return None;
+        return (-(number + 1)) as usize * 2 + 1;
     }
-    Some(number as usize)
+    number as usize * 2
 }
 
 /// Returns the number of a place.
 #[inline(always)]
 fn number_at(place: usize) -> i64
     requires { place < 2 ^ 63 }
-    ensures { result ≡ pos place }
+    ensures { result ≡ place_number place }
 {
-    place as i64
+    let half = (place / 2) as i64;
+    if place % 2 == 0 { half } else { -half - 1 }
 }
 
 /// Returns whether a list has a place, or may get it.
 pub fn may_place(dense: &Dense, place: usize) -> bool
-    ensures { result ≡ false → length dense.now.items ≤ place }
+    ensures may_not { result ≡ false → length dense.now.items ≤ place }
+    ensures fits { IsTrue result → place < 2 ^ 63 }
 {
     place < PLACES || place < dense.len()
 }
@@ -176,13 +176,29 @@ fn line(place: usize, count_sum: CountSum) -> (Option<Key>, u64, i128)
     )
 }
 
+/// Returns the place of the number that has `rank` lower ones, if `below` numbers are below 0.
+#[inline(always)]
+fn place_of_rank(below: usize, rank: usize) -> usize
+    requires inside { rank ≤ below * 2 }
+    requires few { below * 2 < 2 ^ 63 }
+    ensures { result ≡ rank_place below rank }
+{
+    if rank < below {
+        (below - rank) * 2 - 1
+    } else {
+        (rank - below) * 2
+    }
+}
+
 /// Makes the lines of the places with a count above 0, by their numbers.
 pub fn lines(alloc: Global, dense: &Dense) -> Result<Vec<(Option<Key>, u64, i128)>, Refusal>
-    ensures ok { IfOk result (λ lines. lines.items ≡ number_lines (entries_from 0 dense.now.items)) }
+    ensures ok { IfOk result (λ lines. lines.items ≡ number_lines (in_order dense.now.items)) }
     ensures memory { IfErr result (λ e. e ≡ Refusal.NoMemory) }
 {
     let mut lines = Vec::with_capacity(alloc, dense.len())?;
-    for place in 0..dense.len() {
+    let below = dense.len() / 2;
+    for rank in 0..dense.len() {
+        let place = place_of_rank(below, rank);
         let count_sum = dense[place];
         if count_sum.count != 0 {
             lines.push(line(place, count_sum))?;

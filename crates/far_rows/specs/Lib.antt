@@ -14,3 +14,4 @@ pub mod Jobs
 pub mod Copies
 pub mod Coldest
 pub mod Renewal
+pub mod PlaceRows

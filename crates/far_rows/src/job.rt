@@ -1,7 +1,7 @@
 // Jobs on the objects of a table, of either kind of values.
-ghost use Rattle.std.specs.Prelude.{◌≡◌, ◌+◌, ◌<◌, ◌^◌, [], ◌∷◌, IfOk, IfErr, IsErr};
+ghost use Rattle.std.specs.Prelude.{◌≡◌, ◌+◌, ◌<◌, ◌^◌, [], ◌∷◌, IfOk, IfErr, IsErr, option_map};
 ghost use Rattle.far_store.specs.Faults.{faults_in, outcome, RefusedBy};
-ghost use Rattle.far_evacuator.specs.Jobs.{IsFormOf, IsDirtyForm};
+ghost use Rattle.far_evacuator.specs.Jobs.{IsFormOf, IsDirtyForm, put_ticket};
 ghost use Rattle.far_rows.specs.Jobs.{of_either, IsCarriedEvac, IsCarriedFetch};
 
 use far_evacuator::{Carried, EvacJob, FetchJob, Fetched};
@@ -166,6 +166,45 @@ impl<S: FarStore> RowsEvac<S> {
                     },
                 )),
             },
+        }
+    }
+}
+
+impl<S: FarTickets> RowsCarried<S> {
+    /// Returns the number of the ticket under which the job put its far form, and borrows the bytes of that. `None` exactly if
+    /// the job was begun on a clean object: the store had its far form already. Allocates nothing.
+    pub fn outgoing(&self, store: &S) -> Option<(u64, &[u8])>
+        requires here { S.is_of (of_either self.now).ticket (S.store_id store.now) }
+        ensures number { option_map (λ out. out.0) result ≡ option_map S.number_of (put_ticket (of_either self.now)) }
+        ensures bytes { option_map (λ out. out.1.now) result ≡ option_map S.content (put_ticket (of_either self.now)) }
+    {
+        match &self.carried {
+            ByKind::Numbers(carried) => carried.outgoing(store),
+            ByKind::Texts(carried) => carried.outgoing(store),
+        }
+    }
+}
+
+impl<S: FarTickets> RowsFetch<S> {
+    /// Returns the ticket of the content that the job reads. Allocates nothing.
+    pub fn ticket(&self) -> &S::Ticket
+        ensures { result.now ≡ (of_either self.now).ticket }
+    {
+        match &self.job {
+            ByKind::Numbers(job) => job.ticket(),
+            ByKind::Texts(job) => job.ticket(),
+        }
+    }
+}
+
+impl<S: FarTickets> RowsFetched<S> {
+    /// Returns the ticket of the content that the job read. Allocates nothing.
+    pub fn ticket(&self) -> &S::Ticket
+        ensures { result.now ≡ (of_either self.now).job.ticket }
+    {
+        match &self.fetched {
+            ByKind::Numbers(fetched) => fetched.ticket(),
+            ByKind::Texts(fetched) => fetched.ticket(),
         }
     }
 }

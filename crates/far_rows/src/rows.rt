@@ -111,6 +111,16 @@ impl<S: FarTickets> Rows<S> {
         self.alive.len()
     }
 
+    /// For the proof: gives that each object has a word and a record. It does nothing.
+    #[inline(always)]
+    pub fn each_object_has_a_word(&self)
+        ensures numbers { length self.now.number_objects.records ≡ length self.now.number_objects.memory.words }
+        ensures texts { length self.now.text_objects.records ≡ length self.now.text_objects.memory.words }
+    {
+        let _numbers = self.number_objects.number();
+        let _texts = self.text_objects.number();
+    }
+
     /// Returns whether a place is alive; `None` if there is no such place. Allocates nothing.
     pub fn is_alive(&self, place: usize) -> Option<bool>
         ensures { result ≡ slice_get self.now.alive place }

@@ -139,15 +139,6 @@ pub fn cells_in(
     Ok(cells)
 }
 
-/// Returns the cells of what stands between the commas of a text. Refused with `NoMemory` (1) alone.
-pub fn plain_cells(alloc: Global, kinds: &[Kind], text: &str) -> Result<Vec<Cell>, Refusal>
-    ensures cells { IfOk result (λ cells. cells.items ≡ cells_from kinds.now 0 (slice_split is_comma text.now)) }
-    ensures memory { IfErr result (λ e. e ≡ Refusal.NoMemory) }
-{
-    let cells = Vec::with_capacity(alloc, kinds.len())?;
-    cells_in(alloc, cells, kinds, text)
-}
-
 /// Returns the cells of a record's fields.
 pub fn record_cells(
     alloc: Global,
@@ -166,8 +157,14 @@ pub fn record_cells(
     Ok(cells)
 }
 
-/// Returns the row of a text that is exactly one record, or `None` if it is not. Refused with `NoMemory` (1) alone.
-pub fn row(alloc: Global, kinds: &[Kind], text: &str) -> Result<Option<Row>, Refusal>
+/// Returns the row of a text that is exactly one record, in the memory of cells that are no longer needed, or `None` if it is not one. Refused
+/// with `NoMemory` (1) alone.
+pub fn row(
+    alloc: Global,
+    spare: Vec<Cell>,
+    kinds: &[Kind],
+    text: &str,
+) -> Result<Option<Row>, Refusal>
     ensures row { IfOk result (λ row. row ≡ row_of kinds.now text.now) }
     ensures memory { IfErr result (λ e. e ≡ Refusal.NoMemory) }
 {
@@ -175,7 +172,7 @@ pub fn row(alloc: Global, kinds: &[Kind], text: &str) -> Result<Option<Row>, Ref
         return Ok(None);
     }
     if is_plain(text) {
-        return Ok(Some(Row::new(plain_cells(alloc, kinds, text)?)));
+        return Ok(Some(Row::new(cells_in(alloc, spare, kinds, text)?)));
     }
     match read_record(alloc, text)? {
         Some(record) => Ok(Some(Row::new(record_cells(alloc, kinds, &record)?))),

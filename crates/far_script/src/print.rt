@@ -77,7 +77,8 @@ fn key(page: &mut Page, key: &Option<Key>) -> Result<(), Refusal>
     }
 }
 
-fn total(page: &mut Page, line: &(Option<Key>, u64, i128)) -> Result<(), Refusal>
+/// Prints a line of totals.
+pub fn total(page: &mut Page, line: &(Option<Key>, u64, i128)) -> Result<(), Refusal>
     ensures ok { OnOk result (page.new ≡ page.old ++ total_text line.now) }
     ensures memory { IfErr result (λ e. e ≡ Refusal.NoMemory) }
 {

@@ -32,7 +32,7 @@ pub enum Movement {
 ///     return Ok(None);
 /// };
 /// match read_verb(word) {
-///     Some(verb) => complete(alloc, kinds, verb, words),
+///     Some(verb) => complete(alloc, spare, kinds, verb, words),
 ///     None => Ok(None),
 /// }
 /// ```

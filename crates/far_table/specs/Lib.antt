@@ -7,6 +7,7 @@ pub mod Watching
 pub mod Moving
 pub mod Renewing
 pub mod Offloading
+pub mod Tickets
 pub mod FarGroups
 pub mod MixedGroups
 pub mod Recounting

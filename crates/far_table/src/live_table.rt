@@ -138,11 +138,16 @@ impl<S: FarTickets> LiveTable<S> {
         ensures here { (id : List ℕ) → AreAt S.is_of id self.old.rows → AreAt S.is_of id self.new.rows }
     {
         let value = self.rows.may_set(column, place, cell)?;
+        // Without aggregates nothing is kept of the rows.
+        if self.aggregates.is_empty() {
+            self.rows.set(self.alloc, column, place, &value)?;
+            return Ok(());
+        }
         let size = self.rows.limits().group;
         // For the proof: give how many places there are, and that their rows have all columns.
         let _before = self.rows.len();
         let _held = self.rows.held();
-        let Ok(row) = self.rows.row(place as usize) else {
+        let Ok(row) = self.rows.place_row(place as usize) else {
             unreachable!()
         };
         let pending = self.aggregates.change_in(
@@ -171,10 +176,18 @@ impl<S: FarTickets> LiveTable<S> {
         ensures err { IfErr result (λ e. Refuses (edit_due self.old (edit.Remove place)) true self.old e self.new) }
         ensures here { (id : List ℕ) → AreAt S.is_of id self.old.rows → AreAt S.is_of id self.new.rows }
     {
-        let row = self.rows.may_remove(place)?;
+        let _row = self.rows.may_remove(place)?;
+        // Without aggregates nothing is kept of the rows.
+        if self.aggregates.is_empty() {
+            self.rows.remove(place);
+            return Ok(());
+        }
         let size = self.rows.limits().group;
         // For the proof: gives how many places there are, and that their numbers are those of 64 bits.
         let _len = self.rows.len();
+        let Ok(row) = self.rows.place_row(place as usize) else {
+            unreachable!()
+        };
         let pending = self
             .aggregates
             .leave(self.alloc, &row, size, place as usize)?;

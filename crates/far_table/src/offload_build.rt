@@ -1,7 +1,8 @@
 // Offloaded builds: a row group is scanned into an aggregate from the far store's copies of its columns.
-ghost use Rattle.std.specs.Prelude.{◌≡◌, ◌+◌, ◌<◌, ◌^◌, [], ◌∷◌, IfOk, IfErr};
+ghost use Rattle.std.specs.Prelude.{◌≡◌, ◌+◌, ◌<◌, ◌^◌, [], ◌∷◌, IfOk, IfErr, option_copied, slice_get};
 ghost use Rattle.far_store.specs.Faults.{faults_in, outcome, RefusedBy};
 ghost use Rattle.far_table.specs.Offloading.{AreTicketsOf};
+ghost use Rattle.far_table.specs.Tickets.{ticket_with, tickets_of};
 ghost use Rattle.far_table.specs.FarGroups.{contents_under};
 
 use crate::contents::{Content, contents_of};
@@ -86,6 +87,31 @@ impl<S: FarTickets> OffloadBuild<S> {
     {
         self.group
     }
+
+    /// Returns the ticket at an index of those whose contents the build reads; `None` if there are no more than `index` of
+    /// them. Allocates nothing.
+    pub fn ticket(&self, index: usize) -> Option<&S::Ticket>
+        ensures { option_copied result ≡ slice_get (tickets_of self.now) index }
+    {
+        match self.job.tickets().get(index) {
+            Some(ticket) => Some(&ticket.1),
+            None => None,
+        }
+    }
+
+    /// Returns the ticket of a number, of those whose contents the build reads; `None` if none has it. Allocates nothing.
+    pub fn ticket_of(&self, store: &S, number: u64) -> Option<&S::Ticket>
+        requires here { AreTicketsOf S.is_of (S.store_id store.now) self.now.job.tickets }
+        ensures { option_copied result ≡ ticket_with S.number_of (tickets_of self.now) number }
+    {
+        let tickets = self.job.tickets();
+        for (_, ticket) in tickets {
+            if store.number(ticket) == number {
+                return Some(ticket);
+            }
+        }
+        None
+    }
 }
 
 impl<S: FarRead> OffloadBuild<S> {
@@ -119,6 +145,14 @@ impl<S: FarRead> OffloadBuild<S> {
 }
 
 impl<S: FarTickets> OffloadCarried<S> {
+    /// Returns the ticket at an index of those whose contents were read; `None` if there are no more than `index` of them.
+    /// Allocates nothing.
+    pub fn ticket(&self, index: usize) -> Option<&S::Ticket>
+        ensures { option_copied result ≡ slice_get (tickets_of self.now) index }
+    {
+        self.build.ticket(index)
+    }
+
     /// Returns what was read. Allocates nothing.
     pub(crate) fn contents(&self) -> &[Content]
         ensures { result.now ≡ contents_under S.content self.now.job.tickets }

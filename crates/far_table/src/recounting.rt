@@ -128,6 +128,32 @@ fn fold_pieces<R: Threads + Sync, S: FarRead>(
     Ok(call_each(rt, pieces, &fold, found))
 }
 
+/// Folds at most 64 pieces in this thread, one after the other.
+///
+/// Refused if there is no memory for the list of pieces. Then none is folded.
+fn fold_in_turn<S: FarRead>(
+    alloc: Global,
+    rows: &Rows<S>,
+    store: &S,
+    spec: &Spec,
+    cut: Cut,
+    pieces: usize,
+) -> Result<Vec<Piece>, AllocError>
+    requires here { AreAt S.is_of (S.store_id store.now) rows.now }
+    requires begun { (group : ℕ) → group < cut.count → group * rows.now.size < length rows.now.alive }
+    requires all { length rows.now.alive ≤ cut.count * rows.now.size }
+    requires may_fold { MayFold rows.now spec.now }
+    requires few { pieces ≤ 64 }
+    ensures len { IfOk result (λ found. length found.items ≡ pieces) }
+    ensures each { IfOk result (λ found. (i : ℕ) (d : Piece) → i < pieces → IsPiece spec.now (cut.long * rows.now.size) (places_in S.content rows.now) i (slice_index_or found.items i d)) }
+{
+    let mut found = Vec::with_capacity(alloc, pieces)?;
+    for i in 0..pieces {
+        found.push(fold_piece(alloc, rows, store, spec, cut, i))?;
+    }
+    Ok(found)
+}
+
 // Appends the partial aggregate of a piece, if it was not refused.
 fn append(
     partials: &mut Vec<PartialDone>,
@@ -197,6 +223,33 @@ pub(crate) fn recount_rows<R: Threads + Sync, S: FarRead>(
     let places = rows.len();
     let wide = wide_cut(size, places, workers);
     let pieces = fold_pieces(rt, alloc, rows, store, spec, wide.cut, wide.pieces)?;
+    let partials = gather(alloc, pieces, meter)?;
+    answer_of(alloc, spec, partials, wide.size, places)
+}
+
+/// Returns what `recount_rows` does with one worker, without a runtime: this thread folds all row groups as one piece.
+///
+/// Refused with `FarFault` (21) exactly if the meter rises, else with `NoMemory` (1).
+pub(crate) fn recount_alone<S: FarRead>(
+    alloc: Global,
+    rows: &Rows<S>,
+    store: &S,
+    meter: &mut Meter,
+    spec: &Spec,
+    size: u32,
+) -> Result<Answer, Refusal>
+    requires few { meter.old < 2 ^ 63 }
+    requires here { AreAt S.is_of (S.store_id store.now) rows.now }
+    requires may_fold { MayFold rows.now spec.now }
+    requires size { size ≡ rows.now.size }
+    ensures answer { IfOk result (λ answer. answer ≡ answer_over spec.now (rows_of (places_in S.content rows.now))) }
+    ensures none { OnOk result (meter.new ≡ meter.old) }
+    ensures refused { IfErr result (FoldRefusal meter.old meter.new) }
+    ensures most { meter.new ≤ meter.old + 1 }
+{
+    let places = rows.len();
+    let wide = wide_cut(size, places, 1);
+    let pieces = fold_in_turn(alloc, rows, store, spec, wide.cut, wide.pieces)?;
     let partials = gather(alloc, pieces, meter)?;
     answer_of(alloc, spec, partials, wide.size, places)
 }

@@ -18,7 +18,7 @@ mod moving;
 mod renewing;
 
 use super::row_group::RowGroup;
-use far_rows::{NewRow, NewRowRef, RowRef, Rows};
+use far_rows::{NewRow, NewRowRef, PlaceRow, RowRef, Rows};
 use far_store::FarTickets;
 use far_types::{Kind, LentRow, Limits, Refusal, Schema};
 use std::alloc::Global;
@@ -141,6 +141,18 @@ impl<S: FarTickets> TableRows<S> {
         ensures refused { refusal_in result ≡ first_of (absents self.now.held (place / self.now.limits.group)) }
     {
         self.rows.row(place)
+    }
+
+    /// Returns the row of a place. It looks at each column once, and reads a number when it is asked for. Allocates nothing.
+    ///
+    /// Refused as `row` is, with `Absent` (16) alone.
+    #[inline(always)]
+    pub fn place_row(&self, place: usize) -> Result<PlaceRow<'_>, Refusal>
+        requires { place < length self.now.places }
+        ensures row { IfOk result (λ row. option_map (λ p. p.cells) (slice_get self.now.places place) ≡ Some row) }
+        ensures refused { refusal_in result ≡ first_of (absents self.now.held (place / self.now.limits.group)) }
+    {
+        self.rows.place_row(place)
     }
 
     /// Returns the row of a place. It borrows each cell when it is asked for. Allocates nothing.

@@ -1,7 +1,9 @@
 // Objects of a table that are pinned, evacuated, fetched and compacted.
-ghost use Rattle.std.specs.Prelude.{◌≡◌, ◌<◌, ◌≤◌, ◌↔◌, ◌⊎◌, ℕ, List, true, OnOk, OnErr, IfOk, IfErr, IfSome, IsErrOf};
+ghost use Rattle.std.specs.Prelude.{◌≡◌, ◌<◌, ◌≤◌, ◌↔◌, ◌⊎◌, ℕ, List, true, OnOk, OnErr, IfOk, IfErr, IfSome, IsErrOf, None};
 ghost use Rattle.far_types.specs.MayRefuse.{MayRefuse};
 ghost use Rattle.far_scopes.specs.Refusing.{refusal_in};
+ghost use Rattle.far_rows.specs.Coldest.{coldest};
+ghost use Rattle.far_rows.specs.Copies.{copy_of};
 ghost use Rattle.far_rows.specs.Moving.{pin_refusal, unpin_refusal};
 ghost use Rattle.far_rows.specs.Jobs.{AreAt, evac_refusal, fetch_refusal};
 ghost use Rattle.far_table.specs.Moving.{IsMoved, IsPinned, IsUnpinned, IsCompactedOf, segments_of, HasNoOther};
@@ -90,6 +92,15 @@ impl<S: FarTickets> Frame<S> {
         })
     }
 
+    /// Returns the object that goes away first: the coldest without a pin, of the kind with less space. `None` if neither kind has
+    /// one. Allocates nothing.
+    pub(crate) fn coldest(&self) -> Option<Name>
+        ensures coldest { result ≡ coldest self.now.rows }
+        ensures free { IfSome result (λ name. evac_refusal self.now.rows name.column name.group ≡ None) }
+    {
+        self.table.coldest()
+    }
+
     /// Begins to send the coldest object without a pin away, of the kind with less space. `None` exactly if neither kind has
     /// one. Changes nothing.
     ///
@@ -128,6 +139,21 @@ impl<S: FarTickets> Frame<S> {
             name: Some(Name { column, group }),
             work: JobPhase::Fetch(fetch),
         })
+    }
+
+    /// Returns the ticket of the copy of the object of a row group of a column that is away. Allocates nothing.
+    ///
+    /// Refused with the first of these that applies:
+    ///
+    /// - `NoColumn` (4): there is no such column.
+    /// - `OutOfRange` (14): no place of the row group is used.
+    /// - `StaleJob` (20): the object is local.
+    pub(crate) fn away_copy(&self, column: u32, group: u32) -> Result<&S::Ticket, Refusal>
+        ensures ticket { IfOk result (λ ticket. copy_of self.now.rows column group ≡ Some ticket.now) }
+        ensures here { (id : List ℕ) → AreAt S.is_of id self.now.rows → IfOk result (λ ticket. S.is_of ticket.now id) }
+        ensures refused { refusal_in result ≡ fetch_refusal self.now.rows column group }
+    {
+        self.table.rows().held().away_copy(column as usize, group)
     }
 
     /// Sends the object of a carried evacuation away; each row, aggregate and answer stays. Allocates nothing.

@@ -39,4 +39,22 @@ impl<S: FarRead> Frame<S> {
     {
         self.table.recount(rt, store, meter, a, workers)
     }
+    /// Returns what `recount` does with one worker, without threads or a runtime.
+    ///
+    /// Refused with the first of these that applies:
+    ///
+    /// - `NoAggregate` (12): there is no such aggregate.
+    /// - `FarFault` (21): the store failed, exactly if the meter rises, by one.
+    /// - `NoMemory` (1): an allocation fails.
+    pub fn recount_alone(&self, store: &S, meter: &mut Meter, a: u32) -> Result<Answer, Refusal>
+        requires few { meter.old < 2 ^ 63 }
+        requires here { AreAt S.is_of (S.store_id store.now) self.now.rows }
+        ensures answer { IfOk result (IsAnswerNow self.now.table a) }
+        ensures free { OnOk result (recount_refusal self.now.table a 1 ≡ None) }
+        ensures none { OnOk result (meter.new ≡ meter.old) }
+        ensures refused { IfErr result (RecountRefusal (recount_refusal self.now.table a 1) meter.old meter.new) }
+        ensures most { meter.new ≤ meter.old + 1 }
+    {
+        self.table.recount_alone(store, meter, a)
+    }
 }

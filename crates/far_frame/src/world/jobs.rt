@@ -22,7 +22,7 @@ use far_types::Refusal;
 
 impl<S: FarStore> World<S> {
     /// Checks that one more job may begin. Refused with `EditsUsedUp` (24) exactly if the numbers of jobs are used up.
-    fn may_begin(&self) -> Result<(), Refusal>
+    pub(super) fn may_begin(&self) -> Result<(), Refusal>
         ensures refused { refusal_in result ≡ used_up self.now }
         ensures few { OnOk result (self.now.begun < self.now.state.table.limits.edits) }
         ensures next { OnOk result (self.now.begun + 1 < 2 ^ 64) }
@@ -73,7 +73,7 @@ impl<S: FarStore> World<S> {
     }
 
     /// Gives a begun job its number. Refused with `NoMemory` (1) alone. A refused call changes nothing.
-    fn add(&mut self, job: Job<S>) -> Result<u64, Refusal>
+    pub(super) fn add(&mut self, job: Job<S>) -> Result<u64, Refusal>
         requires next { self.old.begun + 1 < 2 ^ 64 }
         requires here { IsJobAt S.is_of self.old.store job }
         ensures number { IfOk result (λ n. n ≡ self.old.begun) }

@@ -3,6 +3,7 @@ ghost use Rattle.std.specs.Prelude.{◌≡◌, ◌+◌, ◌<◌, ◌^◌, [], �
 ghost use Rattle.far_store.specs.Faults.{faults_of};
 ghost use Rattle.far_frame.specs.Jobs.{IsOneOf};
 ghost use Rattle.far_frame.specs.Renewing.{IsMigratedTo};
+ghost use Rattle.far_frame.specs.TableViews.{table_of};
 
 use super::World;
 use crate::frame::Frame;
@@ -22,6 +23,7 @@ impl<S: FarStore> World<S> {
     pub fn migrate<N: FarStore>(self, new_store: N) -> Result<World<N>, (Refusal, World<S>)>
         requires few { self.faults < 2 ^ 62 }
         ensures migrated { IfOk result (IsMigratedTo S.content N.content (N.store_id new_store) self) }
+        ensures table { IfOk result (λ world. table_of world.state ≡ table_of self.state) }
         ensures back { IfErr result (λ e. e.1 ≡ record self { faults = self.faults + faults_of e.0 }) }
         ensures refused { IfErr result (λ e. IsOneOf (21 ∷ 22 ∷ 1 ∷ []) e.0) }
     {

@@ -1,9 +1,11 @@
 // What the far store has of the rows.
-ghost use Rattle.std.specs.Prelude.{◌≡◌, ◌<◌, ℕ, List, true, false, length, option_map, IfSome, IsSome};
+ghost use Rattle.std.specs.Prelude.{◌≡◌, ◌<◌, ℕ, List, Some, true, false, length, option_map, IfOk, IfSome, IsSome};
 ghost use Rattle.far_codec.specs.Spelling.{IsSpelled};
-ghost use Rattle.far_scopes.specs.Movement.{is_local};
+ghost use Rattle.far_scopes.specs.Movement.{is_local, ticket_of};
+ghost use Rattle.far_scopes.specs.Refusing.{refusal_in};
+ghost use Rattle.far_evacuator.specs.Beginning.{fetch_refusal as fetch_refusal_in};
 ghost use Rattle.far_rows.specs.Refusing.{absent_in};
-ghost use Rattle.far_rows.specs.Jobs.{AreAt};
+ghost use Rattle.far_rows.specs.Jobs.{AreAt, fetch_refusal};
 ghost use Rattle.far_rows.specs.Copies.{clean_ticket, copy_of, IsCopyOf};
 
 use super::Rows;
@@ -11,6 +13,7 @@ use crate::object::Object;
 use far_codec::Elem;
 use far_scopes::Objects;
 use far_store::FarTickets;
+use far_types::Refusal;
 
 impl<S: FarTickets> Rows<S> {
     /// Returns the number that was given to `new`. Jobs on the rows have it. Allocates nothing.
@@ -38,6 +41,24 @@ impl<S: FarTickets> Rows<S> {
             Err(_) => None,
         }
     }
+
+    /// Returns the ticket of the far copy of a row group of a column whose object is away. Allocates nothing.
+    ///
+    /// Refused with the first of these that applies:
+    ///
+    /// - `NoColumn` (4): there is no such column.
+    /// - `OutOfRange` (14): no place of the row group is used.
+    /// - `StaleJob` (20): the object is local.
+    pub fn away_copy(&self, column: usize, group: u32) -> Result<&S::Ticket, Refusal>
+        ensures ticket { IfOk result (λ ticket. copy_of self.now column group ≡ Some ticket.now) }
+        ensures here { (id : List ℕ) → AreAt S.is_of id self.now → IfOk result (λ ticket. S.is_of ticket.now id) }
+        ensures refused { refusal_in result ≡ fetch_refusal self.now column group }
+    {
+        match self.object(column, group)? {
+            Object::Number(o) => away_ticket(self.number_objects(), o),
+            Object::Text(o) => away_ticket(self.text_objects(), o),
+        }
+    }
 }
 
 // Returns the ticket of an object, if the object is clean. The ticket's content is a far form.
@@ -53,4 +74,23 @@ fn clean_ticket<T: Elem, S: FarTickets>(objects: &Objects<T, S>, o: u32) -> Opti
         return None;
     }
     objects.ticket(o)
+}
+
+// Returns the ticket of an object that is away. Refused with `StaleJob` (20) exactly if it is local.
+fn away_ticket<T: Elem, S: FarTickets>(
+    objects: &Objects<T, S>,
+    o: u32,
+) -> Result<&S::Ticket, Refusal>
+    requires { o < length objects.now.records }
+    ensures ticket { IfOk result (λ ticket. clean_ticket objects.now o ≡ Some ticket.now) }
+    ensures own { IfOk result (λ ticket. ticket_of objects.now o ≡ Some ticket.now) }
+    ensures refused { refusal_in result ≡ fetch_refusal_in objects.now o }
+{
+    if objects.is_local(o) {
+        return Err(Refusal::StaleJob);
+    }
+    match clean_ticket(objects, o) {
+        Some(ticket) => Ok(ticket),
+        None => unreachable!(),
+    }
 }

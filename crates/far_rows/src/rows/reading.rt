@@ -11,11 +11,13 @@ ghost use Rattle.far_rows.specs.declared.column_index.ColumnIndex.TheVariants as
 ghost use Rattle.far_types.specs.Lent.{int_cell, text_cell, lent_cell};
 ghost use Rattle.far_rows.specs.ColumnIndexes.{IsColumnIn, column_in};
 ghost use Rattle.far_rows.specs.Places.{row_at};
+ghost use Rattle.far_rows.specs.PlaceRows.{place_cell};
 ghost use Rattle.far_rows.specs.Rows.{all_numbers, all_texts, all_cells};
 ghost use Rattle.far_rows.specs.Refusing.{away_at, absent_at, absents, cell_refusal, text_refusal};
 
 use super::Rows;
 use crate::column_index::ColumnIndex;
+use crate::place_row::{PlaceCell, PlaceRow};
 use crate::row_ref::RowRef;
 use far_columns::IntColumn;
 use far_scopes::Objects;
@@ -128,6 +130,62 @@ impl<S: FarTickets> Rows<S> {
             row.push(self.cell_in(column, *column_index, place)?);
         }
         Ok(row)
+    }
+
+    /// Returns the row of a place. It looks at each column once, and reads a number when it is asked for. Allocates nothing.
+    ///
+    /// Refused as `row` is, with `Absent` (16) alone.
+    pub fn place_row(&self, place: usize) -> Result<PlaceRow<'_>, Refusal>
+        requires { place < length self.now.alive }
+        ensures row { IfOk result (λ row. row ≡ row_at (all_cells S.content self.now) place) }
+        ensures refused { refusal_in result ≡ first_of (absents self.now (place / self.now.size)) }
+    {
+        // For the proof: gives that a table has at most 16 columns.
+        let _len = self.len();
+        let mut row = PlaceRow::new();
+        for (column, column_index) in self.column_indexes.iter().enumerate() {
+            row.push(self.place_cell(column, *column_index, place)?);
+        }
+        Ok(row)
+    }
+
+    // Returns the cell of a place that is there, in the column with this index. A number is not read.
+    #[inline(always)]
+    fn place_cell(
+        &self,
+        column: usize,
+        column_index: ColumnIndex,
+        place: usize,
+    ) -> Result<PlaceCell<'_>, Refusal>
+        requires lies { slice_get self.now.column_indexes column ≡ Some column_index }
+        requires place { place < length self.now.alive }
+        ensures cell { IfOk result (λ cell. slice_index_or (column_in (all_numbers S.content self.now) (all_texts S.content self.now) column_index) place Missing ≡ place_cell cell) }
+        ensures refused { refusal_in result ≡ first_of (absent_at self.now column (place / self.now.size) column_index ∷ []) }
+    {
+        // For the proof: gives that each index is that of a column.
+        let _len = self.len();
+        match column_index {
+            ColumnIndex::Number(number) => Ok(PlaceCell::Number(self.number_ref(
+                column, number, place,
+            )?)),
+            ColumnIndex::Text(text) => Ok(PlaceCell::Lent(CellRef::of_text(self.text_at(
+                column, text, place,
+            )?))),
+        }
+    }
+
+    // Borrows the number of a place that is there. It is not read.
+    fn number_ref(&self, at: usize, number: usize, place: usize) -> Result<&Option<i64>, Refusal>
+        requires lies { slice_get self.now.column_indexes at ≡ Some (column_index.Number number) }
+        requires column { number < length self.now.numbers }
+        requires place { place < length self.now.alive }
+        ensures number { IfOk result (λ value. slice_index_or (column_in (all_numbers S.content self.now) (all_texts S.content self.now) (column_index.Number number)) place Missing ≡ int_cell value.now) }
+        ensures refused { refusal_in result ≡ first_of (absent_at self.now at (place / self.now.size) (column_index.Number number) ∷ []) }
+    {
+        let column = &self.numbers[number];
+        // For the proof: gives that a row group is begun for each place.
+        let _len = column.len();
+        column.get_ref(&self.number_objects, place)
     }
 
     /// Returns the row of a place. It borrows each cell when it is asked for. Allocates nothing.

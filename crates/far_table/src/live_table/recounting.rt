@@ -4,7 +4,7 @@ ghost use Rattle.far_rows.specs.Jobs.{AreAt};
 ghost use Rattle.far_table.specs.Recounting.{recount_refusal, IsAnswerNow, RecountRefusal};
 
 use super::LiveTable;
-use crate::recounting::recount_rows;
+use crate::recounting::{recount_alone, recount_rows};
 use far_aggregates::laws::an_aggregate_is_served_by_the_columns_of_its_schema;
 use far_store::{FarRead, Meter};
 use far_types::{Answer, Refusal};
@@ -49,5 +49,29 @@ impl<S: FarRead> LiveTable<S> {
         let held = self.rows.held();
         let size = self.rows.limits().group;
         recount_rows(rt, self.alloc, held, store, meter, spec, size, workers)
+    }
+    /// Returns what `recount` does with one worker, without a runtime: this thread folds all row groups as one piece.
+    ///
+    /// Refused with the first of these that applies:
+    ///
+    /// - `NoAggregate` (12): there is no such aggregate.
+    /// - `FarFault` (21): the store failed, exactly if the meter rises, by one.
+    /// - `NoMemory` (1): an allocation fails.
+    pub fn recount_alone(&self, store: &S, meter: &mut Meter, a: u32) -> Result<Answer, Refusal>
+        requires few { meter.old < 2 ^ 63 }
+        requires here { AreAt S.is_of (S.store_id store.now) self.now.rows }
+        ensures answer { IfOk result (IsAnswerNow self.now.table a) }
+        ensures free { OnOk result (recount_refusal self.now.table a 1 ≡ None) }
+        ensures none { OnOk result (meter.new ≡ meter.old) }
+        ensures refused { IfErr result (RecountRefusal (recount_refusal self.now.table a 1) meter.old meter.new) }
+        ensures most { meter.new ≤ meter.old + 1 }
+    {
+        let Some(spec) = self.aggregates.spec(a) else {
+            return Err(Refusal::NoAggregate);
+        };
+        an_aggregate_is_served_by_the_columns_of_its_schema();
+        let held = self.rows.held();
+        let size = self.rows.limits().group;
+        recount_alone(self.alloc, held, store, meter, spec, size)
     }
 }

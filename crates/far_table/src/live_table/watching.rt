@@ -2,6 +2,7 @@
 ghost use Rattle.std.specs.Prelude.{◌≡◌, true, false, ℕ, length, option_map, IfOk, IfErr, IfSome, IfNone, OnOk};
 ghost use Rattle.std.specs.Option.{option_copied};
 ghost use Rattle.far_aggregates.specs.Aggregates.{Answers, ask_refusal, is_pending_in};
+ghost use Rattle.far_aggregates.specs.PendingCounts.{pending_of};
 ghost use Rattle.far_aggregates.specs.Readings.{plain_in};
 ghost use Rattle.far_table.specs.Live.{Refuses};
 ghost use Rattle.far_table.specs.Watching.{aggregate_at, watch_refusal, unwatch_refusal, scan_refusal, IsWatched, IsUnwatched, IsScanned};
@@ -118,6 +119,14 @@ impl<S: FarTickets> LiveTable<S> {
         ensures none { IfNone result ((a : ℕ) → (g : ℕ) → is_pending_in (aggregate_at self.now.table a) g ≡ false) }
     {
         self.aggregates.first_pending()
+    }
+
+    /// Returns how many row groups are pending in the aggregate of a number, and the first of them, if there is one. `None` if
+    /// there is no such aggregate. Allocates nothing.
+    pub fn pending(&self, a: u32) -> Option<(u32, Option<u32>)>
+        ensures { result ≡ option_map pending_of (aggregate_at self.now.table a) }
+    {
+        self.aggregates.pending(a)
     }
 
     /// Returns how many rows an aggregate of totals without key column folds, and the sum of their values. `None` if there is

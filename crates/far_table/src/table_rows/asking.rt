@@ -11,9 +11,9 @@ ghost use Rattle.far_table.specs.Watching.{needed_from};
 
 use super::TableRows;
 use crate::faults::{cell_faults, living, row_faults};
-use far_rows::NewCell;
+use far_rows::{NewCell, RowRef};
 use far_store::FarTickets;
-use far_types::{Cell, LentRow, Refusal, Row, Spec};
+use far_types::{Cell, Refusal, Row, Spec};
 
 impl<S: FarTickets> TableRows<S> {
     /// Takes a row, if it may be appended. Allocates nothing. After `Ok`, `push` can be refused with `NoMemory` (1) alone.
@@ -71,21 +71,21 @@ impl<S: FarTickets> TableRows<S> {
         Ok(value)
     }
 
-    /// Checks that a place may be removed, and returns its row, borrowed. Allocates nothing.
+    /// Checks that a place may be removed, and returns its row, which borrows each cell when it is asked for. Allocates nothing.
     ///
     /// Refused with the first of these that applies:
     ///
     /// - `NoRow` (8), `RemovedRow` (9)
     /// - `Absent` (16): an object of the place's row group is away. It names the first in the order of the columns.
     /// - `EditsUsedUp` (24)
-    pub fn may_remove(&self, place: u32) -> Result<LentRow<'_>, Refusal>
+    pub fn may_remove(&self, place: u32) -> Result<RowRef<'_, S>, Refusal>
         ensures refused { refusal_in result ≡ edit_due (asked self.now) (edit.Remove place) }
         ensures row { IfOk result (λ row. option_map (λ p. p.cells) (slice_get self.now.places place) ≡ Some row) }
     {
         // For the proof: gives `AreRows`.
         let _len = self.rows.len();
         living(self.is_alive(place as usize))?;
-        let row = self.row(place as usize)?;
+        let row = self.row_ref(place as usize)?;
         self.may_count()?;
         Ok(row)
     }

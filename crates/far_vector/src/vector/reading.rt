@@ -35,6 +35,26 @@ impl<T: Elem> FarVector<T> {
         Ok(list[at.index])
     }
 
+    /// Borrows the element at a place, which is not read. Allocates nothing.
+    ///
+    /// Refused as `get` is.
+    pub fn get_ref<'a, S: FarTickets>(
+        &self,
+        objects: &'a Objects<T, S>,
+        i: usize,
+    ) -> Result<&'a T, Refusal>
+        requires { IsVector (list_of T.meaning S.content objects.now) self.now }
+        ensures element { IfOk result (λ x. slice_get (elements (list_of T.meaning S.content objects.now) self.now) i ≡ Some x.now) }
+        ensures refused { refusal_in result ≡ get_refusal objects.now self.now i }
+    {
+        if i >= self.len {
+            return Err(Refusal::OutOfRange);
+        }
+        let at = self.position(objects, i);
+        let list = objects.lend(at.object)?;
+        Ok(&list[at.index])
+    }
+
     /// Returns the elements `from` up to `to`, all of one row group, borrowed from its object. Allocates nothing.
     ///
     /// Refused with the first of these that applies:

@@ -1,12 +1,13 @@
 use Rattle.std.proofs.Common.{◌≡◌, ◌<◌, ◌+◌, ℕ, List, Option, Some, codes, inl, inr, [], refl, sym, ap, subst, ◌∙◌, arith}
-use Rattle.far_frame.specs.State.{State, live}
+use Rattle.far_frame.specs.State.{live}
+use Rattle.far_frame.specs.Worlds.{World}
 use Rattle.far_script.specs.declared.fault.ShellFault.TheVariants as fault
 use Rattle.far_script.specs.Flow.{IsShort, bytes_in}
 use Rattle.far_script.specs.Printing.{numbered_text}
 use Rattle.far_commands.specs.declared.command.Command.{Command}
 use Rattle.far_commands.specs.declared.command.Command.TheVariants as command
 use Rattle.far_commands.specs.Listings.{listing_of}
-use Rattle.far_commands.specs.Replies.{AnswersLine}
+use Rattle.far_commands.specs.Replies.{AnswersLine, Serves}
 use Rattle.far_commands.specs.Progress.{At}
 use Rattle.far_commands.specs.Cuts.{Fails, FailsBy, IsListing}
 use Rattle.far_script.proofs.FlowStops.{each-fault, handed-on, if-input, leaves-same, stops-here, stops-more}
@@ -27,8 +28,7 @@ returns-then-is_empty-clause-ok g c = (
 
 pub returns-in-Ok-Some-clause-ok : goal.returns-in-Ok-Some-clause-ok
 returns-in-Ok-Some-clause-ok g c =
-    let kinds = c.as_slice.ensures ∙ c.schema.ensures ∙ ap (λ (s : State g.row.S-Ticket.Denot). s.table.schema) c.frame.ensures in
-    let some = rw (c.in_ok-text.ensures.ok.0, kinds) at (sym c.in-Ok-Some.ensures.command ∙ c.in-Ok-Some.field-0-is) in
+    let some = rw c.in_ok-text.ensures.ok.0 at (sym c.in-Ok-Some.ensures.command ∙ c.in-Ok-Some.field-0-is) in
     let line = bytes_in g.R.Read c.args.input.now c.args.line in
     let old : At g.row.S-Ticket.Denot = record { world = c.progress.inside.world; number = c.progress.inside.number } in
     let new : At g.row.S-Ticket.Denot = record { world = c.serve_command.new.world; number = c.progress.inside.number + 1 } in
@@ -40,16 +40,16 @@ returns-in-Ok-Some-clause-ok g c =
       a.3,
       subst (λ (at : At g.row.S-Ticket.Denot). AnswersLine g.S.FarTickets at line a.0 a.1 new) c.progress.view_is
           (answers-command g.S.FarTickets old new line a.0 a.1 (range-some c.args.input.now.held c.args.line.from c.args.line.to shown c.requires.held.1)
-          (rw c.in_ok-text.ensures.ok.0 at c.in_ok-text.ensures.ok.1) refl (rw some a.4)),
+          (rw c.in_ok-text.ensures.ok.0 at c.in_ok-text.ensures.ok.1) refl
+          (rw some (subst (λ (w : World g.row.S-Ticket.Denot). Serves g.S.FarTickets w c.in-Ok-Some.command a.0 a.1 c.serve_command.new.world) c.in-Ok-Some.ensures.same a.4))),
     )) c.serve_command.ensures.ok
 
 pub returns-in-Ok-None-clause-ok : goal.returns-in-Ok-None-clause-ok
 returns-in-Ok-None-clause-ok g c =
-    let kinds = c.as_slice.ensures ∙ c.schema.ensures ∙ ap (λ (s : State g.row.S-Ticket.Denot). s.table.schema) c.frame.ensures in
-    let none = rw (c.in_ok-text.ensures.ok.0, kinds) at (sym c.in-Ok-None.ensures.command ∙ c.in-Ok-None.field-0-is) in
+    let none = rw c.in_ok-text.ensures.ok.0 at (sym c.in-Ok-None.ensures.command ∙ c.in-Ok-None.field-0-is) in
     let line = bytes_in g.R.Read c.args.input.now c.args.line in
     let old : At g.row.S-Ticket.Denot = record { world = c.progress.inside.world; number = c.progress.inside.number } in
-    let new : At g.row.S-Ticket.Denot = record { world = c.progress.inside.world; number = c.progress.inside.number + 1 } in
+    let new : At g.row.S-Ticket.Denot = record { world = c.parse_line.new.world; number = c.progress.inside.number + 1 } in
     let text = numbered_text (codes "syntax command") (c.progress.inside.number + 1) in
     let shown : c.args.line.from < c.args.line.to = grind (arith, c.if-is_empty.ensures) in
     on-ok c.print_syntax.result _ _ (λ printed. (
@@ -59,7 +59,7 @@ returns-in-Ok-None-clause-ok g c =
       prints (g.W.Write.contents c.args.writer.now) c.args.output.now.page text c.print_syntax.new.output.page printed,
       subst (λ (at : At g.row.S-Ticket.Denot). AnswersLine g.S.FarTickets at line [] text new) c.progress.view_is
           (answers-command g.S.FarTickets old new line [] text (range-some c.args.input.now.held c.args.line.from c.args.line.to shown c.requires.held.1)
-          (rw c.in_ok-text.ensures.ok.0 at c.in_ok-text.ensures.ok.1) refl (rw none (refl, refl, refl))),
+          (rw c.in_ok-text.ensures.ok.0 at c.in_ok-text.ensures.ok.1) refl (rw none (refl, refl, c.in-Ok-None.ensures.same))),
     )) c.print_syntax.ensures.ok
 
 pub returns-in_err-text-clause-err : goal.returns-in_err-text-clause-err
@@ -78,15 +78,14 @@ returns-in-Ok-None-clause-stopped g c = no-input c.print_syntax.result _ c.print
 
 pub returns-in-Ok-Some-clause-err : goal.returns-in-Ok-Some-clause-err
 returns-in-Ok-Some-clause-err g c =
-    let kinds = c.as_slice.ensures ∙ c.schema.ensures ∙ ap (λ (s : State g.row.S-Ticket.Denot). s.table.schema) c.frame.ensures in
-    let some = rw (c.in_ok-text.ensures.ok.0, kinds) at (sym c.in-Ok-Some.ensures.command ∙ c.in-Ok-Some.field-0-is) in
+    let some = rw c.in_ok-text.ensures.ok.0 at (sym c.in-Ok-Some.ensures.command ∙ c.in-Ok-Some.field-0-is) in
     let line = bytes_in g.R.Read c.args.input.now c.args.line in
-    let world = c.progress.inside.world in
+    let world = c.parse_line.new.world in
     each-fault c.serve_command.result _ _ (λ why p. (
       p.0,
       p.1,
       cut-more why (λ said. (c.in-Ok-Some.command ≡ command.Dump) × (said ≡ listing_of (live world.state))) (λ said. IsListing c.args.progress.now line said) p.0
-          (λ said s. subst (λ (at : At g.row.S-Ticket.Denot). IsListing at line said) c.progress.view_is (some ∙ ap (λ (asked : Command). Some asked) s.0, s.1)) p.2,
+          (λ said s. subst (λ (at : At g.row.S-Ticket.Denot). IsListing at line said) c.progress.view_is (some ∙ ap (λ (asked : Command). Some asked) s.0, s.1 ∙ ap (λ (w : World g.row.S-Ticket.Denot). listing_of (live w.state)) c.in-Ok-Some.ensures.same)) p.2,
     )) c.serve_command.ensures.err
 
 pub returns-in_err-text-clause-stopped : goal.returns-in_err-text-clause-stopped
@@ -99,8 +98,7 @@ returns-in_err-text-clause-stopped g c =
 pub returns-in-Ok-Some-clause-stopped : goal.returns-in-Ok-Some-clause-stopped
 returns-in-Ok-Some-clause-stopped g c =
     let short = λ (rest : List ℕ). IsShort g.R.Read g.R.Source.may_fail c.args.input.now c.serve_command.new.input rest in
-    let kinds = c.as_slice.ensures ∙ c.schema.ensures ∙ ap (λ (s : State g.row.S-Ticket.Denot). s.table.schema) c.frame.ensures in
-    let some = rw (c.in_ok-text.ensures.ok.0, kinds) at (sym c.in-Ok-Some.ensures.command ∙ c.in-Ok-Some.field-0-is) in
+    let some = rw c.in_ok-text.ensures.ok.0 at (sym c.in-Ok-Some.ensures.command ∙ c.in-Ok-Some.field-0-is) in
     let line = bytes_in g.R.Read c.args.input.now c.args.line in
     each-fault c.serve_command.result _ _ (λ why stopped. if-input why _ _ (λ s. stops-more g.R.Read c.args.input.now c.serve_command.new.input (λ behind rest. FailsBy (short rest) (Some c.in-Ok-Some.command) behind) (λ behind rest. Fails (short rest) c.args.progress.now.world.state.table.schema line behind)
     (λ bytes rest f. subst (λ (at : At g.row.S-Ticket.Denot). Fails (short rest) at.world.state.table.schema line bytes) c.progress.view_is (inr (subst (λ (asked : Option Command). FailsBy (short rest) asked bytes) (sym some) f))) s) stopped)

@@ -13,7 +13,7 @@ returns-in-Some-clause-min_maxes c =
     let m = holders_of c.args.holders.now.entries in
     let previous = get_at c.args.holders.now.entries c.args.key.now ∙ sym c.in-Some.ensures.value in
     subst (HaveSameMinMaxes m) (sym written)
-    (min_maxes-insert m c.args.key.now c.reserve.new.self (λ g. ap (λ s. at s g) c.reserve.ensures.min_maxes ∙ sym (ap (λ o. min_max_in o g) previous)))
+    (min_maxes-insert m c.args.key.now c.reserve.new.self (λ g. c.reserve.ensures.min_maxes g ∙ sym (ap (λ o. min_max_in o g) previous)))
 
 pub returns-in-Some-clause-kept : goal.returns-in-Some-clause-kept
 returns-in-Some-clause-kept c =
@@ -36,26 +36,26 @@ returns-in_ok-insert-in-None-clause-min_maxes c =
     let lent = c.get_mut.follows.lender-at-none.entries in
     let same : holders_of lent ≡ holders_of c.args.holders.now.entries = λ i. holders_of (c.get_mut.follows.holds-at-none i).entries in
     let key = c.in_ok-clone_key-in-None.ensures.equal in
-    let inserted = set_inserts lent c.insert.new.self.entries c.in_ok-clone_key-in-None.field-0 c.with_spare.result c.in_ok-insert-in-None.ensures.updates.0 ∙ (λ i. fin.insert (same i) (key i) c.with_spare.result) in
+    let inserted = set_inserts lent c.insert.new.self.entries c.in_ok-clone_key-in-None.field-0 c.with_place.result c.in_ok-insert-in-None.ensures.updates.0 ∙ (λ i. fin.insert (same i) (key i) c.with_place.result) in
     let m = holders_of c.args.holders.now.entries in
     let absent = get_at c.args.holders.now.entries c.args.key.now ∙ sym c.in-None.ensures.value in
     subst (HaveSameMinMaxes m) (sym inserted)
-    (min_maxes-insert m c.args.key.now c.with_spare.result (λ g. ap (λ s. at s g) c.with_spare.ensures.min_maxes ∙ sym (ap (λ o. min_max_in o g) absent)))
+    (min_maxes-insert m c.args.key.now c.with_place.result (λ g. ap (λ s. at s g) c.with_place.ensures.min_maxes ∙ sym (ap (λ o. min_max_in o g) absent)))
 
 pub returns-in_ok-insert-in-None-clause-kept : goal.returns-in_ok-insert-in-None-clause-kept
 returns-in_ok-insert-in-None-clause-kept c =
     let lent = c.get_mut.follows.lender-at-none.entries in
     let same : holders_of lent ≡ holders_of c.args.holders.now.entries = λ i. holders_of (c.get_mut.follows.holds-at-none i).entries in
     let key = c.in_ok-clone_key-in-None.ensures.equal in
-    let inserted = set_inserts lent c.insert.new.self.entries c.in_ok-clone_key-in-None.field-0 c.with_spare.result c.in_ok-insert-in-None.ensures.updates.0 ∙ (λ i. fin.insert (same i) (key i) c.with_spare.result) in
+    let inserted = set_inserts lent c.insert.new.self.entries c.in_ok-clone_key-in-None.field-0 c.with_place.result c.in_ok-insert-in-None.ensures.updates.0 ∙ (λ i. fin.insert (same i) (key i) c.with_place.result) in
     let m = holders_of c.args.holders.now.entries in
-    subst (KeepsReserved m) (sym inserted) (keeps-insert m c.args.key.now c.with_spare.result (λ had. c.with_spare.ensures.reserved))
+    subst (KeepsReserved m) (sym inserted) (keeps-insert m c.args.key.now c.with_place.result (λ had. c.with_place.ensures.reserved))
 
 pub returns-in_ok-insert-in-None-clause-reserved : goal.returns-in_ok-insert-in-None-clause-reserved
 returns-in_ok-insert-in-None-clause-reserved c =
     let lent = c.get_mut.follows.lender-at-none.entries in
     let same : holders_of lent ≡ holders_of c.args.holders.now.entries = λ i. holders_of (c.get_mut.follows.holds-at-none i).entries in
     let key = c.in_ok-clone_key-in-None.ensures.equal in
-    let inserted = set_inserts lent c.insert.new.self.entries c.in_ok-clone_key-in-None.field-0 c.with_spare.result c.in_ok-insert-in-None.ensures.updates.0 ∙ (λ i. fin.insert (same i) (key i) c.with_spare.result) in
+    let inserted = set_inserts lent c.insert.new.self.entries c.in_ok-clone_key-in-None.field-0 c.with_place.result c.in_ok-insert-in-None.ensures.updates.0 ∙ (λ i. fin.insert (same i) (key i) c.with_place.result) in
     let m = holders_of c.args.holders.now.entries in
-    subst (λ (n : Holders). reserved_at n c.args.key.now ≢ None) (sym inserted) (reserved-made m c.args.key.now c.with_spare.result c.with_spare.ensures.reserved)
+    subst (λ (n : Holders). reserved_at n c.args.key.now ≢ None) (sym inserted) (reserved-made m c.args.key.now c.with_place.result c.with_place.ensures.reserved)

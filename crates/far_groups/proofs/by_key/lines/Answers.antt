@@ -6,9 +6,9 @@ use Rattle.far_types.specs.Answers.{total_lines}
 use Rattle.far_types.proofs.AnswersByKeyMaps.{entries-by_key}
 use Rattle.far_groups.specs.declared.by_key.Form.{Form}
 use Rattle.far_groups.specs.Numbers.{numbered}
-use Rattle.far_groups.specs.Dense.{entries_from}
+use Rattle.far_groups.specs.Dense.{in_order}
 use Rattle.far_groups.specs.ByKey.{in_form}
-use Rattle.far_groups.proofs.DenseLaws.{places_ascend}
+use Rattle.far_groups.proofs.RankedLaws.{in_order_totals, in_order_ascends}
 use Rattle.far_groups.proofs.NumbersLaws.{ascend, shown}
 use Rattle.far_groups.proofs.ByKeyLaws.{one_line, one_ascends}
 use Rattle.far_groups.proofs.by_key.lines.Goals as goal
@@ -24,11 +24,12 @@ returns-in-Plain-clause-ok c =
 pub returns-in-Dense-clause-ok : goal.returns-in-Dense-clause-ok
 returns-in-Dense-clause-ok c =
     let places = c.in-Dense.dense.items in
-    let numbers = entries_from 0 places in
+    let numbers = in_order places in
     IfOk-weaker c.lines.result _ _ (λ lines is.
     is
     ∙ sym (shown numbers)
-    ∙ ap (map (λ (entry : Option Key × (ℕ × ℤ)). (entry.0, entry.1.0, entry.1.1))) (sym (entries-by_key (numbered numbers) (places_ascend 0 places)))
+    ∙ ap (map (λ (entry : Option Key × (ℕ × ℤ)). (entry.0, entry.1.0, entry.1.1))) (sym (entries-by_key (numbered numbers) (in_order_ascends places)))
+    ∙ ap total_lines (in_order_totals places)
     ∙ ap (λ (form : Form). total_lines (in_form form)) (sym c.in-Dense.is)) c.lines.ensures.ok
 
 pub returns-in-Numbered-clause-ok : goal.returns-in-Numbered-clause-ok

@@ -9,4 +9,4 @@ returns-in-None-clause-none c = get_elsewhere c.args.dense.now.items c.args.key.
 
 pub returns-else-may_place-clause-none : goal.returns-else-may_place-clause-none
 returns-else-may_place-clause-none c =
-    ap (fin.get (by_place c.args.dense.now.items)) c.in-Some.ensures.some ∙ get_behind c.args.dense.now.items c.in-Some.place (c.may_place.ensures c.if-may_place.false)
+    ap (fin.get (by_place c.args.dense.now.items)) c.in-Some.ensures.some ∙ get_behind c.args.dense.now.items c.in-Some.place (c.may_place.ensures.may_not c.if-may_place.false)

@@ -1,10 +1,11 @@
 use Rattle.std.proofs.Common.{rules, to_z, of_z, ◌≡◌, ℕ, ◌+◌, ◌^◌, ◌≤◌, ◌<◌, Option, None, length, sym, ap, ◌∙◌, subst, arith}
-use Rattle.std.specs.Prelude.{ℤ, pos}
+use Rattle.std.specs.Prelude.{ℤ}
 use Rattle.std.specs.Int.{w64}
 use Rattle.std.specs.FinMap as fin
 use Rattle.far_types.specs.Effects.{count_in}
 use Rattle.far_groups.specs.CountSums.{AreCountSums, with_count_sum}
 use Rattle.far_groups.specs.Numbers.{by_number, number_key}
+use Rattle.far_groups.specs.Dense.{place_number}
 use Rattle.far_groups.proofs.CountSumsLaws.{no_count, some_count, AreCountSums-empty}
 use Rattle.far_groups.proofs.DensePlaces.{next_new, next_none, next_more, next_count_sum}
 use Rattle.far_groups.proofs.dense.numbers_of.Goals as goal
@@ -25,7 +26,7 @@ add-requires-clause-capacity c =
     let place = c.loop-place.place in
     let count_sum = c.index-count_sum.result.now in
     let within : place < length places = omega (arith, c.loop-place-test.true, c.len-place-end.ensures) in
-    let key : to_z w64 (of_z w64 c.number_at.result) ≡ pos place = search rules in
+    let key : to_z w64 (of_z w64 c.number_at.result) ≡ place_number place = search rules in
     let none : fin.get (by_number c.loop-place.numbers.entries) (number_key (to_z w64 (of_z w64 c.number_at.result))) ≡ None =
     (λ i. fin.get (c.loop-place.invariant.same i) (number_key (key i))) ∙ next_new places place count_sum within c.index-count_sum.ensures (some_count c.count_sum.view_is c.if-count_sum-ne0.true) in
     let few = (next_count_sum places place count_sum within c.index-count_sum.ensures (some_count c.count_sum.view_is c.if-count_sum-ne0.true) c.requires).1 in
@@ -39,7 +40,7 @@ loop-place-preserved c =
     let within : place < length places = omega (arith, c.loop-place-test.true, c.len-place-end.ensures) in
     elim c.if-count_sum-ne0.branch [
       | then-count_sum-ne0+in_ok-add w ↦
-          let key : to_z w64 (of_z w64 w.number_at.result) ≡ pos place = search rules in
+          let key : to_z w64 (of_z w64 w.number_at.result) ≡ place_number place = search rules in
           let same =
           w.in_ok-add.ensures.ok
           ∙ (λ i. with_count_sum (c.loop-place.invariant.same i) (number_key (key i)) count_sum)

@@ -9,4 +9,4 @@ returns-then-is_empty-clause-row c = sym (ap (option_map (cells_from c.args.kind
 pub returns-then-is_plain-clause-row : goal.returns-then-is_plain-clause-row
 returns-then-is_plain-clause-row c =
     let found = plain-record c.args.text.now (sym c.if-is_empty.ensures) (sym c.if-is_plain.ensures) in
-    ap (λ cells. Some cells) (c.new.ensures ∙ c.in_ok-plain_cells.ensures.cells) ∙ sym (ap (option_map (cells_from c.args.kinds.now 0)) found)
+    ap (λ cells. Some cells) (c.new.ensures ∙ c.in_ok-cells_in.ensures.cells) ∙ sym (ap (option_map (cells_from c.args.kinds.now 0)) found)

@@ -1,9 +1,15 @@
-use Rattle.std.proofs.Common.{sym, ap, subst, ◌∙◌, None}
-use Rattle.std.specs.Prelude.{is_some}
+use Rattle.std.proofs.Common.{◌≡◌, sym, ap, subst, ◌∙◌}
+use Rattle.far_types.specs.Effects.{join_min_maxes, merge_two}
 use Rattle.far_extrema.specs.Spreads.{IsTopOf}
-use Rattle.far_extrema.specs.Holders.{Holding, held}
-use Rattle.far_extrema.proofs.HoldersLaws.{top-none}
+use Rattle.far_extrema.specs.Holders.{Holding}
+use Rattle.far_extrema.specs.Runs.{with_last, min_maxes_of, value_of}
+use Rattle.far_extrema.proofs.LastLaws.{top_with_last}
 use Rattle.far_extrema.proofs.holder.Holder.top.Goals as goal
 
-pub returns-in-None-clause-top : goal.returns-in-None-clause-top
-returns-in-None-clause-top c = subst (λ (h : Holding). IsTopOf h.min_maxes None) (ap (λ o. held o (is_some c.self.inside.spare)) (sym c.in-None.is) ∙ c.self.view_is) top-none
+pub returns-in-Some-clause-top : goal.returns-in-Some-clause-top
+returns-in-Some-clause-top c =
+    let last = c.self.inside.last in
+    let mm = min_maxes_of c.self.inside.others in
+    let same : c.either.result ≡ merge_two join_min_maxes c.top_in.result (value_of last) = c.either.ensures ∙ ap (merge_two join_min_maxes c.top_in.result) (sym (ap value_of c.in-Some.is)) in
+    subst (λ (h : Holding). IsTopOf h.min_maxes c.either.result) c.self.view_is
+    (subst (IsTopOf (with_last last mm)) (sym same) (top_with_last last mm c.top_in.result c.self.invariant.0 c.top_in.ensures.top))

@@ -1,17 +1,15 @@
-use Rattle.far_frame.proofs.WorldsLaws.{table-moved}
+use Rattle.std.proofs.Common.{subst}
+use Rattle.far_frame.specs.TableViews.{IsKept}
+use Rattle.far_frame.specs.Worlds.{World}
+use Rattle.far_frame.proofs.TableLaws.{step-table}
 use Rattle.far_frame.proofs.world.World.serve.Goals as goal
 
-pub invariant_of-self-in-Lend : goal.invariant_of-self-in-Lend
-invariant_of-self-in-Lend g c =
-    let inside = c.self-in-Lend.inside in
-    table-moved g.S.FarTickets.is_of (g.S.FarTickets.store_id inside.store) inside.frame c.lend.new.frame inside.jobs c.lend.ensures.here c.self-in-Lend.invariant
-
-pub invariant_of-self-in-Pin : goal.invariant_of-self-in-Pin
-invariant_of-self-in-Pin g c =
-    let inside = c.self-in-Pin.inside in
-    table-moved g.S.FarTickets.is_of (g.S.FarTickets.store_id inside.store) inside.frame c.pin.new.frame inside.jobs c.pin.ensures.here c.self-in-Pin.invariant
-
-pub invariant_of-self-in-Unpin : goal.invariant_of-self-in-Unpin
-invariant_of-self-in-Unpin g c =
-    let inside = c.self-in-Unpin.inside in
-    table-moved g.S.FarTickets.is_of (g.S.FarTickets.store_id inside.store) inside.frame c.unpin.new.frame inside.jobs c.unpin.ensures.here c.self-in-Unpin.invariant
+pub returns : goal.returns
+returns g c =
+    let content = g.S.FarTickets.content in
+    let kept = subst (λ (w : World g.row.S-Ticket.Denot). IsKept content w.state) c.self.view_is c.keeps.ensures in
+    record {
+      step = c.serve_step.ensures.step;
+      table = step-table content g.S.FarTickets.number_of c.args.self.now c.serve_step.new.self kept c.args.step c.serve_step.result c.serve_step.ensures.step;
+      faults = c.serve_step.ensures.faults;
+    }

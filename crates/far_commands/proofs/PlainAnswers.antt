@@ -1,0 +1,134 @@
+-- Answers of totals without key column, which are one line.
+use Rattle.std.proofs.Common.{◌≡◌, ℕ, true, false, cond, List, [], ◌∷◌, map, refl, sym, ap, ◌∙◌, subst, Option, None, Some, arith, append-nil}
+use Rattle.std.specs.Prelude.{ℤ, is_none, ◌&&◌, ◌==◌}
+use Rattle.std.specs.List.{filter_map, cons_option}
+use Rattle.std.specs.List.Sorted.{IsStrictlySortedBy}
+use Rattle.std.specs.Map.{keys_of}
+use Rattle.std.specs.FinMap as fin
+use Rattle.std.proofs.lemmas.Bool.Decides.{nat_tests}
+use Rattle.far_store.specs.declared.store.FarTickets.{Ghosts as Tickets}
+use Rattle.far_types.specs.declared.answer.Answer.{Answer}
+use Rattle.far_types.specs.declared.answer.Answer.TheVariants as answer
+use Rattle.far_types.specs.declared.cell.Cell.{Cell}
+use Rattle.far_types.specs.declared.key.Key.{Key}
+use Rattle.far_types.specs.declared.spec.Spec.{Spec}
+use Rattle.far_types.specs.declared.spec.Fold.{Fold}
+use Rattle.far_types.specs.declared.spec.Fold.TheVariants as fold
+use Rattle.far_types.specs.Answers.{is_under, values_of, count_sum, totals, total_lines, or_zero, answer_of, answer_over}
+use Rattle.far_types.specs.Cells.{cells_of, number_in}
+use Rattle.far_types.specs.Keys.{line_cmp}
+use Rattle.far_types.specs.Pairs.{Pair, key_under, paired, pair_in, kept, pairs_of}
+use Rattle.far_types.specs.Table.{Place, Registered, rows_of, left}
+use Rattle.far_types.proofs.AnswersGrouping.{same, own_key, if_any, get-grouped, values_of-cons}
+use Rattle.far_types.proofs.AnswersByKeyMaps.{Entries, by_key, get_at, entries-by_key}
+use Rattle.far_aggregates.specs.Aggregates.{Answers}
+use Rattle.far_aggregates.specs.Readings.{is_totals, all_values, plain_in}
+use Rattle.far_table.specs.Watching.{aggregate_at}
+use Rattle.far_frame.specs.declared.step.Reply.TheVariants as reply
+use Rattle.far_frame.specs.declared.step.Step.TheVariants as step
+use Rattle.far_frame.specs.Worlds.{World}
+use Rattle.far_script.specs.Printing.{total_text}
+use Rattle.far_commands.specs.Replies.{Takes}
+
+-- no pair has a key
+AreKeyless : List Pair → Type 0
+AreKeyless [] = Unit {0}
+AreKeyless (pair ∷ pairs) = (pair.0 ≡ None) × AreKeyless pairs
+
+values : List Pair → List ℤ
+values pairs = map (λ (pair : Pair). pair.1) pairs
+
+-- then all values stand under none
+under_none : (pairs : List Pair) → AreKeyless pairs → values_of None pairs ≡ values pairs
+unfolding AreKeyless values
+under_none [] h = refl
+under_none (pair ∷ pairs) h =
+    let own : is_under None pair ≡ true = ap (λ key. is_under None (key, pair.1)) h.0 ∙ own_key None in
+    values_of-cons None pair pairs ∙ ap (λ b. cond b (pair.1 ∷ values_of None pairs) (values_of None pairs)) own ∙ ap (λ l. pair.1 ∷ l) (under_none pairs h.1)
+
+under_key : (k : Key) (pairs : List Pair) → AreKeyless pairs → values_of (Some k) pairs ≡ []
+unfolding AreKeyless
+under_key k [] h = refl
+under_key k (pair ∷ pairs) h =
+    let other : is_under (Some k) pair ≡ false = ap (λ key. is_under (Some k) (key, pair.1)) h.0 in
+    values_of-cons (Some k) pair pairs ∙ ap (λ b. cond b (pair.1 ∷ values_of (Some k) pairs) (values_of (Some k) pairs)) other ∙ under_key k pairs h.1
+
+one_line : ℕ × ℤ → Entries (ℕ × ℤ)
+one_line t = (None, t) ∷ []
+
+ascends : (t : ℕ × ℤ) → IsStrictlySortedBy line_cmp (keys_of (one_line t))
+unfolding IsStrictlySortedBy one_line
+ascends t = (tt, tt)
+
+none_ascends : IsStrictlySortedBy line_cmp []
+unfolding IsStrictlySortedBy
+none_ascends = tt
+
+one_total : (pair : Pair) (pairs : List Pair) → AreKeyless (pair ∷ pairs) → totals (pair ∷ pairs) ≡ by_key (one_line (count_sum (values (pair ∷ pairs))))
+unfolding values one_line
+one_total pair pairs h = same _ _ alike where
+  t : ℕ × ℤ
+  t = count_sum (map (λ (pair : Pair). pair.1) (pair ∷ pairs))
+
+  alike : (q : Option Key) → fin.get (totals (pair ∷ pairs)) q ≡ fin.get (by_key (one_line t)) q
+  alike None = get-grouped count_sum (pair ∷ pairs) None ∙ ap (λ vs. if_any vs (count_sum vs)) (under_none (pair ∷ pairs) h) ∙ sym (get_at (one_line t) None)
+  alike (Some k) = get-grouped count_sum (pair ∷ pairs) (Some k) ∙ ap (λ vs. if_any vs (count_sum vs)) (under_key k (pair ∷ pairs) h) ∙ sym (get_at (one_line t) (Some k))
+
+plain_lines : (pairs : List Pair) → AreKeyless pairs → or_zero None (total_lines (totals pairs)) ≡ (None, (count_sum (values pairs)).0, (count_sum (values pairs)).1) ∷ []
+unfolding values one_line
+plain_lines [] h = ap (λ (es : Entries (ℕ × ℤ)). or_zero None (map (λ (entry : Option Key × (ℕ × ℤ)). (entry.0, entry.1.0, entry.1.1)) es)) (entries-by_key [] none_ascends)
+plain_lines (pair ∷ pairs) h =
+    let t = count_sum (values (pair ∷ pairs)) in
+    ap (λ m. or_zero None (total_lines m)) (one_total pair pairs h)
+    ∙ ap (λ (es : Entries (ℕ × ℤ)). or_zero None (map (λ (entry : Option Key × (ℕ × ℤ)). (entry.0, entry.1.0, entry.1.1)) es)) (entries-by_key (one_line t) (ascends t))
+
+-- without key column no pair has one
+keyless_one : (spec : Spec) (cells : List Cell) (pairs : List Pair) → spec.key ≡ None → AreKeyless pairs → AreKeyless (cons_option (pair_in spec (cells_of cells)) pairs)
+unfolding AreKeyless
+keyless_one spec cells pairs none h =
+    subst (λ key. AreKeyless (cons_option (paired (key_of key) (number_in (cells_of cells spec.value))) pairs)) (sym none) (of_value (number_in (cells_of cells spec.value))) where
+      key_of : Option ℕ → Option (Option Key)
+      key_of key = key_under key (cells_of cells)
+
+      of_value : (value : Option ℤ) → AreKeyless (cons_option (paired (Some None) value) pairs)
+      of_value None = h
+      of_value (Some value) = (refl, h)
+
+keyless : (spec : Spec) (rows : List (List Cell)) → spec.key ≡ None → AreKeyless (filter_map (λ row. pair_in spec (cells_of row)) rows)
+unfolding AreKeyless
+keyless spec [] none = tt
+keyless spec (row ∷ rows) none = keyless_one spec row (filter_map (λ row. pair_in spec (cells_of row)) rows) none (keyless spec rows none)
+
+plain_answer : (spec : Spec) (rows : List (List Cell)) → spec.fold ≡ fold.Totals → spec.key ≡ None
+    → answer_over spec rows ≡ answer.Totals ((None, (count_sum (values (pairs_of spec rows))).0, (count_sum (values (pairs_of spec rows))).1) ∷ [])
+plain_answer spec rows totals_kept none =
+    (λ i. answer_of (totals_kept i) (none i) (pairs_of spec rows))
+    ∙ ap answer.Totals (plain_lines (pairs_of spec rows) (keyless spec (kept spec rows) none))
+
+-- what is plain
+decoded_left : (n : ℕ) (x y : ℕ × ℤ) → Some x ≡ cond (n == 0) (Some y) None → (n ≡ 0) × (x ≡ y)
+decoded_left n x y e = elim (n == 0) as (λ b. (n == 0) ≡ b → Some x ≡ cond b (Some y) None → (n ≡ 0) × (x ≡ y)) [
+  | true ↦ λ zero_left is. (grind (arith, nat_tests), cc)
+  | false ↦ λ more is. cc
+] refl e
+
+decoded : (f : Fold) (key : Option ℕ) (n : ℕ) (x y : ℕ × ℤ) → Some x ≡ cond (is_totals f && is_none key && n == 0) (Some y) None → (f ≡ fold.Totals) × (key ≡ None) × (n ≡ 0) × (x ≡ y)
+decoded fold.Extrema key n x y e = cc
+decoded fold.Totals (Some column) n x y e = cc
+decoded fold.Totals None n x y e =
+    let both = decoded_left n x y e in
+    (refl, refl, both.0, both.1)
+
+plain_answers : (places : List Place) (found : Option Registered) (x : ℕ × ℤ) → Some x ≡ plain_in places found → Answers places found (answer.Totals ((None, x.0, x.1) ∷ []))
+unfolding values
+plain_answers places None x e = cc
+plain_answers places (Some a) x e =
+    let parts = decoded a.spec.fold a.spec.key (left a.pending) x (all_values a.spec places) e in
+    (parts.2, sym (plain_answer a.spec (rows_of places) parts.0 parts.1 ∙ ap (λ (t : ℕ × ℤ). answer.Totals ((None, t.0, t.1) ∷ [])) (sym parts.3)))
+
+-- a count and a sum that are printed as they are kept are the reply of an ask
+pub asks : {S K : Type 0} (tickets : Tickets S K) (old : World K) (a : ℕ) (x : ℕ × ℤ) (text : List ℕ)
+    → Some x ≡ plain_in old.state.table.places (aggregate_at old.state.table a) → text ≡ total_text (None, x.0, x.1) → Takes tickets old (step.Ask a) text old
+asks tickets old a x text plain printed =
+    let found = answer.Totals ((None, x.0, x.1) ∷ []) in
+    (reply.Answer found, ((found, refl, plain_answers old.state.table.places (aggregate_at old.state.table a) x plain, refl), refl), printed ∙ sym (append-nil (total_text (None, x.0, x.1))))

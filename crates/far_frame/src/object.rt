@@ -1,0 +1,57 @@
+// What an object is.
+ghost use Rattle.std.specs.Prelude.{◌≡◌, ◌<◌, length};
+ghost use Rattle.far_scopes.specs.Movement.{AreHere};
+ghost use Rattle.far_frame.specs.Objects.{state_in};
+
+use far_codec::Elem;
+use far_scopes::Objects;
+use far_store::FarTickets;
+
+/// What an object is: the chunk of one column in one row group.
+///
+/// ```
+/// match frame.object(store, column, group) {
+///     Ok(object) => object.local && !object.dirty,
+///     Err(_) => false,
+/// }
+/// ```
+#[derive(Clone, Copy, Debug, PartialEq, Eq)]
+pub struct ObjectState {
+    /// It lies in the local region; if not, it is away.
+    pub local: bool,
+    /// It was written since its far copy was made, or has none.
+    pub dirty: bool,
+    /// It is local, and was used since it was last passed over as a victim or compacted.
+    pub hot: bool,
+    /// How many pins it has.
+    pub pins: u32,
+    /// How often it was written.
+    pub version: u64,
+    /// The number of its newest far copy, up to date or not, if it has one.
+    pub copy: Option<u64>,
+}
+
+/// Returns what an object is.
+pub(crate) fn state_in<T: Elem, S: FarTickets>(
+    objects: &Objects<T, S>,
+    store: &S,
+    o: u32,
+) -> ObjectState
+    requires within { o < length objects.now.records }
+    requires here { AreHere S.is_of (S.store_id store.now) objects.now }
+    ensures { result ≡ state_in S.number_of objects.now o }
+{
+    let word = objects.word(o);
+    let copy = match objects.ticket(o) {
+        Some(ticket) => Some(store.number(ticket)),
+        None => None,
+    };
+    ObjectState {
+        local: objects.is_local(o),
+        dirty: word.dirty(),
+        hot: word.hot(),
+        pins: objects.pins(o),
+        version: objects.version(o),
+        copy,
+    }
+}
