@@ -1,0 +1,151 @@
+/* What the library costs: an insert, many rows by columns, an ask, a part copied out, a content that goes out and comes back; beside
+ * memcpy. bench [ROWS]. At the top of the repository:
+ *     cc -O2 -Iinclude bindings/c/bench.c lib/libfullercoral.a -o bench && ./bench */
+#define _XOPEN_SOURCE 700
+#include <stdio.h>
+#include <stdlib.h>
+#include <string.h>
+#include <time.h>
+#include "fullercoral.h"
+
+enum { GROUP = 32768, COLUMNS = 2 };
+
+static double now(void) {
+    struct timespec at;
+    clock_gettime(CLOCK_MONOTONIC, &at);
+    return (double)at.tv_sec + 1e-9 * (double)at.tv_nsec;
+}
+
+static void ok(uint32_t code, const char *what) {
+    if (code == FC_OK) return;
+    fprintf(stderr, "%s: code %u\n", what, (unsigned)code);
+    exit(1);
+}
+
+static void *room(size_t size) {
+    void *made = malloc(size);
+    if (!made) exit(4);
+    memset(made, 1, size);
+    return made;
+}
+
+static void open_table(fc_table *table, size_t rows) {
+    const uint32_t kinds[COLUMNS] = {FC_INT, FC_INT};
+    const uint32_t groups = (uint32_t)(rows / GROUP + 1);
+    const fc_limits limits = {.edits = (uint64_t)1 << 40, .group = GROUP, .places = 1 << 24, .int_segments = COLUMNS * groups + 2,
+                              .int_size = GROUP, .text_segments = 1, .text_size = 64};
+    ok(fc_open(table, kinds, COLUMNS, &limits, 1 << 20), "open");
+}
+
+static void insert_all(fc_table *table, size_t rows) {
+    uint32_t place;
+    for (size_t i = 0; i < rows; i++) {
+        const fc_cell row[COLUMNS] = {{(int64_t)(i % 1000), fc_no_bytes, FC_INT}, {(int64_t)i, fc_no_bytes, FC_INT}};
+        ok(fc_insert(table, row, COLUMNS, &place), "insert");
+    }
+}
+
+static void insert_columns(fc_table *table, size_t rows, const int64_t *numbers) {
+    static const uint64_t no_offsets[1];
+    size_t inserted;
+    const fc_column column = {.numbers = numbers, .numbers_len = rows, .offsets = no_offsets, .bytes = fc_no_bytes.at,
+                              .valid = fc_no_bytes.at, .kind = FC_INT};
+    const fc_column columns[COLUMNS] = {column, column};
+    ok(fc_insert_columns(table, columns, COLUMNS, rows, &inserted), "insert_columns");
+}
+
+static void ask(fc_table *table) {
+    const fc_test none = {.text = fc_no_bytes};
+    const fc_spec total = {.tests = &none, .fold = FC_TOTALS, .value = 1};
+    uint32_t aggregate, pending, first;
+    size_t lines;
+    const int asks = 1000000;
+    ok(fc_watch(table, &total, &aggregate), "watch");
+    while (fc_pending(table, aggregate, &pending, &first) == FC_OK && pending) ok(fc_scan(table, aggregate, first), "scan");
+    double begun = now();
+    for (int i = 0; i < asks; i++) ok(fc_ask(table, aggregate, &lines), "ask");
+    printf("ask of one line: %.0f ns\n", (now() - begun) / asks * 1e9);
+}
+
+static void copy_out(fc_table *table, size_t rows, int64_t *values, bool *valid, bool *alive) {
+    const int turns = 20;
+    const uint32_t part = (uint32_t)(rows < 1000000 ? rows : 1000000);
+    double begun = now();
+    for (int i = 0; i < turns; i++) ok(fc_numbers(table, 1, 0, part, values, part, valid, part, alive, part), "numbers");
+    double took = (now() - begun) / turns;
+    int64_t *from = room(8 * (size_t)part);
+    begun = now();
+    for (int i = 0; i < turns; i++) memcpy(values, from, 8 * (size_t)part);
+    double copied = (now() - begun) / turns;
+    printf("numbers of %u places: %.2f ns each; memcpy of as many numbers: %.2f ns each\n", (unsigned)part, took / part * 1e9,
+           copied / part * 1e9);
+    free(from);
+}
+
+static void move(fc_table *table, size_t rows) {
+    double begin = 0, carry = 0, commit = 0, wanted = 0, deliver = 0, read = 0, install = 0;
+    const uint32_t groups = (uint32_t)(rows / GROUP);
+    size_t moved = 0;
+    uint8_t *shelf = room((size_t)GROUP * 16 + 64);
+    for (uint32_t group = 0; group < groups; group++) {
+        uint64_t job, number;
+        fc_bytes bytes = fc_no_bytes;
+        double at[8];
+        at[0] = now();
+        ok(fc_begin_evict(table, 1, group, &job), "begin");
+        at[1] = now();
+        ok(fc_carry(table, job), "carry");
+        at[2] = now();
+        ok(fc_outgoing(table, job, &number, &bytes), "outgoing");
+        memcpy(shelf, bytes.at, bytes.len);
+        const size_t len = bytes.len;
+        double again = now();
+        ok(fc_commit(table, job), "commit");
+        commit += now() - again;
+        at[3] = now();
+        ok(fc_begin_fetch(table, 1, group, &job), "begin");
+        at[4] = now();
+        ok(fc_deliver(table, job, number, shelf, len), "deliver");
+        at[5] = now();
+        ok(fc_carry(table, job), "carry");
+        at[6] = now();
+        ok(fc_install(table, job), "install");
+        at[7] = now();
+        begin += at[1] - at[0];
+        carry += at[2] - at[1];
+        wanted += at[4] - at[3];
+        deliver += at[5] - at[4];
+        read += at[6] - at[5];
+        install += at[7] - at[6];
+        moved += len;
+    }
+    const double mib = (double)moved / 1048576;
+    printf("out, ms a MiB: begin %.2f, carry (SHA-256) %.2f, commit %.2f\n", begin / mib * 1e3, carry / mib * 1e3, commit / mib * 1e3);
+    printf("back, ms a MiB: begin %.2f, deliver (SHA-256) %.2f, carry %.2f, install %.2f\n", wanted / mib * 1e3, deliver / mib * 1e3,
+           read / mib * 1e3, install / mib * 1e3);
+    free(shelf);
+}
+
+int main(int argc, char **argv) {
+    const size_t rows = argc > 1 ? (size_t)atol(argv[1]) : 1000000;
+    fc_table table = {NULL};
+    int64_t *numbers = room(8 * rows);
+    bool *valid = room(rows), *alive = room(rows);
+    open_table(&table, rows);
+    double begun = now();
+    insert_all(&table, rows);
+    printf("insert of a row of two numbers: %.0f ns\n", (now() - begun) / (double)rows * 1e9);
+    ok(fc_close(&table), "close");
+    open_table(&table, rows);
+    begun = now();
+    insert_columns(&table, rows, numbers);
+    printf("a row by columns: %.0f ns\n", (now() - begun) / (double)rows * 1e9);
+    ask(&table);
+    copy_out(&table, rows, numbers, valid, alive);
+    move(&table, rows);
+    ok(fc_close(&table), "close");
+    free(numbers);
+    free(valid);
+    free(alive);
+    return 0;
+}

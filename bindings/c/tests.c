@@ -1,0 +1,504 @@
+/* Each call of the library once as it should go and once refused; contents that are not what was put; and each allocation refused in
+ * turn. The heap is this file's own: it counts allocations, and refuses one of them. Prints 'N passed, M failed' in the end. */
+#include <stdio.h>
+#include <stdlib.h>
+#include <string.h>
+#include "fullercoral.h"
+
+static unsigned long passed, failed;
+
+static void check(bool holds, const char *what, int line) {
+    if (holds) {
+        passed++;
+        return;
+    }
+    failed++;
+    printf("line %d: %s\n", line, what);
+}
+
+#define CHECK(holds) check((holds), #holds, __LINE__)
+#define CODE(call, code) check((call) == (code), #call " gives " #code, __LINE__)
+#define OK(call) CODE(call, FC_OK)
+
+/* --- The heap ------------------------------------------------------------------------------------------------------------------- */
+
+typedef struct {
+    bool is_made;
+    void *block;
+} tried;
+
+static unsigned long allocations, refused_one; /* how many were asked for, and which one is refused; 0: none */
+static long blocks;                            /* how many are not freed */
+static char nowhere;
+
+static tried given(void *block) { return block ? (tried){true, block} : (tried){false, &nowhere}; }
+
+tried rattle_alloc(size_t size, size_t align);
+tried rattle_realloc(void *block, size_t kept, size_t size, size_t align);
+void rattle_dealloc(void *block);
+
+tried rattle_alloc(size_t size, size_t align) {
+    if (++allocations == refused_one) return given(NULL);
+    blocks++;
+    return given(malloc(size ? size : align));
+}
+
+tried rattle_realloc(void *block, size_t kept, size_t size, size_t align) {
+    (void)kept;
+    if (++allocations == refused_one) return given(NULL);
+    return given(realloc(block, size ? size : align));
+}
+
+void rattle_dealloc(void *block) {
+    blocks--;
+    free(block);
+}
+
+/* --- A table of texts and numbers in row groups of 4 ------------------------------------------------------------------------------ */
+
+static const uint32_t KINDS[2] = {FC_TEXT, FC_INT};
+static const fc_limits LIMITS = {.edits = 1000, .group = 4, .places = 16, .int_segments = 4, .int_size = 16, .text_segments = 4,
+                                 .text_size = 256};
+static const fc_test NO_TESTS[1] = {{0, {(const uint8_t *)"", 0}, 0, 0}};
+static const fc_spec BY_NAME = {.tests = NO_TESTS, .fold = FC_TOTALS, .value = 1, .key = 0, .has_key = true};
+static const fc_spec TOTAL = {.tests = NO_TESTS, .fold = FC_TOTALS, .value = 1};
+static const fc_spec RANGE = {.tests = NO_TESTS, .fold = FC_EXTREMA, .value = 1};
+
+static fc_bytes text(const char *of) { return (fc_bytes){(const uint8_t *)of, strlen(of)}; }
+
+static fc_cell int_cell(int64_t of) { return (fc_cell){of, fc_no_bytes, FC_INT}; }
+
+static fc_cell text_cell(const char *of) { return (fc_cell){0, text(of), FC_TEXT}; }
+
+static uint32_t insert(fc_table *table, const char *of, int64_t quantity) {
+    fc_cell row[2] = {text_cell(of), int_cell(quantity)};
+    uint32_t place = 99;
+    return fc_insert(table, row, 2, &place);
+}
+
+static void open_bakery(fc_table *table) {
+    memset(table, 0, sizeof *table);
+    OK(fc_open(table, KINDS, 2, &LIMITS, 1000));
+    OK(insert(table, "bread", 5));
+    OK(insert(table, "rye", 3));
+    OK(insert(table, "bread", 2));
+}
+
+/* What the storage keeps, by number. */
+typedef struct {
+    uint8_t bytes[256];
+    size_t len;
+} content;
+
+static content shelf[1000];
+
+static bool keep(fc_table *table, uint64_t job, uint64_t *number) {
+    fc_bytes bytes = fc_no_bytes;
+    if (fc_outgoing(table, job, number, &bytes) != FC_OK) return false;
+    memcpy(shelf[*number].bytes, bytes.at, bytes.len);
+    shelf[*number].len = bytes.len;
+    return true;
+}
+
+static uint64_t evict(fc_table *table, uint32_t column, uint32_t group) {
+    uint64_t job, number = 999;
+    OK(fc_begin_evict(table, column, group, &job));
+    OK(fc_carry(table, job));
+    keep(table, job, &number);
+    OK(fc_commit(table, job));
+    return number;
+}
+
+static uint32_t fetch(fc_table *table, uint32_t column, uint32_t group) {
+    uint64_t job, number;
+    uint32_t code = fc_begin_fetch(table, column, group, &job);
+    if (code) return code;
+    OK(fc_wanted(table, job, 0, &number));
+    OK(fc_deliver(table, job, number, shelf[number].bytes, shelf[number].len));
+    OK(fc_carry(table, job));
+    return fc_install(table, job);
+}
+
+static bool is_total(fc_table *table, uint32_t aggregate, uint64_t count, int64_t sum) {
+    fc_sum found;
+    return fc_plain(table, aggregate, &found) == FC_OK && found.count == count && (int64_t)found.sum_low == sum &&
+           found.sum_high == (sum < 0 ? -1 : 0);
+}
+
+/* --- Each call ------------------------------------------------------------------------------------------------------------------ */
+
+static void opening(void) {
+    fc_table table = {NULL};
+    fc_limits none = LIMITS;
+    const uint32_t wrong[1] = {7};
+    uint32_t places;
+    none.group = 0;
+    CODE(fc_places(&table, &places), FC_CLOSED);
+    CODE(fc_close(&table), FC_CLOSED);
+    CODE(fc_open(&table, KINDS, 0, &LIMITS, 10), FC_BAD_SCHEMA);
+    CODE(fc_open(&table, KINDS, 2, &none, 10), FC_BAD_SCHEMA);
+    CODE(fc_open(&table, wrong, 1, &LIMITS, 10), FC_BAD_ARGUMENT);
+    OK(fc_open(&table, KINDS, 2, &LIMITS, 10));
+    CODE(fc_open(&table, KINDS, 2, &LIMITS, 10), FC_ALREADY_OPEN);
+    OK(fc_close(&table));
+    CODE(fc_close(&table), FC_CLOSED);
+    CHECK(blocks == 0);
+}
+
+static void edits(void) {
+    fc_table table;
+    fc_cell cell = int_cell(7), bad = {0, {(const uint8_t *)"\xff", 1}, FC_TEXT}, other = {0, fc_no_bytes, 9};
+    fc_cell row[2] = {text_cell("oat"), int_cell(1)};
+    uint32_t place = 99;
+    bool alive;
+    open_bakery(&table);
+    OK(fc_insert(&table, row, 2, &place));
+    CHECK(place == 3);
+    CODE(fc_insert(&table, row, 1, &place), FC_ROW_WIDTH);
+    row[0] = bad;
+    CODE(fc_insert(&table, row, 2, &place), FC_NO_UTF8);
+    row[0] = other;
+    CODE(fc_insert(&table, row, 2, &place), FC_BAD_ARGUMENT);
+    row[0] = int_cell(1);
+    CODE(fc_insert(&table, row, 2, &place), FC_WRONG_KIND);
+    OK(fc_set(&table, 1, 0, &cell));
+    CODE(fc_set(&table, 2, 0, &cell), FC_NO_COLUMN);
+    CODE(fc_set(&table, 0, 0, &cell), FC_WRONG_KIND);
+    CODE(fc_set(&table, 1, 9, &cell), FC_NO_ROW);
+    CODE(fc_set(&table, 0, 0, &bad), FC_NO_UTF8);
+    OK(fc_remove(&table, 1));
+    CODE(fc_remove(&table, 1), FC_REMOVED_ROW);
+    OK(fc_is_alive(&table, 0, &alive));
+    CHECK(alive);
+    OK(fc_is_alive(&table, 1, &alive));
+    CHECK(!alive);
+    CODE(fc_is_alive(&table, 4, &alive), FC_NO_ROW);
+    OK(fc_close(&table));
+}
+
+static void many_rows(void) {
+    fc_table table;
+    const int64_t numbers[3] = {5, 0, -2};
+    const uint64_t offsets[4] = {0, 3, 3, 7};
+    const uint8_t valid[1] = {5};
+    fc_column columns[2] = {
+        {numbers, 0, offsets, 4, (const uint8_t *)"ryeoats", 7, valid, 0, FC_TEXT},
+        {numbers, 3, offsets, 0, (const uint8_t *)"", 0, valid, 1, FC_INT},
+    };
+    size_t inserted = 99;
+    uint32_t total;
+    fc_cell row[2] = {{0, fc_no_bytes, 0}, {0, fc_no_bytes, 0}};
+    open_bakery(&table);
+    OK(fc_watch(&table, &TOTAL, &total));
+    OK(fc_scan(&table, total, 0));
+    OK(fc_insert_columns(&table, columns, 2, 3, &inserted));
+    CHECK(inserted == 3);
+    CHECK(is_total(&table, total, 5, 13));
+    OK(fc_row(&table, 5, row, 2));
+    CHECK(row[0].kind == FC_TEXT && row[0].text.len == 4 && memcmp(row[0].text.at, "oats", 4) == 0);
+    CHECK(row[1].kind == FC_INT && row[1].number == -2);
+    OK(fc_row(&table, 4, row, 2));
+    CHECK(row[0].kind == FC_TEXT && row[0].text.len == 0 && row[1].kind == FC_MISSING);
+    CODE(fc_row(&table, 6, row, 2), FC_NO_ROW);
+    CODE(fc_row(&table, 5, row, 1), FC_BAD_ARGUMENT);
+    CODE(fc_insert_columns(&table, columns, 1, 3, &inserted), FC_BAD_ARGUMENT);
+    columns[1].numbers_len = 2;
+    CODE(fc_insert_columns(&table, columns, 2, 3, &inserted), FC_BAD_ARGUMENT);
+    columns[1].numbers_len = 3;
+    for (int i = 0; i < 3; i++) OK(fc_insert_columns(&table, columns, 2, 3, &inserted));
+    CODE(fc_insert_columns(&table, columns, 2, 3, &inserted), FC_TABLE_FULL);
+    CHECK(inserted == 1);
+    OK(fc_close(&table));
+}
+
+static void aggregates(void) {
+    fc_table table;
+    uint32_t by_name, total, range, groups = 99, first = 99;
+    size_t lines;
+    fc_line line = {.key_text = fc_no_bytes};
+    const fc_test tests[2] = {{3, {(const uint8_t *)"", 0}, 1, FC_GE}, {0, {(const uint8_t *)"b", 1}, 0, FC_TEXT_BEGINS}};
+    fc_spec filtered = {.tests = tests, .tests_len = 2, .fold = FC_TOTALS, .value = 1};
+    fc_spec wrong = TOTAL;
+    fc_aggregate about;
+    fc_details why;
+    open_bakery(&table);
+    OK(fc_watch(&table, &BY_NAME, &by_name));
+    OK(fc_pending(&table, by_name, &groups, &first));
+    CHECK(groups == 1 && first == 0);
+    CODE(fc_ask(&table, by_name, &lines), FC_BUILDING);
+    OK(fc_last_refusal(&table, &why));
+    CHECK(why.code == FC_BUILDING && why.pending == 1);
+    OK(fc_recount(&table, by_name, &lines));
+    CHECK(lines == 2);
+    OK(fc_scan(&table, by_name, 0));
+    CODE(fc_scan(&table, by_name, 0), FC_STALE_JOB);
+    CODE(fc_scan(&table, by_name, 1), FC_OUT_OF_RANGE);
+    OK(fc_pending(&table, by_name, &groups, &first));
+    CHECK(groups == 0);
+    OK(fc_ask(&table, by_name, &lines));
+    CHECK(lines == 2);
+    OK(fc_line_at(&table, 0, &line));
+    CHECK(line.key_kind == FC_TEXT && line.key_text.len == 5 && line.count == 2 && line.sum_low == 7 && line.sum_high == 0);
+    OK(fc_line_at(&table, 1, &line));
+    CHECK(line.key_text.len == 3 && line.count == 1 && line.sum_low == 3 && line.fold == FC_TOTALS);
+    CODE(fc_line_at(&table, 2, &line), FC_NOTHING);
+    OK(fc_watch(&table, &RANGE, &range));
+    OK(fc_scan(&table, range, 0));
+    OK(fc_ask(&table, range, &lines));
+    OK(fc_line_at(&table, 0, &line));
+    CHECK(line.key_kind == FC_MISSING && line.fold == FC_EXTREMA && line.min == 2 && line.max == 5);
+    OK(fc_watch(&table, &filtered, &total));
+    OK(fc_scan(&table, total, 0));
+    CHECK(is_total(&table, total, 1, 5));
+    OK(fc_spec_of(&table, total, &about));
+    CHECK(about.fold == FC_TOTALS && about.value == 1 && !about.has_key && about.tests == 2);
+    CODE(fc_spec_of(&table, 9, &about), FC_NO_AGGREGATE);
+    CODE(fc_plain(&table, by_name, &(fc_sum){0, 0, 0}), FC_NOTHING);
+    wrong.value = 0;
+    CODE(fc_watch(&table, &wrong, &total), FC_WRONG_KIND);
+    wrong.fold = 9;
+    CODE(fc_watch(&table, &wrong, &total), FC_BAD_ARGUMENT);
+    OK(fc_unwatch(&table, range));
+    CODE(fc_unwatch(&table, range), FC_NO_AGGREGATE);
+    CODE(fc_ask(&table, range, &lines), FC_NO_AGGREGATE);
+    CODE(fc_recount(&table, range, &lines), FC_NO_AGGREGATE);
+    CODE(fc_pending(&table, range, &groups, &first), FC_NO_AGGREGATE);
+    OK(fc_close(&table));
+}
+
+static void reading(void) {
+    fc_table table;
+    int64_t values[3] = {0};
+    uint64_t offsets[4] = {0};
+    uint8_t bytes[16];
+    bool valid[3], alive[3];
+    size_t size = 99;
+    fc_bytes lent = fc_no_bytes;
+    const fc_cell missing = {0, fc_no_bytes, FC_MISSING};
+    open_bakery(&table);
+    OK(fc_set(&table, 1, 1, &missing));
+    OK(fc_remove(&table, 2));
+    OK(fc_numbers(&table, 1, 0, 3, values, 3, valid, 3, alive, 3));
+    CHECK(values[0] == 5 && values[1] == 0 && values[2] == 2 && valid[0] && !valid[1] && valid[2] && alive[0] && alive[1] && !alive[2]);
+    CODE(fc_numbers(&table, 1, 0, 3, values, 2, valid, 3, alive, 3), FC_BAD_ARGUMENT);
+    CODE(fc_numbers(&table, 0, 0, 3, values, 3, valid, 3, alive, 3), FC_WRONG_KIND);
+    CODE(fc_numbers(&table, 1, 1, 4, values, 3, valid, 3, alive, 3), FC_OUT_OF_RANGE);
+    OK(fc_text(&table, 0, 1, &lent, valid));
+    CHECK(valid[0] && lent.len == 3 && memcmp(lent.at, "rye", 3) == 0);
+    CODE(fc_text(&table, 0, 3, &lent, valid), FC_NO_ROW);
+    OK(fc_texts_size(&table, 0, 0, 3, &size));
+    CHECK(size == 13);
+    CODE(fc_texts_size(&table, 1, 0, 3, &size), FC_WRONG_KIND);
+    OK(fc_texts(&table, 0, 0, 3, offsets, 4, bytes, 16, valid, 3, alive, 3));
+    CHECK(offsets[0] == 0 && offsets[1] == 5 && offsets[2] == 8 && offsets[3] == 13 && memcmp(bytes, "breadryebread", 13) == 0 && !alive[2]);
+    CODE(fc_texts(&table, 0, 0, 3, offsets, 4, bytes, 12, valid, 3, alive, 3), FC_SHORT_BUFFER);
+    CODE(fc_texts(&table, 0, 0, 3, offsets, 3, bytes, 16, valid, 3, alive, 3), FC_BAD_ARGUMENT);
+    evict(&table, 0, 0);
+    CODE(fc_text(&table, 0, 1, &lent, valid), FC_ABSENT);
+    CODE(fc_row(&table, 0, (fc_cell[2]){missing, missing}, 2), FC_ABSENT);
+    OK(fc_close(&table));
+}
+
+static void moving(void) {
+    fc_table table;
+    fc_object object;
+    fc_space space;
+    fc_job about;
+    uint64_t job, number = 999, begun, waiting;
+    uint32_t total, by_name, next[2];
+    size_t count, lines;
+    open_bakery(&table);
+    OK(fc_watch(&table, &TOTAL, &total));
+    OK(fc_scan(&table, total, 0));
+    OK(fc_object_of(&table, 1, 0, &object));
+    CHECK(object.local && object.dirty && object.pins == 0 && !object.has_copy);
+    CODE(fc_object_of(&table, 1, 1, &object), FC_OUT_OF_RANGE);
+    OK(fc_pin(&table, 1, 0));
+    CODE(fc_pin(&table, 2, 0), FC_NO_COLUMN);
+    OK(fc_begin_evict(&table, 1, 0, &job));
+    OK(fc_job_of(&table, job, &about));
+    CHECK(about.kind == FC_EVICT && !about.carried && about.column == 1 && about.group == 0);
+    CODE(fc_job_of(&table, 77, &about), FC_STALE_JOB);
+    CHECK(!keep(&table, job, &number));
+    OK(fc_carry(&table, job));
+    CODE(fc_carry(&table, job), FC_STALE_JOB);
+    CHECK(keep(&table, job, &number));
+    CODE(fc_commit(&table, job), FC_PINNED);
+    OK(fc_unpin(&table, 1, 0));
+    CODE(fc_unpin(&table, 1, 0), FC_NOT_PINNED);
+    OK(fc_commit(&table, job));
+    CODE(fc_commit(&table, job), FC_STALE_JOB);
+    OK(fc_object_of(&table, 1, 0, &object));
+    CHECK(!object.local && object.has_copy && object.copy == number);
+    CHECK(is_total(&table, total, 3, 10));
+    CODE(insert(&table, "oat", 1), FC_ABSENT);
+    OK(fetch(&table, 1, 0));
+    CODE(fetch(&table, 1, 0), FC_STALE_JOB);
+    OK(insert(&table, "oat", 1));
+    CHECK(is_total(&table, total, 4, 11));
+    OK(fc_begin_coldest(&table, &job));
+    OK(fc_give_up(&table, job));
+    CODE(fc_give_up(&table, job), FC_STALE_JOB);
+    OK(fc_begin_evict(&table, 1, 0, &job));
+    CODE(fc_fault(&table, job), FC_FAR_FAULT);
+    CODE(fc_fault(&table, 77), FC_STALE_JOB);
+    CODE(fc_install(&table, job), FC_STALE_JOB);
+    evict(&table, 0, 0);
+    evict(&table, 1, 0);
+    OK(fc_watch(&table, &BY_NAME, &by_name));
+    OK(fc_begin_offload(&table, by_name, 0, &job));
+    for (size_t i = 0; fc_wanted(&table, job, i, &number) == FC_OK; i++)
+        OK(fc_deliver(&table, job, number, shelf[number].bytes, shelf[number].len));
+    OK(fc_carry(&table, job));
+    OK(fc_merge(&table, job));
+    OK(fc_ask(&table, by_name, &lines));
+    CHECK(lines == 3);
+    CODE(fc_begin_offload(&table, by_name, 0, &job), FC_STALE_JOB);
+    OK(fetch(&table, 1, 0));
+    OK(fc_saw(&table, 1, 0));
+    CODE(fc_saw(&table, 2, 0), FC_NO_COLUMN);
+    OK(fc_proposals(&table, 1, next, 2, &count));
+    CHECK(count == 0);
+    CODE(fc_proposals(&table, 1, next, 1, &count), FC_BAD_ARGUMENT);
+    OK(fc_space_of(&table, FC_INT, &space));
+    CHECK(space.segments == 4 && space.size == 16);
+    CODE(fc_space_of(&table, 0, &space), FC_BAD_ARGUMENT);
+    OK(fc_compact(&table, FC_INT, 0));
+    CODE(fc_compact(&table, FC_INT, 4), FC_OUT_OF_RANGE);
+    OK(fc_jobs(&table, &begun, &waiting));
+    CHECK(begun > 0);
+    OK(fc_close(&table));
+}
+
+static void going_on(void) {
+    fc_table table;
+    fc_object object;
+    uint32_t total;
+    uint64_t faults, old;
+    fc_limits limits;
+    uint32_t columns, kind, places;
+    open_bakery(&table);
+    OK(fc_watch(&table, &TOTAL, &total));
+    OK(fc_scan(&table, total, 0));
+    evict(&table, 0, 0);
+    old = evict(&table, 1, 0);
+    OK(fetch(&table, 0, 0));
+    CODE(fc_migrate(&table, 10), FC_FAR_FAULT);
+    CODE(fc_deliver_copy(&table, 1, 0, shelf[old].bytes, shelf[old].len - 1), FC_FAR_FAULT);
+    OK(fc_deliver_copy(&table, 1, 0, shelf[old].bytes, shelf[old].len));
+    OK(fc_migrate(&table, 10));
+    OK(fc_object_of(&table, 1, 0, &object));
+    CHECK(!object.local && object.has_copy && object.copy == 0);
+    shelf[0] = shelf[old];
+    OK(fetch(&table, 1, 0));
+    CHECK(is_total(&table, total, 3, 10));
+    OK(fc_faults(&table, &faults));
+    CHECK(faults == 2);
+    OK(fc_limits_of(&table, &limits));
+    CHECK(memcmp(&limits, &LIMITS, sizeof limits) == 0);
+    OK(fc_columns(&table, &columns));
+    OK(fc_places(&table, &places));
+    CHECK(columns == 2 && places == 3);
+    OK(fc_kind_of(&table, 0, &kind));
+    CHECK(kind == FC_TEXT);
+    CODE(fc_kind_of(&table, 2, &kind), FC_NO_COLUMN);
+    OK(fc_close(&table));
+    CHECK(blocks == 0);
+}
+
+/* --- Contents that are not what was put ------------------------------------------------------------------------------------------- */
+
+/* Delivers other bytes for a begun fetch: refused with a fault, which is counted, and the job waits. */
+static void is_refused(fc_table *table, uint64_t job, uint64_t number, const uint8_t *bytes, size_t len) {
+    uint64_t before, after;
+    fc_faults(table, &before);
+    if (fc_deliver(table, job, number, bytes, len) != FC_FAR_FAULT) CHECK(!"other bytes are taken");
+    fc_faults(table, &after);
+    if (after != before + 1) CHECK(!"a fault is counted");
+}
+
+static void lies(void) {
+    fc_table table;
+    uint64_t job, number, older, other;
+    const fc_cell eight = int_cell(8);
+    uint8_t bytes[256];
+    open_bakery(&table);
+    older = evict(&table, 1, 0);
+    other = evict(&table, 0, 0);
+    OK(fetch(&table, 1, 0));
+    OK(fetch(&table, 0, 0));
+    OK(fc_set(&table, 1, 0, &eight));
+    evict(&table, 1, 0);
+    OK(fc_begin_fetch(&table, 1, 0, &job));
+    OK(fc_wanted(&table, job, 0, &number));
+    CODE(fc_wanted(&table, job, 1, &number), FC_NOTHING);
+    const content right = shelf[number];
+    for (size_t bit = 0; bit < 8 * right.len; bit++) {
+        memcpy(bytes, right.bytes, right.len);
+        bytes[bit / 8] ^= (uint8_t)(1 << bit % 8);
+        is_refused(&table, job, number, bytes, right.len);
+    }
+    for (size_t len = 0; len < right.len; len++) is_refused(&table, job, number, right.bytes, len);
+    is_refused(&table, job, number, shelf[older].bytes, shelf[older].len);
+    is_refused(&table, job, number, shelf[other].bytes, shelf[other].len);
+    CODE(fc_deliver(&table, job, older, shelf[older].bytes, shelf[older].len), FC_STALE_JOB);
+    CODE(fc_carry(&table, job), FC_FAR_FAULT);
+    OK(fc_deliver(&table, job, number, right.bytes, right.len));
+    OK(fc_carry(&table, job));
+    CODE(fc_wanted(&table, job, 0, &number), FC_NOTHING);
+    OK(fc_install(&table, job));
+    OK(fc_close(&table));
+}
+
+/* --- Each allocation refused ------------------------------------------------------------------------------------------------------ */
+
+/* Calls again once if memory ran out: a refused call left everything as it was. */
+#define AGAIN(call) (code = (call), code == FC_NO_MEMORY ? (call) : code)
+
+static void a_day_without_memory(unsigned long which) {
+    fc_table table = {NULL};
+    uint32_t by_name, code;
+    uint64_t job, number;
+    size_t lines = 0;
+    fc_line line = {.key_text = fc_no_bytes};
+    allocations = 0;
+    refused_one = which;
+    OK(AGAIN(fc_open(&table, KINDS, 2, &LIMITS, 10)));
+    OK(AGAIN(insert(&table, "bread", 5)));
+    OK(AGAIN(fc_watch(&table, &BY_NAME, &by_name)));
+    OK(AGAIN(fc_scan(&table, by_name, 0)));
+    OK(AGAIN(insert(&table, "rye", 3)));
+    OK(AGAIN(fc_begin_evict(&table, 0, 0, &job)));
+    OK(AGAIN(fc_carry(&table, job)));
+    CHECK(keep(&table, job, &number));
+    OK(AGAIN(fc_commit(&table, job)));
+    OK(AGAIN(fc_begin_fetch(&table, 0, 0, &job)));
+    OK(fc_wanted(&table, job, 0, &number));
+    OK(AGAIN(fc_deliver(&table, job, number, shelf[number].bytes, shelf[number].len)));
+    OK(AGAIN(fc_carry(&table, job)));
+    OK(AGAIN(fc_install(&table, job)));
+    OK(AGAIN(fc_remove(&table, 0)));
+    OK(AGAIN(fc_recount(&table, by_name, &lines)));
+    OK(AGAIN(fc_ask(&table, by_name, &lines)));
+    OK(fc_line_at(&table, 0, &line));
+    CHECK(lines == 1 && line.key_text.len == 3 && line.count == 1 && line.sum_low == 3);
+    OK(AGAIN(fc_migrate(&table, 10)));
+    OK(fc_close(&table));
+    refused_one = 0;
+    CHECK(blocks == 0);
+}
+
+int main(void) {
+    opening();
+    edits();
+    many_rows();
+    aggregates();
+    reading();
+    moving();
+    going_on();
+    lies();
+    a_day_without_memory(0);
+    for (unsigned long which = 1, all = allocations; which <= all; which++) a_day_without_memory(which);
+    printf("%lu passed, %lu failed\n", passed, failed);
+    return failed != 0;
+}

@@ -1,0 +1,14 @@
+-- A call that ends with what a step gave: if its code is 0, the step is done.
+use Rattle.std.proofs.Common.{◌≡◌, ◌≤◌, ℕ, Result, OnOk, OnErr, sym, subst, arith}
+use Rattle.std.specs.declared.result.Result.TheVariants.{Ok, Err}
+use Rattle.far_types.specs.declared.refusal.Refusal.{Refusal}
+use Rattle.far_frame.specs.declared.step.Step.{Step}
+use Rattle.far_frame.specs.declared.step.Reply.{Reply}
+use Rattle.far_frame.specs.declared.step.Reply.TheVariants as reply
+use Rattle.far_c.specs.Outcomes.{IsServed, IsRefusal}
+use Rattle.far_c.specs.TableState.{TableState}
+
+pub ended : (s : Step) (outcome : Result Unit Refusal) (given : Reply) (old mid new : TableState) (code : ℕ) → IsServed s given old mid → OnOk outcome (given ≡ reply.Done) → OnOk outcome ((code ≡ 0) × (new ≡ mid)) → OnErr outcome (IsRefusal code) → code ≡ 0
+    → IsServed s reply.Done old new
+ended s (Ok done) given old mid new code served is same number zero = subst (λ (t : TableState). IsServed s reply.Done old t) (sym same.1) (subst (λ (g : Reply). IsServed s g old mid) is served)
+ended s (Err why) given old mid new code served is same number zero = absurd (let low = number.0 in let none : ¬ (1 ≤ code) = λ h. omega (arith, h, zero) in none low)

@@ -1,0 +1,6 @@
+pub mod Steps
+pub mod Fitting
+pub mod Buffers
+pub mod Joined
+pub mod Faults
+pub mod Ended

@@ -1,0 +1,6 @@
+use Rattle.std.proofs.Common.{◌≡◌, map, take}
+use Rattle.far_c.specs.Opening.{kind_of}
+use Rattle.far_c.proofs.opening.read_kinds.Given as goal
+
+abbrev pub invariant-loop-kind : goal.invariant-loop-kind
+invariant-loop-kind l = l.made.items ≡ map kind_of (take l.kind-index l.kinds)

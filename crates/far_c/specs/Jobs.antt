@@ -1,0 +1,20 @@
+-- Jobs as C has them.
+use Rattle.std.specs.Prelude.{◌≡◌, ℕ}
+use Rattle.std.specs.Option.{MatchOption}
+use Rattle.far_host.specs.HostTickets.{TicketState}
+use Rattle.far_frame.specs.declared.job.JobKind.{JobKind}
+use Rattle.far_frame.specs.declared.job.JobKind.TheVariants as kind
+use Rattle.far_frame.specs.Carrying.{is_carried}
+use Rattle.far_frame.specs.Jobs.{JobRecord, job_kind}
+use Rattle.far_c.specs.declared.jobs.FcJob.{FcJob}
+
+-- the number of what a job does
+abbrev pub code_of : JobKind → ℕ
+code_of kind.Evac = 0
+code_of kind.Fetch = 1
+code_of kind.Offload = 2
+
+-- what a job is: what it does, whether it was carried, and the object that it moves, if it moves one
+abbrev pub IsJobOf : JobRecord TicketState → FcJob → Type 0
+IsJobOf job about = (about.kind ≡ code_of (job_kind job)) × (about.carried ≡ is_carried job.work)
+    × MatchOption job.name ((about.column ≡ 0) × (about.group ≡ 0)) (λ name. (about.column ≡ name.column) × (about.group ≡ name.group))

@@ -1,0 +1,14 @@
+-- What a table is opened with, as C passes it.
+use Rattle.std.specs.Prelude.{ℕ, ◌==◌, cond}
+use Rattle.far_types.specs.declared.cell.Kind.{Kind}
+use Rattle.far_types.specs.declared.cell.Kind.TheVariants as kind
+use Rattle.far_types.specs.declared.limits.Limits.{Limits}
+use Rattle.far_c.specs.declared.opening.FcLimits.{FcLimits}
+
+-- the kind of a column
+abbrev pub kind_of : ℕ → Kind
+kind_of n = cond (n == 1) kind.Int kind.Text
+
+-- the limits
+abbrev pub limits_of : FcLimits → Limits
+limits_of l = record { group = l.group; places = l.places; edits = l.edits; int_segments = l.int_segments; int_size = l.int_size; text_segments = l.text_segments; text_size = l.text_size }

@@ -1,0 +1,57 @@
+-- What a call makes of what stands behind its handle, by the code that it returns.
+use Rattle.std.specs.Prelude.{◌≡◌, ℕ, ◌≤◌, ◌<◌, ◌⊎◌, List, [], ◌∷◌, Option, Some, IsSomeAnd}
+use Rattle.std.specs.Option.{MatchOption}
+use Rattle.far_types.specs.declared.refusal.Refusal.{Refusal}
+use Rattle.far_types.specs.declared.refusal.Refusal.TheVariants.{NoMemory}
+use Rattle.far_types.specs.Refusals.{number_of as refusal_number}
+use Rattle.far_frame.specs.declared.step.Step.{Step}
+use Rattle.far_frame.specs.declared.step.Reply.{Reply}
+use Rattle.far_frame.specs.declared.step.Reply.TheVariants as reply
+use Rattle.far_frame.specs.Steps.{IsStep}
+use Rattle.far_c.specs.Contents.{content, number_of}
+use Rattle.far_c.specs.declared.unread.Unread.{Unread}
+use Rattle.far_c.specs.declared.unread.Unread.TheVariants as unread
+use Rattle.far_c.specs.TableState.{TableState}
+
+-- a step is served with this reply, and nothing else changes
+abbrev pub IsServed : Step → Reply → TableState → TableState → Type 0
+IsServed step given old new = IsStep content number_of old.world step given new.world × (new ≡ record old { world = new.world })
+
+-- the table as it was, but for its last refusal
+abbrev pub refused_with : TableState → Refusal → TableState
+refused_with t why = record t { refusal = Some why }
+
+-- memory ran out before the table was asked
+abbrev pub IsOutOfMemory : TableState → TableState → Type 0
+IsOutOfMemory old new = new ≡ refused_with old NoMemory
+
+-- a step is refused by the refusal of this number, which is kept; its effect is what the step's refusal says: none on the table
+abbrev pub IsRefused : ℕ → Step → TableState → TableState → Type 0
+IsRefused code step old new = IsSomeAnd new.refusal (λ why. (code ≡ refusal_number why) × IsServed step (reply.Refused why) old (record new { refusal = old.refusal }))
+
+-- likewise of a step for which something is made first: memory may run out there
+abbrev pub IsRefusedOrStopped : ℕ → Step → TableState → TableState → Type 0
+IsRefusedOrStopped code step old new = IsRefused code step old new ⊎ ((code ≡ 1) × IsOutOfMemory old new)
+
+-- both handles are open, with this between what stands behind them
+abbrev pub Behind : (TableState → TableState → Type 0) → Option TableState → Option TableState → Type 0
+Behind relates old new = IsSomeAnd old (λ before. IsSomeAnd new (relates before))
+
+-- a code is the number of a refusal
+abbrev pub IsRefusal : ℕ → Type 0
+IsRefusal code = (1 ≤ code) × (code < 100)
+
+-- arguments cannot be read: nothing changes, unless memory ran out, which is kept as a refusal
+abbrev pub IsTurnedAway : Unread → ℕ → TableState → TableState → Type 0
+IsTurnedAway unread.BadArgument code old new = (code ≡ 103) × (new ≡ old)
+IsTurnedAway unread.NoUtf8 code old new = (code ≡ 102) × (new ≡ old)
+IsTurnedAway unread.NoMemory code old new = (code ≡ 1) × IsOutOfMemory old new
+
+-- a number is one of some
+abbrev pub IsOneOf : List ℕ → ℕ → Type 0
+IsOneOf [] n = ⊥
+IsOneOf (m ∷ ms) n = (n ≡ m) ⊎ IsOneOf ms n
+
+-- the handle is closed, or the call's arguments are rejected with one of these codes. Nothing changes
+abbrev pub IsRejected : List ℕ → ℕ → Option TableState → Option TableState → Type 0
+IsRejected codes code old new = (new ≡ old) × MatchOption old (code ≡ 100) (λ _. IsOneOf codes code)

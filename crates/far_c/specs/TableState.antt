@@ -1,0 +1,24 @@
+-- What stands behind an open handle.
+use Rattle.std.specs.Prelude.{◌≡◌, List, [], Option, None}
+use Rattle.far_types.specs.declared.answer.Answer.{Answer}
+use Rattle.far_types.specs.declared.cell.Kind.{Kind}
+use Rattle.far_types.specs.declared.limits.Limits.{Limits}
+use Rattle.far_types.specs.declared.refusal.Refusal.{Refusal}
+use Rattle.far_host.specs.HostTickets.{TicketState}
+use Rattle.far_frame.specs.State.{empty_state}
+use Rattle.far_frame.specs.Worlds.{World}
+
+-- the table with its jobs, the answer that stays, and the last refusal
+pub record TableState : Type 0 where
+  pub world : World TicketState
+  pub answer : Option Answer
+  pub refusal : Option Refusal
+
+-- an empty table with these columns and limits: no job was begun, and no fault occurred
+pub record IsNew (schema : List Kind) (limits : Limits) (new : TableState) : Type 0 where
+  pub state : new.world.state ≡ empty_state schema limits 0
+  pub begun : new.world.begun ≡ 0
+  pub jobs : new.world.jobs ≡ []
+  pub faults : new.world.faults ≡ 0
+  pub answer : new.answer ≡ None
+  pub refusal : new.refusal ≡ None

@@ -1,0 +1,120 @@
+// Contents that go out to the calling program, and come back.
+ghost use Rattle.std.specs.Prelude.{◌≡◌, ◌≢◌, ◌≤◌, [], ◌∷◌, IfSome, IsSomeAnd};
+ghost use Rattle.far_rows.specs.Copies.{copy_of};
+ghost use Rattle.far_frame.specs.Delivering.{HasNoCollision, wanted_by};
+ghost use Rattle.far_frame.specs.Renewing.{IsMigratedTo};
+ghost use Rattle.far_frame.specs.Waiting.{job_at};
+ghost use Rattle.far_c.specs.Carrying.{OnWorld};
+ghost use Rattle.far_c.specs.Contents.{content, matches, number_of};
+ghost use Rattle.far_c.specs.Delivering.{IsCounted, IsDelivered, IsOutgoing, IsWanted};
+ghost use Rattle.far_c.specs.Outcomes.{Behind, IsRefusal, IsRejected};
+
+use crate::code::{CLOSED, NOTHING, OK, USED_UP};
+use crate::handle::Handle;
+use crate::table::Table;
+use far_types::Refusal;
+
+/// Lends the bytes that the program is to keep for a carried eviction, and writes their number.
+#[unsafe(no_mangle)]
+pub extern "C" fn fc_outgoing<'a>(
+    handle: &'a mut Handle,
+    job: u64,
+    number: &mut u64,
+    bytes: &mut &'a [u8],
+) -> u32
+    ensures { result ≡ 0 → IsSomeAnd handle.old.table (λ old. IsOutgoing (job_at old.world.jobs job) number.new bytes.new.now) }
+{
+    let Some(table) = handle.table() else {
+        return CLOSED;
+    };
+    if table.world().job(job).is_none() {
+        return table.refuse(Refusal::StaleJob);
+    }
+    let table: &'a Table = table;
+    let Some(found) = table.world().job(job) else {
+        return NOTHING;
+    };
+    let Some((at, out)) = found.outgoing(table.world().store()) else {
+        return NOTHING;
+    };
+    *number = at;
+    *bytes = out;
+    OK
+}
+
+/// Writes the number of the content at an index of those that a begun fetch or offload needs.
+#[unsafe(no_mangle)]
+pub extern "C" fn fc_wanted(handle: &mut Handle, job: u64, index: usize, number: &mut u64) -> u32
+    ensures wanted { result ≡ 0 → IsSomeAnd handle.old.table (λ old. IsWanted (job_at old.world.jobs job) index number.new) }
+    ensures same { result ≢ 20 → handle.new.table ≡ handle.old.table }
+{
+    let Some(table) = handle.table() else {
+        return CLOSED;
+    };
+    match table.world().wanted(job, index) {
+        Ok(Some(wanted)) => {
+            *number = wanted;
+            OK
+        }
+        Ok(None) => NOTHING,
+        Err(refusal) => table.refuse(refusal),
+    }
+}
+
+/// Takes the content of a number for a job that wants it. The bytes are copied.
+///
+/// The premise: if these bytes have the length and the SHA-256 of what went out under this number, they are those bytes.
+#[unsafe(no_mangle)]
+pub extern "C" fn fc_deliver(handle: &mut Handle, job: u64, number: u64, bytes: &[u8]) -> u32
+    requires no_collision { IfSome handle.old.table (λ old. HasNoCollision matches content (wanted_by number_of old.world job number) bytes.now) }
+    ensures delivered { result ≡ 0 → Behind (λ old. IsDelivered (wanted_by number_of old.world job number) bytes.now old) handle.old.table handle.new.table }
+    ensures refused { IsRefusal result → Behind (IsCounted result) handle.old.table handle.new.table }
+    ensures rejected { 100 ≤ result → IsRejected (106 ∷ []) result handle.old.table handle.new.table }
+{
+    let Some(table) = handle.table() else {
+        return CLOSED;
+    };
+    if !table.may_fault() {
+        return USED_UP;
+    }
+    let outcome = table.deliver(job, number, bytes);
+    table.end(outcome)
+}
+
+/// Takes the content of an object that is away, for a migration. The bytes are copied. The premise is that of `fc_deliver`.
+#[unsafe(no_mangle)]
+pub extern "C" fn fc_deliver_copy(handle: &mut Handle, column: u32, group: u32, bytes: &[u8]) -> u32
+    requires no_collision { IfSome handle.old.table (λ old. HasNoCollision matches content (copy_of old.world.state.rows column group) bytes.now) }
+    ensures delivered { result ≡ 0 → Behind (λ old. IsDelivered (copy_of old.world.state.rows column group) bytes.now old) handle.old.table handle.new.table }
+    ensures refused { IsRefusal result → Behind (IsCounted result) handle.old.table handle.new.table }
+    ensures rejected { 100 ≤ result → IsRejected (104 ∷ 106 ∷ []) result handle.old.table handle.new.table }
+{
+    let Some(table) = handle.table() else {
+        return CLOSED;
+    };
+    if !table.may_fault() {
+        return USED_UP;
+    }
+    match table.deliver_copy(column, group, bytes) {
+        // The object is local.
+        Err(Refusal::StaleJob) => NOTHING,
+        outcome => table.end(outcome),
+    }
+}
+
+/// Goes on with new numbers below `capacity`, and frees what was noted of the old ones.
+#[unsafe(no_mangle)]
+pub extern "C" fn fc_migrate(handle: &mut Handle, capacity: u64) -> u32
+    ensures migrated { result ≡ 0 → Behind (OnWorld (λ old new. IsMigratedTo content content new.store old new)) handle.old.table handle.new.table }
+    ensures refused { IsRefusal result → Behind (IsCounted result) handle.old.table handle.new.table }
+    ensures rejected { 100 ≤ result → IsRejected (106 ∷ []) result handle.old.table handle.new.table }
+{
+    let Some(table) = handle.table() else {
+        return CLOSED;
+    };
+    if !table.may_fault() {
+        return USED_UP;
+    }
+    let outcome = table.migrate(capacity);
+    table.end(outcome)
+}

@@ -1,0 +1,125 @@
+// Rows and parts of columns.
+ghost use Rattle.std.specs.Prelude.{◌≡◌, ◌≢◌, ◌≤◌, [], ◌∷◌, None, Some, IsFalse, IsTrue, IsSomeAnd, length, option_map, slice_get};
+ghost use Rattle.far_types.specs.Lent.{lent_cell, text_cell};
+ghost use Rattle.far_types.specs.Table.{column as column_of};
+ghost use Rattle.far_c.specs.Cells.{cell_of, row_of};
+
+use crate::cell::{FcCell, INT, MISSING, TEXT};
+use crate::code::{BAD_ARGUMENT, CLOSED, NOTHING, OK};
+use crate::handle::Handle;
+use crate::table::Table;
+use far_types::{CellRef, LentRow, Refusal};
+
+/// Writes whether the row of a place is alive.
+#[unsafe(no_mangle)]
+pub extern "C" fn fc_is_alive(handle: &mut Handle, place: u32, alive: &mut bool) -> u32
+    ensures alive { result ≡ 0 → IsSomeAnd handle.old.table (λ old. option_map (λ p. p.alive) (slice_get old.world.state.table.places place) ≡ Some alive.new) }
+    ensures none { result ≡ 8 → IsSomeAnd handle.old.table (λ old. slice_get old.world.state.table.places place ≡ None) }
+    ensures kept { result ≢ 8 → handle.new.table ≡ handle.old.table }
+{
+    let Some(table) = handle.table() else {
+        return CLOSED;
+    };
+    match table.world().frame().scope().is_alive(place) {
+        Some(is) => {
+            *alive = is;
+            OK
+        }
+        None => table.refuse(Refusal::NoRow),
+    }
+}
+
+/// Writes the cells of a place, removed or not. Texts are lent.
+#[unsafe(no_mangle)]
+pub extern "C" fn fc_row<'a>(handle: &'a mut Handle, place: u32, cells: &mut [FcCell<'a>]) -> u32
+    ensures row { result ≡ 0 → IsSomeAnd handle.old.table (λ old. option_map (λ p. p.cells) (slice_get old.world.state.table.places place) ≡ Some (row_of cells.new)) }
+{
+    let Some(table) = handle.table() else {
+        return CLOSED;
+    };
+    if cells.len() != table.world().frame().schema().len() {
+        return BAD_ARGUMENT;
+    }
+    if let Err(refusal) = table.world().frame().scope().row(place) {
+        return table.refuse(refusal);
+    }
+    let table: &'a Table = table;
+    match table.world().frame().scope().row(place) {
+        // For the proof: a row has a cell for each column.
+        Ok(row) if row.len() == cells.len() => {
+            write_row(&row, cells);
+            OK
+        }
+        _ => NOTHING,
+    }
+}
+
+// Writes the cells of a row.
+fn write_row<'a>(row: &LentRow<'a>, cells: &mut [FcCell<'a>])
+    requires { length cells.old ≡ length row.now }
+    ensures { row_of cells.new ≡ row.now }
+{
+    for column in 0..cells.len() {
+        if let Some(cell) = row.get(column) {
+            cells[column] = FcCell::of(cell);
+        }
+    }
+}
+
+impl<'a> FcCell<'a> {
+    // The cell as C has it.
+    fn of(cell: CellRef<'a>) -> FcCell<'a>
+        ensures { cell_of result ≡ lent_cell cell.entry }
+    {
+        match cell {
+            CellRef::Missing => FcCell {
+                number: 0,
+                text: b"",
+                kind: MISSING,
+            },
+            CellRef::Int(number) => FcCell {
+                number,
+                text: b"",
+                kind: INT,
+            },
+            CellRef::Text(text) => FcCell {
+                number: 0,
+                text: text.as_bytes(),
+                kind: TEXT,
+            },
+        }
+    }
+}
+
+/// Lends the text of a place, removed or not, and writes whether it has one.
+#[unsafe(no_mangle)]
+pub extern "C" fn fc_text<'a>(
+    handle: &'a mut Handle,
+    column: u32,
+    place: u32,
+    text: &mut &'a [u8],
+    valid: &mut bool,
+) -> u32
+    ensures text { result ≡ 0 → IsTrue valid.new → IsSomeAnd handle.old.table (λ old. slice_get (column_of column old.world.state.table.places) place ≡ Some (text_cell (Some text.new.now))) }
+    ensures missing { result ≡ 0 → IsFalse valid.new → IsSomeAnd handle.old.table (λ old. slice_get (column_of column old.world.state.table.places) place ≡ Some (text_cell None)) }
+{
+    let Some(table) = handle.table() else {
+        return CLOSED;
+    };
+    if let Err(refusal) = table.world().frame().scope().text(column, place) {
+        return table.refuse(refusal);
+    }
+    let table: &'a Table = table;
+    match table.world().frame().scope().text(column, place) {
+        Ok(Some(found)) => {
+            *text = found.as_bytes();
+            *valid = true;
+        }
+        Ok(None) => {
+            *text = b"";
+            *valid = false;
+        }
+        Err(_) => return NOTHING,
+    }
+    OK
+}

@@ -1,0 +1,176 @@
+// What stands behind an open handle.
+ghost use Rattle.std.specs.Prelude.{◌≡◌, ◌<◌, ◌≤◌, ◌^◌, ◌↔◌, [], None, Some, IfOk, IfErr, IsTrue, OnOk, OnErr, option_copied};
+ghost use Rattle.far_types.specs.Refusals.{number_of as refusal_number};
+ghost use Rattle.far_frame.specs.State.{empty_state};
+ghost use Rattle.far_frame.specs.Steps.{IsStep};
+ghost use Rattle.far_c.specs.Contents.{content, number_of};
+
+mod carrying;
+
+use crate::code::{BAD_ARGUMENT, NO_UTF8, OK};
+use crate::unread::Unread;
+use far_frame::{Frame, Reply, Step, World};
+use far_host::HostStore;
+use far_types::{Answer, Cell, Edit, Limits, Refusal, Schema};
+use std::alloc::Global;
+use std::marker::Model;
+
+/// As many faults are counted before no job is carried any more.
+const MAX_FAULTS: u64 = 1 << 62;
+
+/// A table with its jobs, over a store whose contents the calling program keeps; the answer that stays for its lines to be read;
+/// and the last refusal.
+#[derive(Drop)]
+pub struct Table {
+    alloc: Global,
+    world: World<HostStore>,
+    answer: Option<Answer>,
+    refusal: Option<Refusal>,
+}
+
+impl Model for Table {
+    ghost use Rattle.std.specs.Prelude.{◌≤◌, ◌^◌};
+    ghost use Rattle.far_c.specs.TableState.{TableState};
+
+    ghost Value = { TableState };
+
+    ghost view = { λ t. record { world = t.world; answer = t.answer; refusal = t.refusal } };
+
+    ghost invariant = { λ t. t.world.faults ≤ 2 ^ 62 };
+}
+
+impl Table {
+    ghost use Rattle.far_c.specs.Answering.{lines_in};
+    ghost use Rattle.far_c.specs.TableState.{IsNew};
+    ghost use Rattle.far_c.specs.Outcomes.{IsServed, IsRefusal, IsTurnedAway, refused_with};
+    ghost use Rattle.far_c.specs.Replies.{Fits, IsQuiet};
+
+    /// Opens an empty table, with the numbers below `capacity` for its contents. Refused as [`Frame::open`] is.
+    pub fn open(
+        alloc: Global,
+        schema: Schema,
+        limits: Limits,
+        capacity: u64,
+    ) -> Result<Table, Refusal>
+        ensures { IfOk result (IsNew schema limits) }
+    {
+        let frame = Frame::open(alloc, schema, limits, 0)?;
+        let store = HostStore::new(alloc, capacity)?;
+        match World::new(alloc, frame, store) {
+            Ok(world) => Ok(Table {
+                alloc,
+                world,
+                answer: None,
+                refusal: None,
+            }),
+            Err((refusal, _, _)) => Err(refusal),
+        }
+    }
+
+    /// Borrows the table with its jobs.
+    pub fn world(&self) -> &World<HostStore>
+        ensures { result.now ≡ self.now.world }
+    {
+        &self.world
+    }
+
+    /// Serves a step that counts no fault.
+    pub fn serve(&mut self, step: Step) -> Reply
+        requires { IsQuiet step }
+        ensures served { IsServed step result self.old self.new }
+        ensures fits { Fits step result }
+    {
+        self.world.serve(step)
+    }
+
+    /// Serves an edit. It is inlined, so that a caller that knows the kind of its edit goes straight to that.
+    #[inline(always)]
+    pub fn edit(&mut self, edit: Edit) -> Reply
+        ensures served { IsServed (Step.Edit edit) result self.old self.new }
+        ensures fits { Fits (Step.Edit edit) result }
+    {
+        self.world.edit(edit)
+    }
+
+    /// Returns how many faults were counted.
+    pub fn faults(&self) -> u64
+        ensures { result ≡ self.now.world.faults }
+    {
+        self.world.faults()
+    }
+
+    /// Returns whether a fault may still be counted.
+    pub fn may_fault(&self) -> bool
+        ensures { IsTrue result ↔ (self.now.world.faults < 2 ^ 62) }
+    {
+        self.world.faults() < MAX_FAULTS
+    }
+
+    /// Keeps a refusal, and returns its number.
+    pub fn refuse(&mut self, refusal: Refusal) -> u32
+        ensures code { result ≡ refusal_number refusal }
+        ensures number { IsRefusal result }
+        ensures kept { self.new ≡ refused_with self.old refusal }
+    {
+        self.refusal = Some(refusal);
+        refusal.number()
+    }
+
+    /// Ends a call with this outcome: returns the number of a refusal, which is kept, or 0.
+    pub fn end(&mut self, outcome: Result<(), Refusal>) -> u32
+        ensures ok { OnOk outcome ((result ≡ 0) × (self.new ≡ self.old)) }
+        ensures code { IfErr outcome (λ why. result ≡ refusal_number why) }
+        ensures kept { IfErr outcome (λ why. self.new ≡ refused_with self.old why) }
+        ensures number { OnErr outcome (IsRefusal result) }
+    {
+        match outcome {
+            Ok(()) => OK,
+            Err(refusal) => self.refuse(refusal),
+        }
+    }
+
+    /// Ends a call whose arguments cannot be read.
+    pub fn turn_away(&mut self, why: Unread) -> u32
+        ensures { IsTurnedAway why result self.old self.new }
+    {
+        match why {
+            Unread::BadArgument => BAD_ARGUMENT,
+            Unread::NoUtf8 => NO_UTF8,
+            Unread::NoMemory => self.refuse(Refusal::NoMemory),
+        }
+    }
+
+    /// Returns cells that are no longer needed: the row of a later edit may be made in their memory.
+    pub fn spare_cells(&mut self) -> Vec<Cell>
+        ensures { self.new ≡ self.old }
+    {
+        self.world.spare_cells()
+    }
+
+    /// Returns the last refusal, if there was one.
+    pub fn refusal(&self) -> Option<Refusal>
+        ensures { result ≡ self.now.refusal }
+    {
+        self.refusal
+    }
+
+    /// Borrows the answer that stays.
+    pub fn answer(&self) -> Option<&Answer>
+        ensures { option_copied result ≡ self.now.answer }
+    {
+        self.answer.as_ref()
+    }
+
+    /// Keeps an answer, in place of the one before, and returns how many lines it has.
+    pub fn keep(&mut self, answer: Answer) -> usize
+        ensures lines { result ≡ lines_in answer }
+        ensures kept { self.new ≡ record self.old { answer = Some answer } }
+    {
+        let lines = match &answer {
+            Answer::Totals(lines) => lines.as_slice().len(),
+            Answer::Extrema(lines) => lines.as_slice().len(),
+        };
+        self.answer = Some(answer);
+        lines
+    }
+}
