@@ -1,0 +1,160 @@
+use std::fmt;
+use std::iter::FusedIterator;
+use std::marker::PhantomData;
+use std::ops::Range;
+use std::slice;
+
+use crate::spec::Aggregate;
+use crate::sys::{FC_INT, FC_TEXT, fc_line, sum_of};
+use crate::{Key, cell};
+
+/// The last answer of a table, copied out of it. Its memory is used again by the next one.
+#[derive(Debug, Default)]
+pub struct Answer {
+    lines: Vec<StoredLine>,
+    texts: String,
+}
+
+/// A line of an answer: of its numbers those count that the aggregate's fold has.
+#[derive(Debug, Clone, Default)]
+pub struct StoredLine {
+    key: StoredKey,
+    pub count: u64,
+    pub sum: i128,
+    pub min: i64,
+    pub max: i64,
+}
+
+#[derive(Debug, Clone, Default)]
+enum StoredKey {
+    #[default]
+    None,
+    Int(i64),
+    /// Where it lies in the answer's texts.
+    Text(Range<usize>),
+}
+
+impl Answer {
+    pub fn clear(&mut self) {
+        self.lines.clear();
+        self.texts.clear();
+    }
+
+    /// Adds a line of totals without a key.
+    pub fn push_sum(&mut self, count: u64, sum: i128) {
+        self.lines.push(StoredLine {
+            count,
+            sum,
+            ..StoredLine::default()
+        });
+    }
+
+    /// Adds a line.
+    ///
+    /// # Safety
+    /// A call wrote `line`, and no other call with that handle was made since (rule 3).
+    pub unsafe fn push(&mut self, line: &fc_line) {
+        let key = match line.key_kind {
+            FC_INT => StoredKey::Int(line.key_number),
+            FC_TEXT => {
+                let from = self.texts.len();
+                // SAFETY: the caller keeps to rule 3, and a key is a text of the table.
+                self.texts.push_str(unsafe { cell::text_of(line.key_text) });
+                StoredKey::Text(from..self.texts.len())
+            }
+            _ => StoredKey::None,
+        };
+        self.lines.push(StoredLine {
+            key,
+            count: line.count,
+            sum: sum_of(line.sum_low, line.sum_high),
+            min: line.min,
+            max: line.max,
+        });
+    }
+
+    pub fn lines<A: Aggregate>(&self) -> Lines<'_, A> {
+        Lines {
+            lines: self.lines.iter(),
+            texts: &self.texts,
+            aggregate: PhantomData,
+        }
+    }
+}
+
+/// The lines of an answer, sorted by key: numbers by value, texts by bytes.
+///
+/// [`Table::ask`](crate::Table::ask) returns it. It borrows the table, whose next answer uses the same
+/// memory.
+///
+/// ```
+/// use fullercoral::{Limits, Memory, Schema, Table, row, totals};
+///
+/// let schema = Schema::new().text("sku").int("quantity");
+/// let mut table = Table::open(schema, Limits::new(), Memory::new())?;
+/// let sold = table.watch(totals("quantity").by("sku"))?;
+/// table.extend([row!["rye", 3], row!["bread", 5], row!["bread", 2]])?;
+/// let lines = table.ask(sold)?;
+/// assert_eq!(lines.len(), 2);
+/// let most = lines.max_by_key(|line| line.sum).unwrap();
+/// assert_eq!(most.key.text(), Some("bread"));
+/// # Ok::<(), Box<dyn std::error::Error>>(())
+/// ```
+#[must_use]
+pub struct Lines<'a, A> {
+    lines: slice::Iter<'a, StoredLine>,
+    texts: &'a str,
+    aggregate: PhantomData<A>,
+}
+
+impl<'a, A: Aggregate> Lines<'a, A> {
+    fn line(&self, line: &StoredLine) -> A::Line<'a> {
+        let key = match &line.key {
+            StoredKey::None => Key::None,
+            StoredKey::Int(number) => Key::Int(*number),
+            StoredKey::Text(range) => Key::Text(&self.texts[range.clone()]),
+        };
+        A::line(key, line)
+    }
+}
+
+impl<'a, A: Aggregate> Iterator for Lines<'a, A> {
+    type Item = A::Line<'a>;
+
+    fn next(&mut self) -> Option<A::Line<'a>> {
+        self.lines.next().map(|line| self.line(line))
+    }
+
+    fn size_hint(&self) -> (usize, Option<usize>) {
+        self.lines.size_hint()
+    }
+
+    fn nth(&mut self, index: usize) -> Option<A::Line<'a>> {
+        self.lines.nth(index).map(|line| self.line(line))
+    }
+}
+
+impl<A: Aggregate> DoubleEndedIterator for Lines<'_, A> {
+    fn next_back(&mut self) -> Option<Self::Item> {
+        self.lines.next_back().map(|line| self.line(line))
+    }
+}
+
+impl<A: Aggregate> ExactSizeIterator for Lines<'_, A> {}
+impl<A: Aggregate> FusedIterator for Lines<'_, A> {}
+
+impl<A> Clone for Lines<'_, A> {
+    fn clone(&self) -> Self {
+        Lines {
+            lines: self.lines.clone(),
+            texts: self.texts,
+            aggregate: PhantomData,
+        }
+    }
+}
+
+impl<A: Aggregate> fmt::Debug for Lines<'_, A> {
+    fn fmt(&self, f: &mut fmt::Formatter<'_>) -> fmt::Result {
+        f.debug_list().entries(self.clone()).finish()
+    }
+}

@@ -1,0 +1,150 @@
+use crate::Kind;
+use crate::sys::{FC_INT, FC_MISSING, FC_TEXT, fc_bytes, fc_cell};
+
+/// A cell of a row: a number, a text, or nothing.
+///
+/// ```
+/// use fullercoral::Cell;
+///
+/// assert_eq!(Cell::from(5), Cell::Int(5));
+/// assert_eq!(Cell::from("rye"), Cell::Text("rye"));
+/// assert_eq!(Cell::from(None::<i64>), Cell::Missing);
+/// ```
+#[derive(Debug, Clone, Copy, PartialEq, Eq, Default)]
+pub enum Cell<'a> {
+    /// No value. It fails every test, and an aggregate passes over it.
+    #[default]
+    Missing,
+    /// A number.
+    Int(i64),
+    /// A text.
+    Text(&'a str),
+}
+
+impl<'a> Cell<'a> {
+    /// The number, if it is one.
+    ///
+    /// ```
+    /// assert_eq!(fullercoral::Cell::Int(5).int(), Some(5));
+    /// ```
+    #[must_use]
+    pub fn int(self) -> Option<i64> {
+        match self {
+            Cell::Int(number) => Some(number),
+            _ => None,
+        }
+    }
+
+    /// The text, if it is one.
+    ///
+    /// ```
+    /// assert_eq!(fullercoral::Cell::Text("rye").text(), Some("rye"));
+    /// ```
+    #[must_use]
+    pub fn text(self) -> Option<&'a str> {
+        match self {
+            Cell::Text(text) => Some(text),
+            _ => None,
+        }
+    }
+
+    /// Its kind, unless it is missing.
+    ///
+    /// ```
+    /// use fullercoral::{Cell, Kind};
+    ///
+    /// assert_eq!(Cell::Int(5).kind(), Some(Kind::Int));
+    /// assert_eq!(Cell::Missing.kind(), None);
+    /// ```
+    #[must_use]
+    pub fn kind(self) -> Option<Kind> {
+        match self {
+            Cell::Missing => None,
+            Cell::Int(_) => Some(Kind::Int),
+            Cell::Text(_) => Some(Kind::Text),
+        }
+    }
+
+    /// The cell as the library reads it.
+    pub(crate) fn raw(self) -> fc_cell {
+        match self {
+            Cell::Missing => fc_cell::MISSING,
+            Cell::Int(number) => fc_cell {
+                number,
+                text: fc_bytes::NONE,
+                kind: FC_INT,
+            },
+            Cell::Text(text) => fc_cell {
+                number: 0,
+                text: fc_bytes::of(text.as_bytes()),
+                kind: FC_TEXT,
+            },
+        }
+    }
+
+    /// The cell that the library wrote.
+    ///
+    /// # Safety
+    /// A call wrote `raw`, and by rule 3 no other call with that handle is made within `'a`.
+    pub(crate) unsafe fn of_raw(raw: &fc_cell) -> Cell<'a> {
+        match raw.kind {
+            FC_MISSING => Cell::Missing,
+            FC_INT => Cell::Int(raw.number),
+            // SAFETY: the caller keeps to rule 3, and what is lent as a text is UTF-8.
+            _ => Cell::Text(unsafe { text_of(raw.text) }),
+        }
+    }
+}
+
+/// The text that the library lent.
+///
+/// # Safety
+/// A call wrote `bytes` as a text, and by rule 3 no other call with that handle is made within `'a`.
+pub(crate) unsafe fn text_of<'a>(bytes: fc_bytes) -> &'a str {
+    // SAFETY: the caller keeps to rule 3; a text of a table is UTF-8, since fc_insert, fc_set and
+    // fc_insert_columns refuse all else.
+    unsafe { std::str::from_utf8_unchecked(bytes.get()) }
+}
+
+macro_rules! from_number {
+    ($($number:ty),*) => { $(
+        impl From<$number> for Cell<'_> {
+            fn from(number: $number) -> Self {
+                Cell::Int(number.into())
+            }
+        }
+    )* };
+}
+
+from_number!(i64, i32, i16, i8, u32, u16, u8);
+
+impl<'a> From<&'a str> for Cell<'a> {
+    fn from(text: &'a str) -> Self {
+        Cell::Text(text)
+    }
+}
+
+impl<'a> From<&'a String> for Cell<'a> {
+    fn from(text: &'a String) -> Self {
+        Cell::Text(text)
+    }
+}
+
+impl<'a, T: Into<Cell<'a>>> From<Option<T>> for Cell<'a> {
+    fn from(value: Option<T>) -> Self {
+        value.map_or(Cell::Missing, T::into)
+    }
+}
+
+/// An array of cells, made of whatever a [`Cell`] is made of.
+///
+/// ```
+/// use fullercoral::{Cell, row};
+///
+/// let price: Option<i64> = None;
+/// assert_eq!(row!["rye", 5, price], [Cell::Text("rye"), Cell::Int(5), Cell::Missing]);
+/// ```
+#[macro_export]
+macro_rules! row {
+    ($($cell:expr),* $(,)?) => { [$($crate::Cell::from($cell)),*] };
+}

@@ -1,0 +1,298 @@
+use std::ptr::NonNull;
+
+use crate::Kind;
+use crate::sys::fc_column;
+
+/// A column of rows that are inserted together, as Arrow lays columns out. It borrows its data.
+///
+/// ```
+/// use fullercoral::{Column, Limits, Memory, Schema, Table};
+///
+/// let schema = Schema::new().text("sku").int("quantity");
+/// let mut table = Table::open(schema, Limits::new(), Memory::new())?;
+/// let skus = Column::texts(&[0, 3, 8], b"ryebread");
+/// let quantities = Column::ints(&[3, 5]);
+/// assert_eq!(table.extend_columns(&[skus, quantities])?, 2);
+/// # Ok::<(), Box<dyn std::error::Error>>(())
+/// ```
+#[derive(Debug, Clone, Copy)]
+pub struct Column<'a> {
+    data: Data<'a>,
+    valid: Option<&'a [u8]>,
+}
+
+#[derive(Debug, Clone, Copy)]
+enum Data<'a> {
+    Ints(&'a [i64]),
+    Texts { offsets: &'a [u64], bytes: &'a [u8] },
+}
+
+impl<'a> Column<'a> {
+    /// A column of numbers.
+    ///
+    /// ```
+    /// assert_eq!(fullercoral::Column::ints(&[3, 5]).len(), 2);
+    /// ```
+    #[must_use]
+    pub fn ints(values: &'a [i64]) -> Column<'a> {
+        Column {
+            data: Data::Ints(values),
+            valid: None,
+        }
+    }
+
+    /// A column of texts, one behind the other in `bytes`. `offsets` has where each begins, and where
+    /// the last one ends: so one more than there are texts. [`TextBuffer`] makes both.
+    ///
+    /// ```
+    /// assert_eq!(fullercoral::Column::texts(&[0, 3, 8], b"ryebread").len(), 2);
+    /// ```
+    #[must_use]
+    pub fn texts(offsets: &'a [u64], bytes: &'a [u8]) -> Column<'a> {
+        Column {
+            data: Data::Texts { offsets, bytes },
+            valid: None,
+        }
+    }
+
+    /// Which rows have a value: a bit for each, the lowest first, set if it has one.
+    ///
+    /// ```
+    /// let column = fullercoral::Column::ints(&[3, 0, 5]).valid(&[0b101]);
+    /// # let _ = column;
+    /// ```
+    #[must_use]
+    pub fn valid(mut self, bits: &'a [u8]) -> Column<'a> {
+        self.valid = Some(bits);
+        self
+    }
+
+    /// How many rows it has.
+    ///
+    /// ```
+    /// assert_eq!(fullercoral::Column::ints(&[3, 5]).len(), 2);
+    /// ```
+    #[must_use]
+    pub fn len(&self) -> usize {
+        match self.data {
+            Data::Ints(values) => values.len(),
+            Data::Texts { offsets, .. } => offsets.len().saturating_sub(1),
+        }
+    }
+
+    /// Whether it has no row.
+    ///
+    /// ```
+    /// assert!(fullercoral::Column::ints(&[]).is_empty());
+    /// ```
+    #[must_use]
+    pub fn is_empty(&self) -> bool {
+        self.len() == 0
+    }
+
+    pub(crate) fn kind(&self) -> Kind {
+        match self.data {
+            Data::Ints(_) => Kind::Int,
+            Data::Texts { .. } => Kind::Text,
+        }
+    }
+
+    /// How many bytes the texts of these rows take in the local region.
+    pub(crate) fn text_bytes(&self, from: usize, to: usize) -> u64 {
+        match self.data {
+            Data::Ints(_) => 0,
+            Data::Texts { offsets, .. } => {
+                let texts = offsets[to].saturating_sub(offsets[from]);
+                texts.saturating_add(4 * (to - from) as u64)
+            }
+        }
+    }
+
+    /// Whether offsets and bits are as many as the rows need.
+    pub(crate) fn is_whole(&self) -> bool {
+        let bits = self
+            .valid
+            .is_none_or(|bits| bits.len() >= self.len().div_ceil(8));
+        let ends = match self.data {
+            Data::Ints(_) => true,
+            Data::Texts { offsets, .. } => !offsets.is_empty(),
+        };
+        bits && ends
+    }
+
+    /// The rows from `from` up to `to` as the library takes them. The bits are copied to `bits` if
+    /// they do not begin with a byte.
+    pub(crate) fn raw(&self, from: usize, to: usize, bits: &mut Vec<u8>) -> fc_column {
+        let valid = match self.valid {
+            None => &[],
+            Some(all) if from % 8 == 0 => &all[from / 8..to.div_ceil(8)],
+            Some(all) => {
+                shift(all, from, to, bits);
+                bits.as_slice()
+            }
+        };
+        let (numbers, offsets, bytes): (&[i64], &[u64], &[u8]) = match self.data {
+            Data::Ints(values) => (&values[from..to], &[], &[]),
+            Data::Texts { offsets, bytes } => (&[], &offsets[from..=to], bytes),
+        };
+        fc_column {
+            numbers: NonNull::from(numbers).cast(),
+            numbers_len: numbers.len(),
+            offsets: NonNull::from(offsets).cast(),
+            offsets_len: offsets.len(),
+            bytes: NonNull::from(bytes).cast(),
+            bytes_len: bytes.len(),
+            valid: NonNull::from(valid).cast(),
+            valid_len: valid.len(),
+            kind: self.kind().code(),
+        }
+    }
+}
+
+// Copies the bits from `from` up to `to`.
+fn shift(all: &[u8], from: usize, to: usize, bits: &mut Vec<u8>) {
+    let (first, by) = (from / 8, from % 8);
+    let byte = |i: usize| u16::from(all.get(i).copied().unwrap_or(0));
+    bits.clear();
+    bits.extend((0..(to - from).div_ceil(8)).map(|i| {
+        let both = byte(first + i) | byte(first + i + 1) << 8;
+        (both >> by) as u8
+    }));
+}
+
+/// Texts one behind the other, with their offsets: what a [`Column`] of texts borrows.
+///
+/// ```
+/// use fullercoral::TextBuffer;
+///
+/// let mut skus: TextBuffer = ["rye", "bread"].into_iter().collect();
+/// skus.push_missing();
+/// assert_eq!(skus.column().len(), 3);
+/// ```
+#[derive(Debug, Clone)]
+pub struct TextBuffer {
+    offsets: Vec<u64>,
+    bytes: Vec<u8>,
+    valid: Vec<u8>,
+    has_missing: bool,
+}
+
+impl TextBuffer {
+    /// A buffer without texts.
+    ///
+    /// ```
+    /// assert!(fullercoral::TextBuffer::new().column().is_empty());
+    /// ```
+    #[must_use]
+    pub fn new() -> TextBuffer {
+        TextBuffer {
+            offsets: vec![0],
+            bytes: Vec::new(),
+            valid: Vec::new(),
+            has_missing: false,
+        }
+    }
+
+    /// Adds a text.
+    ///
+    /// ```
+    /// let mut skus = fullercoral::TextBuffer::new();
+    /// skus.push("rye");
+    /// assert_eq!(skus.column().len(), 1);
+    /// ```
+    pub fn push(&mut self, text: &str) {
+        self.bytes.extend_from_slice(text.as_bytes());
+        self.end_text(1);
+    }
+
+    /// Adds a row without a text.
+    ///
+    /// ```
+    /// let mut skus = fullercoral::TextBuffer::new();
+    /// skus.push_missing();
+    /// assert_eq!(skus.column().len(), 1);
+    /// ```
+    pub fn push_missing(&mut self) {
+        self.has_missing = true;
+        self.end_text(0);
+    }
+
+    fn end_text(&mut self, bit: u8) {
+        let index = self.offsets.len() - 1;
+        if index % 8 == 0 {
+            self.valid.push(0);
+        }
+        self.valid[index / 8] |= bit << (index % 8);
+        self.offsets.push(self.bytes.len() as u64);
+    }
+
+    /// Removes all texts, and keeps the memory.
+    ///
+    /// ```
+    /// let mut skus: fullercoral::TextBuffer = ["rye"].into_iter().collect();
+    /// skus.clear();
+    /// assert!(skus.column().is_empty());
+    /// ```
+    pub fn clear(&mut self) {
+        self.offsets.truncate(1);
+        self.bytes.clear();
+        self.valid.clear();
+        self.has_missing = false;
+    }
+
+    /// The texts as a column.
+    ///
+    /// ```
+    /// let skus: fullercoral::TextBuffer = ["rye", "bread"].into_iter().collect();
+    /// assert_eq!(skus.column().len(), 2);
+    /// ```
+    #[must_use]
+    pub fn column(&self) -> Column<'_> {
+        let column = Column::texts(&self.offsets, &self.bytes);
+        if self.has_missing {
+            column.valid(&self.valid)
+        } else {
+            column
+        }
+    }
+}
+
+impl Default for TextBuffer {
+    fn default() -> TextBuffer {
+        TextBuffer::new()
+    }
+}
+
+impl<'a> FromIterator<&'a str> for TextBuffer {
+    fn from_iter<I: IntoIterator<Item = &'a str>>(texts: I) -> TextBuffer {
+        let mut buffer = TextBuffer::new();
+        buffer.extend(texts);
+        buffer
+    }
+}
+
+impl<'a> Extend<&'a str> for TextBuffer {
+    fn extend<I: IntoIterator<Item = &'a str>>(&mut self, texts: I) {
+        texts.into_iter().for_each(|text| self.push(text));
+    }
+}
+
+#[cfg(test)]
+mod tests {
+    use super::*;
+
+    #[test]
+    fn bits_that_begin_within_a_byte_are_shifted() {
+        let all = [0b1010_0101, 0b0000_1111, 0b1];
+        let mut bits = Vec::new();
+        for from in 0..17 {
+            for to in from..18 {
+                shift(&all, from, to, &mut bits);
+                for i in from..to {
+                    let due = all[i / 8] >> (i % 8) & 1;
+                    assert_eq!(bits[(i - from) / 8] >> ((i - from) % 8) & 1, due);
+                }
+            }
+        }
+    }
+}

@@ -1,0 +1,279 @@
+use std::collections::HashMap;
+use std::fs::{self, File};
+use std::io;
+use std::os::unix::fs::FileExt;
+use std::path::{Path, PathBuf};
+use std::process;
+use std::sync::atomic::{AtomicU64, Ordering};
+
+use crate::Engine;
+
+/// How many bytes a segment gets before the next one is begun.
+const SEGMENT_BYTES: u64 = 64 << 20;
+
+/// An engine over files: segments that are only appended to, in a folder of its own.
+///
+/// An index in memory says where each content lies, in some 40 bytes. A segment is deleted when none
+/// of its contents is needed any more, and the contents of a segment are moved when more than half
+/// of all bytes are not. The folder is deleted on drop. **No crash safety is promised**: the files
+/// are of use to this engine alone, while it lives.
+///
+/// ```
+/// use fullercoral::{Engine, Files};
+///
+/// let mut engine = Files::create(std::env::temp_dir())?;
+/// engine.put(0, b"bytes")?;
+/// let mut buffer = Vec::new();
+/// engine.get(0, &mut buffer)?;
+/// assert_eq!(buffer, b"bytes");
+/// # Ok::<(), std::io::Error>(())
+/// ```
+#[derive(Debug)]
+pub struct Files {
+    folder: PathBuf,
+    segments: HashMap<u32, Segment>,
+    /// The segment that is appended to.
+    open: u32,
+    index: HashMap<u64, Location>,
+    segment_bytes: u64,
+}
+
+#[derive(Debug)]
+struct Segment {
+    file: File,
+    len: u64,
+    /// How many of its bytes are needed.
+    live: u64,
+}
+
+#[derive(Debug, Clone, Copy)]
+struct Location {
+    offset: u64,
+    len: u32,
+    segment: u32,
+}
+
+impl Files {
+    /// Makes a folder with a new name in this one.
+    ///
+    /// ```
+    /// let engine = fullercoral::Files::create(std::env::temp_dir())?;
+    /// assert!(engine.folder().starts_with(std::env::temp_dir()));
+    /// # Ok::<(), std::io::Error>(())
+    /// ```
+    ///
+    /// # Errors
+    /// Those of making a folder and a file.
+    pub fn create(parent: impl AsRef<Path>) -> io::Result<Files> {
+        static MADE: AtomicU64 = AtomicU64::new(0);
+        let made = MADE.fetch_add(1, Ordering::Relaxed);
+        let folder = parent
+            .as_ref()
+            .join(format!("fullercoral-{}-{made}", process::id()));
+        fs::create_dir(&folder)?;
+        let mut files = Files {
+            folder,
+            segments: HashMap::new(),
+            open: 0,
+            index: HashMap::new(),
+            segment_bytes: SEGMENT_BYTES,
+        };
+        files.begin_segment(0)?;
+        Ok(files)
+    }
+
+    /// The folder with the segments.
+    ///
+    /// ```
+    /// let engine = fullercoral::Files::create(std::env::temp_dir())?;
+    /// assert!(engine.folder().is_dir());
+    /// # Ok::<(), std::io::Error>(())
+    /// ```
+    #[must_use]
+    pub fn folder(&self) -> &Path {
+        &self.folder
+    }
+
+    fn path(&self, segment: u32) -> PathBuf {
+        self.folder.join(segment.to_string())
+    }
+
+    fn begin_segment(&mut self, number: u32) -> io::Result<()> {
+        let file = File::options()
+            .read(true)
+            .write(true)
+            .create_new(true)
+            .open(self.path(number))?;
+        let segment = Segment {
+            file,
+            len: 0,
+            live: 0,
+        };
+        self.segments.insert(number, segment);
+        self.open = number;
+        Ok(())
+    }
+
+    fn segment(&mut self, number: u32) -> io::Result<&mut Segment> {
+        self.segments.get_mut(&number).ok_or_else(not_kept)
+    }
+
+    fn append(&mut self, number: u64, bytes: &[u8]) -> io::Result<()> {
+        if self.segment(self.open)?.len >= self.segment_bytes {
+            self.begin_segment(self.open + 1)?;
+        }
+        let len = u32::try_from(bytes.len()).map_err(io::Error::other)?;
+        let open = self.open;
+        let segment = self.segment(open)?;
+        segment.file.write_all_at(bytes, segment.len)?;
+        let location = Location {
+            offset: segment.len,
+            len,
+            segment: open,
+        };
+        segment.len += u64::from(len);
+        segment.live += u64::from(len);
+        if let Some(before) = self.index.insert(number, location) {
+            self.release(before);
+        }
+        Ok(())
+    }
+
+    // Takes note that the bytes at a location are not needed, and deletes the segment if none are.
+    fn release(&mut self, location: Location) {
+        let Some(segment) = self.segments.get_mut(&location.segment) else {
+            return;
+        };
+        segment.live -= u64::from(location.len);
+        if segment.live == 0 && location.segment != self.open {
+            self.segments.remove(&location.segment);
+            // A file that cannot be deleted goes with the folder.
+            let _ = fs::remove_file(self.path(location.segment));
+        }
+    }
+
+    // The full segment with the fewest needed bytes, if most bytes are not needed.
+    fn sparsest(&self) -> Option<u32> {
+        let len: u64 = self.segments.values().map(|s| s.len).sum();
+        let live: u64 = self.segments.values().map(|s| s.live).sum();
+        if len <= 2 * live + self.segment_bytes {
+            return None;
+        }
+        let full = self
+            .segments
+            .iter()
+            .filter(|(number, _)| **number != self.open);
+        full.min_by_key(|(_, s)| s.live).map(|(number, _)| *number)
+    }
+
+    // Moves the contents of a segment behind the last one, which deletes it.
+    fn move_segment(&mut self, segment: u32) -> io::Result<()> {
+        let in_it = |(number, at): (&u64, &Location)| (at.segment == segment).then_some(*number);
+        let numbers: Vec<u64> = self.index.iter().filter_map(in_it).collect();
+        let mut buffer = Vec::new();
+        for number in numbers {
+            buffer.clear();
+            self.get(number, &mut buffer)?;
+            self.append(number, &buffer)?;
+        }
+        Ok(())
+    }
+}
+
+fn not_kept() -> io::Error {
+    io::Error::new(io::ErrorKind::NotFound, "no such content")
+}
+
+impl Engine for Files {
+    type Error = io::Error;
+
+    fn put(&mut self, number: u64, bytes: &[u8]) -> io::Result<()> {
+        if let Some(segment) = self.sparsest() {
+            self.move_segment(segment)?;
+        }
+        self.append(number, bytes)
+    }
+
+    fn get(&mut self, number: u64, buffer: &mut Vec<u8>) -> io::Result<()> {
+        let at = *self.index.get(&number).ok_or_else(not_kept)?;
+        let from = buffer.len();
+        buffer.resize(from + at.len as usize, 0);
+        let segment = self.segment(at.segment)?;
+        segment.file.read_exact_at(&mut buffer[from..], at.offset)
+    }
+
+    fn forget(&mut self, number: u64) {
+        if let Some(location) = self.index.remove(&number) {
+            self.release(location);
+        }
+    }
+}
+
+impl Drop for Files {
+    fn drop(&mut self) {
+        // Nobody is left to hear of a folder that cannot be deleted.
+        let _ = fs::remove_dir_all(&self.folder);
+    }
+}
+
+#[cfg(test)]
+mod tests {
+    use super::*;
+
+    fn files() -> Files {
+        let mut files = Files::create(std::env::temp_dir()).unwrap();
+        files.segment_bytes = 100;
+        files
+    }
+
+    fn bytes(number: u64) -> Vec<u8> {
+        vec![number as u8; 30 + number as usize % 7]
+    }
+
+    #[test]
+    fn what_was_put_is_returned_from_any_segment() {
+        let mut files = files();
+        (0..50).for_each(|n| files.put(n, &bytes(n)).unwrap());
+        assert!(files.segments.len() > 10);
+        for number in (0..50).rev() {
+            let mut buffer = Vec::new();
+            files.get(number, &mut buffer).unwrap();
+            assert_eq!(buffer, bytes(number));
+        }
+        assert_eq!(
+            files.get(50, &mut Vec::new()).unwrap_err().kind(),
+            io::ErrorKind::NotFound
+        );
+    }
+
+    #[test]
+    fn forgotten_contents_leave_the_disk() {
+        let mut files = files();
+        for number in 0..1_000 {
+            files.put(number, &bytes(number)).unwrap();
+            if number >= 5 && number % 10 != 0 {
+                files.forget(number - 5);
+            }
+        }
+        let len: u64 = files.segments.values().map(|s| s.len).sum();
+        let live: u64 = files.segments.values().map(|s| s.live).sum();
+        assert!(
+            len <= 2 * live + 300,
+            "{len} bytes, of which {live} are needed"
+        );
+        for number in files.index.keys().copied().collect::<Vec<_>>() {
+            let mut buffer = Vec::new();
+            files.get(number, &mut buffer).unwrap();
+            assert_eq!(buffer, bytes(number));
+        }
+    }
+
+    #[test]
+    fn the_folder_goes_with_the_engine() {
+        let files = files();
+        let folder = files.folder().to_owned();
+        assert!(folder.is_dir());
+        drop(files);
+        assert!(!folder.exists());
+    }
+}

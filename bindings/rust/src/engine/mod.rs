@@ -1,0 +1,139 @@
+use std::sync::{Arc, Mutex, PoisonError};
+
+mod faulty;
+mod files;
+mod memory;
+#[cfg(feature = "resp")]
+mod resp;
+mod retry;
+
+pub use faulty::{Fault, Faulty, FaultyError};
+pub use files::Files;
+pub use memory::Memory;
+#[cfg(feature = "resp")]
+pub use resp::Resp;
+pub use retry::Retry;
+
+/// Storage for what a table evicts: it keeps bytes under numbers.
+///
+/// Nobody has to trust it. Whatever `get` returns is compared with the length and the SHA-256 of what
+/// was put, so an engine that loses, changes or mixes up contents makes calls fail, and never makes
+/// an answer wrong.
+///
+/// An engine over the `redis` crate, whole:
+///
+/// ```ignore
+/// impl fullercoral::Engine for redis::Connection {
+///     type Error = redis::RedisError;
+///
+///     fn put(&mut self, number: u64, bytes: &[u8]) -> redis::RedisResult<()> {
+///         redis::Commands::set(self, number, bytes)
+///     }
+///     fn get(&mut self, number: u64, buffer: &mut Vec<u8>) -> redis::RedisResult<()> {
+///         *buffer = redis::Commands::get(self, number)?;
+///         Ok(())
+///     }
+/// }
+/// ```
+///
+/// One over a map:
+///
+/// ```
+/// use std::collections::BTreeMap;
+/// use fullercoral::{Engine, Limits, Schema, Table, row, totals};
+///
+/// #[derive(Default)]
+/// struct Shelf(BTreeMap<u64, Vec<u8>>);
+///
+/// impl Engine for Shelf {
+///     type Error = &'static str;
+///
+///     fn put(&mut self, number: u64, bytes: &[u8]) -> Result<(), Self::Error> {
+///         self.0.insert(number, bytes.to_vec());
+///         Ok(())
+///     }
+///     fn get(&mut self, number: u64, buffer: &mut Vec<u8>) -> Result<(), Self::Error> {
+///         buffer.extend_from_slice(self.0.get(&number).ok_or("nothing on the shelf")?);
+///         Ok(())
+///     }
+/// }
+///
+/// let mut table = Table::open(Schema::new().int("price"), Limits::new(), Shelf::default()).unwrap();
+/// let total = table.watch(totals("price")).unwrap();
+/// table.insert(row![5]).unwrap();
+/// table.evict("price", 0).unwrap();
+/// assert_eq!(table.engine().0.len(), 1);
+/// table.insert(row![7]).unwrap();
+/// assert_eq!(table.ask(total).unwrap().next().unwrap().sum, 12);
+/// ```
+pub trait Engine {
+    /// Why a `put` or a `get` failed.
+    type Error;
+
+    /// Keeps bytes under a number. A table gives each number once, from 0 on.
+    fn put(&mut self, number: u64, bytes: &[u8]) -> Result<(), Self::Error>;
+
+    /// Appends the bytes that were put under a number to `buffer`, which comes empty.
+    fn get(&mut self, number: u64, buffer: &mut Vec<u8>) -> Result<(), Self::Error>;
+
+    /// Takes note that a number will not be asked for any more. By default it does nothing.
+    fn forget(&mut self, number: u64) {
+        let _ = number;
+    }
+}
+
+impl<E: Engine + ?Sized> Engine for &mut E {
+    type Error = E::Error;
+
+    fn put(&mut self, number: u64, bytes: &[u8]) -> Result<(), E::Error> {
+        (**self).put(number, bytes)
+    }
+
+    fn get(&mut self, number: u64, buffer: &mut Vec<u8>) -> Result<(), E::Error> {
+        (**self).get(number, buffer)
+    }
+
+    fn forget(&mut self, number: u64) {
+        (**self).forget(number);
+    }
+}
+
+impl<E: Engine + ?Sized> Engine for Box<E> {
+    type Error = E::Error;
+
+    fn put(&mut self, number: u64, bytes: &[u8]) -> Result<(), E::Error> {
+        (**self).put(number, bytes)
+    }
+
+    fn get(&mut self, number: u64, buffer: &mut Vec<u8>) -> Result<(), E::Error> {
+        (**self).get(number, buffer)
+    }
+
+    fn forget(&mut self, number: u64) {
+        (**self).forget(number);
+    }
+}
+
+/// An engine that a table shares with threads that move its objects. A panic of another thread does
+/// not spoil it: bytes that it left half written are refused as any wrong bytes are.
+impl<E: Engine + ?Sized> Engine for Arc<Mutex<E>> {
+    type Error = E::Error;
+
+    fn put(&mut self, number: u64, bytes: &[u8]) -> Result<(), E::Error> {
+        self.lock()
+            .unwrap_or_else(PoisonError::into_inner)
+            .put(number, bytes)
+    }
+
+    fn get(&mut self, number: u64, buffer: &mut Vec<u8>) -> Result<(), E::Error> {
+        self.lock()
+            .unwrap_or_else(PoisonError::into_inner)
+            .get(number, buffer)
+    }
+
+    fn forget(&mut self, number: u64) {
+        self.lock()
+            .unwrap_or_else(PoisonError::into_inner)
+            .forget(number);
+    }
+}

@@ -1,0 +1,78 @@
+use super::{Coded, Library, at, done, some};
+use crate::answer::Answer;
+use crate::spec::Resolved;
+use crate::sys::*;
+
+impl Library {
+    pub fn watch(&mut self, spec: &Resolved) -> Coded<u32> {
+        let tests = spec.raw_tests();
+        let raw = fc_spec {
+            tests: at(&tests),
+            tests_len: tests.len(),
+            fold: spec.fold,
+            value: spec.value,
+            key: spec.key.unwrap_or(0),
+            has_key: spec.key.is_some(),
+        };
+        let mut aggregate = 0;
+        // SAFETY: rules 1 and 2; the tests and their texts live until this call returns.
+        done(unsafe { fc_watch(&mut self.raw, &raw, &mut aggregate) })?;
+        Ok(aggregate)
+    }
+
+    pub fn unwatch(&mut self, aggregate: u32) -> Coded<()> {
+        // SAFETY: rule 2.
+        done(unsafe { fc_unwatch(&mut self.raw, aggregate) })
+    }
+
+    pub fn scan(&mut self, aggregate: u32, group: u32) -> Coded<()> {
+        // SAFETY: rule 2.
+        done(unsafe { fc_scan(&mut self.raw, aggregate, group) })
+    }
+
+    /// How many row groups are pending, and the first of them, if there is one.
+    pub fn pending(&mut self, aggregate: u32) -> Coded<(u32, u32)> {
+        let (mut groups, mut first) = (0, 0);
+        // SAFETY: rules 1 and 2.
+        done(unsafe { fc_pending(&mut self.raw, aggregate, &mut groups, &mut first) })?;
+        Ok((groups, first))
+    }
+
+    /// Asks an aggregate, and copies the lines.
+    pub fn ask(&mut self, aggregate: u32, answer: &mut Answer) -> Coded<()> {
+        let mut lines = 0;
+        // SAFETY: rules 1 and 2.
+        done(unsafe { fc_ask(&mut self.raw, aggregate, &mut lines) })?;
+        self.copy_lines(lines, answer)
+    }
+
+    /// Computes an answer from scratch, and copies the lines.
+    pub fn recount(&mut self, aggregate: u32, answer: &mut Answer) -> Coded<()> {
+        let mut lines = 0;
+        // SAFETY: rules 1 and 2.
+        done(unsafe { fc_recount(&mut self.raw, aggregate, &mut lines) })?;
+        self.copy_lines(lines, answer)
+    }
+
+    fn copy_lines(&mut self, lines: usize, answer: &mut Answer) -> Coded<()> {
+        answer.clear();
+        for index in 0..lines {
+            let mut line = fc_line::BLANK;
+            // SAFETY: rules 1, 2 and 4.
+            done(unsafe { fc_line_at(&mut self.raw, index, &mut line) })?;
+            // SAFETY: rule 3, no other call came since.
+            unsafe { answer.push(&line) };
+        }
+        Ok(())
+    }
+
+    /// The count and the sum of totals without a key; none if it is another aggregate, or row groups
+    /// are pending.
+    #[inline]
+    pub fn plain(&mut self, aggregate: u32) -> Coded<Option<(u64, i128)>> {
+        let mut sum = fc_sum::default();
+        // SAFETY: rules 1 and 2.
+        let code = unsafe { fc_plain(&mut self.raw, aggregate, &mut sum) };
+        some(code, (sum.count, sum_of(sum.sum_low, sum.sum_high)))
+    }
+}

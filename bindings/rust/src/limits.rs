@@ -1,0 +1,265 @@
+use crate::sys::fc_limits;
+use crate::{Kind, Schema};
+
+const MOST_GROUP: u32 = 65_536;
+const MOST_PLACES: u32 = 1 << 24;
+const MOST_EDITS: u64 = 1 << 40;
+const MOST_SEGMENTS: usize = 1_024;
+const MOST_INT_SIZE: usize = 1 << 20;
+const MOST_TEXT_SIZE: usize = 1 << 24;
+
+/// A number takes 16 bytes in the local region.
+const INT_BYTES: usize = 16;
+
+/// How many row groups of each column are local, if the size of a row group is left to the table.
+const LOCAL_GROUPS: usize = 32;
+
+/// How much memory a table's local region has, how many rows a row group, and the table.
+///
+/// ```
+/// use fullercoral::Limits;
+///
+/// // 16 MB of cells are local. All else lies in the engine.
+/// let limits = Limits::new().local_memory(16 << 20).group(1_024);
+/// # let _ = limits;
+/// ```
+///
+/// Local memory is what the cells take that are local: 16 bytes for a number, and for a text its own
+/// bytes and 4 more. It is allocated when the table is opened, and written as it is needed. What is
+/// not in it: the answers of aggregates (by keys, not by rows), and for each content in the engine
+/// some 70 bytes.
+#[derive(Debug, Clone, PartialEq, Eq)]
+#[must_use]
+pub struct Limits {
+    local_memory: usize,
+    text_memory: Option<usize>,
+    group: Option<u32>,
+    places: u32,
+    edits: u64,
+    contents: u64,
+}
+
+impl Default for Limits {
+    fn default() -> Limits {
+        Limits {
+            local_memory: 64 << 20,
+            text_memory: None,
+            group: None,
+            places: MOST_PLACES,
+            edits: MOST_EDITS,
+            contents: 1 << 32,
+        }
+    }
+}
+
+impl Limits {
+    /// 64 MB of local memory, up to 16,777,216 places, and row groups of a size that suits both.
+    ///
+    /// ```
+    /// assert_eq!(fullercoral::Limits::new(), fullercoral::Limits::default());
+    /// ```
+    pub fn new() -> Limits {
+        Limits::default()
+    }
+
+    /// How many bytes the local region has. Each column gets an equal share, unless
+    /// [`text_memory`](Limits::text_memory) says otherwise. It should hold several row groups of
+    /// every column; a table that cannot hold what one row needs refuses it with `RegionFull`.
+    ///
+    /// ```
+    /// let limits = fullercoral::Limits::new().local_memory(256 << 20);
+    /// # let _ = limits;
+    /// ```
+    pub fn local_memory(mut self, bytes: usize) -> Limits {
+        self.local_memory = bytes;
+        self
+    }
+
+    /// How many bytes of the local memory are for texts.
+    ///
+    /// ```
+    /// let limits = fullercoral::Limits::new().local_memory(64 << 20).text_memory(48 << 20);
+    /// # let _ = limits;
+    /// ```
+    pub fn text_memory(mut self, bytes: usize) -> Limits {
+        self.text_memory = Some(bytes);
+        self
+    }
+
+    /// How many places a row group has: 1 to 65,536. A column's chunk of a row group is evicted and
+    /// fetched as a whole. If it is not said, it is a power of two of which some 32 row groups are
+    /// local, and at most 4,096, or 512 with a column of texts: to append a text costs time in
+    /// proportion to the row group.
+    ///
+    /// ```
+    /// let limits = fullercoral::Limits::new().group(1_024);
+    /// # let _ = limits;
+    /// ```
+    pub fn group(mut self, places: u32) -> Limits {
+        self.group = Some(places);
+        self
+    }
+
+    /// How many places the table may have, removed rows among them: 1 to 16,777,216.
+    ///
+    /// ```
+    /// let limits = fullercoral::Limits::new().places(1_000_000);
+    /// # let _ = limits;
+    /// ```
+    pub fn places(mut self, places: u32) -> Limits {
+        self.places = places;
+        self
+    }
+
+    /// How many edits, and how many jobs, are accepted: 1 to 2^40, which is what it is if it is not
+    /// said.
+    ///
+    /// ```
+    /// let limits = fullercoral::Limits::new().edits(1_000_000);
+    /// # let _ = limits;
+    /// ```
+    pub fn edits(mut self, edits: u64) -> Limits {
+        self.edits = edits;
+        self
+    }
+
+    /// How many numbers for contents there are: one is spent whenever an object is evicted that was
+    /// written since the last time. 2^32 if it is not said. Some 56 bytes are kept for each that was
+    /// spent. When all are spent the table goes on with new numbers and frees the old ones, if the
+    /// contents that are away fit half of its local memory; else it refuses with `FarFull`.
+    ///
+    /// ```
+    /// let limits = fullercoral::Limits::new().contents(1 << 20);
+    /// # let _ = limits;
+    /// ```
+    pub fn contents(mut self, contents: u64) -> Limits {
+        self.contents = contents;
+        self
+    }
+
+    pub(crate) fn capacity(&self) -> u64 {
+        self.contents
+    }
+
+    /// The limits as the library takes them, for a table with these columns.
+    pub(crate) fn for_schema(&self, schema: &Schema) -> fc_limits {
+        let texts = self.text_bytes(schema);
+        let ints = self.local_memory.saturating_sub(texts);
+        let group = self.group.unwrap_or_else(|| group_for(schema, ints, texts));
+        let (int_segments, int_size) = int_segments(ints, group);
+        let (text_segments, text_size) = text_segments(texts, group);
+        fc_limits {
+            edits: self.edits,
+            group,
+            places: self.places,
+            int_segments,
+            int_size,
+            text_segments,
+            text_size,
+        }
+    }
+
+    /// How many bytes are for texts: an equal share for each column, if it is not said.
+    fn text_bytes(&self, schema: &Schema) -> usize {
+        let texts = schema.count(Kind::Text);
+        if texts == 0 {
+            return 0;
+        }
+        if texts == schema.len() {
+            return self.local_memory;
+        }
+        let share = self.local_memory / schema.len() * texts;
+        self.text_memory.unwrap_or(share).min(self.local_memory)
+    }
+}
+
+/// The size of row groups that is taken if none is said.
+fn group_for(schema: &Schema, ints: usize, texts: usize) -> u32 {
+    let most = if schema.count(Kind::Text) == 0 {
+        4_096
+    } else {
+        512
+    };
+    let by = |bytes: usize, columns: usize| match columns {
+        0 => most,
+        _ => bytes / columns / INT_BYTES / LOCAL_GROUPS,
+    };
+    let numbers = by(ints, schema.count(Kind::Int));
+    let group = numbers
+        .min(by(texts, schema.count(Kind::Text)))
+        .clamp(1, most);
+    1 << group.ilog2()
+}
+
+/// How many segments of numbers there are, and how many numbers one holds: as many as one row group
+/// has if that is possible, since then whatever goes away leaves a whole segment.
+fn int_segments(bytes: usize, group: u32) -> (u32, u32) {
+    let group = group.clamp(1, MOST_GROUP) as usize;
+    let objects = (bytes / INT_BYTES / group).max(1);
+    let most = MOST_INT_SIZE / group;
+    let in_one = objects.div_ceil(MOST_SEGMENTS).clamp(1, most);
+    let segments = (objects / in_one).clamp(1, MOST_SEGMENTS);
+    (segments as u32, (in_one * group) as u32)
+}
+
+/// How many segments of texts there are, and how many bytes one holds: large enough for a row group
+/// whose texts have 500 bytes each, and else so many that some of them are often empty.
+fn text_segments(bytes: usize, group: u32) -> (u32, u32) {
+    let long_texts = (group as usize).saturating_mul(512);
+    let size = (bytes / 256).max(long_texts.min(bytes / 8));
+    let size = size.clamp(64, MOST_TEXT_SIZE);
+    let segments = (bytes / size).clamp(1, MOST_SEGMENTS);
+    (segments as u32, size as u32)
+}
+
+#[cfg(test)]
+mod tests {
+    use super::*;
+
+    #[test]
+    fn a_segment_holds_one_row_group_of_numbers_up_to_1024_of_them() {
+        let schema = Schema::new().int("a").int("b");
+        let limits = Limits::new().for_schema(&schema);
+        assert_eq!(limits.group, 4_096);
+        assert_eq!((limits.int_segments, limits.int_size), (1_024, 4_096));
+        let limits = Limits::new().local_memory(1 << 30).for_schema(&schema);
+        assert_eq!((limits.int_segments, limits.int_size), (1_024, 65_536));
+    }
+
+    #[test]
+    fn segments_never_pass_the_local_memory_that_was_asked_for() {
+        let schemas = [
+            Schema::new().int("a"),
+            Schema::new().text("a"),
+            Schema::new().int("a").text("b"),
+            Schema::new().int("a").int("b").text("c"),
+        ];
+        for (schema, shift) in schemas.iter().flat_map(|s| (16..34).map(move |i| (s, i))) {
+            let bytes = 1usize << shift;
+            let limits = Limits::new().local_memory(bytes).for_schema(schema);
+            let ints = limits.int_segments as usize * limits.int_size as usize * INT_BYTES;
+            let texts = limits.text_segments as usize * limits.text_size as usize;
+            let used = [(Kind::Int, ints), (Kind::Text, texts)]
+                .iter()
+                .filter(|(kind, _)| schema.count(*kind) > 0)
+                .map(|(_, bytes)| bytes)
+                .sum::<usize>();
+            assert!(used <= bytes, "{schema:?} {bytes}: {limits:?}");
+            assert!(used >= bytes / 2, "{schema:?} {bytes}: {limits:?}");
+            assert!(limits.int_size >= limits.group && limits.int_size <= 1 << 20);
+        }
+    }
+
+    #[test]
+    fn small_tables_get_small_row_groups() {
+        let schema = Schema::new().int("a").int("b");
+        assert_eq!(
+            Limits::new()
+                .local_memory(1 << 20)
+                .for_schema(&schema)
+                .group,
+            1_024
+        );
+        assert_eq!(Limits::new().local_memory(0).for_schema(&schema).group, 1);
+    }
+}

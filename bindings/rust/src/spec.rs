@@ -1,0 +1,450 @@
+use std::fmt;
+use std::marker::PhantomData;
+use std::sync::Arc;
+
+use crate::schema::sealed::Find;
+use crate::sys::{FC_EXTREMA, FC_TOTALS, fc_bytes, fc_test};
+use crate::{Kind, Refusal, Schema};
+
+/// The comparison of a test: of a number with a constant, or of a text with one, by bytes.
+///
+/// A test of a missing cell is false.
+///
+/// ```
+/// use fullercoral::{Op, totals};
+///
+/// let spec = totals("quantity").only("quantity", Op::Gt, 0).only("sku", Op::Begins, "br");
+/// # let _ = spec;
+/// ```
+#[derive(Debug, Clone, Copy, PartialEq, Eq, Hash)]
+#[non_exhaustive]
+pub enum Op {
+    /// Equal to a number.
+    Eq,
+    /// Not equal to a number.
+    Ne,
+    /// Less than a number.
+    Lt,
+    /// At most a number.
+    Le,
+    /// Greater than a number.
+    Gt,
+    /// At least a number.
+    Ge,
+    /// Equal to a text.
+    Is,
+    /// Begins with a text.
+    Begins,
+}
+
+/// The constant of a test, made of an `i64` or a `&str`.
+///
+/// ```
+/// use fullercoral::Constant;
+///
+/// assert_eq!(Constant::from(5), Constant::Int(5));
+/// ```
+#[derive(Debug, Clone, PartialEq, Eq, Hash)]
+pub enum Constant {
+    /// A number.
+    Int(i64),
+    /// A text of at most 4,096 bytes.
+    Text(Box<str>),
+}
+
+impl From<i64> for Constant {
+    fn from(number: i64) -> Constant {
+        Constant::Int(number)
+    }
+}
+
+impl From<&str> for Constant {
+    fn from(text: &str) -> Constant {
+        Constant::Text(text.into())
+    }
+}
+
+/// A registered aggregate: [`Totals`] or [`Extrema`].
+///
+/// ```
+/// use fullercoral::{Aggregate, Spec, Totals, extrema, totals};
+///
+/// fn by_sku<A: Aggregate>(spec: Spec<A>) -> Spec<A> {
+///     spec.by("sku")
+/// }
+/// let (quantities, prices) = (by_sku(totals("quantity")), by_sku(extrema("price")));
+/// # let _ = (quantities, prices);
+/// ```
+pub trait Aggregate: Copy + sealed::Numbered {
+    /// A line of its answer.
+    type Line<'a>: fmt::Debug + Copy + PartialEq;
+}
+
+/// An aggregate that counts values and sums them. [`Table::watch`](crate::Table::watch) returns it.
+///
+/// ```
+/// use fullercoral::{Limits, Memory, Schema, Table, Totals, row, totals};
+///
+/// let mut table = Table::open(Schema::new().int("price"), Limits::new(), Memory::new())?;
+/// let total: Totals = table.watch(totals("price"))?;
+/// table.extend([row![5], row![7]])?;
+/// let line = table.ask(total)?.next().unwrap();
+/// assert_eq!((line.count, line.sum), (2, 12));
+/// # Ok::<(), Box<dyn std::error::Error>>(())
+/// ```
+#[derive(Debug, Clone, Copy, PartialEq, Eq, Hash)]
+pub struct Totals(pub(crate) Id);
+
+/// An aggregate of least and greatest values. [`Table::watch`](crate::Table::watch) returns it.
+///
+/// ```
+/// use fullercoral::{Extrema, Limits, Memory, Schema, Table, extrema, row};
+///
+/// let mut table = Table::open(Schema::new().int("price"), Limits::new(), Memory::new())?;
+/// let ends: Extrema = table.watch(extrema("price"))?;
+/// table.extend([row![5], row![7]])?;
+/// let line = table.ask(ends)?.next().unwrap();
+/// assert_eq!((line.min, line.max), (5, 7));
+/// # Ok::<(), Box<dyn std::error::Error>>(())
+/// ```
+#[derive(Debug, Clone, Copy, PartialEq, Eq, Hash)]
+pub struct Extrema(pub(crate) Id);
+
+/// Which aggregate it is: its number in the table, and a stamp that no two registrations share, so
+/// that a number that was forgotten, or is of another table, is known.
+#[derive(Debug, Clone, Copy, PartialEq, Eq, Hash)]
+pub struct Id {
+    pub(crate) number: u32,
+    pub(crate) stamp: u64,
+}
+
+impl Aggregate for Totals {
+    type Line<'a> = TotalsLine<'a>;
+}
+
+impl Aggregate for Extrema {
+    type Line<'a> = ExtremaLine<'a>;
+}
+
+/// What stands before a line of an answer: the key, if the aggregate has a key column.
+///
+/// ```
+/// use fullercoral::{Key, Limits, Memory, Schema, Table, row, totals};
+///
+/// let schema = Schema::new().text("sku").int("quantity");
+/// let mut table = Table::open(schema, Limits::new(), Memory::new())?;
+/// let sold = table.watch(totals("quantity").by("sku"))?;
+/// table.insert(row!["rye", 3])?;
+/// let line = table.ask(sold)?.next().unwrap();
+/// assert_eq!(line.key, Key::Text("rye"));
+/// assert_eq!(line.key.to_string(), "rye");
+/// # Ok::<(), Box<dyn std::error::Error>>(())
+/// ```
+#[derive(Debug, Clone, Copy, PartialEq, Eq, PartialOrd, Ord, Hash)]
+pub enum Key<'a> {
+    /// The aggregate has no key column.
+    None,
+    /// A number.
+    Int(i64),
+    /// A text.
+    Text(&'a str),
+}
+
+impl<'a> Key<'a> {
+    /// The number, if it is one.
+    ///
+    /// ```
+    /// assert_eq!(fullercoral::Key::Int(5).int(), Some(5));
+    /// ```
+    #[must_use]
+    pub fn int(self) -> Option<i64> {
+        match self {
+            Key::Int(number) => Some(number),
+            _ => None,
+        }
+    }
+
+    /// The text, if it is one.
+    ///
+    /// ```
+    /// assert_eq!(fullercoral::Key::Text("rye").text(), Some("rye"));
+    /// ```
+    #[must_use]
+    pub fn text(self) -> Option<&'a str> {
+        match self {
+            Key::Text(text) => Some(text),
+            _ => None,
+        }
+    }
+}
+
+impl fmt::Display for Key<'_> {
+    fn fmt(&self, f: &mut fmt::Formatter<'_>) -> fmt::Result {
+        match self {
+            Key::None => Ok(()),
+            Key::Int(number) => number.fmt(f),
+            Key::Text(text) => text.fmt(f),
+        }
+    }
+}
+
+/// A line of an answer of [`Totals`].
+///
+/// ```
+/// use fullercoral::{Key, TotalsLine};
+///
+/// let line = TotalsLine { key: Key::Text("rye"), count: 2, sum: 12 };
+/// assert_eq!(line.sum / i128::from(line.count), 6);
+/// ```
+#[derive(Debug, Clone, Copy, PartialEq, Eq)]
+pub struct TotalsLine<'a> {
+    /// The key.
+    pub key: Key<'a>,
+    /// How many values there are under the key.
+    pub count: u64,
+    /// Their sum. It cannot overflow.
+    pub sum: i128,
+}
+
+/// A line of an answer of [`Extrema`].
+///
+/// ```
+/// use fullercoral::{ExtremaLine, Key};
+///
+/// let line = ExtremaLine { key: Key::Int(3), min: -5, max: 7 };
+/// assert_eq!(line.max - line.min, 12);
+/// ```
+#[derive(Debug, Clone, Copy, PartialEq, Eq)]
+pub struct ExtremaLine<'a> {
+    /// The key.
+    pub key: Key<'a>,
+    /// The least value under the key.
+    pub min: i64,
+    /// The greatest value under the key.
+    pub max: i64,
+}
+
+/// What to compute of which rows: made by [`totals`] or [`extrema`], registered by
+/// [`Table::watch`](crate::Table::watch).
+///
+/// ```
+/// use fullercoral::{Op, totals};
+///
+/// let spec = totals("quantity").by("sku").only("quantity", Op::Gt, 0);
+/// # let _ = spec;
+/// ```
+#[derive(Debug, Clone, PartialEq, Eq)]
+#[must_use]
+pub struct Spec<A> {
+    value: Arc<str>,
+    key: Option<Arc<str>>,
+    tests: Vec<Test>,
+    aggregate: PhantomData<A>,
+}
+
+#[derive(Debug, Clone, PartialEq, Eq)]
+struct Test {
+    column: Arc<str>,
+    op: Op,
+    constant: Constant,
+}
+
+/// Counts and sums the numbers of a column. A row without a value or a key is passed over.
+///
+/// ```
+/// let spec = fullercoral::totals("quantity").by("sku");
+/// # let _ = spec;
+/// ```
+pub fn totals(column: &str) -> Spec<Totals> {
+    Spec::of(column)
+}
+
+/// Finds the least and the greatest number of a column. A row without a value or a key is passed
+/// over.
+///
+/// ```
+/// let spec = fullercoral::extrema("price").by("sku");
+/// # let _ = spec;
+/// ```
+pub fn extrema(column: &str) -> Spec<Extrema> {
+    Spec::of(column)
+}
+
+impl<A> Spec<A> {
+    fn of(value: &str) -> Spec<A> {
+        Spec {
+            value: value.into(),
+            key: None,
+            tests: Vec::new(),
+            aggregate: PhantomData,
+        }
+    }
+
+    /// Groups by a column of either kind: the answer has a line for each key.
+    ///
+    /// ```
+    /// let spec = fullercoral::totals("quantity").by("sku");
+    /// # let _ = spec;
+    /// ```
+    pub fn by(mut self, column: &str) -> Spec<A> {
+        self.key = Some(column.into());
+        self
+    }
+
+    /// Keeps only rows that pass this test, and the others there are; at most 4.
+    ///
+    /// ```
+    /// use fullercoral::{Op, totals};
+    ///
+    /// let spec = totals("quantity").only("price", Op::Ge, 10).only("price", Op::Lt, 20);
+    /// # let _ = spec;
+    /// ```
+    pub fn only(mut self, column: &str, op: Op, constant: impl Into<Constant>) -> Spec<A> {
+        self.tests.push(Test {
+            column: column.into(),
+            op,
+            constant: constant.into(),
+        });
+        self
+    }
+}
+
+/// A spec with its columns found: what the library takes, but for the addresses.
+#[derive(Debug, Clone)]
+pub(crate) struct Resolved {
+    pub value: u32,
+    pub key: Option<u32>,
+    pub tests: Vec<(u32, u32, Constant)>,
+    pub fold: u32,
+}
+
+impl<A: sealed::Numbered> Spec<A> {
+    /// Finds the columns. Refused with the first of `BadSpec`, `NoColumn` and `WrongKind` that applies.
+    pub(crate) fn resolve(&self, schema: &Schema) -> Result<Resolved, Refusal> {
+        if self.tests.len() > 4 || self.tests.iter().any(Test::is_too_long) {
+            return Err(Refusal::BadSpec);
+        }
+        let find = |column: &Arc<str>| (&**column).index_in(schema);
+        let value = find(&self.value)?;
+        let key = self.key.as_ref().map(find).transpose()?;
+        let columns = self.tests.iter().map(|test| find(&test.column));
+        let columns = columns.collect::<Result<Vec<u32>, Refusal>>()?;
+        if schema.kind_at(value as usize) != Some(Kind::Int) {
+            let column = Arc::clone(&self.value);
+            return Err(Refusal::WrongKind { column });
+        }
+        let raw = |(test, column): (&Test, u32)| {
+            let op = test.code(schema.kind_at(column as usize))?;
+            Ok((column, op, test.constant.clone()))
+        };
+        let tests = self.tests.iter().zip(columns).map(raw);
+        Ok(Resolved {
+            value,
+            key,
+            tests: tests.collect::<Result<_, Refusal>>()?,
+            fold: A::FOLD,
+        })
+    }
+}
+
+impl Test {
+    fn is_too_long(&self) -> bool {
+        matches!(&self.constant, Constant::Text(text) if text.len() > 4_096)
+    }
+
+    // The number of the comparison, if column, comparison and constant are of one kind.
+    fn code(&self, kind: Option<Kind>) -> Result<u32, Refusal> {
+        let (own, code) = match self.op {
+            Op::Eq => (Kind::Int, 0),
+            Op::Ne => (Kind::Int, 1),
+            Op::Lt => (Kind::Int, 2),
+            Op::Le => (Kind::Int, 3),
+            Op::Gt => (Kind::Int, 4),
+            Op::Ge => (Kind::Int, 5),
+            Op::Is => (Kind::Text, 6),
+            Op::Begins => (Kind::Text, 7),
+        };
+        let constant = match self.constant {
+            Constant::Int(_) => Kind::Int,
+            Constant::Text(_) => Kind::Text,
+        };
+        if kind == Some(own) && constant == own {
+            return Ok(code);
+        }
+        let column = Arc::clone(&self.column);
+        Err(Refusal::WrongKind { column })
+    }
+}
+
+impl Resolved {
+    pub(crate) fn raw_tests(&self) -> Vec<fc_test> {
+        let raw = |(column, op, constant): &(u32, u32, Constant)| {
+            let (number, text) = match constant {
+                Constant::Int(number) => (*number, fc_bytes::NONE),
+                Constant::Text(text) => (0, fc_bytes::of(text.as_bytes())),
+            };
+            fc_test {
+                number,
+                text,
+                column: *column,
+                op: *op,
+            }
+        };
+        self.tests.iter().map(raw).collect()
+    }
+}
+
+pub(crate) mod sealed {
+    use super::{ExtremaLine, FC_EXTREMA, FC_TOTALS, Id, Key, TotalsLine};
+    use crate::answer::StoredLine;
+
+    /// A handle that has a number and makes lines.
+    pub trait Numbered: Sized {
+        const FOLD: u32;
+        fn of(id: Id) -> Self;
+        fn id(&self) -> Id;
+        fn line<'a>(key: Key<'a>, line: &StoredLine) -> <Self as super::Aggregate>::Line<'a>
+        where
+            Self: super::Aggregate;
+    }
+
+    impl Numbered for super::Totals {
+        const FOLD: u32 = FC_TOTALS;
+
+        fn of(id: Id) -> Self {
+            super::Totals(id)
+        }
+
+        fn id(&self) -> Id {
+            self.0
+        }
+
+        fn line<'a>(key: Key<'a>, line: &StoredLine) -> TotalsLine<'a> {
+            TotalsLine {
+                key,
+                count: line.count,
+                sum: line.sum,
+            }
+        }
+    }
+
+    impl Numbered for super::Extrema {
+        const FOLD: u32 = FC_EXTREMA;
+
+        fn of(id: Id) -> Self {
+            super::Extrema(id)
+        }
+
+        fn id(&self) -> Id {
+            self.0
+        }
+
+        fn line<'a>(key: Key<'a>, line: &StoredLine) -> ExtremaLine<'a> {
+            ExtremaLine {
+                key,
+                min: line.min,
+                max: line.max,
+            }
+        }
+    }
+}

@@ -1,0 +1,47 @@
+/// What a table did since it was opened, and how full its local region is.
+///
+/// ```
+/// use fullercoral::{Limits, Memory, Schema, Table, row};
+///
+/// let mut table = Table::open(Schema::new().int("price"), Limits::new(), Memory::new())?;
+/// table.insert(row![5])?;
+/// table.evict("price", 0)?;
+/// let stats = table.stats();
+/// assert_eq!((stats.evictions, stats.fetches), (1, 0));
+/// # Ok::<(), Box<dyn std::error::Error>>(())
+/// ```
+#[derive(Debug, Clone, Copy, Default, PartialEq, Eq)]
+#[non_exhaustive]
+pub struct Stats {
+    /// Objects that were evicted.
+    pub evictions: u64,
+    /// Contents that were put into the engine. An object that was not written since it came is evicted
+    /// without a put.
+    pub puts: u64,
+    /// Contents that were got from the engine.
+    pub gets: u64,
+    /// Bytes of contents that were put.
+    pub bytes_put: u64,
+    /// Bytes of contents that were got.
+    pub bytes_got: u64,
+    /// Objects that were fetched, those among them that were proposed.
+    pub fetches: u64,
+    /// Objects that were fetched since they were proposed.
+    pub prefetches: u64,
+    /// Row groups that were scanned into an aggregate.
+    pub scans: u64,
+    /// Row groups that were built into an aggregate from far copies.
+    pub builds: u64,
+    /// Segments of the local region that were compacted.
+    pub compactions: u64,
+    /// How often the table went on with new numbers of contents.
+    pub migrations: u64,
+    /// Calls of the engine that failed.
+    pub engine_errors: u64,
+    /// Contents that were refused since they are not what was put, and calls of the engine that failed.
+    pub faults: u64,
+    /// Bytes of the local region that are in use, gaps among them.
+    pub local_used: u64,
+    /// Bytes of the local region.
+    pub local_memory: u64,
+}

@@ -1,0 +1,221 @@
+use std::sync::atomic::{AtomicU64, Ordering};
+
+use super::{Table, Watched};
+use crate::answer::Lines;
+use crate::library::{Code, Coded};
+use crate::spec::{Aggregate, Id, Resolved, Spec};
+use crate::sys::{FC_BUILDING, FC_TOTALS};
+use crate::{Engine, Error, Policy, Refusal};
+
+/// The stamp of the next registration in this process.
+static STAMP: AtomicU64 = AtomicU64::new(0);
+
+impl<E: Engine> Table<E> {
+    /// Registers an aggregate, which follows every edit from then on. At most 32 are registered at once.
+    ///
+    /// The rows that are there already are scanned into it when it is first asked, or by
+    /// [`scan`](Table::scan) and [`build`](Table::build).
+    ///
+    /// ```
+    /// # use fullercoral::{Limits, Memory, Op, Schema, Table, row, totals};
+    /// let schema = Schema::new().text("sku").int("quantity");
+    /// let mut table = Table::open(schema, Limits::new(), Memory::new())?;
+    /// let sold = table.watch(totals("quantity").by("sku").only("quantity", Op::Gt, 0))?;
+    /// table.extend([row!["bread", 5], row!["rye", -3], row!["bread", 2]])?;
+    /// let line = table.ask(sold)?.next().unwrap();
+    /// assert_eq!((line.key.text(), line.count, line.sum), (Some("bread"), 2, 7));
+    /// # Ok::<(), Box<dyn std::error::Error>>(())
+    /// ```
+    ///
+    /// # Errors
+    /// - `BadSpec`: there are more than 4 tests, or a text constant of more than 4,096 bytes.
+    /// - `NoColumn`, `WrongKind`: a column does not exist, or is not of the kind that it should be.
+    /// - `TooManyAggregates`, `NoMemory`.
+    pub fn watch<A: Aggregate>(&mut self, spec: Spec<A>) -> Result<A, Error<E::Error>> {
+        let spec = spec.resolve(&self.schema)?;
+        self.register(spec).map(A::of)
+    }
+
+    pub(super) fn register(&mut self, spec: Resolved) -> Result<Id, Error<E::Error>> {
+        let registered = self.library.watch(&spec);
+        let number = self.outcome(registered)?;
+        let stamp = STAMP.fetch_add(1, Ordering::Relaxed);
+        let index = number as usize;
+        if self.watched.len() <= index {
+            self.watched.resize_with(index + 1, || None);
+        }
+        self.watched[index] = Some(Watched { stamp, spec });
+        Ok(Id { number, stamp })
+    }
+
+    /// Forgets an aggregate.
+    ///
+    /// ```
+    /// # use fullercoral::{Limits, Memory, Schema, Table, totals};
+    /// let mut table = Table::open(Schema::new().int("price"), Limits::new(), Memory::new())?;
+    /// let total = table.watch(totals("price"))?;
+    /// table.unwatch(total)?;
+    /// assert!(table.ask(total).is_err());
+    /// # Ok::<(), Box<dyn std::error::Error>>(())
+    /// ```
+    ///
+    /// # Errors
+    /// `NoAggregate`: it was forgotten, or is of another table.
+    pub fn unwatch<A: Aggregate>(&mut self, aggregate: A) -> Result<(), Error<E::Error>> {
+        let number = self.number_of(aggregate.id())?;
+        self.watched[number as usize] = None;
+        let forgotten = self.library.unwatch(number);
+        self.outcome(forgotten)
+    }
+
+    /// Asks an aggregate: its answer over the rows as they are, whichever objects are away.
+    ///
+    /// By an automatic policy the row groups that are pending are scanned first, or built from far copies
+    /// if they are away.
+    ///
+    /// ```
+    /// # use fullercoral::{Limits, Memory, Schema, Table, extrema, row};
+    /// let mut table = Table::open(Schema::new().int("price"), Limits::new(), Memory::new())?;
+    /// table.extend([row![5], row![7]])?;
+    /// let ends = table.watch(extrema("price"))?;
+    /// let line = table.ask(ends)?.next().unwrap();
+    /// assert_eq!((line.min, line.max), (5, 7));
+    /// # Ok::<(), Box<dyn std::error::Error>>(())
+    /// ```
+    ///
+    /// # Errors
+    /// - `NoAggregate`: it was forgotten, or is of another table.
+    /// - `Building`: by [`Policy::Manual`](crate::Policy::Manual), row groups are pending.
+    /// - `FarFault`, or the engine's error: a row group that is away could not be built.
+    /// - `NoMemory`.
+    #[inline]
+    pub fn ask<A: Aggregate>(&mut self, aggregate: A) -> Result<Lines<'_, A>, Error<E::Error>> {
+        let number = self.number_of(aggregate.id())?;
+        if let Err(code) = self.ask_into_answer(number) {
+            self.ask_after(number, code)?;
+        }
+        Ok(self.answer.lines())
+    }
+
+    fn ask_into_answer(&mut self, number: u32) -> Coded<()> {
+        if self.has_plain_sum(number) {
+            if let Some((count, sum)) = self.library.plain(number)? {
+                self.answer.clear();
+                self.answer.push_sum(count, sum);
+                return Ok(());
+            }
+        }
+        self.library.ask(number, &mut self.answer)
+    }
+
+    // Whether it is an aggregate of totals without a key.
+    fn has_plain_sum(&self, number: u32) -> bool {
+        let plain = |w: &Watched| w.spec.fold == FC_TOTALS && w.spec.key.is_none();
+        self.watched[number as usize].as_ref().is_some_and(plain)
+    }
+
+    #[cold]
+    fn ask_after(&mut self, number: u32, code: Code) -> Result<(), Error<E::Error>> {
+        if code.0 == FC_BUILDING && self.policy != Policy::Manual {
+            self.build_pending(number)?;
+            let asked = self.ask_into_answer(number);
+            return self.outcome(asked);
+        }
+        self.outcome(Err(code))
+    }
+
+    /// Computes the answer of an aggregate from scratch, from the rows alone, whatever is pending in it.
+    /// Its time grows with the rows, that of [`ask`](Table::ask) with the keys.
+    ///
+    /// By an automatic policy it works whichever objects are away: if one is, another aggregate of the
+    /// same kind is registered for as long as it takes, and all row groups are built into that.
+    ///
+    /// ```
+    /// # use fullercoral::{Limits, Memory, Schema, Table, row, totals};
+    /// let mut table = Table::open(Schema::new().int("price"), Limits::new(), Memory::new())?;
+    /// let total = table.watch(totals("price"))?;
+    /// table.extend([row![5], row![7]])?;
+    /// table.evict("price", 0)?;
+    /// assert_eq!(table.recount(total)?.next().unwrap().sum, 12);
+    /// # Ok::<(), Box<dyn std::error::Error>>(())
+    /// ```
+    ///
+    /// # Errors
+    /// - `NoAggregate`: it was forgotten, or is of another table.
+    /// - `Absent`: by [`Policy::Manual`](crate::Policy::Manual), an object that it needs is away.
+    /// - `TooManyAggregates`: an object is away, and there is no number left.
+    /// - `FarFault`, or the engine's error: a row group that is away could not be read.
+    /// - `NoMemory`.
+    pub fn recount<A: Aggregate>(&mut self, aggregate: A) -> Result<Lines<'_, A>, Error<E::Error>> {
+        let number = self.number_of(aggregate.id())?;
+        match self.first_absent(number) {
+            None => {
+                let recounted = self.library.recount(number, &mut self.answer);
+                self.outcome(recounted)?;
+            }
+            Some(absent) if self.policy == Policy::Manual => return Err(absent.into()),
+            Some(_) => self.recount_anew(number)?,
+        }
+        Ok(self.answer.lines())
+    }
+
+    // The first object that is away, of the columns that an aggregate needs.
+    fn first_absent(&mut self, number: u32) -> Option<Refusal> {
+        let groups = self.groups();
+        for column in self.columns_of(number) {
+            let mut groups = 0..groups;
+            let away = |group: &u32| {
+                let object = self.library.object(column, *group);
+                object.is_ok_and(|object| !object.local)
+            };
+            if let Some(group) = groups.find(away) {
+                let column = self.schema.label(column);
+                return Some(Refusal::Absent { column, group });
+            }
+        }
+        None
+    }
+
+    fn recount_anew(&mut self, number: u32) -> Result<(), Error<E::Error>> {
+        let watched = self.watched[number as usize].as_ref();
+        let spec = watched
+            .map(|w| w.spec.clone())
+            .ok_or(Refusal::NoAggregate)?;
+        let anew = self.register(spec)?;
+        let built = self.build_pending(anew.number);
+        let asked = self.ask_into_answer(anew.number);
+        self.watched[anew.number as usize] = None;
+        let forgotten = self.library.unwatch(anew.number);
+        built?;
+        self.outcome(asked.and(forgotten))
+    }
+
+    /// How many row groups are pending in an aggregate.
+    ///
+    /// ```
+    /// # use fullercoral::{Limits, Memory, Schema, Table, row, totals};
+    /// let mut table = Table::open(Schema::new().int("price"), Limits::new(), Memory::new())?;
+    /// table.insert(row![5])?;
+    /// let total = table.watch(totals("price"))?;
+    /// assert_eq!(table.pending(total)?, 1);
+    /// table.scan(total, 0)?;
+    /// assert_eq!(table.pending(total)?, 0);
+    /// # Ok::<(), Box<dyn std::error::Error>>(())
+    /// ```
+    ///
+    /// # Errors
+    /// `NoAggregate`: it was forgotten, or is of another table.
+    pub fn pending<A: Aggregate>(&mut self, aggregate: A) -> Result<u32, Error<E::Error>> {
+        let number = self.number_of(aggregate.id())?;
+        let pending = self.library.pending(number);
+        self.outcome(pending).map(|(groups, _)| groups)
+    }
+
+    // The number of an aggregate that is registered here.
+    pub(super) fn number_of(&self, id: Id) -> Result<u32, Refusal> {
+        match self.watched.get(id.number as usize) {
+            Some(Some(watched)) if watched.stamp == id.stamp => Ok(id.number),
+            _ => Err(Refusal::NoAggregate),
+        }
+    }
+}

@@ -1,0 +1,125 @@
+use super::{Given, Table};
+use crate::column::Column;
+use crate::library::{Code, Coded};
+use crate::sys::fc_column;
+use crate::{Engine, Error, Refusal};
+
+/// How many rows are given to the library at once, so that a refusal among them costs no more than that.
+const BATCH: usize = 8_192;
+
+impl<E: Engine> Table<E> {
+    /// Appends rows that are given column by column, in the order of the schema, until one is refused.
+    /// Returns how many they were. If one is refused, the rows before it stay:
+    /// [`places`](Table::places) says how many there are.
+    ///
+    /// It is the fastest way to fill a table.
+    ///
+    /// ```
+    /// # use fullercoral::{Column, Limits, Memory, Schema, Table, TextBuffer};
+    /// let schema = Schema::new().text("sku").int("quantity");
+    /// let mut table = Table::open(schema, Limits::new(), Memory::new())?;
+    /// let skus: TextBuffer = ["bread", "rye"].into_iter().collect();
+    /// table.extend_columns(&[skus.column(), Column::ints(&[5, 3])])?;
+    /// assert_eq!(table.places(), 2);
+    /// # Ok::<(), Box<dyn std::error::Error>>(())
+    /// ```
+    ///
+    /// # Errors
+    /// - `RowWidth`, `WrongKind`: the columns are not those of the schema. No row is inserted.
+    /// - `BadArgument`: the columns are of different lengths, or offsets or bits are not as many as they
+    ///   should be, or offsets descend or leave the bytes.
+    /// - `NoUtf8`: a text is no UTF-8.
+    /// - Those of [`insert`](Table::insert).
+    pub fn extend_columns(&mut self, columns: &[Column<'_>]) -> Result<usize, Error<E::Error>> {
+        let rows = self.rows_of(columns)?;
+        let (mut from, mut batch) = (0, BATCH);
+        while from < rows {
+            let to = rows.min(from + batch);
+            let inserted = self.insert_batch(columns, from, to)?;
+            let whole = from + inserted == to;
+            batch = if whole {
+                BATCH.min(2 * batch)
+            } else {
+                self.limits.group as usize
+            };
+            from += inserted;
+        }
+        Ok(rows)
+    }
+
+    // How many rows the columns have, if they suit the schema and one another.
+    fn rows_of(&self, columns: &[Column<'_>]) -> Result<usize, Refusal> {
+        if columns.len() != self.schema.len() {
+            return Err(Refusal::RowWidth {
+                cells: columns.len(),
+                columns: self.schema.len(),
+            });
+        }
+        for (index, column) in columns.iter().enumerate() {
+            if self.schema.kind_at(index) != Some(column.kind()) {
+                let column = self.schema.label(index as u32);
+                return Err(Refusal::WrongKind { column });
+            }
+        }
+        let rows = columns.first().map_or(0, Column::len);
+        if columns
+            .iter()
+            .any(|column| column.len() != rows || !column.is_whole())
+        {
+            return Err(Refusal::BadArgument);
+        }
+        Ok(rows)
+    }
+
+    // Inserts at least one of the rows from `from` up to `to`. Returns how many were inserted.
+    fn insert_batch(
+        &mut self,
+        columns: &[Column<'_>],
+        from: usize,
+        to: usize,
+    ) -> Result<usize, Error<E::Error>> {
+        let inserted = match self.insert_raw(columns, from, to) {
+            Ok(inserted) => inserted,
+            Err(Code(_)) => {
+                // The library was asked for rows of which the first is refused: one row is tried, with
+                // whatever it needs moved.
+                self.insert_first(columns, from)?
+            }
+        };
+        for column in columns {
+            self.live
+                .add_texts(column.text_bytes(from, from + inserted));
+        }
+        Ok(inserted)
+    }
+
+    fn insert_first(
+        &mut self,
+        columns: &[Column<'_>],
+        from: usize,
+    ) -> Result<usize, Error<E::Error>> {
+        let raw = gather(&mut self.bits, columns, from, from + 1);
+        self.persist(Given::Nothing, |library| {
+            // SAFETY: rule 1, the columns borrow valid slices, and `bits` stays as it is.
+            let (inserted, ended) = unsafe { library.insert_columns(&raw, 1) };
+            ended.map(|()| inserted)
+        })
+    }
+
+    // Inserts rows until one is refused. Returns how many were inserted, or the code if it was none.
+    fn insert_raw(&mut self, columns: &[Column<'_>], from: usize, to: usize) -> Coded<usize> {
+        let raw = gather(&mut self.bits, columns, from, to);
+        // SAFETY: rule 1, the columns borrow valid slices, and `bits` stays as it is.
+        let (inserted, ended) = unsafe { self.library.insert_columns(&raw, to - from) };
+        match ended {
+            Err(code) if inserted == 0 => Err(code),
+            _ => Ok(inserted),
+        }
+    }
+}
+
+// Makes the library's columns of these rows. Bits that do not begin with a byte are copied to `bits`.
+fn gather(bits: &mut [Vec<u8>], columns: &[Column<'_>], from: usize, to: usize) -> Vec<fc_column> {
+    let raw = |(column, bits): (&Column<'_>, &mut Vec<u8>)| column.raw(from, to, bits);
+    columns.iter().zip(bits).map(raw).collect()
+}

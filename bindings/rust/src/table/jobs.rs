@@ -1,0 +1,216 @@
+use std::sync::{Arc, Mutex, PoisonError};
+
+use super::copies::Copy;
+use crate::Engine;
+
+/// Jobs whose values were dropped. The table gives them up when it is next asked to begin one.
+#[derive(Debug, Default)]
+pub(crate) struct Abandoned(Mutex<Vec<(u64, Option<u64>)>>);
+
+impl Abandoned {
+    fn push(&self, job: u64, number: Option<u64>) {
+        let mut jobs = self.0.lock().unwrap_or_else(PoisonError::into_inner);
+        jobs.push((job, number));
+    }
+
+    /// The jobs, each with the number of the content that was to be put.
+    pub fn take(&self) -> Vec<(u64, Option<u64>)> {
+        std::mem::take(&mut *self.0.lock().unwrap_or_else(PoisonError::into_inner))
+    }
+}
+
+/// An object that is about to be evicted, with a copy of its bytes. It borrows nothing, so the engine's
+/// part of the work needs no table.
+///
+/// [`Table::begin_evict`](crate::Table::begin_evict) returns it, and
+/// [`Table::commit`](crate::Table::commit) ends it. If it is dropped instead, the object stays local.
+///
+/// ```
+/// use fullercoral::{Limits, Memory, Schema, Table, row};
+///
+/// let mut table = Table::open(Schema::new().int("price"), Limits::new(), Memory::new())?;
+/// table.insert(row![5])?;
+/// let outgoing = table.begin_evict("price", 0)?;
+/// outgoing.put(table.engine_mut())?;
+/// table.commit(outgoing)?;
+/// assert_eq!(table.stats().evictions, 1);
+/// # Ok::<(), Box<dyn std::error::Error>>(())
+/// ```
+#[derive(Debug)]
+#[must_use]
+pub struct Outgoing {
+    pub(crate) job: Job,
+    pub(crate) content: Option<(u64, Vec<u8>)>,
+}
+
+impl Outgoing {
+    /// Puts the bytes into an engine: the table's own, a clone of it, or whatever leads to the same
+    /// contents. It does nothing if the engine has them already.
+    ///
+    /// ```
+    /// # use fullercoral::{Limits, Memory, Schema, Table, row};
+    /// # let mut table = Table::open(Schema::new().int("price"), Limits::new(), Memory::new())?;
+    /// # table.insert(row![5])?;
+    /// let outgoing = table.begin_evict("price", 0)?;
+    /// outgoing.put(table.engine_mut())?;
+    /// # Ok::<(), Box<dyn std::error::Error>>(())
+    /// ```
+    ///
+    /// # Errors
+    /// That of the engine.
+    pub fn put<E: Engine + ?Sized>(&self, engine: &mut E) -> Result<(), E::Error> {
+        match &self.content {
+            Some((number, bytes)) => engine.put(*number, bytes),
+            None => Ok(()),
+        }
+    }
+
+    /// The number and the bytes, unless the engine has them already.
+    ///
+    /// ```
+    /// # use fullercoral::{Limits, Memory, Schema, Table, row};
+    /// # let mut table = Table::open(Schema::new().int("price"), Limits::new(), Memory::new())?;
+    /// # table.insert(row![5])?;
+    /// let outgoing = table.begin_evict("price", 0)?;
+    /// let (number, bytes) = outgoing.content().unwrap();
+    /// assert!(number == 0 && !bytes.is_empty());
+    /// # Ok::<(), Box<dyn std::error::Error>>(())
+    /// ```
+    #[must_use]
+    pub fn content(&self) -> Option<(u64, &[u8])> {
+        self.content
+            .as_ref()
+            .map(|(number, bytes)| (*number, &**bytes))
+    }
+}
+
+/// What a fetch or a build needs, to be read from the engine. It borrows nothing, so the engine's part
+/// of the work needs no table.
+///
+/// [`Table::begin_fetch`](crate::Table::begin_fetch) and
+/// [`Table::begin_build`](crate::Table::begin_build) return it, and
+/// [`Table::install`](crate::Table::install) ends it. If it is dropped instead, nothing changes.
+///
+/// ```
+/// use fullercoral::{Limits, Memory, Schema, Table, row};
+///
+/// let mut table = Table::open(Schema::new().int("price"), Limits::new(), Memory::new())?;
+/// table.insert(row![5])?;
+/// table.evict("price", 0)?;
+/// let mut incoming = table.begin_fetch("price", 0)?;
+/// incoming.get(table.engine_mut())?;
+/// table.install(incoming)?;
+/// assert_eq!(table.stats().fetches, 1);
+/// # Ok::<(), Box<dyn std::error::Error>>(())
+/// ```
+#[derive(Debug)]
+#[must_use]
+pub struct Incoming {
+    pub(crate) job: Job,
+    pub(crate) wanted: Vec<Wanted>,
+    pub(crate) target: Target,
+}
+
+/// A content that a job wants.
+#[derive(Debug)]
+pub(crate) struct Wanted {
+    /// Its number for the library.
+    pub number: u64,
+    pub copy: Copy,
+    pub bytes: Vec<u8>,
+}
+
+/// What a content is brought in for.
+#[derive(Debug, Clone, std::marker::Copy)]
+pub(crate) enum Target {
+    Object { column: u32, group: u32 },
+    Aggregate,
+}
+
+impl Incoming {
+    /// Gets the bytes from an engine: the table's own, a clone of it, or whatever leads to the same
+    /// contents. It may be called again after an error.
+    ///
+    /// ```
+    /// # use fullercoral::{Limits, Memory, Schema, Table, row};
+    /// # let mut table = Table::open(Schema::new().int("price"), Limits::new(), Memory::new())?;
+    /// # table.insert(row![5])?;
+    /// # table.evict("price", 0)?;
+    /// let mut incoming = table.begin_fetch("price", 0)?;
+    /// incoming.get(table.engine_mut())?;
+    /// # Ok::<(), Box<dyn std::error::Error>>(())
+    /// ```
+    ///
+    /// # Errors
+    /// That of the engine.
+    pub fn get<E: Engine + ?Sized>(&mut self, engine: &mut E) -> Result<(), E::Error> {
+        for wanted in &mut self.wanted {
+            wanted.bytes.clear();
+            engine.get(wanted.copy.number, &mut wanted.bytes)?;
+        }
+        Ok(())
+    }
+
+    /// The numbers of the contents that it needs, and where their bytes go.
+    ///
+    /// ```
+    /// # use fullercoral::{Engine, Limits, Memory, Schema, Table, row};
+    /// # let mut table = Table::open(Schema::new().int("price"), Limits::new(), Memory::new())?;
+    /// # table.insert(row![5])?;
+    /// # table.evict("price", 0)?;
+    /// let mut incoming = table.begin_fetch("price", 0)?;
+    /// for (number, bytes) in incoming.contents() {
+    ///     table.engine_mut().get(number, bytes)?;
+    /// }
+    /// table.install(incoming)?;
+    /// # Ok::<(), Box<dyn std::error::Error>>(())
+    /// ```
+    pub fn contents(&mut self) -> impl ExactSizeIterator<Item = (u64, &mut Vec<u8>)> {
+        self.wanted
+            .iter_mut()
+            .map(|wanted| (wanted.copy.number, &mut wanted.bytes))
+    }
+}
+
+/// A job of a table, which is given up if it is dropped.
+#[derive(Debug)]
+pub(crate) struct Job {
+    pub number: u64,
+    /// The number of the content that the job puts.
+    pub put: Option<u64>,
+    pub column: u32,
+    pub group: u32,
+    abandoned: Option<Arc<Abandoned>>,
+}
+
+impl Job {
+    pub fn new(number: u64, column: u32, group: u32, abandoned: &Arc<Abandoned>) -> Job {
+        Job {
+            number,
+            put: None,
+            column,
+            group,
+            abandoned: Some(Arc::clone(abandoned)),
+        }
+    }
+
+    /// Whether it is a job of the table with these abandoned jobs.
+    pub fn is_of(&self, table: &Arc<Abandoned>) -> bool {
+        self.abandoned
+            .as_ref()
+            .is_some_and(|own| Arc::ptr_eq(own, table))
+    }
+
+    /// It ends: its drop gives nothing up.
+    pub fn end(&mut self) {
+        self.abandoned = None;
+    }
+}
+
+impl Drop for Job {
+    fn drop(&mut self) {
+        if let Some(abandoned) = &self.abandoned {
+            abandoned.push(self.number, self.put);
+        }
+    }
+}

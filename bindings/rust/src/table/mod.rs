@@ -1,0 +1,395 @@
+use std::fmt;
+use std::sync::Arc;
+
+use crate::answer::Answer;
+use crate::library::{Buffers, Code, Library};
+use crate::spec::Resolved;
+use crate::sys::{FC_INT, FC_TEXT, fc_limits};
+use crate::{Cell, ColumnRef, Engine, Error, Kind, Limits, Memory, Policy, Refusal, Schema, Stats};
+
+mod aggregates;
+mod building;
+mod columns;
+mod copies;
+mod edits;
+mod jobs;
+mod movement;
+mod persist;
+mod phases;
+mod pieces;
+mod pin;
+mod reading;
+mod renewal;
+mod row;
+mod space;
+
+pub use jobs::{Incoming, Outgoing};
+pub use pieces::{IntPiece, Ints, TextPiece, Texts};
+pub use pin::Pinned;
+pub use row::Row;
+
+use copies::Copies;
+use jobs::Abandoned;
+use space::Live;
+
+/// A columnar table with live aggregates, whose columns may be larger than its local memory.
+///
+/// Its rows stand at places 0, 1, 2, .. in the order in which they were inserted; a removed row keeps
+/// its place. A column's chunk of a row group is an *object*: it is local, or its bytes are away in the
+/// table's [`Engine`]. Aggregates answer as ever while objects are away. By its [`Policy`] the table
+/// moves objects by itself, or leaves that to the program.
+///
+/// A table is `Send` if its engine is, and not `Sync`: threads share it under a lock, as in the
+/// [crate's documentation](crate#threads).
+///
+/// ```
+/// use fullercoral::{Limits, Memory, Schema, Table, row, totals};
+///
+/// let schema = Schema::new().text("sku").int("quantity");
+/// let mut table = Table::open(schema, Limits::new(), Memory::new())?;
+/// let sold = table.watch(totals("quantity").by("sku"))?;
+/// table.extend([row!["bread", 5], row!["rye", 3], row!["bread", 2]])?;
+/// for line in table.ask(sold)? {
+///     println!("{}: {} sales, {} sold", line.key, line.count, line.sum);
+/// }
+/// # Ok::<(), Box<dyn std::error::Error>>(())
+/// ```
+pub struct Table<E: Engine = Memory> {
+    library: Library,
+    engine: E,
+    schema: Schema,
+    limits: fc_limits,
+    capacity: u64,
+    policy: Policy,
+    /// The aggregates by number.
+    watched: Vec<Option<Watched>>,
+    copies: Copies,
+    live: Live,
+    answer: Answer,
+    buffers: Buffers,
+    /// The content that is got from the engine.
+    content: Vec<u8>,
+    bits: Vec<Vec<u8>>,
+    stats: Stats,
+    abandoned: Arc<Abandoned>,
+}
+
+/// An aggregate that is registered.
+#[derive(Debug)]
+struct Watched {
+    stamp: u64,
+    spec: Resolved,
+}
+
+/// What a refused call was given, to say which column or place is at fault.
+#[derive(Debug, Clone, Copy)]
+enum Given<'a> {
+    Nothing,
+    Row(&'a [Cell<'a>]),
+    Cell { column: u32, place: u32 },
+    Place(u32),
+}
+
+/// Why a step did not happen: the library's code, or an error that is complete already.
+#[derive(Debug)]
+enum Failure<E> {
+    Code(Code),
+    Error(Error<E>),
+}
+
+impl<E> From<Code> for Failure<E> {
+    fn from(code: Code) -> Failure<E> {
+        Failure::Code(code)
+    }
+}
+
+impl<E> From<Error<E>> for Failure<E> {
+    fn from(error: Error<E>) -> Failure<E> {
+        Failure::Error(error)
+    }
+}
+
+impl<E> From<Refusal> for Failure<E> {
+    fn from(refusal: Refusal) -> Failure<E> {
+        Failure::Error(refusal.into())
+    }
+}
+
+impl<E: Engine> Table<E> {
+    /// Opens an empty table over an engine.
+    ///
+    /// ```
+    /// use fullercoral::{Files, Limits, Schema, Table};
+    ///
+    /// let schema = Schema::new().text("sku").int("quantity");
+    /// let limits = Limits::new().local_memory(16 << 20);
+    /// let table = Table::open(schema, limits, Files::create(std::env::temp_dir())?)?;
+    /// # let _ = table;
+    /// # Ok::<(), Box<dyn std::error::Error>>(())
+    /// ```
+    ///
+    /// # Errors
+    /// - `BadSchema`: there is no column, or more than 16, or two of one name; or a limit is out of its
+    ///   bounds.
+    /// - `NoMemory`.
+    pub fn open(schema: Schema, limits: Limits, engine: E) -> Result<Table<E>, Error<E::Error>> {
+        if schema.has_twin_names() {
+            return Err(Refusal::BadSchema.into());
+        }
+        let kinds: Vec<u32> = schema.iter().map(|(_, kind)| kind.code()).collect();
+        let (raw, capacity) = (limits.for_schema(&schema), limits.capacity());
+        let opened = Library::open(&kinds, &raw, capacity);
+        let library = opened.map_err(|Code(code)| Refusal::of_code(code))?;
+        Ok(Table {
+            library,
+            engine,
+            limits: raw,
+            capacity,
+            policy: Policy::default(),
+            watched: Vec::new(),
+            copies: Copies::new(schema.len()),
+            live: Live::new(&schema, &raw),
+            answer: Answer::default(),
+            buffers: Buffers::default(),
+            content: Vec::new(),
+            bits: vec![Vec::new(); schema.len()],
+            stats: Stats::default(),
+            abandoned: Arc::default(),
+            schema,
+        })
+    }
+
+    /// The columns.
+    ///
+    /// ```
+    /// # use fullercoral::{Limits, Memory, Schema, Table};
+    /// let table = Table::open(Schema::new().int("price"), Limits::new(), Memory::new())?;
+    /// assert_eq!(table.schema().name(0), Some("price"));
+    /// # Ok::<(), Box<dyn std::error::Error>>(())
+    /// ```
+    pub fn schema(&self) -> &Schema {
+        &self.schema
+    }
+
+    /// The engine.
+    ///
+    /// ```
+    /// # use fullercoral::{Limits, Memory, Schema, Table};
+    /// let table = Table::open(Schema::new().int("price"), Limits::new(), Memory::new())?;
+    /// assert!(table.engine().is_empty());
+    /// # Ok::<(), Box<dyn std::error::Error>>(())
+    /// ```
+    pub fn engine(&self) -> &E {
+        &self.engine
+    }
+
+    /// The engine, to change it. What the table put there should stay, or fetches fail.
+    ///
+    /// ```
+    /// # use fullercoral::{Fault, Faulty, Limits, Memory, Schema, Table};
+    /// let engine = Faulty::new(Memory::new(), 1);
+    /// let mut table = Table::open(Schema::new().int("price"), Limits::new(), engine)?;
+    /// table.engine_mut().set(Fault::Fail, 100);
+    /// # Ok::<(), Box<dyn std::error::Error>>(())
+    /// ```
+    pub fn engine_mut(&mut self) -> &mut E {
+        &mut self.engine
+    }
+
+    /// How the table moves its objects.
+    ///
+    /// ```
+    /// # use fullercoral::{Limits, Memory, Policy, Schema, Table};
+    /// let table = Table::open(Schema::new().int("price"), Limits::new(), Memory::new())?;
+    /// assert_eq!(table.policy(), Policy::Prefetch);
+    /// # Ok::<(), Box<dyn std::error::Error>>(())
+    /// ```
+    #[must_use]
+    pub fn policy(&self) -> Policy {
+        self.policy
+    }
+
+    /// Chooses how the table moves its objects from now on.
+    ///
+    /// ```
+    /// # use fullercoral::{Limits, Memory, Policy, Schema, Table};
+    /// let mut table = Table::open(Schema::new().int("price"), Limits::new(), Memory::new())?;
+    /// table.set_policy(Policy::Manual);
+    /// # Ok::<(), Box<dyn std::error::Error>>(())
+    /// ```
+    pub fn set_policy(&mut self, policy: Policy) {
+        self.policy = policy;
+    }
+
+    /// How many places there are, removed rows among them. The next row gets this place.
+    ///
+    /// ```
+    /// # use fullercoral::{Limits, Memory, Schema, Table, row};
+    /// let mut table = Table::open(Schema::new().int("price"), Limits::new(), Memory::new())?;
+    /// table.insert(row![5])?;
+    /// assert_eq!(table.places(), 1);
+    /// # Ok::<(), Box<dyn std::error::Error>>(())
+    /// ```
+    pub fn places(&mut self) -> u32 {
+        self.library.places()
+    }
+
+    /// How many places a row group has.
+    ///
+    /// ```
+    /// # use fullercoral::{Limits, Memory, Schema, Table};
+    /// let limits = Limits::new().group(1_024);
+    /// let table = Table::open(Schema::new().int("price"), limits, Memory::new())?;
+    /// assert_eq!(table.group(), 1_024);
+    /// # Ok::<(), Box<dyn std::error::Error>>(())
+    /// ```
+    #[must_use]
+    pub fn group(&self) -> u32 {
+        self.limits.group
+    }
+
+    /// How many row groups there are.
+    ///
+    /// ```
+    /// # use fullercoral::{Limits, Memory, Schema, Table, row};
+    /// let limits = Limits::new().group(4);
+    /// let mut table = Table::open(Schema::new().int("price"), limits, Memory::new())?;
+    /// table.extend((0..9).map(|price| row![price]))?;
+    /// assert_eq!(table.groups(), 3);
+    /// # Ok::<(), Box<dyn std::error::Error>>(())
+    /// ```
+    pub fn groups(&mut self) -> u32 {
+        self.places().div_ceil(self.limits.group)
+    }
+
+    /// Whether an object is local. Refused with `NoColumn` and `OutOfRange`.
+    ///
+    /// ```
+    /// # use fullercoral::{Limits, Memory, Schema, Table, row};
+    /// let mut table = Table::open(Schema::new().int("price"), Limits::new(), Memory::new())?;
+    /// table.insert(row![5])?;
+    /// table.evict("price", 0)?;
+    /// assert!(!table.is_local("price", 0)?);
+    /// # Ok::<(), Box<dyn std::error::Error>>(())
+    /// ```
+    ///
+    /// # Errors
+    /// `NoColumn`, and `OutOfRange` if there is no such row group.
+    pub fn is_local(
+        &mut self,
+        column: impl ColumnRef,
+        group: u32,
+    ) -> Result<bool, Error<E::Error>> {
+        let column = column.index_in(&self.schema)?;
+        let object = self.library.object(column, group);
+        self.outcome(object).map(|object| object.local)
+    }
+
+    /// What the table did since it was opened, and how full its local region is.
+    ///
+    /// ```
+    /// # use fullercoral::{Limits, Memory, Schema, Table};
+    /// let mut table = Table::open(Schema::new().int("price"), Limits::new(), Memory::new())?;
+    /// assert_eq!(table.stats().evictions, 0);
+    /// # Ok::<(), Box<dyn std::error::Error>>(())
+    /// ```
+    pub fn stats(&mut self) -> Stats {
+        let mut stats = self.stats;
+        stats.faults = self.library.faults();
+        for (kind, code, bytes) in [(Kind::Int, FC_INT, 16), (Kind::Text, FC_TEXT, 1)] {
+            if self.schema.count(kind) > 0 {
+                let space = self.library.space(code);
+                let all = u64::from(space.segments) * u64::from(space.size);
+                stats.local_used += (all - space.free) * bytes;
+                stats.local_memory += all * bytes;
+            }
+        }
+        stats
+    }
+
+    /// Closes the table and returns its engine.
+    ///
+    /// ```
+    /// # use fullercoral::{Limits, Memory, Schema, Table};
+    /// let table = Table::open(Schema::new().int("price"), Limits::new(), Memory::new())?;
+    /// assert!(table.into_engine().is_empty());
+    /// # Ok::<(), Box<dyn std::error::Error>>(())
+    /// ```
+    pub fn into_engine(self) -> E {
+        self.engine
+    }
+
+    // The refusal of a code, with the column or the place that is at fault.
+    #[cold]
+    fn refused(&mut self, code: Code, given: Given<'_>) -> Error<E::Error> {
+        let details = self.library.last_refusal();
+        let refusal = match (code.0, given) {
+            (15, _) => Refusal::Building {
+                pending: details.pending,
+            },
+            (16, _) => Refusal::Absent {
+                column: self.schema.label(details.column),
+                group: details.group,
+            },
+            (4, Given::Cell { column, .. }) => Refusal::NoColumn {
+                column: self.schema.label(column),
+            },
+            (5, Given::Cell { column, .. }) => Refusal::WrongKind {
+                column: self.schema.label(column),
+            },
+            (5, Given::Row(row)) => Refusal::WrongKind {
+                column: self.wrong_kind_in(row),
+            },
+            (6, Given::Row(row)) => Refusal::RowWidth {
+                cells: row.len(),
+                columns: self.schema.len(),
+            },
+            (7, Given::Cell { column, .. }) => Refusal::TextTooLong {
+                column: self.schema.label(column),
+            },
+            (7, Given::Row(row)) => Refusal::TextTooLong {
+                column: self.too_long_in(row),
+            },
+            (8, Given::Place(place) | Given::Cell { place, .. }) => Refusal::NoRow { place },
+            (9, Given::Place(place) | Given::Cell { place, .. }) => Refusal::RemovedRow { place },
+            (code, _) => Refusal::of_code(code),
+        };
+        refusal.into()
+    }
+
+    // The outcome of a step, for the caller.
+    fn outcome<T>(
+        &mut self,
+        result: Result<T, impl Into<Failure<E::Error>>>,
+    ) -> Result<T, Error<E::Error>> {
+        result.map_err(|failure| match failure.into() {
+            Failure::Code(code) => self.refused(code, Given::Nothing),
+            Failure::Error(error) => error,
+        })
+    }
+
+    fn wrong_kind_in(&self, row: &[Cell<'_>]) -> Arc<str> {
+        let wrong = |(i, cell): (usize, &Cell<'_>)| {
+            cell.kind()
+                .is_some_and(|kind| self.schema.kind_at(i) != Some(kind))
+        };
+        self.schema
+            .label(row.iter().enumerate().position(wrong).unwrap_or(0) as u32)
+    }
+
+    fn too_long_in(&self, row: &[Cell<'_>]) -> Arc<str> {
+        let long = |cell: &Cell<'_>| cell.text().is_some_and(|text| text.len() > 4_096);
+        self.schema
+            .label(row.iter().position(long).unwrap_or(0) as u32)
+    }
+}
+
+impl<E: Engine> fmt::Debug for Table<E> {
+    fn fmt(&self, f: &mut fmt::Formatter<'_>) -> fmt::Result {
+        let table = &mut f.debug_struct("Table");
+        table
+            .field("schema", &self.schema)
+            .field("policy", &self.policy);
+        table.finish_non_exhaustive()
+    }
+}

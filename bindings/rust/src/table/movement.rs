@@ -1,0 +1,295 @@
+//! Objects that are evicted and fetched in one call.
+
+use super::copies::Copy;
+use super::{Failure, Table};
+use crate::library::Code;
+use crate::sys::{FC_FAR_FULL, FC_REGION_FULL};
+use crate::{ColumnRef, Engine, Error, Kind, Policy, Refusal};
+
+impl<E: Engine> Table<E> {
+    /// Evicts an object: its bytes go to the engine, and its local memory is free.
+    ///
+    /// ```
+    /// # use fullercoral::{Limits, Memory, Schema, Table, row};
+    /// let mut table = Table::open(Schema::new().int("price"), Limits::new(), Memory::new())?;
+    /// table.insert(row![5])?;
+    /// table.evict("price", 0)?;
+    /// assert_eq!(table.engine().len(), 1);
+    /// # Ok::<(), Box<dyn std::error::Error>>(())
+    /// ```
+    ///
+    /// # Errors
+    /// - `NoColumn`, `OutOfRange`: there is no such object.
+    /// - `Absent`: it is away already.
+    /// - `Pinned`: it has a pin.
+    /// - `FarFull`: the numbers of contents are used up.
+    /// - `EditsUsedUp`, `NoMemory`.
+    /// - The engine's error. The object stays local.
+    pub fn evict(&mut self, column: impl ColumnRef, group: u32) -> Result<(), Error<E::Error>> {
+        let column = column.index_in(&self.schema)?;
+        self.give_up_abandoned();
+        match self.try_evict(column, group) {
+            Err(Failure::Code(Code(FC_FAR_FULL))) => self.renew()?,
+            result => return self.outcome(result),
+        }
+        let evicted = self.try_evict(column, group);
+        self.outcome(evicted)
+    }
+
+    fn try_evict(&mut self, column: u32, group: u32) -> Result<(), Failure<E::Error>> {
+        let job = self.library.begin_evict(column, group)?;
+        self.end_evict(job, column, group)
+    }
+
+    /// Evicts the coldest object without a pin, of the kind that has less space. Returns its column and
+    /// row group, or none if there is no such object.
+    ///
+    /// ```
+    /// # use fullercoral::{Limits, Memory, Schema, Table, row};
+    /// let mut table = Table::open(Schema::new().int("price"), Limits::new(), Memory::new())?;
+    /// assert_eq!(table.evict_coldest()?, None);
+    /// table.insert(row![5])?;
+    /// assert_eq!(table.evict_coldest()?, Some((0, 0)));
+    /// # Ok::<(), Box<dyn std::error::Error>>(())
+    /// ```
+    ///
+    /// # Errors
+    /// - `FarFull`: the numbers of contents are used up.
+    /// - `EditsUsedUp`, `NoMemory`.
+    /// - The engine's error. The object stays local.
+    pub fn evict_coldest(&mut self) -> Result<Option<(usize, u32)>, Error<E::Error>> {
+        self.give_up_abandoned();
+        match self.try_evict_coldest() {
+            Err(Failure::Code(Code(FC_FAR_FULL))) => self.renew()?,
+            result => return self.outcome(result),
+        }
+        let evicted = self.try_evict_coldest();
+        self.outcome(evicted)
+    }
+
+    fn try_evict_coldest(&mut self) -> Result<Option<(usize, u32)>, Failure<E::Error>> {
+        let Some(job) = self.library.begin_coldest()? else {
+            return Ok(None);
+        };
+        let about = self.library.job(job)?;
+        self.end_evict(job, about.column, about.group)?;
+        Ok(Some((about.column as usize, about.group)))
+    }
+
+    // Carries and commits an eviction that was begun. The bytes go to the engine as they lie. If
+    // something fails, the job is given up.
+    fn end_evict(&mut self, job: u64, column: u32, group: u32) -> Result<(), Failure<E::Error>> {
+        let put = self.carry_and_put(job);
+        let committed = put.and_then(|put| match self.library.commit(job) {
+            Ok(()) => Ok(put),
+            Err(code) => {
+                self.forget(put);
+                Err(code.into())
+            }
+        });
+        match committed {
+            Ok(put) => {
+                self.committed(column, group, put);
+                Ok(())
+            }
+            Err(failure) => {
+                self.library.give_up(job);
+                Err(failure)
+            }
+        }
+    }
+
+    // Returns the copy that was put, if the engine did not have it already.
+    fn carry_and_put(&mut self, job: u64) -> Result<Option<Copy>, Failure<E::Error>> {
+        self.library.carry(job)?;
+        let Some(bytes) = self.library.outgoing(job)? else {
+            return Ok(None);
+        };
+        let (number, len) = (self.copies.draw(), bytes.len() as u32);
+        if let Err(error) = self.engine.put(number, bytes) {
+            self.engine_failed(job);
+            // It may have been kept nevertheless.
+            self.engine.forget(number);
+            return Err(Error::Engine(error).into());
+        }
+        self.stats.puts += 1;
+        self.stats.bytes_put += u64::from(len);
+        Ok(Some(Copy { number, len }))
+    }
+
+    fn forget(&mut self, copy: Option<Copy>) {
+        if let Some(copy) = copy {
+            self.engine.forget(copy.number);
+        }
+    }
+
+    // Takes note that an object is away, with this new copy or the one that it had.
+    pub(super) fn committed(&mut self, column: u32, group: u32, put: Option<Copy>) {
+        if let Some(copy) = put {
+            let before = self.copies.replace(column, group, copy);
+            self.forget(before);
+        }
+        let len = self.copies.get(column, group).map_or(0, |copy| copy.len);
+        let kind = self.schema.kind_at(column as usize);
+        self.live.evicted(kind, len);
+        self.stats.evictions += 1;
+    }
+
+    fn engine_failed(&mut self, job: u64) {
+        self.stats.engine_errors += 1;
+        self.library.fault(job);
+    }
+
+    /// Fetches an object. By an automatic policy others are evicted if there is no space.
+    ///
+    /// ```
+    /// # use fullercoral::{Limits, Memory, Schema, Table, row};
+    /// let mut table = Table::open(Schema::new().int("price"), Limits::new(), Memory::new())?;
+    /// table.insert(row![5])?;
+    /// table.evict("price", 0)?;
+    /// table.fetch("price", 0)?;
+    /// assert!(table.is_local("price", 0)?);
+    /// # Ok::<(), Box<dyn std::error::Error>>(())
+    /// ```
+    ///
+    /// # Errors
+    /// - `NoColumn`, `OutOfRange`: there is no such object.
+    /// - `StaleJob`: it is local.
+    /// - `RegionFull`: there is no local memory for it.
+    /// - `FarFault`: the engine returned other bytes than were put. The object stays away, and another
+    ///   fetch may follow.
+    /// - `EditsUsedUp`, `NoMemory`.
+    /// - The engine's error. The object stays away.
+    pub fn fetch(&mut self, column: impl ColumnRef, group: u32) -> Result<(), Error<E::Error>> {
+        let column = column.index_in(&self.schema)?;
+        self.fetch_object(column, group)
+    }
+
+    pub(super) fn fetch_object(&mut self, column: u32, group: u32) -> Result<(), Error<E::Error>> {
+        self.give_up_abandoned();
+        let job = self.library.begin_fetch(column, group);
+        let job = self.outcome(job)?;
+        let fetched = self.end_fetch(job, column, group);
+        if fetched.is_err() {
+            self.library.give_up(job);
+        }
+        self.outcome(fetched)
+    }
+
+    fn end_fetch(&mut self, job: u64, column: u32, group: u32) -> Result<(), Failure<E::Error>> {
+        let content = self.library.wanted(job, 0)?;
+        if let (Some(content), Some(copy)) = (content, self.copies.get(column, group)) {
+            self.get_and_deliver(job, content, copy)?;
+        }
+        self.library.carry(job)?;
+        self.install_job(job)?;
+        self.fetched(column, group);
+        Ok(())
+    }
+
+    // Takes note that an object is back.
+    pub(super) fn fetched(&mut self, column: u32, group: u32) {
+        let len = self.copies.get(column, group).map_or(0, |copy| copy.len);
+        self.live.fetched(self.schema.kind_at(column as usize), len);
+        self.stats.fetches += 1;
+    }
+
+    /// Gets a content from the engine and delivers it to a job.
+    pub(super) fn get_and_deliver(
+        &mut self,
+        job: u64,
+        content: u64,
+        copy: Copy,
+    ) -> Result<(), Failure<E::Error>> {
+        self.content.clear();
+        if let Err(error) = self.engine.get(copy.number, &mut self.content) {
+            self.engine_failed(job);
+            return Err(Error::Engine(error).into());
+        }
+        self.stats.gets += 1;
+        self.stats.bytes_got += self.content.len() as u64;
+        Ok(self.library.deliver(job, content, &self.content)?)
+    }
+
+    /// Ends a carried fetch. By an automatic policy others are evicted if there is no space.
+    pub(super) fn install_job(&mut self, job: u64) -> Result<(), Failure<E::Error>> {
+        loop {
+            match self.library.install(job) {
+                Err(Code(FC_REGION_FULL)) if self.policy != Policy::Manual => self.make_space()?,
+                ended => return Ok(ended?),
+            }
+        }
+    }
+
+    /// Which row groups of a column to fetch next, by the stride of the last four that were read: two at
+    /// most.
+    ///
+    /// ```
+    /// # use fullercoral::{Limits, Memory, Schema, Table, row};
+    /// let limits = Limits::new().group(4);
+    /// let mut table = Table::open(Schema::new().int("price"), limits, Memory::new())?;
+    /// table.extend((0..40).map(|price| row![price]))?;
+    /// let mut prices = table.ints("price", 0..16)?;
+    /// while prices.next_piece()?.is_some() {}
+    /// assert_eq!(table.proposals("price")?, [4, 5]);
+    /// # Ok::<(), Box<dyn std::error::Error>>(())
+    /// ```
+    ///
+    /// # Errors
+    /// `NoColumn`, `NoMemory`.
+    pub fn proposals(&mut self, column: impl ColumnRef) -> Result<Vec<u32>, Error<E::Error>> {
+        let column = column.index_in(&self.schema)?;
+        let proposals = self.library.proposals(column);
+        self.outcome(proposals)
+            .map(|(groups, count)| groups[..count].to_vec())
+    }
+
+    // Fetches what is proposed for a column. What fails here is not asked for yet, so it fails without
+    // a word: the call that needs it will say so.
+    pub(super) fn prefetch(&mut self, column: u32) {
+        let Ok((groups, count)) = self.library.proposals(column) else {
+            return;
+        };
+        for group in &groups[..count] {
+            let away = self
+                .library
+                .object(column, *group)
+                .is_ok_and(|object| !object.local);
+            if away && self.is_small(column, *group) && self.fetch_object(column, *group).is_ok() {
+                self.stats.prefetches += 1;
+            }
+        }
+    }
+
+    // Whether the local region has space for eight such objects, so that one that is proposed does not
+    // evict what was just read.
+    fn is_small(&self, column: u32, group: u32) -> bool {
+        let limits = &self.limits;
+        let (len, segments, size) = match self.schema.kind_at(column as usize) {
+            Some(Kind::Int) => (limits.group, limits.int_segments, limits.int_size),
+            _ => {
+                let len = self.copies.get(column, group).map_or(0, |copy| copy.len);
+                (len, limits.text_segments, limits.text_size)
+            }
+        };
+        8 * u64::from(len) <= u64::from(segments) * u64::from(size)
+    }
+
+    /// Gives up the jobs whose values were dropped.
+    pub(super) fn give_up_abandoned(&mut self) {
+        for (job, put) in self.abandoned.take() {
+            self.library.give_up(job);
+            if let Some(number) = put {
+                self.engine.forget(number);
+            }
+        }
+    }
+
+    pub(super) fn check_job(&self, job: &super::jobs::Job) -> Result<(), Refusal> {
+        if job.is_of(&self.abandoned) {
+            Ok(())
+        } else {
+            Err(Refusal::StaleJob)
+        }
+    }
+}

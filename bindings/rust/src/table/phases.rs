@@ -1,0 +1,269 @@
+//! Movement in phases, between which any other call may come.
+
+use super::Table;
+use super::copies::Copy;
+use super::jobs::{Incoming, Job, Outgoing, Target, Wanted};
+use crate::library::Code;
+use crate::spec::Aggregate;
+use crate::sys::FC_FAR_FULL;
+use crate::{ColumnRef, Engine, Error, Refusal};
+
+impl<E: Engine> Table<E> {
+    /// Begins to evict an object. The engine's part of the work is [`Outgoing::put`], which needs no
+    /// table; then [`commit`](Table::commit) ends it.
+    ///
+    /// ```
+    /// # use fullercoral::{Limits, Memory, Schema, Table, row};
+    /// let mut table = Table::open(Schema::new().int("price"), Limits::new(), Memory::new())?;
+    /// table.insert(row![5])?;
+    /// let outgoing = table.begin_evict("price", 0)?;
+    /// outgoing.put(table.engine_mut())?;
+    /// table.commit(outgoing)?;
+    /// # Ok::<(), Box<dyn std::error::Error>>(())
+    /// ```
+    ///
+    /// # Errors
+    /// - `NoColumn`, `OutOfRange`: there is no such object.
+    /// - `Absent`: it is away already.
+    /// - `FarFull`: the numbers of contents are used up.
+    /// - `EditsUsedUp`, `NoMemory`.
+    pub fn begin_evict(
+        &mut self,
+        column: impl ColumnRef,
+        group: u32,
+    ) -> Result<Outgoing, Error<E::Error>> {
+        let column = column.index_in(&self.schema)?;
+        self.give_up_abandoned();
+        match self.outgoing_of(column, group) {
+            Err(Code(FC_FAR_FULL)) => self.renew()?,
+            begun => return self.outcome(begun),
+        }
+        let begun = self.outgoing_of(column, group);
+        self.outcome(begun)
+    }
+
+    /// Begins to evict the coldest object without a pin. None if there is no such object.
+    ///
+    /// ```
+    /// # use fullercoral::{Limits, Memory, Schema, Table, row};
+    /// let mut table = Table::open(Schema::new().int("price"), Limits::new(), Memory::new())?;
+    /// table.insert(row![5])?;
+    /// if let Some(outgoing) = table.begin_evict_coldest()? {
+    ///     outgoing.put(table.engine_mut())?;
+    ///     table.commit(outgoing)?;
+    /// }
+    /// assert!(table.begin_evict_coldest()?.is_none());
+    /// # Ok::<(), Box<dyn std::error::Error>>(())
+    /// ```
+    ///
+    /// # Errors
+    /// `FarFull`, `EditsUsedUp`, `NoMemory`.
+    pub fn begin_evict_coldest(&mut self) -> Result<Option<Outgoing>, Error<E::Error>> {
+        self.give_up_abandoned();
+        let job = self.library.begin_coldest();
+        let Some(job) = self.outcome(job)? else {
+            return Ok(None);
+        };
+        let about = self.library.job(job);
+        self.library.give_up(job);
+        let about = self.outcome(about)?;
+        self.begin_evict(about.column as usize, about.group)
+            .map(Some)
+    }
+
+    fn outgoing_of(&mut self, column: u32, group: u32) -> Result<Outgoing, Code> {
+        let number = self.library.begin_evict(column, group)?;
+        // From here on the job is given up if it fails.
+        let mut job = Job::new(number, column, group, &self.abandoned);
+        self.library.carry(number)?;
+        let bytes = self.library.outgoing(number)?.map(<[u8]>::to_vec);
+        let content = bytes.map(|bytes| (self.copies.draw(), bytes));
+        job.put = content.as_ref().map(|(number, _)| *number);
+        Ok(Outgoing { job, content })
+    }
+
+    /// Ends an eviction whose bytes were put: the object is away.
+    ///
+    /// ```
+    /// # use fullercoral::{Limits, Memory, Refusal, Schema, Table, row};
+    /// let mut table = Table::open(Schema::new().int("price"), Limits::new(), Memory::new())?;
+    /// table.insert(row![5])?;
+    /// let outgoing = table.begin_evict("price", 0)?;
+    /// outgoing.put(table.engine_mut())?;
+    /// table.set("price", 0, 6)?;
+    /// let error = table.commit(outgoing).unwrap_err();
+    /// assert_eq!(error.refusal(), Some(&Refusal::StaleJob));
+    /// # Ok::<(), Box<dyn std::error::Error>>(())
+    /// ```
+    ///
+    /// # Errors
+    /// The object stays local then.
+    /// - `StaleJob`: the object was written or moved since it was begun, or it is of another table.
+    /// - `Pinned`: it has a pin.
+    pub fn commit(&mut self, outgoing: Outgoing) -> Result<(), Error<E::Error>> {
+        self.check_job(&outgoing.job)?;
+        let Outgoing { mut job, content } = outgoing;
+        let committed = self.library.commit(job.number);
+        self.outcome(committed)?;
+        job.end();
+        let put = content.map(|(number, bytes)| {
+            self.stats.puts += 1;
+            self.stats.bytes_put += bytes.len() as u64;
+            let len = bytes.len() as u32;
+            Copy { number, len }
+        });
+        self.committed(job.column, job.group, put);
+        Ok(())
+    }
+
+    /// Begins to fetch an object. The engine's part of the work is [`Incoming::get`], which needs no
+    /// table; then [`install`](Table::install) ends it.
+    ///
+    /// ```
+    /// # use fullercoral::{Limits, Memory, Schema, Table, row};
+    /// let mut table = Table::open(Schema::new().int("price"), Limits::new(), Memory::new())?;
+    /// table.insert(row![5])?;
+    /// table.evict("price", 0)?;
+    /// let mut incoming = table.begin_fetch("price", 0)?;
+    /// incoming.get(table.engine_mut())?;
+    /// table.install(incoming)?;
+    /// # Ok::<(), Box<dyn std::error::Error>>(())
+    /// ```
+    ///
+    /// # Errors
+    /// - `NoColumn`, `OutOfRange`: there is no such object.
+    /// - `StaleJob`: it is local.
+    /// - `EditsUsedUp`, `NoMemory`.
+    pub fn begin_fetch(
+        &mut self,
+        column: impl ColumnRef,
+        group: u32,
+    ) -> Result<Incoming, Error<E::Error>> {
+        let column = column.index_in(&self.schema)?;
+        self.give_up_abandoned();
+        let number = self.library.begin_fetch(column, group);
+        let number = self.outcome(number)?;
+        let job = Job::new(number, column, group, &self.abandoned);
+        let copy = self.copies.get(column, group).ok_or(Refusal::StaleJob)?;
+        let target = Target::Object { column, group };
+        self.incoming(job, target, |_, _| Ok(copy))
+    }
+
+    /// Begins to build a row group into an aggregate from the far copies of its columns, without fetching
+    /// them. The engine's part of the work is [`Incoming::get`], which needs no table; then
+    /// [`install`](Table::install) ends it.
+    ///
+    /// ```
+    /// # use fullercoral::{Limits, Memory, Schema, Table, row, totals};
+    /// let mut table = Table::open(Schema::new().int("price"), Limits::new(), Memory::new())?;
+    /// table.insert(row![5])?;
+    /// table.evict("price", 0)?;
+    /// let total = table.watch(totals("price"))?;
+    /// let mut incoming = table.begin_build(total, 0)?;
+    /// incoming.get(table.engine_mut())?;
+    /// table.install(incoming)?;
+    /// assert_eq!(table.pending(total)?, 0);
+    /// # Ok::<(), Box<dyn std::error::Error>>(())
+    /// ```
+    ///
+    /// # Errors
+    /// - `NoAggregate`, `OutOfRange`: there is no such aggregate or row group.
+    /// - `StaleJob`: the row group is not pending, or a column that the aggregate needs has no far copy as
+    ///   it is now.
+    /// - `EditsUsedUp`, `NoMemory`.
+    pub fn begin_build<A: Aggregate>(
+        &mut self,
+        aggregate: A,
+        group: u32,
+    ) -> Result<Incoming, Error<E::Error>> {
+        let aggregate = self.number_of(aggregate.id())?;
+        self.give_up_abandoned();
+        let number = self.library.begin_offload(aggregate, group);
+        let number = self.outcome(number)?;
+        let job = Job::new(number, 0, group, &self.abandoned);
+        self.incoming(job, Target::Aggregate, |table, content| {
+            table.copy_for(aggregate, group, content)
+        })
+    }
+
+    // Lists the contents that a job wants.
+    fn incoming(
+        &mut self,
+        job: Job,
+        target: Target,
+        mut copy: impl FnMut(&mut Self, u64) -> Result<Copy, Refusal>,
+    ) -> Result<Incoming, Error<E::Error>> {
+        let mut wanted = Vec::new();
+        loop {
+            let next = self.library.wanted(job.number, wanted.len());
+            let Some(number) = self.outcome(next)? else {
+                return Ok(Incoming {
+                    job,
+                    wanted,
+                    target,
+                });
+            };
+            wanted.push(Wanted {
+                number,
+                copy: copy(self, number)?,
+                bytes: Vec::new(),
+            });
+        }
+    }
+
+    /// Ends a fetch or a build whose bytes were got: the object is local, or the row group is built in.
+    /// By an automatic policy others are evicted if a fetched object has no space.
+    ///
+    /// ```
+    /// # use fullercoral::{Limits, Memory, Refusal, Schema, Table, row};
+    /// let mut table = Table::open(Schema::new().int("price"), Limits::new(), Memory::new())?;
+    /// table.insert(row![5])?;
+    /// table.evict("price", 0)?;
+    /// let mut incoming = table.begin_fetch("price", 0)?;
+    /// for (_, bytes) in incoming.contents() {
+    ///     bytes.extend(*b"other bytes");
+    /// }
+    /// let error = table.install(incoming).unwrap_err();
+    /// assert_eq!(error.refusal(), Some(&Refusal::FarFault));
+    /// # Ok::<(), Box<dyn std::error::Error>>(())
+    /// ```
+    ///
+    /// # Errors
+    /// - `FarFault`: these are not the bytes that were put.
+    /// - `StaleJob`: what it rests on changed since it was begun, or it is of another table.
+    /// - `NoAggregate`: the aggregate was forgotten.
+    /// - `RegionFull`: there is no local memory for the object.
+    /// - `NoMemory`.
+    pub fn install(&mut self, incoming: Incoming) -> Result<(), Error<E::Error>> {
+        self.check_job(&incoming.job)?;
+        let Incoming {
+            mut job,
+            wanted,
+            target,
+        } = incoming;
+        for content in &wanted {
+            self.stats.gets += 1;
+            self.stats.bytes_got += content.bytes.len() as u64;
+            let delivered = self
+                .library
+                .deliver(job.number, content.number, &content.bytes);
+            self.outcome(delivered)?;
+        }
+        let carried = self.library.carry(job.number);
+        self.outcome(carried)?;
+        match target {
+            Target::Object { column, group } => {
+                let installed = self.install_job(job.number);
+                self.outcome(installed)?;
+                self.fetched(column, group);
+            }
+            Target::Aggregate => {
+                let merged = self.library.merge(job.number);
+                self.outcome(merged)?;
+                self.stats.builds += 1;
+            }
+        }
+        job.end();
+        Ok(())
+    }
+}

@@ -1,0 +1,98 @@
+//! Going on with new numbers of contents.
+
+use super::Table;
+use crate::{Engine, Error, Refusal};
+
+impl<E: Engine> Table<E> {
+    /// Goes on with new numbers of contents, and frees what was noted of the old ones: some 56 bytes for
+    /// each that was ever put. What is away is read once, and all of it is held in memory meanwhile. What
+    /// the engine keeps stays where it is. Objects that are local need a put again when they are evicted.
+    ///
+    /// The table does so by itself when the numbers of [`Limits::contents`](crate::Limits::contents) are
+    /// used up, if what is away fits half of the local memory.
+    ///
+    /// ```
+    /// # use fullercoral::{Limits, Memory, Schema, Table, row};
+    /// let mut table = Table::open(Schema::new().int("price"), Limits::new(), Memory::new())?;
+    /// table.insert(row![5])?;
+    /// table.evict("price", 0)?;
+    /// table.migrate()?;
+    /// table.fetch("price", 0)?;
+    /// # Ok::<(), Box<dyn std::error::Error>>(())
+    /// ```
+    ///
+    /// # Errors
+    /// All is as before then.
+    /// - `FarFault`, or the engine's error: what is away could not be read.
+    /// - `FarFull`: there are fewer numbers than objects that are away.
+    /// - `NoMemory`.
+    pub fn migrate(&mut self) -> Result<(), Error<E::Error>> {
+        for (column, group, _) in self.away() {
+            self.deliver_copy_of(column, group)?;
+        }
+        let migrated = self.library.migrate(self.capacity);
+        self.outcome(migrated)?;
+        self.stats.migrations += 1;
+        self.forget_local_copies();
+        Ok(())
+    }
+
+    /// Migrates when the numbers are used up. Refused with `FarFull` if that would take more than half of
+    /// the local memory, or gain no number.
+    pub(super) fn renew(&mut self) -> Result<(), Error<E::Error>> {
+        let away = self.away();
+        let bytes: u64 = away.iter().map(|(_, _, len)| u64::from(*len)).sum();
+        if bytes > self.local_bytes() / 2 || away.len() as u64 >= self.capacity {
+            return Err(Refusal::FarFull.into());
+        }
+        self.migrate()
+    }
+
+    fn local_bytes(&self) -> u64 {
+        let of = |segments: u32, size: u32| u64::from(segments) * u64::from(size);
+        let limits = &self.limits;
+        16 * of(limits.int_segments, limits.int_size) + of(limits.text_segments, limits.text_size)
+    }
+
+    // The objects that are away, and how long their contents are.
+    fn away(&mut self) -> Vec<(u32, u32, u32)> {
+        let mut away = Vec::new();
+        for (column, group, copy) in self.copies.all() {
+            if self
+                .library
+                .object(column, group)
+                .is_ok_and(|object| !object.local)
+            {
+                away.push((column, group, copy.len));
+            }
+        }
+        away
+    }
+
+    fn deliver_copy_of(&mut self, column: u32, group: u32) -> Result<(), Error<E::Error>> {
+        let copy = self.copies.get(column, group).ok_or(Refusal::FarFault)?;
+        self.content.clear();
+        if let Err(error) = self.engine.get(copy.number, &mut self.content) {
+            self.stats.engine_errors += 1;
+            return Err(Error::Engine(error));
+        }
+        self.stats.gets += 1;
+        self.stats.bytes_got += self.content.len() as u64;
+        let delivered = self.library.deliver_copy(column, group, &self.content);
+        self.outcome(delivered)
+    }
+
+    // The copies of local objects are of no use after a migration.
+    fn forget_local_copies(&mut self) {
+        for (column, group, copy) in self.copies.all() {
+            if self
+                .library
+                .object(column, group)
+                .is_ok_and(|object| object.local)
+            {
+                self.copies.remove(column, group);
+                self.engine.forget(copy.number);
+            }
+        }
+    }
+}

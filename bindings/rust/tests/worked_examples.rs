@@ -1,0 +1,333 @@
+//! The worked examples of the script language, through the crate: the replies are those of `examples/`
+//! of the repository.
+
+use fullercoral::{
+    Cell, Engine, Error, Key, Limits, Memory, Op, Policy, Refusal, Schema, Table, TotalsLine,
+    extrema, row, totals,
+};
+
+type Outcome = Result<(), Box<dyn std::error::Error>>;
+
+fn table(schema: Schema) -> Table {
+    Table::open(schema, Limits::new().group(4), Memory::new()).unwrap()
+}
+
+fn by_hand(schema: Schema) -> Table {
+    let mut table = table(schema);
+    table.set_policy(Policy::Manual);
+    table
+}
+
+fn refusal<T: std::fmt::Debug, E: std::fmt::Debug>(result: Result<T, Error<E>>) -> Refusal {
+    match result {
+        Err(Error::Refused(refusal)) => refusal,
+        other => panic!("{other:?} is no refusal"),
+    }
+}
+
+fn sum<E: Engine>(table: &mut Table<E>, total: fullercoral::Totals) -> (u64, i128) {
+    let Ok(mut lines) = table.ask(total) else {
+        panic!("it did not answer");
+    };
+    let line = lines.next().unwrap();
+    assert_eq!((line.key, lines.len()), (Key::None, 0));
+    (line.count, line.sum)
+}
+
+#[test]
+fn first_run() -> Outcome {
+    let mut table = table(Schema::new().int("n"));
+    let total = table.watch(totals("n"))?;
+    assert_eq!(table.insert(row![5])?, 0);
+    assert_eq!(table.insert(row![7])?, 1);
+    assert_eq!(sum(&mut table, total), (2, 12));
+    table.set("n", 0, -2)?;
+    table.remove(1)?;
+    assert_eq!(sum(&mut table, total), (1, -2));
+    Ok(())
+}
+
+#[test]
+fn the_bakery_of_the_readme() -> Outcome {
+    let mut table = by_hand(Schema::new().text("sku").int("quantity"));
+    let sold = table.watch(totals("quantity").by("sku"))?;
+    let ends = table.watch(extrema("quantity"))?;
+    table.extend([row!["bread", 5], row!["rye", 3], row!["bread", 2]])?;
+    table.evict("quantity", 0)?;
+    let line = |sku, count, sum| TotalsLine {
+        key: Key::Text(sku),
+        count,
+        sum,
+    };
+    assert!(
+        table
+            .ask(sold)?
+            .eq([line("bread", 2, 7), line("rye", 1, 3)])
+    );
+    let absent = Refusal::Absent {
+        column: "quantity".into(),
+        group: 0,
+    };
+    assert_eq!(refusal(table.set("quantity", 1, 9)), absent);
+    assert_eq!(
+        absent.to_string(),
+        "row group 0 of column `quantity` is not local"
+    );
+    table.fetch("quantity", 0)?;
+    table.set("quantity", 1, 9)?;
+    table.remove(0)?;
+    assert!(
+        table
+            .ask(sold)?
+            .eq([line("bread", 1, 2), line("rye", 1, 9)])
+    );
+    let line = table.ask(ends)?.next().unwrap();
+    assert_eq!((line.min, line.max), (2, 9));
+    Ok(())
+}
+
+#[test]
+fn answers_by_key() -> Outcome {
+    let mut table = table(Schema::new().text("sku").int("quantity").text("town"));
+    let total = table.watch(totals("quantity"))?;
+    let by_sku = table.watch(totals("quantity").by("sku"))?;
+    let spec = extrema("quantity").by("town").only("quantity", Op::Gt, 0);
+    let by_town = table.watch(spec.only("sku", Op::Begins, "br"))?;
+    table.insert(row!["bread", 5, "Northam"])?;
+    table.insert(row!["rye, dark", 3, "Northam"])?;
+    table.insert(row!["bread", 6, "Easton"])?;
+    assert_eq!(sum(&mut table, total), (3, 14));
+    let lines: Vec<_> = table
+        .ask(by_sku)?
+        .map(|l| (l.key, l.count, l.sum))
+        .collect();
+    assert_eq!(
+        lines,
+        [(Key::Text("bread"), 2, 11), (Key::Text("rye, dark"), 1, 3)]
+    );
+    let lines: Vec<_> = table.ask(by_town)?.map(|l| (l.key, l.min, l.max)).collect();
+    assert_eq!(
+        lines,
+        [(Key::Text("Easton"), 6, 6), (Key::Text("Northam"), 5, 5)]
+    );
+    Ok(())
+}
+
+#[test]
+fn rows_before_the_registration_are_scanned() -> Outcome {
+    let mut table = by_hand(Schema::new().int("n"));
+    table.insert(row![5])?;
+    let total = table.watch(totals("n"))?;
+    assert_eq!(refusal(table.ask(total)), Refusal::Building { pending: 1 });
+    table.scan(total, 0)?;
+    assert_eq!(sum(&mut table, total), (1, 5));
+    Ok(())
+}
+
+#[test]
+fn an_object_goes_away_and_comes_back() -> Outcome {
+    let mut table = by_hand(Schema::new().int("n"));
+    let total = table.watch(totals("n"))?;
+    table.insert(row![5])?;
+    table.evict(0, 0)?;
+    assert_eq!(refusal(table.set(0, 0, 6)).number(), 16);
+    assert_eq!(refusal(table.insert(row![6])).number(), 16);
+    assert_eq!(refusal(table.evict(0, 0)).number(), 16);
+    assert_eq!(sum(&mut table, total), (1, 5));
+    table.fetch(0, 0)?;
+    assert_eq!(refusal(table.fetch(0, 0)), Refusal::StaleJob);
+    table.set(0, 0, 6)?;
+    assert_eq!(sum(&mut table, total), (1, 6));
+    Ok(())
+}
+
+#[test]
+fn a_row_group_is_built_from_the_store() -> Outcome {
+    let mut table = by_hand(Schema::new().int("n"));
+    table.extend([row![5], row![7]])?;
+    table.evict("n", 0)?;
+    let total = table.watch(totals("n"))?;
+    assert_eq!(refusal(table.scan(total, 0)).number(), 16);
+    assert_eq!(refusal(table.recount(total)).number(), 16);
+    table.build(total, 0)?;
+    assert_eq!(refusal(table.build(total, 0)), Refusal::StaleJob);
+    assert_eq!(sum(&mut table, total), (2, 12));
+    assert!(!table.is_local("n", 0)?);
+    Ok(())
+}
+
+#[test]
+fn a_recount_answers_before_the_scan() -> Outcome {
+    let mut table = by_hand(Schema::new().int("n"));
+    table.extend([row![5], row![7]])?;
+    let total = table.watch(totals("n"))?;
+    assert_eq!(table.recount(total)?.next().unwrap().sum, 12);
+    assert_eq!(refusal(table.ask(total)).number(), 15);
+    table.set_policy(Policy::Demand);
+    table.evict("n", 0)?;
+    assert_eq!(table.recount(total)?.next().unwrap().sum, 12);
+    assert_eq!(table.pending(total)?, 1);
+    assert!(!table.is_local("n", 0)?);
+    Ok(())
+}
+
+#[test]
+fn a_lent_part_marks_removed_rows() -> Outcome {
+    let mut table = table(Schema::new().int("n").text("t"));
+    table.insert(row![1, "a"])?;
+    table.insert(row![2, "b,c"])?;
+    table.insert(row![3, Cell::Missing])?;
+    table.insert(row![4, "d"])?;
+    table.insert(row![5, "e"])?;
+    table.remove(3)?;
+    let mut numbers = table.ints("n", 0..5)?;
+    let piece = numbers.next_piece()?.unwrap();
+    assert_eq!(
+        (piece.values, piece.alive),
+        (&[1, 2, 3, 4][..], &[true, true, true, false][..])
+    );
+    let piece = numbers.next_piece()?.unwrap();
+    assert_eq!(
+        (piece.first, piece.values, piece.alive),
+        (4, &[5][..], &[true][..])
+    );
+    assert!(numbers.next_piece()?.is_none());
+    let mut texts = table.texts("t", 1..4)?;
+    let piece = texts.next_piece()?.unwrap();
+    assert_eq!(
+        (piece.get(0), piece.get(1), piece.get(2)),
+        (Some("b,c"), None, Some("d"))
+    );
+    assert_eq!(piece.alive, [true, true, false]);
+    assert!(table.ints("n", 2..2)?.next_piece()?.is_none());
+    assert_eq!(refusal(table.ints("n", 2..9)), Refusal::OutOfRange);
+    assert_eq!(
+        refusal(table.ints("t", ..)),
+        Refusal::WrongKind { column: "t".into() }
+    );
+    Ok(())
+}
+
+#[test]
+fn a_stride_of_reads_goes_on() -> Outcome {
+    let limits = Limits::new().group(1);
+    let mut table = Table::open(Schema::new().int("n"), limits, Memory::new())?;
+    table.extend((1..7).map(|n| row![n]))?;
+    for place in 0..4 {
+        assert_eq!(table.proposals("n")?, []);
+        table.ints("n", place..=place)?.next_piece()?;
+    }
+    assert_eq!(table.proposals("n")?, [4, 5]);
+    Ok(())
+}
+
+#[test]
+fn what_a_refusal_says() -> Outcome {
+    let mut table = table(Schema::new().text("sku").int("quantity"));
+    table.insert(row!["rye", 3])?;
+    let said = |result: Result<u32, Error<_>>| refusal(result).to_string();
+    assert_eq!(
+        said(table.insert(row!["rye"])),
+        "the row has 1 cells, and the table 2 columns"
+    );
+    assert_eq!(
+        said(table.insert(row![1, 3])),
+        "column `sku` is of the other kind"
+    );
+    let long = "x".repeat(4_097);
+    let too_long = "the text for column `sku` has more than 4096 bytes";
+    assert_eq!(said(table.insert(row![&long, 3])), too_long);
+    assert_eq!(
+        refusal(table.set("skew", 0, "a")).to_string(),
+        "there is no column `skew`"
+    );
+    assert_eq!(
+        refusal(table.set(2, 0, "a")).to_string(),
+        "there is no column `2`"
+    );
+    assert_eq!(
+        refusal(table.set("sku", 1, "a")),
+        Refusal::NoRow { place: 1 }
+    );
+    table.remove(0)?;
+    assert_eq!(
+        refusal(table.set("sku", 0, "a")).to_string(),
+        "the row at place 0 was removed"
+    );
+    Ok(())
+}
+
+#[test]
+fn what_a_refused_registration_says() -> Outcome {
+    let mut table = table(Schema::new().text("sku").int("quantity"));
+    let spec = totals("quantity").only("sku", Op::Gt, 0);
+    assert_eq!(
+        refusal(table.watch(spec)),
+        Refusal::WrongKind {
+            column: "sku".into()
+        }
+    );
+    assert_eq!(refusal(table.watch(totals("sku"))).number(), 5);
+    let five = (0..5).fold(totals("price"), |spec, n| spec.only("quantity", Op::Eq, n));
+    assert_eq!(refusal(table.watch(five)), Refusal::BadSpec);
+    Ok(())
+}
+
+#[test]
+fn limits_and_schemas_are_checked() {
+    let open = |schema: Schema, limits: Limits| refusal(Table::open(schema, limits, Memory::new()));
+    assert_eq!(open(Schema::new(), Limits::new()), Refusal::BadSchema);
+    assert_eq!(
+        open(Schema::new().int("a").text("a"), Limits::new()),
+        Refusal::BadSchema
+    );
+    assert_eq!(
+        open(Schema::new().int("a"), Limits::new().group(0)),
+        Refusal::BadSchema
+    );
+    assert_eq!(
+        open(Schema::new().int("a"), Limits::new().group(65_537)),
+        Refusal::BadSchema
+    );
+    assert_eq!(
+        open(Schema::new().int("a"), Limits::new().places(0)),
+        Refusal::BadSchema
+    );
+    let many = (0..17).fold(Schema::new(), |schema, n| schema.int(&n.to_string()));
+    assert_eq!(open(many, Limits::new()), Refusal::BadSchema);
+}
+
+#[test]
+fn a_table_is_full() -> Outcome {
+    let limits = Limits::new().places(2).group(4);
+    let mut table = Table::open(Schema::new().int("n"), limits, Memory::new())?;
+    assert_eq!(
+        refusal(table.extend((0..3).map(|n| row![n]))),
+        Refusal::TableFull
+    );
+    assert_eq!(table.places(), 2);
+    let limits = Limits::new().edits(2).group(4);
+    let mut table = Table::open(Schema::new().int("n"), limits, Memory::new())?;
+    assert_eq!(
+        refusal(table.extend((0..3).map(|n| row![n]))),
+        Refusal::EditsUsedUp
+    );
+    Ok(())
+}
+
+#[test]
+fn handles_of_other_tables_and_forgotten_ones_are_refused() -> Outcome {
+    let mut one = table(Schema::new().int("n"));
+    let mut other = table(Schema::new().int("n"));
+    let (first, second) = (one.watch(totals("n"))?, other.watch(totals("n"))?);
+    assert_eq!(refusal(one.ask(second)), Refusal::NoAggregate);
+    one.unwatch(first)?;
+    let third = one.watch(totals("n"))?;
+    assert_eq!(refusal(one.ask(first)), Refusal::NoAggregate);
+    assert_eq!(sum(&mut one, third), (0, 0));
+    for _ in 1..32 {
+        one.watch(totals("n"))?;
+    }
+    assert_eq!(refusal(one.watch(totals("n"))), Refusal::TooManyAggregates);
+    Ok(())
+}
