@@ -1,0 +1,302 @@
+"""The edits of a table.
+
+What an edit passes to the library is prepared once: cells, pointers to them, and views of them as
+words of 64 bits. An item of such a view is set in a third of the time of a field of a structure,
+and refuses what is no whole number of 64 bits. One lock and one call of the library are then two
+thirds of the time of an edit.
+"""
+
+from __future__ import annotations
+
+import threading
+from ctypes import byref, c_size_t, c_uint32
+from itertools import islice
+from typing import Any, Callable, Iterable, Mapping, Sequence, Union
+
+from . import _header as header
+from ._buffers import ColumnBuffer, check_number, check_text, column_buffer
+from ._handle import Handle
+from .errors import BadArgument, Closed, NoColumn, NoRow, Refused, RowWidth
+from .movement import Mover
+from .policy import Helper, Policy
+from .schema import NA, Schema
+
+Row = Union[Sequence[Any], Mapping[str, Any]]
+Progress = Callable[[int, int], Any]
+
+_ROWS_AT_ONCE = 1 << 16  # how many rows one call inserts; a multiple of 8, for the masks
+_ROWS_OF_EXTEND = 10_000
+_WORDS = 4  # how many words a cell has: number, where its text lies, how long it is, kind
+
+
+class Editing:
+    """The edits of a table: a part of `Table`."""
+
+    schema: Schema
+    policy: Policy | None
+    _lock: threading.RLock
+    _handle: Handle
+    _mover: Mover
+    _answer: Any
+    _places: int
+    _live: int
+
+    def _prepare_edits(self) -> None:
+        """Makes what every edit uses again."""
+        kinds = self.schema.codes()
+        self._width = len(kinds)
+        self._by_name = {
+            name: (index, kind == header.TEXT)
+            for index, (name, kind) in enumerate(zip(self.schema.names, kinds))
+        }
+        self._row = (header.Cell * self._width)()
+        self._row_words = memoryview(self._row).cast("B").cast("q")
+        self._row_plan: list[tuple[int, Any]] = []
+        for index, kind in enumerate(kinds):
+            cell = self._row[index]
+            cell.kind, cell.text_at = kind, b""
+            self._row_plan.append((_WORDS * index, cell if kind == header.TEXT else None))
+        self._number = header.Cell(0, b"", 0, header.INT)
+        self._number_words = memoryview(self._number).cast("B").cast("q")
+        self._text = header.Cell(0, b"", 0, header.TEXT)
+        self._missing = header.Cell(0, b"", 0, header.MISSING)
+        self._place, self._size = c_uint32(), c_size_t()
+        self._at = self._handle.at
+        self._row_at, self._place_at = byref(self._row), byref(self._place)
+        self._number_at, self._text_at = byref(self._number), byref(self._text)
+        self._missing_at = byref(self._missing)
+        lib = self._handle.lib
+        self._fc_insert, self._fc_set = lib.fast("fc_insert"), lib.fast("fc_set")
+        self._fc_remove = lib.fast("fc_remove")
+
+    # One row
+
+    def append(self, row: Any) -> int:
+        """Appends a row, given as a sequence or by names, and returns its place.
+
+        >>> table.append(("bread", 5)), table.append({"sku": "rye", "quantity": None})
+        (0, 1)
+        """
+        if row.__class__ is not tuple and isinstance(row, Mapping):
+            row = self._in_order(row)
+        with self._lock:
+            if len(row) != self._width:
+                raise RowWidth(f"the row has {len(row)} cells, and the table {self._width} columns")
+            words, has_missing = self._row_words, False
+            try:
+                for value, (at, cell) in zip(row, self._row_plan):
+                    if value is None or value is NA:
+                        words[at + 3], has_missing = header.MISSING, True
+                    elif cell is None:
+                        words[at] = value
+                    else:
+                        text = value.encode()
+                        cell.text_at = text
+                        words[at + 2] = len(text)
+                code = self._fc_insert(self._at, self._row_at, self._width, self._place_at)
+                if code:
+                    arguments = self._at, self._row_at, self._width, self._place_at
+                    self._go_on(code, self._fc_insert, *arguments)
+            except (TypeError, ValueError, AttributeError) as error:
+                self._refuse_row(row, error)
+            finally:
+                if has_missing:
+                    self._restore_kinds()
+            place = self._place.value
+            self._places = place + 1
+            self._live += 1
+            self._answer = None
+            return place
+
+    def _restore_kinds(self) -> None:
+        for at, cell in self._row_plan:
+            self._row_words[at + 3] = header.INT if cell is None else header.TEXT
+
+    def _in_order(self, row: Mapping[str, Any]) -> list[Any]:
+        """Returns a row that is given by names in the order of the columns."""
+        for name in row:
+            self.schema.index(name)
+        absent = [name for name in self.schema if name not in row]
+        if absent:
+            raise RowWidth(f"the row has no value of {', '.join(absent)}; None is a missing one")
+        return [row[name] for name in self.schema]
+
+    def _refuse_row(self, row: Sequence[Any], error: Exception) -> None:
+        """Raises what is the matter with a row that no cells could be made of."""
+        if isinstance(error, Refused):
+            raise error
+        for name, kind, value in zip(self.schema.names, self.schema.kinds, row):
+            if value is not None and value is not NA:
+                (check_number if kind is int else check_text)(name, value)
+        raise error
+
+    def set(self, place: int, column: str, value: Any) -> None:
+        """Sets a cell; None makes it a missing one. A negative place counts from the end.
+
+        >>> place = table.append(("bread", 5))
+        >>> table.set(place, "quantity", 7)
+        >>> table[place]
+        Row(sku='bread', quantity=7)
+        """
+        with self._lock:
+            if not 0 <= place < self._places:
+                place = self._place_of(place)
+            try:
+                index, is_text = self._by_name[column]
+                if value is None or value is NA:
+                    cell = self._missing_at
+                elif is_text:
+                    text = value.encode()
+                    self._text.text_at, self._text.text_len = text, len(text)
+                    cell = self._text_at
+                else:
+                    self._number_words[0] = value
+                    cell = self._number_at
+            except (KeyError, TypeError, ValueError, AttributeError) as error:
+                self._refuse_cell(column, value, error)
+            code = self._fc_set(self._at, index, place, cell)
+            if code:
+                self._go_on(code, self._fc_set, self._at, index, place, cell)
+            self._answer = None
+
+    def _refuse_cell(self, column: str, value: Any, error: Exception) -> None:
+        kind = self.schema[column]
+        (check_number if kind is int else check_text)(column, value)
+        raise error
+
+    def remove(self, place: int) -> None:
+        """Removes a row. Its place is not used again. ``del table[place]`` does the same.
+
+        >>> table.extend([("bread", 5), ("rye", 3)])
+        range(0, 2)
+        >>> table.remove(0)
+        >>> len(table), table.places, table.append(("oat", 1))
+        (1, 2, 2)
+        """
+        with self._lock:
+            if not 0 <= place < self._places:
+                place = self._place_of(place)
+            code = self._fc_remove(self._at, place)
+            if code:
+                self._go_on(code, self._fc_remove, self._at, place)
+            self._live -= 1
+            self._answer = None
+
+    def _place_of(self, place: int) -> int:
+        """Returns a place that is there, counted from 0."""
+        if not self._handle.is_open:
+            raise Closed()
+        at = place + self._places if place < 0 else place
+        if not 0 <= at < self._places:
+            raise NoRow(place=place, places=self._places)
+        return at
+
+    def _go_on(self, code: int, call: Callable[..., int], *arguments: Any) -> None:
+        """Makes a refused call again as long as the policy can help; else raises its refusal."""
+        with Helper(self._mover, self.policy) as helper:
+            code = helper.until_done(call, *arguments, code=code)
+        if code:
+            place = arguments[-2] if call is self._fc_set else None
+            place = arguments[-1] if call is self._fc_remove else place
+            raise self._handle.refusal(code, **({} if place is None else {"place": place}))
+
+    # Many rows
+
+    def extend(self, rows: Iterable[Row], progress: Progress | None = None) -> range:
+        """Appends rows, and returns their places. They are read and inserted some at a time.
+
+        If one is refused, the rows before it stay, and the exception's ``inserted`` counts them.
+
+        >>> table.extend([("bread", 5), ("rye", 3)])
+        range(0, 2)
+        """
+        first, rows = self._places, iter(rows)
+        while True:
+            some = list(islice(rows, _ROWS_OF_EXTEND))
+            if not some:
+                return range(first, self._places)
+            some = [self._in_order(row) if isinstance(row, Mapping) else row for row in some]
+            width = self._width
+            index = next((at for at, row in enumerate(some) if len(row) != width), len(some))
+            try:
+                columns = zip(*some[:index]) if index else [[]] * width
+                self.extend_columns(dict(zip(self.schema, columns)))
+            except Refused as error:
+                error.details["inserted"] = self._places - first
+                raise
+            if index < len(some):
+                raise RowWidth(inserted=self._places - first, place=self._places)
+            if progress is not None:
+                progress(self._places - first, 0)
+
+    def extend_columns(
+        self, columns: Any = None, /, *, progress: Progress | None = None, **named: Any
+    ) -> range:
+        """Appends rows that are given column by column, and returns their places.
+
+        Each column is a list, an ``array``, a buffer of 64-bit numbers, or an array of numpy or
+        pandas; the columns are given by names, as a dict, or as a DataFrame. Missing cells are None
+        in lists, and what numpy masks, and NaN, None or NA of pandas. Buffers of 64-bit numbers are
+        not copied.
+
+        Nothing is inserted if a value does not fit its column. If a row is refused for another
+        reason (as its text is too long), the rows before it stay, and the exception's ``inserted``
+        counts them. ``progress`` is called with how many rows are in, and how many there are.
+
+        >>> table.extend_columns(sku=["bread", "rye", None], quantity=[5, None, 2])
+        range(0, 3)
+        """
+        buffers = self._column_buffers(columns, named)
+        rows = buffers[0].length
+        with self._lock:
+            first = self._places
+            for start in range(0, rows, _ROWS_AT_ONCE):
+                stop = min(start + _ROWS_AT_ONCE, rows)
+                self._insert_part(buffers, start, stop, first)
+                if progress is not None:
+                    progress(stop, rows)
+            return range(first, self._places)
+
+    def _column_buffers(self, columns: Any, named: dict[str, Any]) -> list[ColumnBuffer]:
+        given = {} if columns is None else {name: columns[name] for name in columns.keys()}
+        given |= named
+        for name in given:
+            self.schema.index(name)
+        absent = [name for name in self.schema if name not in given]
+        if absent:
+            raise BadArgument(f"no values are given for {', '.join(absent)}")
+        kinds = zip(self.schema.names, self.schema.kinds)
+        buffers = [column_buffer(name, kind, given[name]) for name, kind in kinds]
+        lengths = {name: buffer.length for name, buffer in zip(self.schema, buffers)}
+        if len(set(lengths.values())) > 1:
+            said = ", ".join(f"{name} {length:,}" for name, length in lengths.items())
+            raise BadArgument(f"the columns have different lengths: {said}")
+        return buffers
+
+    def _insert_part(self, buffers: list[ColumnBuffer], start: int, stop: int, first: int) -> None:
+        structs = (header.ColumnStruct * self._width)()
+        call, at, inserted = self._handle.lib.fc_insert_columns, self._at, byref(self._size)
+        try:
+            with Helper(self._mover, self.policy) as helper:
+                while start < stop:
+                    kept = [buffer.fill(s, start, stop) for buffer, s in zip(buffers, structs)]
+                    self._size.value = 0
+                    code = call(at, structs, self._width, stop - start, inserted)
+                    del kept
+                    start += self._size.value
+                    if code and not helper.has_helped(code):
+                        raise self._handle.refusal(code)
+        except Refused as error:
+            self._match_places()
+            error.details["inserted"] = self._places - first
+            raise
+        finally:
+            self._match_places()
+
+    def _match_places(self) -> None:
+        """Notes how many places there are now, whatever ended an insert of many rows."""
+        if self._handle.is_open:
+            places = self._handle.places()
+            self._live += places - self._places
+            self._places = places
+            self._answer = None

@@ -1,0 +1,85 @@
+"""Finds and loads the shared library."""
+
+from __future__ import annotations
+
+import ctypes
+import os
+from pathlib import Path
+from typing import TYPE_CHECKING, Any
+
+from ._header import CALLS
+
+NAME = "libfullercoral.so"
+VARIABLE = "FULLERCORAL_LIB"
+
+
+def find_library() -> Path:
+    """Returns the path of the shared library.
+
+    That is the file named by the environment variable ``FULLERCORAL_LIB``, if it is set; else the
+    file beside this package's modules; else ``lib/libfullercoral.so`` in one of the folders above.
+    """
+    named = os.environ.get(VARIABLE)
+    if named:
+        return Path(named)
+    here = Path(__file__).resolve().parent
+    for path in (here / NAME, *(folder / "lib" / NAME for folder in here.parents)):
+        if path.is_file():
+            return path
+    raise OSError(
+        f"no lib/{NAME} in a folder above {here}; it is built by ./build in the repository's root, "
+        f"and the environment variable {VARIABLE} may name another one"
+    )
+
+
+def _absent(path: Path, name: str) -> Any:
+    """Returns what stands for a call that an older library lacks."""
+
+    def refuse(*arguments: Any) -> int:
+        raise OSError(f"{path} has no call {name}: it is older than this package")
+
+    return refuse
+
+
+class Library:
+    """The loaded library: each call of the header as an attribute, with the types of its arguments.
+
+    ``fast(name)`` is the same call without these types. ctypes then converts nothing, which saves
+    half of a call's time. So arguments must be prepared objects of ctypes, or integers that the
+    caller knows to fit 32 bits.
+    """
+
+    def __init__(self, path: Path | str) -> None:
+        self.path = Path(path)
+        self._library = ctypes.CDLL(str(path))
+        for name, arguments in CALLS.items():
+            call = self.fast(name)
+            call.argtypes = arguments
+            call.restype = ctypes.c_uint32
+            setattr(self, name, call)
+
+    def fast(self, name: str) -> Any:
+        """Returns a call without the types of its arguments."""
+        try:
+            return self._library[name]
+        except AttributeError:
+            return _absent(self.path, name)
+
+    if TYPE_CHECKING:
+
+        def __getattr__(self, name: str) -> Any:
+            ...
+
+    def __repr__(self) -> str:
+        return f"Library({str(self.path)!r})"
+
+
+_loaded: Library | None = None
+
+
+def library() -> Library:
+    """Returns the library, which is loaded at the first call."""
+    global _loaded
+    if _loaded is None:
+        _loaded = Library(find_library())
+    return _loaded

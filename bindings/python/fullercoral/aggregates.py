@@ -1,0 +1,387 @@
+"""Aggregates: what they compute, and their live answers."""
+
+from __future__ import annotations
+
+import ctypes
+from ctypes import byref
+from dataclasses import dataclass
+from typing import TYPE_CHECKING, Any, Generic, Iterator, NamedTuple, Sequence, TypeVar, Union
+
+from . import _header as header
+from ._handle import EMPTY_AT
+from .errors import BadArgument, BadSpec, NoAggregate, Nothing, WrongKind
+from .schema import Schema
+
+if TYPE_CHECKING:
+    from .table import Table
+
+Key = Union[int, str]
+Test = tuple[str, str, Key]
+
+_NUMBER_OPS = {"==": 0, "=": 0, "!=": 1, "<": 2, "<=": 3, ">": 4, ">=": 5}
+_TEXT_OPS = {"==": 6, "=": 6, "^=": 7, "begins": 7}
+_MOST_TESTS = 4
+_MOST_INDICES = 100_000  # how many keys a Watched remembers the lines of
+_NO_KEY = bytes(header.Bytes(EMPTY_AT, 0))
+
+
+class Total(NamedTuple):
+    """How many values there are, and their sum, which is exact."""
+
+    count: int  # type: ignore[assignment]
+    sum: int
+
+
+class MinMax(NamedTuple):
+    """The least and the greatest value."""
+
+    min: int
+    max: int
+
+
+@dataclass(frozen=True)
+class Spec:
+    """What an aggregate computes: made by `totals` and `extrema`."""
+
+    fold: str
+    value: str
+    by: str | None = None
+    where: tuple[Test, ...] = ()
+
+    def columns(self) -> set[str]:
+        """Returns the columns that it needs."""
+        by = [] if self.by is None else [self.by]
+        return {self.value, *by, *(column for column, _, _ in self.where)}
+
+    def __repr__(self) -> str:
+        by = f", by={self.by!r}" if self.by is not None else ""
+        where = f", where={list(self.where)!r}" if self.where else ""
+        return f"{self.fold}({self.value!r}{by}{where})"
+
+
+def totals(value: str, by: str | None = None, where: Sequence[Test] = ()) -> Spec:
+    """Counts and sums the values of a column, under each key of the column ``by`` if one is named.
+
+    ``where`` has up to 4 tests that a row must pass: ``(column, op, constant)``. The op is one of
+    ``== != < <= > >=`` for numbers; for texts it is ``==``, or ``^=`` for "begins with". A test of
+    a missing cell is false. A row without a value or a key is passed over.
+
+    >>> totals("quantity", by="sku", where=[("quantity", ">", 0)])
+    totals('quantity', by='sku', where=[('quantity', '>', 0)])
+    """
+    return Spec("totals", value, by, _tests(where))
+
+
+def extrema(value: str, by: str | None = None, where: Sequence[Test] = ()) -> Spec:
+    """Keeps the least and the greatest value of a column; the rest is as with `totals`.
+
+    >>> extrema("price")
+    extrema('price')
+    """
+    return Spec("extrema", value, by, _tests(where))
+
+
+def _tests(where: Sequence[Test]) -> tuple[Test, ...]:
+    tests = []
+    for test in where:
+        if isinstance(test, str) or len(test) != 3:
+            raise BadSpec(f"a test is (column, op, constant), and {test!r} is none")
+        tests.append((test[0], test[1], test[2]))
+    if len(tests) > _MOST_TESTS:
+        raise BadSpec()
+    return tuple(tests)
+
+
+def spec_struct(schema: Schema, spec: Spec) -> tuple[header.SpecStruct, Any]:
+    """Returns a spec as the library takes it, and what must be kept alive for the call."""
+    if schema[spec.value] is not int:
+        raise WrongKind(f"{spec.fold} are of numbers, and column {spec.value} has texts")
+    tests = (header.TestStruct * max(1, len(spec.where)))()
+    for test, (column, op, constant) in zip(tests, spec.where):
+        _fill_test(test, schema, column, op, constant)
+    return (
+        header.SpecStruct(
+            ctypes.addressof(tests),
+            len(spec.where),
+            header.TOTALS if spec.fold == "totals" else header.EXTREMA,
+            schema.index(spec.value),
+            0 if spec.by is None else schema.index(spec.by),
+            spec.by is not None,
+        ),
+        tests,
+    )
+
+
+def _fill_test(test: header.TestStruct, schema: Schema, column: str, op: str, value: Key) -> None:
+    test.column = schema.index(column)
+    kind = schema[column]
+    ops = _NUMBER_OPS if kind is int else _TEXT_OPS
+    if op not in ops:
+        known = " ".join(name for name in ops if name not in ("=", "begins"))
+        raise BadArgument(f"{op!r} is no test of column {column}: those are {known}")
+    test.op = ops[op]
+    test.text_at, test.text_len = b"", 0
+    if kind is str:
+        if not isinstance(value, str):
+            raise WrongKind(column=column, kind="str", value=value)
+        encoded = value.encode()
+        test.text_at, test.text_len = encoded, len(encoded)
+    elif not isinstance(value, int) or not -(1 << 63) <= value < 1 << 63:
+        raise WrongKind(column=column, kind="int", value=value)
+    else:
+        test.number = value
+
+
+Line = TypeVar("Line", Total, MinMax)
+
+
+class Watched(Generic[Line]):
+    """A live aggregate of a table: each question is answered over the rows as they are now.
+
+    With a key column it is like a dict from keys to ``Total`` or ``MinMax``, sorted by key:
+    ``sold["bread"]``, ``sold.items()``, ``"bread" in sold``, ``len(sold)``. Without one, it has
+    ``sold.value``, and ``sold.count`` and ``sold.sum``, or ``sold.min`` and ``sold.max``.
+
+    >>> sold, ends = table.watch(totals("quantity", by="sku")), table.watch(extrema("quantity"))
+    >>> table.extend([("bread", 5), ("rye", 3)])
+    range(0, 2)
+    >>> sold["bread"].sum, "oat" in sold, sold.keys(), ends.max
+    (5, False, ['bread', 'rye'], 5)
+    >>> table.set(0, "quantity", -1)
+    >>> sold["bread"].sum, ends.value
+    (-1, MinMax(min=-1, max=3))
+    """
+
+    def __init__(self, table: Table, spec: Spec, number: int) -> None:
+        self.table = table
+        self.spec = spec
+        self._number = number
+        self._line = header.LineStruct()
+        self._line_at = byref(self._line)
+        self._key_bytes = memoryview(self._line).cast("B")[:16]
+        self._words = memoryview(self._line).cast("B").cast("q")
+        self._key_kind = int if spec.by is None else table.schema[spec.by]
+        self._has_texts = self._key_kind is str
+        self._indices: dict[Key, int] = {}
+        self._struct: Any = None  # the spec as the library took it, for the script language
+        self._sum = header.SumStruct()
+        self._sum_at = byref(self._sum)
+        self._size = ctypes.c_size_t()
+        self._size_at = byref(self._size)
+        self._fold: Any = Total if spec.fold == "totals" else MinMax
+        self._is_plain = spec.fold == "totals" and spec.by is None
+        handle = table._handle
+        self._handle = handle
+        self._at = handle.at
+        self._fast_line = handle.lib.fast("fc_line_at")
+        self._fast_ask = handle.lib.fast("fc_ask")
+        self._fast_plain = handle.lib.fast("fc_plain")
+
+    @property
+    def number(self) -> int:
+        """The aggregate's number in the table."""
+        if self._number < 0:
+            raise NoAggregate()
+        return self._number
+
+    @property
+    def closed(self) -> bool:
+        """Whether it is not watched any more, or its table is closed."""
+        return self._number < 0 or not self.table._handle.is_open
+
+    @property
+    def pending(self) -> int:
+        """How many row groups are to be built into the aggregate, at the first question."""
+        with self.table._lock:
+            return self.table._open_handle().pending(self.number)[0]
+
+    def unwatch(self) -> None:
+        """Forgets the aggregate. A table has at most 32 at a time."""
+        self.table.unwatch(self)
+
+    # Without a key column
+
+    @property
+    def value(self) -> Any:
+        """The only line of an aggregate without key; None if extrema have no value."""
+        self._need_no_key()
+        with self.table._lock:
+            if self._is_plain and self._number >= 0 and self.table._handle.is_open:
+                if not self._fast_plain(self._at, self._number, self._sum_at):
+                    of = self._sum
+                    return Total(of.count, (of.sum_high << 64) + of.sum_low)
+            return self._line_of(0)[1] if self._ask() else None
+
+    def _need_no_key(self) -> None:
+        if self.spec.by is not None:
+            raise Nothing(f"this aggregate has a line for each {self.spec.by}: ask for one")
+
+    def _part(self, name: str) -> int | None:
+        if name not in self._fold._fields:
+            raise AttributeError(f"{self.spec!r} has no {name}; it has {self._fold._fields}")
+        line: Any = self.value
+        return None if line is None else int(getattr(line, name))
+
+    @property
+    def count(self) -> int | None:
+        """How many values there are, of totals without key."""
+        return self._part("count")
+
+    @property
+    def sum(self) -> int | None:
+        """The sum of the values, of totals without key."""
+        return self._part("sum")
+
+    @property
+    def min(self) -> int | None:
+        """The least value, of extrema without key; None if there is none."""
+        return self._part("min")
+
+    @property
+    def max(self) -> int | None:
+        """The greatest value, of extrema without key; None if there is none."""
+        return self._part("max")
+
+    # With a key column
+
+    def __getitem__(self, key: Key) -> Any:
+        found = self.get(key)
+        if found is None:
+            raise KeyError(key)
+        return found
+
+    def get(self, key: Key, default: Any = None) -> Any:
+        """Returns the line of a key, and the default if there is none."""
+        if self.spec.by is None:
+            raise Nothing("this aggregate has no keys: ask for its value")
+        if not isinstance(key, self._key_kind):
+            return default
+        with self.table._lock:
+            lines = self._ask()
+            wanted: Any = key.encode() if isinstance(key, str) else key
+            index = self._indices.get(key, -1)  # where it was the last time
+            if 0 <= index < lines and self._key_at(index) == wanted:
+                return self._current()
+            found = self._search(wanted, lines)
+            if found < 0:
+                return default
+            if len(self._indices) >= _MOST_INDICES:
+                self._indices.clear()
+            self._indices[key] = found
+            return self._current()
+
+    def _search(self, wanted: Any, lines: int) -> int:
+        """Finds a key by halving, since lines are sorted; its line is then the one last read."""
+        low, high = 0, lines
+        while low < high:
+            middle = (low + high) // 2
+            at = self._key_at(middle)
+            if at == wanted:
+                return middle
+            if at < wanted:
+                low = middle + 1
+            else:
+                high = middle
+        return -1
+
+    def _key_at(self, index: int) -> Any:
+        """Reads a line, and returns its key as the library has it."""
+        self._read(index)
+        words = self._words
+        return ctypes.string_at(words[0], words[1]) if self._has_texts else words[2]
+
+    def _read(self, index: int) -> None:
+        self._key_bytes[:] = _NO_KEY
+        code = self._fast_line(self._at, index, self._line_at)
+        if code:
+            raise self._handle.refusal(code)
+
+    def _current(self) -> Any:
+        line = self._line
+        if line.fold == header.TOTALS:
+            return Total(line.count, (line.sum_high << 64) + line.sum_low)
+        return MinMax(line.min, line.max)
+
+    def _line_of(self, index: int) -> tuple[Key, Line]:
+        self._read(index)
+        line = self._line
+        key: Any = None
+        if line.key_kind == header.TEXT:
+            key = ctypes.string_at(line.key_at, line.key_len).decode()
+        elif line.key_kind == header.INT:
+            key = line.key_number
+        return key, self._current()
+
+    def _ask(self) -> int:
+        """Has the answer stay in the handle, unless it is there; returns how many lines it has."""
+        table = self.table
+        if table._answer is self:
+            return self._size.value
+        number = self.number
+        code = self._fast_ask(self._at, number, self._size_at)
+        if code:
+            table._build_for(self, code)
+            self._handle.check(self._fast_ask(self._at, number, self._size_at))
+        table._answer = self
+        return self._size.value
+
+    def lines(self) -> list[tuple[Key, Line]]:
+        """Returns all keys with their lines, sorted: numbers by value, texts by their bytes."""
+        with self.table._lock:
+            return [self._line_of(index) for index in range(self._ask())]
+
+    def items(self) -> list[tuple[Key, Line]]:
+        """Returns all keys with their lines, sorted; one answer of one moment."""
+        return self.lines()
+
+    def keys(self) -> list[Key]:
+        """Returns all keys, sorted."""
+        return [key for key, _ in self.lines()]
+
+    def values(self) -> list[Line]:
+        """Returns the lines of all keys, in their order."""
+        return [line for _, line in self.lines()]
+
+    def __iter__(self) -> Iterator[Key]:
+        return iter(self.keys())
+
+    def __contains__(self, key: Key) -> bool:
+        return self.get(key) is not None
+
+    def __len__(self) -> int:
+        with self.table._lock:
+            return self._ask()
+
+    def to_dict(self) -> dict[Key, Line]:
+        """Returns all keys with their lines as a dict."""
+        return dict(self.lines())
+
+    def to_pandas(self) -> Any:
+        """Returns the answer as a DataFrame of pandas, with the keys as its index."""
+        import pandas  # type: ignore[import]
+
+        lines = self.lines()
+        index = pandas.Index([key for key, _ in lines], name=self.spec.by)
+        rows: list[Any] = [tuple(line) for _, line in lines]
+        frame = pandas.DataFrame(rows, columns=list(self._fold._fields), index=index)
+        return frame if self.spec.by is not None else frame.reset_index(drop=True)
+
+    def _repr_html_(self) -> str:
+        from .display import answer_as_html
+
+        return answer_as_html(self)
+
+    def __repr__(self) -> str:
+        if self.closed:
+            return f"<{self.spec!r}, not watched any more>"
+        with self.table._lock:
+            pending = self.pending
+            if pending:
+                return f"<{self.spec!r}, {pending:,} row groups pending>"
+            count = self._ask()
+            shown = [self._line_of(index) for index in range(min(count, 10))]
+        if self.spec.by is None:
+            return f"<{self.spec!r}: {shown[0][1] if shown else None}>"
+        said: list[str] = [f"  {key!r}: {line}" for key, line in shown]
+        said += [f"  and {count - 10:,} keys more"] if count > 10 else []
+        return "\n".join([f"<{self.spec!r}", *said]) + ">"

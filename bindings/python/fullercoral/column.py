@@ -1,0 +1,148 @@
+"""A column of a table, and batches of rows."""
+
+from __future__ import annotations
+
+from itertools import compress
+from typing import TYPE_CHECKING, Any, Iterator, Mapping, Union, overload
+
+from ._reading import _numpy
+from .errors import RemovedRow
+
+if TYPE_CHECKING:
+    from .table import Table
+
+Value = Union[int, str, None]
+
+
+class Column:
+    """A column of a table, read by places.
+
+    ``column[place]`` is a value, None if it is missing. ``column[0:1000]`` of numbers is a masked
+    array of numpy, and a list with None where numpy is not installed; of texts it is a list. What
+    is missing is masked (or None), and so is the place of a row that was removed.
+
+    >>> table.extend([("bread", 5), ("rye", None), ("oat", 1)])
+    range(0, 3)
+    >>> table["sku"][1:], table["quantity"][0], table["quantity"].to_list()
+    (['rye', 'oat'], 5, [5, None, 1])
+    """
+
+    def __init__(self, table: Table, name: str) -> None:
+        self.table = table
+        self.name = name
+        self.index = table.schema.index(name)
+        self.kind = table.schema.kinds[self.index]
+
+    def __len__(self) -> int:
+        """How many places there are, removed rows among them."""
+        return self.table.places
+
+    @overload
+    def __getitem__(self, place: int) -> Value:
+        ...
+
+    @overload
+    def __getitem__(self, place: slice) -> Any:
+        ...
+
+    def __getitem__(self, place: Union[int, slice]) -> Any:
+        if not isinstance(place, slice):
+            return self._at(place)
+        start, stop, step = place.indices(self.table.places)
+        if step < 0:
+            start, stop = stop + 1, start + 1
+        part = self._part(start, max(start, stop))
+        return part if step == 1 else part[::step]
+
+    def _at(self, place: int) -> Value:
+        table = self.table
+        with table._lock:
+            place = table._place_of(place)
+            if not table._handle.is_alive(place):
+                raise RemovedRow(place=place)
+            return table._reader().value(self.index, place)
+
+    def _part(self, start: int, stop: int) -> Any:
+        values, valid, alive = self._raw(start, stop)
+        numpy = _numpy()
+        if self.kind is int and numpy is not None:
+            valid &= alive
+            return numpy.ma.array(values, mask=numpy.logical_not(valid, out=valid))
+        return [v if has and lives else None for v, has, lives in zip(values, valid, alive)]
+
+    def _raw(self, start: int, stop: int) -> tuple[Any, Any, Any]:
+        with self.table._lock:
+            reader = self.table._reader()
+            read = reader.numbers if self.kind is int else reader.texts
+            return read(self.index, start, stop)
+
+    def to_numpy(self) -> Any:
+        """Returns the whole column as a masked array of numpy; of texts it is one of objects."""
+        import numpy
+
+        part = self[:]
+        if self.kind is int:
+            return part
+        missing = numpy.fromiter((value is None for value in part), bool, len(part))
+        array: Any = numpy.ma.array
+        return array(numpy.array(part, dtype=object), mask=missing)
+
+    def to_list(self) -> list[Value]:
+        """Returns the whole column as a list, with None for what is missing or removed."""
+        part = self[:]
+        values: list[Value] = part if isinstance(part, list) else part.tolist()
+        return values
+
+    def __iter__(self) -> Iterator[Value]:
+        """The values of all live rows, in the order of their places."""
+        for batch in self.table.batches(columns=[self.name]):
+            yield from batch[self.name]
+
+    def __repr__(self) -> str:
+        return f"<column {self.name!r} of {self.kind.__name__}, {len(self):,} places>"
+
+
+class Batch(Mapping[str, Any]):
+    """Live rows of a part of a table: ``batch["quantity"]`` is a column, ``batch.places`` where.
+
+    Columns are lists with None for what is missing.
+    """
+
+    def __init__(self, places: list[int], columns: dict[str, list[Value]]) -> None:
+        self.places = places
+        self._columns = columns
+
+    def __getitem__(self, name: str) -> list[Value]:
+        return self._columns[name]
+
+    def __iter__(self) -> Iterator[str]:
+        return iter(self._columns)
+
+    def __len__(self) -> int:
+        return len(self._columns)
+
+    def rows(self) -> Iterator[tuple[Value, ...]]:
+        """The rows, each as a tuple."""
+        return zip(*self._columns.values())
+
+    def __repr__(self) -> str:
+        return f"<batch of {len(self.places):,} rows of {', '.join(self._columns)}>"
+
+
+def read_batch(table: Table, names: list[str], start: int, stop: int) -> Batch:
+    """Reads the live rows of a part of a table."""
+    columns: dict[str, list[Value]] = {}
+    alive: Any = b""
+    with table._lock:
+        for name in names:
+            column = Column(table, name)
+            values, valid, alive = column._raw(start, stop)
+            values, valid, alive = (_plain(part) for part in (values, valid, alive))
+            if not all(valid):
+                values = [value if has else None for value, has in zip(values, valid)]
+            columns[name] = list(compress(values, alive))
+    return Batch(list(compress(range(start, stop), alive)), columns)
+
+
+def _plain(part: Any) -> Any:
+    return part.tolist() if hasattr(part, "tolist") else part

@@ -1,0 +1,435 @@
+"""CSV: read in chunks into a table, and written."""
+
+from __future__ import annotations
+
+import csv
+import gzip
+import io
+import os
+import re
+from array import array
+from dataclasses import dataclass
+from itertools import islice
+from typing import TYPE_CHECKING, Any, Callable, Iterator, Mapping, Sequence, Union
+
+from ._buffers import MaskedNumbers, pack_bits
+from ._header import MAX_COLUMNS, MAX_TEXT
+from .errors import Refused
+from .progress import Shown
+from .schema import Kind, Schema
+
+if TYPE_CHECKING:
+    from .table import Table
+
+Convert = Callable[[str], Union[int, str, None]]
+
+_ROWS = 20_000  # rows that are read, and then inserted, at a time
+_GUESSED = 1000  # rows from which kinds are guessed
+_NUMBER = re.compile(r"[+-]?[0-9]+")
+_PLAIN = re.compile(r"0|-?[1-9][0-9]{0,18}")
+_DECIMAL = re.compile(r"([+-]?)([0-9]*)(?:[.]([0-9]*))?")
+_NEWLINE = re.compile(r"\r\n|\r|\n")
+_DIGITS = "0123456789+-"
+
+
+class CsvError(ValueError):
+    """A CSV file that is not as it should be. Says where: ``line``, ``column``, ``text``.
+
+    ``line`` is that of the file, counted from 1, with the header. Rows of earlier chunks are in.
+    """
+
+    def __init__(
+        self,
+        path: Any,
+        sentence: str,
+        line: int | None = None,
+        column: str | None = None,
+        text: str | None = None,
+    ) -> None:
+        self.path, self.line, self.column, self.text = path, line, column, text
+        where = f"{path}" if line is None else f"{path}, line {line}"
+        if column is not None:
+            where += f", column {column}"
+        super().__init__(f"{where}: {sentence}")
+
+
+@dataclass
+class CsvOptions:
+    """How a CSV file is read, as `read_csv` says."""
+
+    delimiter: str = ","
+    header: bool = True
+    names: Sequence[str] | None = None
+    columns: Sequence[str] | None = None
+    types: Mapping[str, Kind] | None = None
+    missing: str | None = None
+    convert: Mapping[str, Convert] | None = None
+
+
+def scaled(digits: int) -> Convert:
+    """Returns a function that reads a decimal text as a whole number of its smallest part.
+
+    For ``convert=`` of `read_csv`: so 1.99 is read as 199, exactly. A text with more decimals is
+    refused.
+
+    >>> cents = scaled(2)
+    >>> cents("1.99"), cents("-3"), cents("0.5"), cents("")
+    (199, -300, 50, None)
+    """
+
+    def convert(text: str) -> int | None:
+        text = text.strip()
+        found = _DECIMAL.fullmatch(text)
+        if not text:
+            return None
+        if found is None or not (found[2] or found[3]):
+            raise ValueError(f"{text!r} is no decimal number")
+        part = (found[3] or "").rstrip("0")
+        if len(part) > digits:
+            raise ValueError(f"{text!r} has more than {digits} decimals")
+        return int(f"{found[1]}{found[2]}{part:0<{digits}}")
+
+    return convert
+
+
+class _Source:
+    """A CSV file that is read some rows at a time."""
+
+    def __init__(self, path: Any, options: CsvOptions) -> None:
+        self.name = getattr(path, "name", "the file") if hasattr(path, "read") else str(path)
+        self._owns = not hasattr(path, "read")
+        self._file, self._counted, self.size = _opened(path)
+        self._reader = csv.reader(self._file, delimiter=options.delimiter, strict=True)
+        self._first_line = 0
+
+    def close(self) -> None:
+        """Closes the file, if it was opened here."""
+        if self._owns:
+            self._file.close()
+            self._counted.close()
+
+    def position(self) -> int:
+        """Returns how many bytes were read, of ``size``."""
+        return int(self._counted.tell()) if self._counted is not None else 0
+
+    def read(self, count: int) -> list[list[str]]:
+        """Returns the next rows, which are as many unless the file ends; empty ones are no rows."""
+        self._first_line = self._reader.line_num
+        try:
+            return list(islice(self._reader, count))
+        except csv.Error as error:
+            raise CsvError(self.name, _said(str(error)), self._reader.line_num) from None
+
+    def line_of(self, rows: Sequence[Sequence[str]], index: int) -> int:
+        """Returns the line in which a row of those that were read last begins."""
+        before = sum(len(_NEWLINE.findall(field)) for row in rows[:index] for field in row)
+        return self._first_line + index + before + 1
+
+
+def _opened(path: Any) -> tuple[Any, Any, int]:
+    """Returns a file of text, the file whose position is counted, and its size, 0 if unknown."""
+    coding: Any = {"encoding": "utf-8-sig", "errors": "surrogateescape", "newline": ""}
+    if hasattr(path, "read"):
+        if isinstance(path.read(0), bytes):
+            path = io.TextIOWrapper(path, **coding)
+        return path, None, 0
+    raw = open(path, "rb")
+    size = os.fstat(raw.fileno()).st_size
+    content: Any = gzip.open(raw) if str(path).endswith(".gz") else raw
+    return io.TextIOWrapper(content, **coding), raw, size
+
+
+def _said(error: str) -> str:
+    if "unexpected end" in error:
+        return "a quote is opened, and never closed"
+    if "expected after" in error:
+        return "behind a closing quote comes neither a delimiter nor the line's end"
+    return error
+
+
+class _Plan:
+    """Which field of a row goes to which column, and of what kind it is."""
+
+    def __init__(self, source: _Source, options: CsvOptions, schema: Schema | None) -> None:
+        self.source, self.options = source, options
+        self.first = source.read(_GUESSED + 1)
+        names = self._names()
+        wanted = list(options.columns or (schema.names if schema else names))
+        for name in wanted:
+            if name not in names:
+                said = f"there is no column {name!r}; there are {', '.join(names)}"
+                raise CsvError(source.name, said, 1)
+        if schema is not None and options.columns is None:
+            for name in names:
+                if name not in schema:
+                    raise CsvError(source.name, f"the table has no column {name!r}", 1)
+        self.width = len(names)
+        self.fields = [names.index(name) for name in wanted]
+        self.schema = schema or Schema(self._kinds(wanted))
+        self.guessed = schema is None
+
+    def _names(self) -> list[str]:
+        options, source = self.options, self.source
+        if options.names is not None:
+            if options.header and self.first:
+                self.first[0] = []
+            return _checked(source.name, list(options.names))
+        if not options.header:
+            width = len(next((row for row in self.first if row), []))
+            return _checked(source.name, [f"column_{index}" for index in range(width)])
+        head = next((at for at, row in enumerate(self.first) if row), None)
+        if head is None:
+            raise CsvError(source.name, "the file is empty")
+        names = [name.strip() for name in self.first[head]]
+        self.first[head] = []
+        return _checked(source.name, names)
+
+    def _kinds(self, names: Sequence[str]) -> dict[str, Kind]:
+        given = dict(self.options.types or {})
+        for name in (*given, *(self.options.convert or {})):
+            if name not in names:
+                raise CsvError(self.source.name, f"there is no column {name!r}", 1)
+        if len(names) > MAX_COLUMNS:
+            said = f"{len(names)} columns, and a table has at most {MAX_COLUMNS}"
+            said += ": choose by columns="
+            raise CsvError(self.source.name, said, 1)
+        rows = [row for row in self.first if len(row) == self.width]
+        for name, field in zip(names, self.fields):
+            if name not in given:
+                given[name] = self._guess(name, [row[field] for row in rows])
+        return {name: given[name] for name in names}
+
+    def _guess(self, name: str, texts: Sequence[str]) -> type:
+        """Returns int if there are numbers and nothing else; 007 is no number but a text."""
+        convert = (self.options.convert or {}).get(name)
+        if convert is not None:
+            return str if any(isinstance(_tried(convert, text), str) for text in texts) else int
+        some = [text.strip() for text in texts if text.strip() and text != self.options.missing]
+        numbers = all(_PLAIN.fullmatch(text) and _fits(int(text)) for text in some)
+        return int if some and numbers else str
+
+    def rows_at_a_time(self) -> Iterator[list[list[str]]]:
+        """Yields the rows, some at a time; rows of empty lines are empty lists."""
+        rows, full = self.first, _GUESSED + 1
+        self.first = []
+        while rows:
+            yield rows
+            rows = self.source.read(_ROWS) if len(rows) >= full else []
+            full = _ROWS
+
+    def columns(self, rows: list[list[str]]) -> dict[str, Any]:
+        """Returns rows as columns of values of their kinds."""
+        if not set(map(len, rows)) <= {0, self.width}:
+            self._refuse_width(rows)
+        if [] in rows:
+            rows = [row for row in rows if row]
+        fields = list(zip(*rows)) or [()] * self.width
+        return {
+            name: self._values(name, kind, fields[field])
+            for name, kind, field in zip(self.schema.names, self.schema.kinds, self.fields)
+        }
+
+    def _values(self, name: str, kind: type, texts: Sequence[str]) -> Any:
+        convert = (self.options.convert or {}).get(name)
+        if convert is not None:
+            return [convert(text) for text in texts]
+        return self._numbers(texts) if kind is int else self._texts(texts)
+
+    def _refuse_width(self, rows: list[list[str]]) -> None:
+        index, row = next((i, r) for i, r in enumerate(rows) if len(r) not in (0, self.width))
+        said = f"{len(row)} field{'' if len(row) == 1 else 's'}, and there should be {self.width}"
+        raise CsvError(self.source.name, said, self.source.line_of(rows, index))
+
+    def _texts(self, texts: Sequence[str]) -> Sequence[str | None]:
+        missing = self.options.missing
+        if missing is None or missing not in texts:
+            return texts
+        return [None if text == missing else text for text in texts]
+
+    def _numbers(self, texts: Sequence[str]) -> Any:
+        """Returns numbers; a field that is none raises ValueError, and is then looked for."""
+        if not "".join(texts).strip(_DIGITS):
+            if "" not in texts:
+                return array("q", map(int, texts))
+            numbers = array("q", [int(text) if text else 0 for text in texts])
+            return MaskedNumbers(numbers, pack_bits(texts))
+        missing = self.options.missing
+        stripped = ["" if text == missing else text.strip() for text in texts]
+        if not all(_NUMBER.fullmatch(text) for text in stripped if text):
+            raise ValueError
+        numbers = array("q", [int(text) if text else 0 for text in stripped])
+        return MaskedNumbers(numbers, pack_bits(stripped))
+
+    def explained(self, rows: list[list[str]], error: Exception) -> Exception:
+        """Returns the error that says where the fault of the rows read last is."""
+        for index, row in enumerate(rows):
+            for name, kind, field in zip(self.schema.names, self.schema.kinds, self.fields):
+                sentence = self._fault(name, kind, row[field]) if row else None
+                if sentence is not None:
+                    if self.guessed and kind is int and name not in (self.options.types or {}):
+                        sentence += f" (int was guessed; types={{{name!r}: str}} has texts)"
+                    line = self.source.line_of(rows, index)
+                    return CsvError(self.source.name, sentence, line, name, row[field])
+        return error
+
+    def _fault(self, name: str, kind: type, text: str) -> str | None:
+        convert = (self.options.convert or {}).get(name)
+        if convert is not None:
+            value = _tried(convert, text)
+            if isinstance(value, Exception):
+                return str(value)
+            fits = value is None or (_fits(value) if isinstance(value, int) else kind is str)
+            return None if fits else f"{text!r} is converted to {value!r}, which does not fit"
+        shown = repr(text if len(text) <= 40 else text[:39] + "…")
+        if kind is int:
+            stripped = "" if text == self.options.missing else text.strip()
+            if not stripped or (_NUMBER.fullmatch(stripped) and _fits(int(stripped))):
+                return None
+            return f"{shown} is no whole number of 64 bits"
+        try:
+            length = len(text.encode())
+        except UnicodeEncodeError:
+            return f"{shown} is not in UTF-8"
+        if length > MAX_TEXT:
+            return f"{shown} has {length:,} bytes, and a text at most {MAX_TEXT:,}"
+        return None
+
+
+def _tried(convert: Convert, text: str) -> Any:
+    """Returns what a text is converted to, or the exception that says why it is not."""
+    try:
+        return convert(text)
+    except Exception as error:
+        return error
+
+
+def _fits(number: int) -> bool:
+    return -(1 << 63) <= number < 1 << 63
+
+
+def _checked(path: str, names: list[str]) -> list[str]:
+    for index, name in enumerate(names):
+        if not name:
+            raise CsvError(path, f"column {index + 1} has no name", 1)
+        if names.index(name) < index:
+            raise CsvError(path, f"two columns are named {name!r}", 1)
+        if not name.isprintable():
+            raise CsvError(path, f"{name!r} is no name of a column", 1)
+    return names
+
+
+def load_csv(table: Table, path: Any, options: CsvOptions, shown: Callable[..., Any]) -> range:
+    """Appends the rows of a CSV file to a table."""
+    source = _Source(path, options)
+    try:
+        return _load(table, _Plan(source, options, table.schema), shown)
+    finally:
+        source.close()
+
+
+def _load(table: Table, plan: _Plan, shown: Callable[..., Any]) -> range:
+    first, source = table.places, plan.source
+    for rows in plan.rows_at_a_time():
+        try:
+            table.extend_columns(plan.columns(rows))
+        except CsvError:
+            raise
+        except Exception as error:
+            if isinstance(error, Refused) and error.inserted is not None:
+                error.details["inserted"] = table.places - first
+            raise plan.explained(rows, error) from (error if isinstance(error, Refused) else None)
+        shown(source.position(), source.size)
+    return range(first, table.places)
+
+
+def guess_schema(path: Any, convert: Mapping[str, Convert] | None = None) -> Schema:
+    """Returns the columns of a CSV file, with kinds guessed from its first rows."""
+    options = CsvOptions(convert=convert)
+    source = _Source(path, options)
+    try:
+        return _Plan(source, options, None).schema
+    finally:
+        source.close()
+
+
+def read_csv(
+    path: Union[str, os.PathLike[str], Any],
+    *,
+    progress: Union[bool, Callable[[int, int], Any]] = False,
+    delimiter: str = ",",
+    header: bool = True,
+    names: Sequence[str] | None = None,
+    columns: Sequence[str] | None = None,
+    types: Mapping[str, Kind] | None = None,
+    missing: str | None = None,
+    convert: Mapping[str, Convert] | None = None,
+    **table: Any,
+) -> Table:
+    """Makes a table of a CSV file, which is read in chunks; it may be larger than memory.
+
+    - ``path``: a path (``.gz`` is read too) or an open file.
+    - ``header``: whether the first row has the columns' names; ``names`` are used instead.
+    - ``columns``: which columns to take.
+    - ``types``: kinds of some columns, ``int`` or ``str``; others are guessed from the first rows:
+      int if there are whole numbers alone. Numbers with leading zeros, as 007, are texts.
+    - ``missing``: a field that stands for a missing cell. An empty field of a column of numbers is
+      one, too; of texts it is an empty text, unless ``missing=""``.
+    - ``convert``: functions of a field's text for some columns, as ``{"price": scaled(2)}``.
+    - ``progress``: True shows a bar on a terminal; or a callable of bytes done and all bytes.
+    - All else goes to `Table`: ``local="64MB"``, ``far=``, ``policy=`` ..
+
+    >>> import io
+    >>> read_csv(io.StringIO("sku,quantity\\nbread,5\\nrye,\\n"), local="1MB")
+    2 rows by 2 columns
+    place  sku    quantity
+           str         int
+        0  bread         5
+        1  rye          NA
+    """
+    options = CsvOptions(delimiter, header, names, columns, types, missing, convert)
+    return _made(path, options, progress, table)
+
+
+def _made(path: Any, options: CsvOptions, progress: Any, arguments: dict[str, Any]) -> Table:
+    from .table import Table
+
+    source = _Source(path, options)
+    try:
+        plan = _Plan(source, options, None)
+        made = Table(plan.schema, **arguments)
+        try:
+            with Shown(progress, source.name) as shown:
+                _load(made, plan, shown)
+        except BaseException:
+            made.close()
+            raise
+        return made
+    finally:
+        source.close()
+
+
+def write_csv(
+    table: Table, path: Any, delimiter: str, header: bool, missing: str, shown: Callable[..., Any]
+) -> int:
+    """Writes the live rows of a table as CSV."""
+    if hasattr(path, "write"):
+        return _write(table, path, delimiter, header, missing, shown)
+    with open(path, "w", encoding="utf-8", newline="") as file:
+        return _write(table, file, delimiter, header, missing, shown)
+
+
+def _write(
+    table: Table, file: Any, delimiter: str, header: bool, missing: str, shown: Callable[..., Any]
+) -> int:
+    writer = csv.writer(file, delimiter=delimiter, lineterminator="\n")
+    if header:
+        writer.writerow(table.schema.names)
+    written, rows = 0, len(table)
+    for batch in table.batches():
+        columns = [batch[name] for name in table.schema]
+        if missing:
+            columns = [[missing if v is None else v for v in column] for column in columns]
+        writer.writerows(zip(*columns))
+        written += len(batch.places)
+        shown(written, rows)
+    return written

@@ -1,0 +1,328 @@
+"""Engines keep the contents of objects that are away.
+
+An engine is any object with ``put(number, content)`` and ``get(number)``. It need not be trusted:
+the library checks each content that comes back. Two more methods are used if they are there:
+``discard(number)`` says that a content will not be asked for again, ``close()`` that none will.
+
+>>> class Folder:
+...     "An engine in five lines: a file for each content."
+...     def __init__(self, path):
+...         self.path = path
+...     def put(self, number, content):
+...         (self.path / f"{number}.far").write_bytes(content)
+...     def get(self, number):
+...         return (self.path / f"{number}.far").read_bytes()
+"""
+
+from __future__ import annotations
+
+import fcntl
+import os
+import secrets
+import time
+from array import array
+from pathlib import Path
+from typing import Any, Callable, Protocol, Union, runtime_checkable
+
+from .errors import BadArgument
+
+
+@runtime_checkable
+class Engine(Protocol):
+    """What every engine has."""
+
+    def put(self, number: int, content: bytes) -> Any:
+        """Keeps a content under a number that was not used before, or raises an exception."""
+
+    def get(self, number: int) -> bytes:
+        """Returns the content of a number, or raises an exception."""
+
+
+_in_use: set[int] = set()
+
+
+def take(engine: Engine) -> Engine:
+    """Returns an engine for a table, which no other open table may use."""
+    if not callable(getattr(engine, "put", None)) or not callable(getattr(engine, "get", None)):
+        raise TypeError(f"{engine!r} is no engine: it has no put and get")
+    if id(engine) in _in_use:
+        raise BadArgument(f"{engine!r} is the engine of another table")
+    _in_use.add(id(engine))
+    return engine
+
+
+def release(engine: Engine) -> None:
+    """Says that a table does not use an engine any more."""
+    _in_use.discard(id(engine))
+
+
+def close_engine(engine: Any) -> None:
+    """Closes an engine, if it can be closed."""
+    close = getattr(engine, "close", None)
+    if close is not None:
+        close()
+
+
+class Memory:
+    """Keeps contents in this process, in a dict: for tests and to try things.
+
+    >>> engine = Memory()
+    >>> engine.put(0, b"content")
+    >>> engine.get(0)
+    b'content'
+    """
+
+    def __init__(self) -> None:
+        self._contents: dict[int, bytes] = {}
+
+    def put(self, number: int, content: bytes) -> None:
+        """Keeps a content."""
+        self._contents[number] = content
+
+    def get(self, number: int) -> bytes:
+        """Returns a content."""
+        return self._contents[number]
+
+    def discard(self, number: int) -> None:
+        """Forgets a content."""
+        self._contents.pop(number, None)
+
+    def close(self) -> None:
+        """Forgets all contents."""
+        self._contents.clear()
+
+    def __len__(self) -> int:
+        return len(self._contents)
+
+    def __repr__(self) -> str:
+        return "Memory()"
+
+
+class Files:
+    """Keeps contents in a file, which is made at the first put and removed at the close.
+
+    The file is of use to nobody once the table is gone: it is no saved table. A file that a process
+    left behind when it was killed is used again; any other file at this path is left alone, with
+    ``FileExistsError``. The space of a content that is discarded is used again for a content of the
+    same length. Memory for each content: 12 bytes.
+
+    >>> import os, tempfile
+    >>> with tempfile.TemporaryDirectory() as folder:
+    ...     engine = Files(os.path.join(folder, "orders.far"))
+    ...     engine.put(0, b"content")
+    ...     engine.get(0)
+    ...     engine.close()
+    b'content'
+    """
+
+    MARK = b"fullercoral: contents of objects that are away; of no use without their process\n"
+
+    def __init__(self, path: Union[str, os.PathLike[str]]) -> None:
+        self.path = Path(path)
+        self._whole_path = self.path.absolute()
+        self._file = -1
+        self._end = 0
+        self._offsets = array("q")
+        self._lengths = array("I")
+        self._free: dict[int, list[int]] = {}
+
+    def _open(self) -> None:
+        file = os.open(self._whole_path, os.O_RDWR | os.O_CREAT | os.O_CLOEXEC, 0o600)
+        try:
+            fcntl.flock(file, fcntl.LOCK_EX | fcntl.LOCK_NB)
+            if os.pread(file, len(self.MARK), 0) not in (b"", self.MARK):
+                raise FileExistsError(f"{self.path} is no file of contents, and is left as it is")
+        except BlockingIOError:
+            os.close(file)
+            raise FileExistsError(f"{self.path} is in use by another table") from None
+        except BaseException:
+            os.close(file)
+            raise
+        os.ftruncate(file, 0)
+        os.pwrite(file, self.MARK, 0)
+        self._file, self._end = file, len(self.MARK)
+
+    def put(self, number: int, content: bytes) -> None:
+        """Writes a content to the file."""
+        if self._file < 0:
+            self._open()
+        free = self._free.get(len(content))
+        offset = free.pop() if free else self._end
+        try:
+            _write_all(self._file, content, offset)
+        except BaseException:
+            if offset < self._end:
+                self._free[len(content)].append(offset)
+            raise
+        self._end = max(self._end, offset + len(content))
+        if number >= len(self._offsets):
+            more = number + 1 - len(self._offsets)
+            self._offsets.extend([-1] * more)
+            self._lengths.extend([0] * more)
+        self._offsets[number], self._lengths[number] = offset, len(content)
+
+    def get(self, number: int) -> bytes:
+        """Reads a content from the file."""
+        offset = self._offsets[number] if 0 <= number < len(self._offsets) else -1
+        if offset < 0:
+            raise KeyError(number)
+        return os.pread(self._file, self._lengths[number], offset)
+
+    def discard(self, number: int) -> None:
+        """Gives the space of a content to later ones."""
+        if 0 <= number < len(self._offsets) and self._offsets[number] >= 0:
+            self._free.setdefault(self._lengths[number], []).append(self._offsets[number])
+            self._offsets[number] = -1
+
+    def close(self) -> None:
+        """Removes the file."""
+        if self._file >= 0:
+            self._whole_path.unlink(missing_ok=True)
+            os.close(self._file)
+            self._file = -1
+        self._offsets, self._lengths = array("q"), array("I")
+        self._free.clear()
+
+    @property
+    def size(self) -> int:
+        """How many bytes the file has."""
+        return self._end
+
+    def __del__(self) -> None:
+        self.close()
+
+    def __repr__(self) -> str:
+        return f"Files({str(self.path)!r})"
+
+
+def _write_all(file: int, content: bytes, offset: int) -> None:
+    rest = memoryview(content)
+    while rest:
+        written = os.pwrite(file, rest, offset)
+        rest, offset = rest[written:], offset + written
+
+
+class _Keyed:
+    """An engine over a client that knows contents by keys: a prefix of its own, then the number."""
+
+    _BATCH = 500
+
+    def __init__(self, prefix: str | None) -> None:
+        self.prefix = prefix if prefix is not None else f"fullercoral:{secrets.token_hex(8)}:"
+        self._kept = bytearray()  # a byte for each number: whether something may be kept under it
+
+    def _key(self, number: int) -> str:
+        return f"{self.prefix}{number}"
+
+    def _note(self, number: int) -> None:
+        if number >= len(self._kept):
+            self._kept.extend(bytes(number + 1 - len(self._kept)))
+        self._kept[number] = 1
+
+    def _forget(self, number: int) -> bool:
+        if number >= len(self._kept) or not self._kept[number]:
+            return False
+        self._kept[number] = 0
+        return True
+
+    def _rest(self) -> list[list[str]]:
+        """Returns the keys of all that is kept still, in batches, and forgets them."""
+        keys = [self._key(number) for number, kept in enumerate(self._kept) if kept]
+        self._kept.clear()
+        return [keys[at : at + self._BATCH] for at in range(0, len(keys), self._BATCH)]
+
+
+class Redis(_Keyed):
+    """Keeps contents in a server that speaks the Redis protocol, or in a cluster of them.
+
+    ``client`` is a ``redis.Redis`` or a ``redis.cluster.RedisCluster`` with ``decode_responses``
+    off, or anything with its ``set``, ``get`` and ``delete``. A call that fails is tried again
+    ``retries`` times, ``pause`` seconds apart. Keys begin with ``prefix``, a random one if none is
+    given, and are deleted at the close; the client stays open.
+
+    Mind the server's ``maxmemory-policy``: a server that evicts keys loses contents, which is seen
+    as an error when they are asked for.
+    """
+
+    def __init__(
+        self, client: Any, prefix: str | None = None, *, retries: int = 2, pause: float = 0.05
+    ) -> None:
+        super().__init__(prefix)
+        self.client = client
+        self.retries = retries
+        self.pause = pause
+
+    def _patiently(self, call: Callable[..., Any], *arguments: Any) -> Any:
+        for left in range(self.retries, -1, -1):
+            try:
+                return call(*arguments)
+            except Exception:
+                if not left:
+                    raise
+                time.sleep(self.pause)
+        return None
+
+    def put(self, number: int, content: bytes) -> None:
+        """Sets the key of the number."""
+        self._note(number)
+        if not self._patiently(self.client.set, self._key(number), content):
+            raise OSError(f"the server did not keep {self._key(number)}")
+
+    def get(self, number: int) -> bytes:
+        """Gets the key of the number."""
+        content = self._patiently(self.client.get, self._key(number))
+        if content is None:
+            raise KeyError(self._key(number))
+        return bytes(content)
+
+    def discard(self, number: int) -> None:
+        """Deletes the key of the number."""
+        if self._forget(number):
+            self.client.delete(self._key(number))
+
+    def close(self) -> None:
+        """Deletes the keys of this engine."""
+        for keys in self._rest():
+            for key in keys:
+                self.client.delete(key)
+
+    def __repr__(self) -> str:
+        return f"Redis({self.client!r}, prefix={self.prefix!r})"
+
+
+class S3(_Keyed):
+    """Keeps contents as objects in a bucket of any server that speaks S3.
+
+    ``client`` is what ``boto3.client("s3", ..)`` returns, which tries failed requests again as its
+    configuration says. Keys begin with ``prefix``, a random one if none is given, and are deleted
+    at the close; the bucket must be there.
+    """
+
+    def __init__(self, client: Any, bucket: str, prefix: str | None = None) -> None:
+        super().__init__(prefix)
+        self.client = client
+        self.bucket = bucket
+
+    def put(self, number: int, content: bytes) -> None:
+        """Puts the object of the number."""
+        self._note(number)
+        self.client.put_object(Bucket=self.bucket, Key=self._key(number), Body=content)
+
+    def get(self, number: int) -> bytes:
+        """Gets the object of the number."""
+        reply = self.client.get_object(Bucket=self.bucket, Key=self._key(number))
+        return bytes(reply["Body"].read())
+
+    def discard(self, number: int) -> None:
+        """Deletes the object of the number."""
+        if self._forget(number):
+            self.client.delete_object(Bucket=self.bucket, Key=self._key(number))
+
+    def close(self) -> None:
+        """Deletes the objects of this engine."""
+        for keys in self._rest():
+            objects = {"Objects": [{"Key": key} for key in keys], "Quiet": True}
+            self.client.delete_objects(Bucket=self.bucket, Delete=objects)
+
+    def __repr__(self) -> str:
+        return f"S3({self.client!r}, {self.bucket!r}, prefix={self.prefix!r})"

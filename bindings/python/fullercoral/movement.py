@@ -1,0 +1,271 @@
+"""Movement by hand: objects go away and come back, and row groups are built from far copies."""
+
+from __future__ import annotations
+
+from array import array
+from dataclasses import dataclass
+
+from . import _header as header
+from ._handle import Handle
+from .engines import Engine
+from .errors import EngineError, FarFull, Refused, RegionFull
+
+
+@dataclass
+class Counters:
+    """What was moved since a table was opened."""
+
+    evictions: int = 0
+    fetches: int = 0
+    prefetches: int = 0
+    scans: int = 0
+    offloads: int = 0
+    compactions: int = 0
+    retries: int = 0
+    contents_put: int = 0
+    contents_got: int = 0
+    bytes_put: int = 0
+    bytes_got: int = 0
+
+
+class Mover:
+    """Moves the objects of a table, and keeps their contents in an engine.
+
+    The library counts contents from 0 on, and again after each renewal. In the engine no number is
+    used twice: those of later contents begin at a base, and what a renewal found away keeps the
+    number that it had. The caller holds the table's lock.
+    """
+
+    def __init__(self, handle: Handle, engine: Engine, contents: int) -> None:
+        self.handle = handle
+        self.engine = engine
+        self.contents = contents
+        self.counters = Counters()
+        self._base = 0
+        self._renumbered = array("Q")
+        self._segments: dict[int, int] = {}
+
+    # The engine
+
+    def _host_number(self, number: int) -> int:
+        if number < len(self._renumbered):
+            return self._renumbered[number]
+        return self._base + number
+
+    def _put(self, number: int, content: bytes) -> None:
+        try:
+            self.engine.put(self._base + number, content)
+        except Exception as error:
+            raise EngineError(f"the engine could not keep content {number}: {error!r}") from error
+        self.counters.contents_put += 1
+        self.counters.bytes_put += len(content)
+
+    def _get(self, number: int) -> bytes:
+        return self._get_from_engine(self._host_number(number))
+
+    def _get_from_engine(self, number: int) -> bytes:
+        try:
+            content = self.engine.get(number)
+            length = len(content)
+        except Exception as error:
+            raise EngineError(f"the engine has no content {number}: {error!r}") from error
+        self.counters.contents_got += 1
+        self.counters.bytes_got += length
+        return content
+
+    def _discard(self, number: int) -> None:
+        """Tells the engine that a content is not needed any more. If it fails, nothing is lost."""
+        self._discard_from_engine(self._host_number(number))
+
+    def _discard_from_engine(self, number: int) -> None:
+        discard = getattr(self.engine, "discard", None)
+        if discard is not None:
+            try:
+                discard(number)
+            except Exception:
+                pass
+
+    # One object
+
+    def evict(self, column: int, group: int) -> None:
+        """Evicts an object: the engine keeps its content, and its local memory is free."""
+        self._end_evict(self.handle.begin_evict(column, group))
+
+    def evict_coldest(self) -> bool:
+        """Evicts the object that was used least lately; returns whether there was one."""
+        job = self.handle.begin_coldest()
+        if job is None:
+            return False
+        self._end_evict(job)
+        return True
+
+    def _end_evict(self, job: int) -> None:
+        handle = self.handle
+        try:
+            _, _, column, group = handle.job(job)
+            before = handle.object(column, group)
+            number = self.carry(job)
+            self._commit(job, number)
+        except BaseException:
+            handle.give_up(job)
+            raise
+        self.counters.evictions += 1
+        if number is not None and before.has_copy:
+            self._discard(before.copy)
+
+    def _commit(self, job: int, number: int | None) -> None:
+        try:
+            self.handle.step("commit", job)
+        except Refused:
+            if number is not None:
+                self._discard(number)
+            raise
+
+    def carry(self, job: int) -> int | None:
+        """Carries a job: its contents come from the engine, or its content is put there.
+
+        Returns the number of the content that was put, if one was.
+        """
+        handle = self.handle
+        kind, carried, _, _ = handle.job(job)
+        if kind != header.EVICT and not carried:
+            self._deliver_all(job)
+        handle.step("carry", job)
+        content = handle.outgoing(job)
+        if content is None:
+            return None
+        try:
+            self._put(*content)
+        except EngineError:
+            handle.lib.fc_fault(handle.at, job)
+            raise
+        return content[0]
+
+    def fetch(self, column: int, group: int) -> None:
+        """Fetches an object: it is local, and its far copy stays until it is written."""
+        self.end_fetch(self.begin_fetch(column, group))
+
+    def begin_fetch(self, column: int, group: int) -> int:
+        """Begins a fetch and carries it; its end may have to wait until there is space."""
+        job = self.handle.begin_fetch(column, group)
+        try:
+            self.carry(job)
+        except BaseException:
+            self.handle.give_up(job)
+            raise
+        return job
+
+    def end_fetch(self, job: int) -> None:
+        """Ends a carried fetch. If it is refused for lack of space, the job still waits."""
+        try:
+            self.handle.step("install", job)
+        except RegionFull:
+            raise
+        except BaseException:
+            self.handle.give_up(job)
+            raise
+        self.counters.fetches += 1
+
+    def _deliver_all(self, job: int) -> None:
+        """Has the engine give all contents that a job needs."""
+        for index in range(header.MAX_COLUMNS + 1):
+            number = self.handle.wanted(job, index)
+            if number is None:
+                return
+            try:
+                content = self._get(number)
+            except EngineError:
+                self.handle.lib.fc_fault(self.handle.at, job)
+                raise
+            self.handle.deliver(job, number, content)
+
+    @property
+    def away(self) -> int:
+        """How many objects are away."""
+        return self.counters.evictions - self.counters.fetches
+
+    def absent_of(self, names: set[str]) -> tuple[str, int] | None:
+        """Returns the first object of some columns that is away, by row group, and None if none."""
+        schema = self.handle.schema
+        columns = [index for index, name in enumerate(schema) if name in names]
+        for group in range(self.handle.groups() if self.away else 0):
+            for column in columns:
+                if not self.handle.object(column, group).local:
+                    return schema.names[column], group
+        return None
+
+    def next_segment(self, kind: int, segments: int) -> int:
+        """Returns the segment of a kind whose turn it is to be compacted."""
+        self._segments[kind] = (self._segments.get(kind, -1) + 1) % segments
+        return self._segments[kind]
+
+    # Aggregates
+
+    def scan(self, aggregate: int, group: int) -> None:
+        """Scans a row group into an aggregate."""
+        self.handle.step("scan", aggregate, group)
+        self.counters.scans += 1
+
+    def offload(self, aggregate: int, group: int) -> None:
+        """Builds a row group into an aggregate from the far copies of its columns."""
+        job = self.handle.begin_offload(aggregate, group)
+        try:
+            self.carry(job)
+            self.handle.step("merge", job)
+        except BaseException:
+            self.handle.give_up(job)
+            raise
+        self.counters.offloads += 1
+
+    # All objects
+
+    def _split(self) -> tuple[list[tuple[int, int]], list[int]]:
+        """Returns the objects that are away, and the copies of those that are local."""
+        away, copies = [], []
+        for group in range(self.handle.groups()):
+            for column in range(len(self.handle.schema)):
+                state = self.handle.object(column, group)
+                if not state.local:
+                    away.append((column, group))
+                elif state.has_copy:
+                    copies.append(self._host_number(state.copy))
+        return away, copies
+
+    def renew(self, engine: Engine | None = None, contents: int | None = None) -> None:
+        """Goes on with new numbers of contents, and with another engine if one is given.
+
+        The contents of all objects that are away come into memory for a moment. If that is refused,
+        or an engine fails, all is as it was. All jobs are over.
+        """
+        capacity = self.contents if contents is None else contents
+        away, spare = self._split()
+        if len(away) > capacity:
+            raise FarFull(f"{len(away):,} objects are away, and {capacity:,} contents may be")
+        kept_at = array("Q")
+        for column, group in away:
+            number = self._host_number(self.handle.object(column, group).copy)
+            kept_at.append(self._copy_over(column, group, number, engine, len(kept_at)))
+        self.handle.step("migrate", capacity)
+        for number in spare:  # what is local is kept anew when it goes away again
+            self._discard_from_engine(number)
+        copies = [self.handle.object(column, group).copy for column, group in away]
+        self._base = 0 if engine else self._base + self.contents
+        self._renumbered = array("Q", bytes(8 * (max(copies, default=-1) + 1)))
+        for number, kept in zip(copies, kept_at):
+            self._renumbered[number] = kept
+        self.engine = engine or self.engine
+        self.contents = capacity
+
+    def _copy_over(
+        self, column: int, group: int, number: int, engine: Engine | None, index: int
+    ) -> int:
+        """Delivers a content for a renewal; returns its number in the engine that is next."""
+        content = self._get_from_engine(number)
+        self.handle.deliver_copy(column, group, content)
+        if engine is None:
+            return number
+        try:
+            engine.put(index, content)
+        except Exception as error:
+            raise EngineError(f"the new engine could not keep a content: {error!r}") from error
+        return index

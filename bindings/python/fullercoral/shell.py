@@ -1,0 +1,381 @@
+"""The shell: named columns, CSV files and a map of memory around the script language."""
+
+from __future__ import annotations
+
+import re
+import sys
+import time
+from typing import Any, Callable, Iterator, TextIO
+
+from . import display
+from .csv_files import guess_schema, scaled
+from .engines import Files, Memory
+from .errors import Building, NoColumn, Refused
+from .picture import counted
+from .policy import Helper, Policy
+from .progress import Shown
+from .schema import parse_schema
+from .script import NoCommand, Script
+from .table import Table
+
+HELP = """\
+Commands of the shell. Words in capitals are yours. A column is a name, "in quotes" if it has
+spaces, or a number.
+  .open NAME:KIND,NAME:KIND .. [local=64MB] [far=FILE] [group=N]
+                          a new table; a KIND is int or text
+  .import FILE.csv [local=64MB] [far=FILE] [scaled=price:2,tax:2]
+                          appends the rows of a CSV file; opens a table for it if none is open;
+                          reads 1.99 as 199 in columns that are scaled by 2 decimals
+  .export FILE.csv        writes the live rows
+  .rows [FROM [TO]]       shows rows, or the first and the last ones
+  .watch totals quantity by sku if quantity > 0
+                          registers an aggregate and shows its answer
+  .ask N                  shows the answer of aggregate N, and builds it first if need be
+  .status                 where objects are, memory, faults, aggregates
+  .evict [COLUMN [GROUP]] evicts an object, a column or all of the table
+  .plot FILE.svg          writes the map of .status as a picture
+  .policy on|off          whether commands fetch and evict what they need by themselves
+  .time on|off            whether each reply is followed by its time
+  .close  .quit  help [WORD]
+
+Commands of the script language (docs/SCRIPT.md):
+  insert CSV              set PLACE COLUMN CSV      remove PLACE          dump
+  watch totals COLUMN [by COLUMN] [if COLUMN OP VALUE]..   (or extrema)   unwatch N
+  scan N GROUP            ask N                     recount N             lend COLUMN FROM TO
+  pin COLUMN GROUP        unpin COLUMN GROUP        evac COLUMN GROUP     fetch COLUMN GROUP
+  offload N GROUP         carry JOB                 commit JOB            install JOB   merge JOB
+  prefetch COLUMN         compact int|text SEGMENT  renew N               load BYTES
+  schema GROUP KINDS      opens a table without names, as a script's first line does"""
+
+_SCRIPT_WORDS = (
+    "schema insert set remove watch unwatch scan ask recount lend pin unpin evac fetch offload "
+    "carry commit install merge compact prefetch renew load dump"
+).split()
+
+# Which words behind a command name columns, counted from 0.
+_COLUMN_WORDS = {
+    "set": (1,),
+    "lend": (0,),
+    "pin": (0,),
+    "unpin": (0,),
+    "evac": (0,),
+    "fetch": (0,),
+    "prefetch": (0,),
+}
+
+
+class Shell:
+    """Serves lines over a table. Replies go to ``out``; refusals are sentences if ``friendly``."""
+
+    def __init__(self, out: TextIO | None = None, friendly: bool = True) -> None:
+        self.out = out or sys.stdout
+        self.friendly = friendly
+        self.script = Script()
+        self.timed = False
+        self.policy: Any = None
+        self.done = False
+
+    @property
+    def table(self) -> Table | None:
+        """The open table, or None."""
+        table: Table | None = self.script.table
+        return table
+
+    def words(self) -> list[str]:
+        """Returns the words that a line may begin with."""
+        return [*(f".{name}" for name in _DOTTED), "help", *_SCRIPT_WORDS]
+
+    def line(self, line: str, rows: Callable[[int], str] | None = None) -> None:
+        """Serves a line, and writes its reply."""
+        if not line.strip():
+            return
+        began = time.perf_counter()
+        try:
+            reply = self._reply(line, rows)
+        except NoCommand:
+            reply = self._no_command(line)
+        except Refused as error:
+            reply = self._refusal(error)
+        except OSError as error:
+            reply = f"{error.filename}: {error.strerror}" if error.filename else f"{error}"
+        except ValueError as error:
+            reply = f"{error}"
+        if reply:
+            print(reply, file=self.out)
+        if self.timed:
+            print(f"({_duration(time.perf_counter() - began)})", file=self.out)
+        self.out.flush()
+
+    def _reply(self, line: str, rows: Callable[[int], str] | None) -> str:
+        word, _, rest = line.strip().partition(" ")
+        if word in ("help", "?", ".help"):
+            return _help(rest.strip())
+        if word.startswith("."):
+            serve = _DOTTED.get(word[1:])
+            if serve is None:
+                raise NoCommand
+            return serve(self, rest.strip())
+        if self.table is None and word != "schema":
+            if self.friendly:
+                return "no table is open: .open NAME:KIND,.. or .import FILE.csv, or help"
+            return self.script.printed(line, rows)
+        return self._scripted(self._with_numbers(line), rows)
+
+    def _scripted(self, line: str, rows: Callable[[int], str] | None) -> str:
+        """Has the script language serve a line; by policy again, once what it needs is local."""
+        table = self.table
+        if table is None or self.policy is None:
+            return self.script.serve(line, rows)
+        with table._lock, Helper(table._mover, self.policy) as helper:
+            while True:
+                try:
+                    return self.script.serve(line, rows)
+                except Refused as error:
+                    if not self._has_helped(line, error, helper):
+                        raise
+                    self.script.commands -= 1
+
+    def _has_helped(self, line: str, error: Refused, helper: Helper) -> bool:
+        verb = line.partition(" ")[0]
+        if isinstance(error, Building) and verb == "ask":
+            self._open().build(self.script._watched(int(line.split(" ")[1])))
+            return True
+        if verb in ("insert", "set", "remove", "lend", "pin", "install"):
+            return helper.has_helped(error.number)
+        return False
+
+    # Names for numbers
+
+    def _with_numbers(self, line: str) -> str:
+        """Returns a line with the numbers of columns in place of their names."""
+        verb, space, rest = line.partition(" ")
+        places = _COLUMN_WORDS.get(verb, ())
+        if verb != "watch" and not places:
+            return line
+        words = _words(rest, 2 if verb == "set" else -1)
+        if verb == "watch":
+            return verb + space + " ".join(self._watch_words(words))
+        for place in places:
+            if place < len(words):
+                words[place] = self._number(words[place])
+        return verb + space + " ".join(words)
+
+    def _watch_words(self, words: list[str]) -> Iterator[str]:
+        before = ""
+        for at, word in enumerate(words):
+            yield self._number(word) if at == 1 or before in ("by", "if") else word
+            before = word
+
+    def _number(self, word: str) -> str:
+        table, name = self.table, word.strip('"')
+        if table is None or word.isdigit():
+            return word
+        if name in table.schema:
+            return str(table.schema.index(name))
+        if not self.friendly:
+            return word
+        raise NoColumn(column=name, columns=table.schema.names)
+
+    # What goes wrong, in sentences
+
+    def _refusal(self, error: Refused) -> str:
+        if not self.friendly:
+            return self.script.refusal_text(error)
+        return f"refused: {error}"
+
+    def _no_command(self, line: str) -> str:
+        if not self.friendly:
+            return f"syntax command {self.script.commands}"
+        word = line.split()[0]
+        if word in _SCRIPT_WORDS or word[1:] in _DOTTED:
+            return f"this is no {word} command. {_help(word)}"
+        return f"there is no command {word!r}; try help"
+
+    def _open(self) -> Table:
+        if self.table is None:
+            raise ValueError("no table is open: .open NAME:KIND,.. or .import FILE.csv")
+        return self.table
+
+    # Commands of the shell
+
+    def _new(self, schema: Any, options: dict[str, str]) -> Table:
+        far: Any = Files(options["far"]) if "far" in options else Memory()
+        group = int(options["group"]) if "group" in options else None
+        table = Table(schema, options.get("local", "64MB"), far, group=group)
+        self._close("")
+        self.script = Script(table)
+        self.script.commands = 1
+        self.policy = table.policy
+        return table
+
+    def _dot_open(self, rest: str) -> str:
+        names, options = _options(rest, ("local", "far", "group"))
+        if not names:
+            raise ValueError("write .open NAME:KIND,NAME:KIND, as .open sku:text,quantity:int")
+        self._new(parse_schema(names), options)
+        return "ok"
+
+    def _close(self, rest: str) -> str:
+        if self.table is not None:
+            self.table.close()
+        self.script, self.policy = Script(), None
+        return "ok"
+
+    def _import(self, rest: str) -> str:
+        path, options = _options(rest, ("local", "far", "group", "scaled"))
+        if not path:
+            raise ValueError("write .import FILE.csv")
+        convert = _conversions(options.pop("scaled", ""))
+        if self.table is None:
+            self._new(guess_schema(path, convert), options)
+        table = self._open()
+        began = time.perf_counter()
+        places = table.load_csv(path, progress=self.friendly, convert=convert)
+        seconds = time.perf_counter() - began
+        columns = ", ".join(f"{name} {table.schema[name].__name__}" for name in table.schema)
+        return f"{len(places):,} rows in {_duration(seconds)}: {columns}"
+
+    def _export(self, rest: str) -> str:
+        if not rest:
+            raise ValueError("write .export FILE.csv")
+        return f"{self._open().to_csv(rest, progress=self.friendly):,} rows"
+
+    def _rows(self, rest: str) -> str:
+        table, bounds = self._open(), [int(word) for word in rest.split()]
+        if not bounds:
+            return repr(table)
+        start = bounds[0]
+        stop = min(bounds[1] if len(bounds) > 1 else start + 20, table.places)
+        rows: list[tuple[int, Any]] = []
+        for batch in table.batches(start=start, stop=stop):
+            rows += zip(batch.places, batch.rows())
+        return display.rows_as_text(table, rows)
+
+    def _watch(self, rest: str) -> str:
+        table = self._open()
+        line = self._with_numbers(f"watch {rest}")
+        word = line.split(" ")[2] if line.count(" ") > 1 else ""
+        if word.isdigit() and int(word) < len(table.schema):
+            name = table.schema.names[int(word)]
+            if table.schema[name] is not int:
+                raise ValueError(
+                    f"column {name} has texts, and only numbers are summed or compared; "
+                    f'if they are like 1.99: .close, then .import FILE.csv scaled="{name}:2"'
+                )
+        number = self.script.serve(line).split()[1]
+        return f"aggregate {number}\n{self._ask(number)}" if len(table) else f"aggregate {number}"
+
+    def _ask(self, rest: str) -> str:
+        watched = self.script._watched(int(rest or "0"))
+        if watched.pending:
+            with Shown(self.friendly, "building", " row groups") as shown:
+                self._open().build(watched, shown)
+        lines = watched.lines()
+        return display.lines_as_text(watched, lines)
+
+    def _status(self, rest: str) -> str:
+        table = self._open()
+        parts = [str(table.map()) if len(table) else "no rows yet", str(table.stats())]
+        for watched in table.watched:
+            pending = f", {watched.pending:,} row groups pending" if watched.pending else ""
+            parts.append(f"aggregate {watched.number}: {watched.spec!r}{pending}")
+        parts.append(f"policy {'on' if self.policy else 'off'}; far: {table.engine!r}")
+        return "\n".join(parts)
+
+    def _evict(self, rest: str) -> str:
+        words = rest.split()
+        column = self._open().schema.names[int(words[0])] if words and words[0].isdigit() else None
+        column = column or (words[0] if words else None)
+        gone = self._open().evict(column, int(words[1]) if len(words) > 1 else None)
+        return f"{counted(gone, 'object')} went away"
+
+    def _plot(self, rest: str) -> str:
+        if not rest:
+            raise ValueError("write .plot FILE.svg")
+        self._open().plot(rest)
+        return f"wrote {rest}"
+
+    def _set_policy(self, rest: str) -> str:
+        table = self._open()
+        table.policy = self.policy = Policy() if _switch(rest, "policy") else None
+        return "ok"
+
+    def _set_time(self, rest: str) -> str:
+        self.timed = _switch(rest, "time")
+        return "ok"
+
+    def _quit(self, rest: str) -> str:
+        self.done = True
+        return ""
+
+
+_DOTTED: dict[str, Callable[[Shell, str], str]] = {
+    "open": Shell._dot_open,
+    "import": Shell._import,
+    "export": Shell._export,
+    "rows": Shell._rows,
+    "watch": Shell._watch,
+    "ask": Shell._ask,
+    "status": Shell._status,
+    "evict": Shell._evict,
+    "plot": Shell._plot,
+    "policy": Shell._set_policy,
+    "time": Shell._set_time,
+    "close": Shell._close,
+    "quit": Shell._quit,
+    "exit": Shell._quit,
+}
+
+
+def _switch(text: str, name: str) -> bool:
+    if text not in ("on", "off"):
+        raise ValueError(f"write .{name} on, or .{name} off")
+    return text == "on"
+
+
+def _words(text: str, most: int) -> list[str]:
+    """Splits a text at its spaces, ``most`` times at most, but not within quotes."""
+    if '"' not in text:
+        return text.split(" ", most)
+    words: list[str] = []
+    while text and (most < 0 or len(words) < most):
+        found = re.match(r'("[^"]*"|[^ ]*) ?', text)
+        assert found is not None
+        words.append(found[1])
+        text = text[found.end() :]
+    return [*words, text] if text else words
+
+
+def _options(text: str, known: tuple[str, ...]) -> tuple[str, dict[str, str]]:
+    """Splits ``NAME=VALUE`` words off the end of a text."""
+    options: dict[str, str] = {}
+    while found := re.search(r'(?:^|\s)(\w+)=("[^"]*"|\S+)\s*$', text):
+        if found[1] not in known:
+            break
+        options[found[1]] = found[2].strip('"')
+        text = text[: found.start()]
+    return text.strip(), options
+
+
+def _conversions(text: str) -> dict[str, Any]:
+    """Reads ``price:2,tax:2``: which columns are scaled by how many decimals."""
+    pairs = [part.rpartition(":") for part in text.split(",") if part]
+    if not all(name and digits.isdigit() for name, _, digits in pairs):
+        raise ValueError("write scaled=COLUMN:DECIMALS, as scaled=price:2")
+    return {name: scaled(int(digits)) for name, _, digits in pairs}
+
+
+def _help(word: str) -> str:
+    if not word:
+        return HELP
+    lines = [line.strip() for line in HELP.splitlines()]
+    found = [line for line in lines if re.search(rf"(^|\s)\.?{re.escape(word)}(\s|$)", line)]
+    return "\n".join(found) or f"no help on {word!r}; help alone shows all"
+
+
+def _duration(seconds: float) -> str:
+    if seconds < 1e-3:
+        return f"{seconds * 1e6:.0f} µs"
+    if seconds < 1:
+        return f"{seconds * 1e3:.1f} ms"
+    return f"{seconds:.2f} s"

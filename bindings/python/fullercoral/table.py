@@ -1,0 +1,396 @@
+"""The table."""
+
+from __future__ import annotations
+
+import os
+import threading
+from collections import namedtuple
+from ctypes import byref, c_bool, string_at
+from types import TracebackType
+from typing import Any, Iterator, Sequence, Union, overload
+
+from . import _header as header
+from . import display
+from ._editing import Editing, Progress
+from ._handle import EMPTY_AT, Handle
+from ._moving import Moving
+from ._reading import Reader
+from .aggregates import Key, Spec, Watched, spec_struct
+from .column import Batch, Column, Value, read_batch
+from .csv_files import CsvOptions, load_csv, write_csv
+from .engines import Engine, Memory, close_engine, release, take
+from .errors import Absent, BadArgument, Closed, NoAggregate, RemovedRow
+from .limits import Limits
+from .movement import Mover
+from .policy import Helper, Policy, build
+from .progress import Shown
+from .schema import Schema, SchemaLike
+
+_BATCH = 8192
+
+
+class Table(Editing, Moving):
+    """A table whose aggregates stay exact while it is edited, and which may exceed local memory.
+
+    >>> import fullercoral as fc
+    >>> with fc.Table({"sku": str, "quantity": int}, local="1MB") as table:
+    ...     sold = table.watch(fc.totals("quantity", by="sku"))
+    ...     places = table.extend([("bread", 5), ("rye", 3), ("bread", 2)])
+    ...     gone = table.evict()
+    ...     table.set(1, "quantity", 9)
+    ...     sold.items()
+    [('bread', Total(count=2, sum=7)), ('rye', Total(count=1, sum=9))]
+
+    - ``columns``: their names and kinds, ``int`` (64 bits, signed) or ``str``.
+    - ``local``: how much memory its cells may take, as ``"64MB"``. ``group``: how many rows a row
+      group has. ``limits`` sets all of it one by one instead.
+    - ``far``: the engine that keeps what is away, in this process if none is given. The table
+      closes it in the end, and it serves one table at a time.
+    - ``policy``: what moves objects when it is due; None if nothing but your own calls may.
+    - ``contents``: how many contents may go out before the table goes on with new numbers.
+
+    Rows stand at places 0, 1, 2, .. in the order in which they came; a removed row keeps its place.
+    Several threads may use a table: each call is made under its lock.
+    """
+
+    def __init__(
+        self,
+        columns: SchemaLike,
+        local: Union[int, str] = "64MB",
+        far: Engine | None = None,
+        *,
+        group: int | None = None,
+        limits: Limits | None = None,
+        policy: Policy | None = Policy(),
+        contents: int = 1 << 32,
+    ) -> None:
+        self.schema = Schema(columns)
+        self.limits = limits or Limits.for_local(self.schema, local, group)
+        self.policy = policy
+        engine = take(Memory() if far is None else far)
+        self._lock = threading.RLock()
+        try:
+            self._handle = Handle(self.schema, self.limits, contents)
+        except BaseException:
+            release(engine)
+            raise
+        self._mover = Mover(self._handle, engine, contents)
+        self._watched: list[Watched[Any]] = []
+        self._answer: Watched[Any] | None = None  # whose answer, as rows are now, is in the handle
+        self._places = 0
+        self._live = 0
+        self._Row: Any = namedtuple("Row", self.schema.names, rename=True)  # type: ignore[misc]
+        self._prepare_edits()
+        self._prepare_rows()
+
+    def _prepare_rows(self) -> None:
+        """Makes what every reading of a row uses again."""
+        no_cell = bytes(8) + bytes(header.Bytes(EMPTY_AT, 0)) + bytes(8)
+        self._no_lent = no_cell * self._width
+        self._lent = (header.Cell * self._width).from_buffer_copy(self._no_lent)
+        self._lent_at = byref(self._lent)
+        self._lent_bytes = memoryview(self._lent).cast("B")
+        self._lent_words = self._lent_bytes.cast("q")
+        self._alive = c_bool()
+        self._alive_at = byref(self._alive)
+        lib = self._handle.lib
+        self._fc_row, self._fc_is_alive = lib.fast("fc_row"), lib.fast("fc_is_alive")
+
+    # Its end
+
+    def close(self) -> None:
+        """Frees the table's memory and closes its engine. Closing twice does nothing."""
+        with self._lock:
+            if self._handle.is_open:
+                self._handle.close()
+                self._watched.clear()
+                release(self._mover.engine)
+                close_engine(self._mover.engine)
+
+    @property
+    def closed(self) -> bool:
+        """Whether the table is closed."""
+        return not self._handle.is_open
+
+    def __enter__(self) -> Table:
+        if self.closed:
+            raise Closed()
+        return self
+
+    def __exit__(
+        self,
+        kind: type[BaseException] | None,
+        error: BaseException | None,
+        trace: TracebackType | None,
+    ) -> None:
+        self.close()
+
+    def __del__(self) -> None:
+        handle = getattr(self, "_mover", None) and self._handle
+        if handle and handle.is_open:
+            try:
+                self.close()
+            except Exception:
+                pass  # an engine that cannot be closed is nobody's concern any more
+
+    # Rows
+
+    def __len__(self) -> int:
+        """How many rows are alive."""
+        return self._live
+
+    @property
+    def places(self) -> int:
+        """How many places there are, removed rows among them."""
+        return self._places
+
+    @property
+    def columns(self) -> tuple[str, ...]:
+        """The names of the columns."""
+        return self.schema.names
+
+    @overload
+    def __getitem__(self, key: str) -> Column:
+        ...
+
+    @overload
+    def __getitem__(self, key: int) -> Any:
+        ...
+
+    @overload
+    def __getitem__(self, key: slice) -> list[Any]:
+        ...
+
+    def __getitem__(self, key: Union[str, int, slice]) -> Any:
+        """A column by its name, a row by its place (counted from the end if negative), or the live
+        rows of a slice of places."""
+        if isinstance(key, str):
+            return Column(self, key)
+        if isinstance(key, slice):
+            start, stop, step = key.indices(self._places)
+            if step != 1:
+                raise BadArgument("a slice of rows has no step")
+            batches = self.batches(start=start, stop=stop)
+            return [row for batch in batches for row in self._of(batch)]
+        return self._read_row(key)
+
+    def _of(self, batch: Batch) -> Iterator[Any]:
+        return map(self._Row._make, batch.rows())
+
+    def _read_row(self, place: int) -> Any:
+        with self._lock:
+            if not 0 <= place < self._places:
+                place = self._place_of(place)
+            self._lent_bytes[:] = self._no_lent
+            arguments = self._at, place, self._lent_at, self._width
+            code = self._fc_row(*arguments)
+            if code:
+                self._go_on(code, self._fc_row, *arguments)
+                self._lent_bytes[:] = self._no_lent  # what was lent ended with the next call
+                self._handle.check(self._fc_row(*arguments))
+            words: Any = self._lent_words
+            row: list[Value] = []
+            for at in range(0, 4 * self._width, 4):
+                kind = words[at + 3] & 0xFFFFFFFF
+                if kind == header.INT:
+                    row.append(words[at])
+                elif kind == header.TEXT:
+                    row.append(string_at(words[at + 1], words[at + 2]).decode())
+                else:
+                    row.append(None)
+            self._handle.check(self._fc_is_alive(self._at, place, self._alive_at))
+            if not self._alive.value:
+                raise RemovedRow(place=place)
+            return self._Row._make(row)
+
+    def __delitem__(self, place: int) -> None:
+        self.remove(place)
+
+    def is_alive(self, place: int) -> bool:
+        """Whether the row of a place is there, and was not removed."""
+        with self._lock:
+            return self._handle.is_alive(self._place_of(place))
+
+    def _reader(self) -> Reader:
+        self._open_handle()
+        return Reader(self._mover, self.policy)
+
+    def batches(
+        self,
+        size: int = _BATCH,
+        columns: Sequence[str] | None = None,
+        start: int = 0,
+        stop: int | None = None,
+    ) -> Iterator[Batch]:
+        """Yields the live rows in batches of up to ``size`` places, in their order.
+
+        >>> table.extend([("bread", 5), ("rye", 3)])
+        range(0, 2)
+        >>> for batch in table.batches():
+        ...     batch.places, batch["sku"], sum(batch["quantity"])
+        ([0, 1], ['bread', 'rye'], 8)
+        """
+        names = list(self.schema.names if columns is None else columns)
+        for at in range(start, self._places if stop is None else stop, size):
+            end = min(at + size, self._places if stop is None else stop)
+            batch = read_batch(self, names, at, end)
+            if batch.places:
+                yield batch
+
+    def __iter__(self) -> Iterator[Any]:
+        """Yields the live rows as named tuples, in the order of their places."""
+        for batch in self.batches():
+            yield from self._of(batch)
+
+    def head(self, rows: int = 5) -> list[Any]:
+        """Returns the first live rows.
+
+        >>> table.extend([("bread", 5), ("rye", 3)])
+        range(0, 2)
+        >>> table.head(1), table.tail(1)
+        ([Row(sku='bread', quantity=5)], [Row(sku='rye', quantity=3)])
+        """
+        return [row for _, row in display.first_rows(self, rows)]
+
+    def tail(self, rows: int = 5) -> list[Any]:
+        """Returns the last live rows."""
+        return [row for _, row in display.last_rows(self, rows)]
+
+    def to_pandas(self) -> Any:
+        """Returns the live rows as a DataFrame of pandas, with their places as its index.
+
+        Columns of numbers are of type ``int64``, or ``Int64`` if a cell is missing.
+        """
+        return display.to_pandas(self)
+
+    # Aggregates
+
+    def watch(self, spec: Spec) -> Watched[Any]:
+        """Registers an aggregate (`totals` or `extrema`), which every edit keeps exact from now on.
+
+        Row groups that are there already are built into it at the first question, or by `build`.
+
+        >>> table.extend([("bread", 5), ("rye", 3)])
+        range(0, 2)
+        >>> best = table.watch(extrema("quantity", by="sku", where=[("sku", "^=", "br")]))
+        >>> best.items()
+        [('bread', MinMax(min=5, max=5))]
+        """
+        with self._lock:
+            handle = self._open_handle()
+            struct, kept = spec_struct(self.schema, spec)
+            number = handle.watch(struct)
+            del kept
+            watched: Watched[Any] = Watched(self, spec, number)
+            self._watched.append(watched)
+            return watched
+
+    def unwatch(self, watched: Watched[Any]) -> None:
+        """Forgets an aggregate; its number is used again.
+
+        >>> sold = table.watch(totals("quantity"))
+        >>> table.unwatch(sold)
+        >>> sold.value
+        Traceback (most recent call last):
+            ...
+        fullercoral.errors.NoAggregate: there is no such aggregate (any more) [12]
+        """
+        with self._lock:
+            if watched.table is not self:
+                raise NoAggregate("this aggregate is of another table")
+            self._open_handle().step("unwatch", watched.number)
+            watched._number = -1
+            self._watched.remove(watched)
+            self._answer = None
+
+    @property
+    def watched(self) -> tuple[Watched[Any], ...]:
+        """The aggregates of the table."""
+        return tuple(self._watched)
+
+    def recount(self, watched: Watched[Any]) -> dict[Key, Any]:
+        """Computes an aggregate from scratch, whatever is pending in it, as a dict.
+
+        An aggregate without key has the key None. If columns are away, the policy builds a second
+        aggregate beside it, row group by row group.
+
+        >>> sold = table.watch(totals("quantity", by="sku"))
+        >>> table.extend([("bread", 5), ("rye", 3)])
+        range(0, 2)
+        >>> table.recount(sold) == sold.to_dict()
+        True
+        """
+        with self._lock:
+            handle, number = self._open_handle(), watched.number
+            self._answer = None
+            absent = self._mover.absent_of(watched.spec.columns())
+            if absent is None:
+                handle.check(handle.lib.fc_recount(handle.at, number, watched._size_at))
+                return dict(watched._line_of(index) for index in range(watched._size.value))
+            if self.policy is None:
+                raise Absent(column=absent[0], group=absent[1])
+            beside = self.watch(watched.spec)
+            try:
+                build(self._mover, self.policy, beside.number)
+                return beside.to_dict()
+            finally:
+                self.unwatch(beside)
+
+    # CSV
+
+    def load_csv(
+        self,
+        path: Union[str, os.PathLike[str], Any],
+        *,
+        progress: Union[bool, Progress] = False,
+        **options: Any,
+    ) -> range:
+        """Appends the rows of a CSV file, and returns their places; options are as of `read_csv`.
+
+        The header's names must be those of the table, in any order.
+
+        >>> import io
+        >>> table.load_csv(io.StringIO("quantity,sku\\n5,bread\\n,rye\\n"))
+        range(0, 2)
+        >>> list(table)
+        [Row(sku='bread', quantity=5), Row(sku='rye', quantity=None)]
+        """
+        with Shown(progress, str(path)) as shown:
+            return load_csv(self, path, CsvOptions(**options), shown)
+
+    def to_csv(
+        self,
+        path: Union[str, os.PathLike[str], Any],
+        *,
+        delimiter: str = ",",
+        header: bool = True,
+        missing: str = "",
+        progress: Union[bool, Progress] = False,
+    ) -> int:
+        """Writes the live rows as CSV, and returns how many they are.
+
+        ``missing`` stands for a missing cell. By default that is an empty field, which an empty
+        text has too; with ``missing="\\\\N"`` here and in `read_csv` each cell comes back.
+
+        >>> import sys
+        >>> place = table.append(("bread", None))
+        >>> table.to_csv(sys.stdout, missing="NA")
+        sku,quantity
+        bread,NA
+        1
+        """
+        with Shown(progress, str(path), " rows") as shown:
+            return write_csv(self, path, delimiter, header, missing, shown)
+
+    # To look at
+
+    def plot(self, path: Union[str, os.PathLike[str]], width: int = 720) -> None:
+        """Writes the map of row groups by columns as an SVG file."""
+        with open(path, "w", encoding="utf-8") as file:
+            file.write(self.map().svg(width))
+
+    def __repr__(self) -> str:
+        return display.as_text(self)
+
+    def _repr_html_(self) -> str:
+        return display.as_html(self)

@@ -1,0 +1,21 @@
+"""Puts the shared library beside the package's modules when it is built to be installed."""
+
+import shutil
+from pathlib import Path
+
+from setuptools import setup
+from setuptools.command.build_py import build_py
+
+NAME = "libfullercoral.so"
+
+
+class WithLibrary(build_py):
+    """Copies the library from the repository's ``lib/``."""
+
+    def run(self) -> None:
+        super().run()
+        library = Path(__file__).resolve().parents[2] / "lib" / NAME
+        shutil.copy(library, Path(self.build_lib, "fullercoral", NAME))
+
+
+setup(cmdclass={"build_py": WithLibrary})

@@ -1,0 +1,363 @@
+"""Objects go away and come back; aggregates stay exact; engines fail and nothing is lost."""
+
+from __future__ import annotations
+
+import tempfile
+import unittest
+from pathlib import Path
+from typing import Any
+
+import fullercoral as fc
+from fullercoral import errors
+
+from .engines import Broken, Faulty
+
+KINDS = {"sku": str, "quantity": int}
+SMALL = fc.Limits(group=16, int_segments=4, int_size=16, text_segments=4, text_size=1024)
+
+
+class Dumb:
+    """An engine with nothing but put and get."""
+
+    def __init__(self) -> None:
+        self.contents: dict[int, bytes] = {}
+
+    def put(self, number: int, content: bytes) -> None:
+        self.contents[number] = content
+
+    def get(self, number: int) -> bytes:
+        return self.contents[number]
+
+
+def filled(rows: int = 200, **options: Any) -> fc.Table:
+    options.setdefault("limits", SMALL)
+    table = fc.Table(KINDS, **options)
+    table.extend((f"sku{n % 5}", n) for n in range(rows))
+    return table
+
+
+class Aggregates(unittest.TestCase):
+    def test_all_kinds(self) -> None:
+        with fc.Table(KINDS, local="1MB") as table:
+            sold = table.watch(fc.totals("quantity", by="sku", where=[("quantity", ">", 0)]))
+            best = table.watch(fc.extrema("quantity", by="sku"))
+            plain, ends = table.watch(fc.totals("quantity")), table.watch(fc.extrema("quantity"))
+            by_number = table.watch(fc.totals("quantity", by="quantity"))
+            self.assertEqual((plain.value, ends.value, ends.min), (fc.Total(0, 0), None, None))
+            self.assertEqual((len(sold), sold.items(), "bread" in sold), (0, [], False))
+            table.extend([("bread", 5), ("rye", 3), ("bread", -2), (None, 9), ("oat", None)])
+            self.assertEqual(sold["bread"], fc.Total(1, 5))
+            self.assertEqual(sold.items(), [("bread", (1, 5)), ("rye", (1, 3))])
+            self.assertEqual(best["bread"], fc.MinMax(-2, 5))
+            self.assertEqual((plain.count, plain.sum, ends.min, ends.max), (4, 15, -2, 9))
+            self.assertEqual(by_number.keys(), [-2, 3, 5, 9])
+            self.assertEqual(
+                (by_number[-2], by_number.get(7), by_number.get(7, 0)), ((1, -2), None, 0)
+            )
+            self.assertEqual((list(sold), sold.values()), (["bread", "rye"], [(1, 5), (1, 3)]))
+            self.assertNotIn(5, sold)
+            with self.assertRaises(KeyError):
+                sold["oat"]
+            for wrong in (lambda: plain["x"], lambda: sold.value, lambda: sold.sum):
+                with self.assertRaises(errors.Nothing):
+                    wrong()
+            with self.assertRaises(AttributeError):
+                plain.min
+
+    def test_sums_are_exact_beyond_64_bits(self) -> None:
+        with fc.Table({"n": int}, local="1MB") as table:
+            total = table.watch(fc.totals("n"))
+            keyed = table.watch(fc.totals("n", by="n"))
+            for value in (2**63 - 1, -(2**63)):
+                table.extend_columns(n=[value] * 3)
+                self.assertEqual(keyed[value], fc.Total(3, 3 * value))
+            self.assertEqual(total.sum, -3)
+
+    def test_tests_of_rows(self) -> None:
+        with fc.Table(KINDS, local="1MB") as table:
+            table.extend([("bread", 5), ("rye", 3), ("brioche", 4), (None, 5), ("", None)])
+            for where, due in (
+                ([("sku", "==", "bread")], 5),
+                ([("sku", "^=", "br")], 9),
+                ([("sku", "^=", "")], 12),
+                ([("quantity", "!=", 5)], 7),
+                ([("quantity", ">=", 4), ("quantity", "<", 5)], 4),
+                ([("quantity", "<=", 3), ("sku", "==", "bread")], 0),
+            ):
+                with self.subTest(where=where):
+                    self.assertEqual(table.watch(fc.totals("quantity", where=where)).sum, due)
+            for where in ([("sku", "<", "a")], [("quantity", "^=", 5)], [("quantity", "~", 5)]):
+                with self.assertRaises(errors.BadArgument):
+                    table.watch(fc.totals("quantity", where=where))
+            for where in (
+                [("sku", "==", 5)],
+                [("quantity", ">", "5")],
+                [("quantity", ">", 2**63)],
+            ):
+                with self.assertRaises(errors.WrongKind):
+                    table.watch(fc.totals("quantity", where=where))
+            with self.assertRaises(errors.BadSpec):
+                fc.totals("quantity", where=[("quantity", ">", 0)] * 5)
+            with self.assertRaises(errors.BadSpec):
+                fc.totals("quantity", where=("quantity", ">", 0))  # type: ignore[arg-type]
+
+    def test_at_most_32_and_numbers_are_used_again(self) -> None:
+        with fc.Table(KINDS, local="1MB") as table:
+            watched = [table.watch(fc.totals("quantity")) for _ in range(32)]
+            with self.assertRaises(errors.TooManyAggregates):
+                table.watch(fc.totals("quantity"))
+            watched[3].unwatch()
+            with self.assertRaises(errors.NoAggregate):
+                watched[3].value
+            self.assertEqual(table.watch(fc.totals("quantity")).number, 3)
+            self.assertEqual(len(table.watched), 32)
+
+    def test_reprs(self) -> None:
+        with filled(40) as table:
+            sold = table.watch(fc.totals("quantity", by="sku"))
+            self.assertIn("3 row groups pending", repr(sold))
+            self.assertEqual(sold.pending, 3)
+            sold.items()
+            self.assertEqual(sold.pending, 0)
+            self.assertIn("'sku0': Total(count=8, sum=140)", repr(sold))
+            ends = table.watch(fc.extrema("quantity"))
+            self.assertEqual(ends.value, (0, 39))
+            self.assertEqual(repr(ends), "<extrema('quantity'): MinMax(min=0, max=39)>")
+
+
+class ByPolicy(unittest.TestCase):
+    def test_a_table_larger_than_local_memory_just_works(self) -> None:
+        with filled(2000) as table:
+            sold = table.watch(fc.totals("quantity", by="sku"))
+            due = {f"sku{k}": fc.Total(400, sum(range(k, 2000, 5))) for k in range(5)}
+            self.assertEqual(sold.to_dict(), due)
+            self.assertEqual(table["quantity"].to_list(), list(range(2000)))
+            self.assertEqual(table.recount(sold), due)
+            for place in range(0, 2000, 50):
+                table.set(place, "quantity", table[place].quantity + 1)
+                table.set(place, "sku", "sku0")
+            self.assertEqual(sold["sku0"].sum, due["sku0"].sum + 40)
+            moved = table.stats().moved
+            self.assertGreater(moved.prefetches, 0)
+            self.assertGreater(moved.offloads, 0)
+            self.assertEqual(table.stats().faults, 0)
+
+    def test_answers_need_no_fetch(self) -> None:
+        with filled(64) as table:
+            sold = table.watch(fc.totals("quantity"))
+            self.assertEqual(sold.sum, sum(range(64)))
+            table.evict()
+            fetches = table.stats().moved.fetches
+            self.assertEqual(sold.sum, sum(range(64)))
+            later = table.watch(fc.extrema("quantity"))
+            self.assertEqual(later.value, (0, 63))
+            self.assertEqual(table.stats().moved.fetches, fetches)
+            self.assertEqual(table.stats().away, 8)
+
+    def test_a_region_that_is_too_small_for_one_row(self) -> None:
+        limits = fc.Limits(group=16, int_segments=1, int_size=16, text_segments=1, text_size=64)
+        with fc.Table({"a": int, "b": int}, limits=limits) as table:
+            with self.assertRaises(errors.RegionFull):
+                table.append((1, 2))
+            self.assertEqual(len(table), 0)
+
+    def test_texts_of_a_row_group_that_fit_no_segment(self) -> None:
+        with fc.Table(KINDS, limits=SMALL) as table, self.assertRaises(errors.ChunkFull) as caught:
+            table.append(("x" * 2000, 1))
+        self.assertIn("group=", str(caught.exception))
+
+    def test_numbers_of_contents_are_used_up(self) -> None:
+        engine = Dumb()
+        with filled(100, far=engine, contents=20) as table:
+            for round_ in range(20):
+                table.evict()
+                for place in range(0, 100, 16):
+                    table.set(place, "quantity", round_)
+            self.assertEqual([row.quantity for row in table[1:16]], [*range(1, 16)])
+            self.assertEqual([table[place].quantity for place in range(0, 100, 16)], [19] * 7)
+            self.assertGreater(max(engine.contents), 20)
+
+
+class ByHand(unittest.TestCase):
+    def test_nothing_moves_without_a_policy(self) -> None:
+        with filled(32, policy=None) as table:
+            self.assertEqual(table.evict("quantity", 0), 1)
+            with self.assertRaises(errors.Absent) as caught:
+                table.set(3, "sku", "x")
+            self.assertEqual((caught.exception.column, caught.exception.group), ("quantity", 0))
+            self.assertIn("column quantity is away in row group 0", str(caught.exception))
+            for call in (lambda: table[3], lambda: table["quantity"][0:20], lambda: list(table)):
+                with self.assertRaises(errors.Absent):
+                    call()
+            self.assertEqual(table["sku"][0:2], ["sku0", "sku1"])
+            sold = table.watch(fc.totals("quantity"))
+            with self.assertRaises(errors.Building):
+                sold.value
+            with self.assertRaises(errors.Absent):
+                table.recount(sold)
+            table.build(sold)
+            self.assertEqual(sold.sum, sum(range(32)))
+            self.assertEqual(table.fetch("quantity", 0), 1)
+            self.assertEqual(table[3], ("sku3", 3))
+            with self.assertRaises(errors.StaleJob):
+                table.fetch("quantity", 0)
+            with self.assertRaises(errors.RegionFull):
+                table.extend(("x", n) for n in range(100))
+
+    def test_pins(self) -> None:
+        with filled(32) as table:
+            with table.pin("quantity", 0) as pin:
+                with self.assertRaises(errors.Pinned):
+                    table.evict("quantity", 0)
+                self.assertEqual(table.evict(), 3)
+                self.assertEqual(table.map().counts()["pinned"], 1)
+            pin.unpin()
+            self.assertEqual(table.evict(), 1)
+            with table.pin("sku", 1):
+                self.assertEqual(table.map().states[0], ("away", "pinned"))
+
+    def test_columns_and_all_of_the_table(self) -> None:
+        with filled(48) as table:
+            self.assertEqual((table.evict("sku"), table.evict(), table.evict()), (3, 3, 0))
+            self.assertEqual((table.fetch("quantity"), table.stats().away), (3, 3))
+            self.assertEqual(table.fetch(), 3)
+            self.assertEqual(table.map().counts(), {"dirty": 0, "clean": 6, "away": 0, "pinned": 0})
+
+    def test_move_to(self) -> None:
+        old = fc.Memory()
+        with filled(64, far=old) as table:
+            sold = table.watch(fc.totals("quantity"))
+            table.evict()
+            new = Dumb()
+            table.move_to(new)
+            self.assertEqual((len(old), len(new.contents)), (0, 8))
+            self.assertEqual((sold.sum, table[63]), (sum(range(64)), ("sku3", 63)))
+            table.evict()
+            self.assertEqual(list(table["quantity"]), list(range(64)))
+            table.move_to(new)
+            with filled(1, far=old) as other:
+                other.evict()
+
+    def test_a_move_that_fails_leaves_all_as_it_was(self) -> None:
+        with filled(64) as table:
+            table.evict()
+            before = table.engine
+            with self.assertRaises(fc.EngineError) as caught:
+                table.move_to(Faulty(1, 1.0))
+            self.assertIsInstance(caught.exception.__cause__, Broken)
+            self.assertIs(table.engine, before)
+            self.assertEqual(list(table["quantity"]), list(range(64)))
+
+
+class Engines(unittest.TestCase):
+    def test_an_engine_that_fails_and_comes_back(self) -> None:
+        engine = Faulty(7, 1.0)
+        with filled(32, far=engine) as table:
+            sold = table.watch(fc.totals("quantity"))
+            with self.assertRaises(fc.EngineError) as caught:
+                table.evict("quantity", 0)
+            self.assertIsInstance(caught.exception.__cause__, Broken)
+            self.assertEqual((caught.exception.number, caught.exception.name), (21, "FarFault"))
+            self.assertEqual((table.stats().away, table.stats().faults), (0, 1))
+            self.assertEqual(sold.sum, sum(range(32)))
+            engine.chance = 0
+            table.evict()
+            self.assertEqual(list(table["quantity"]), list(range(32)))
+
+    def test_whatever_comes_back_instead_is_refused(self) -> None:
+        engine = Dumb()
+        with filled(16, far=engine, policy=None) as table:
+            table.evict("quantity", 0)
+            table.fetch("quantity", 0)
+            table.set(0, "quantity", 77)
+            table.evict()
+            right = dict(engine.contents)
+            number = max(right, key=lambda n: (len(right[n]) > 130, n))
+            others = [content for n, content in right.items() if n != number]
+            changed = right[number]
+            lies = [b"", changed[:-1], changed + b"\0", *others]
+            lies += [
+                bytes([byte ^ 1 << bit if at == i else byte for i, byte in enumerate(changed)])
+                for at in range(0, len(changed), 17)
+                for bit in (0, 7)
+            ]
+            for lie in lies:
+                engine.contents[number] = lie
+                with self.assertRaises(fc.FarFault):
+                    table.fetch("quantity", 0)
+                self.assertEqual(table.stats().away, 2)
+            engine.contents = right
+            table.fetch()
+            self.assertEqual(list(table["quantity"]), [77, *range(1, 16)])
+            self.assertEqual(table.stats().faults, len(lies))
+
+    def test_an_engine_that_returns_no_bytes(self) -> None:
+        engine = Dumb()
+        with filled(16, far=engine) as table:
+            table.evict()
+            right = dict(engine.contents)
+            for wrong in (None, 5, [1, 2]):
+                engine.contents = dict.fromkeys(right, wrong)  # type: ignore[arg-type]
+                with self.assertRaises(fc.FarFault):
+                    table[0]
+            engine.contents = {n: memoryview(right[n]) for n in right}  # type: ignore[misc]
+            self.assertEqual(table[0], ("sku0", 0))
+
+    def test_files(self) -> None:
+        with tempfile.TemporaryDirectory() as folder:
+            path = Path(folder, "orders.far")
+            engine = fc.Files(path)
+            self.assertFalse(path.exists())
+            with filled(1000, far=engine) as table:
+                self.assertTrue(path.exists())
+                self.assertEqual(list(table["quantity"]), list(range(1000)))
+                for round_ in range(5):
+                    for place in range(0, 1000, 16):
+                        table.set(place, "quantity", round_)
+                    size = engine.size
+                self.assertEqual(table[16], ("sku1", 4))
+                table.evict()
+                self.assertLess(engine.size, 2 * size)
+            self.assertFalse(path.exists())
+
+    def test_a_file_of_someone_else_is_left_alone(self) -> None:
+        with tempfile.TemporaryDirectory() as folder:
+            path = Path(folder, "orders.csv")
+            path.write_text("sku,quantity\n")
+            with filled(16, far=fc.Files(path)) as table:
+                with self.assertRaisesRegex(fc.EngineError, "FileExistsError"):
+                    table.evict()
+                self.assertEqual(table[0], ("sku0", 0))
+            self.assertEqual(path.read_text(), "sku,quantity\n")
+            path.write_bytes(fc.Files.MARK + b"what a process left that was killed")
+            with filled(16, far=fc.Files(path)) as table:
+                table.evict()
+                with filled(16, far=fc.Files(path)) as other:
+                    with self.assertRaisesRegex(fc.EngineError, "in use by another table"):
+                        other.evict()
+                self.assertEqual(table[0], ("sku0", 0))
+
+    def test_files_of_themselves(self) -> None:
+        with tempfile.TemporaryDirectory() as folder:
+            engine = fc.Files(Path(folder, "x.far"))
+            contents = {n: bytes([n]) * (n + 1) for n in range(50)}
+            for number, content in contents.items():
+                engine.put(number, content)
+            self.assertEqual({n: engine.get(n) for n in contents}, contents)
+            engine.discard(7)
+            for number in (7, 50, 10**6):
+                with self.assertRaises(KeyError):
+                    engine.get(number)
+            size = engine.size
+            engine.put(60, b"8 bytes!")
+            self.assertEqual((engine.get(60), engine.size), (b"8 bytes!", size))
+            self.assertEqual(repr(engine), f"Files({str(engine.path)!r})")
+            engine.close()
+
+    def test_protocol(self) -> None:
+        for engine in (Dumb(), fc.Memory(), fc.Files("x"), fc.Redis(None), fc.S3(None, "b")):
+            self.assertIsInstance(engine, fc.Engine)
+
+
+if __name__ == "__main__":
+    unittest.main()

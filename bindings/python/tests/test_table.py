@@ -1,0 +1,249 @@
+"""The table: rows, cells, columns, and what is refused."""
+
+from __future__ import annotations
+
+import gc
+import pickle
+import threading
+import unittest
+from typing import Any
+
+import fullercoral as fc
+from fullercoral import errors
+
+COLUMNS = {"sku": str, "quantity": int}
+
+
+class Case(unittest.TestCase):
+    def setUp(self) -> None:
+        self.table = fc.Table(COLUMNS, local="1MB")
+        self.addCleanup(self.table.close)
+
+
+class Rows(Case):
+    def test_a_row_is_read_as_it_was_appended(self) -> None:
+        table = self.table
+        self.assertEqual(table.append(("bread", 5)), 0)
+        self.assertEqual(table.append(["", -(2**63)]), 1)
+        self.assertEqual(table.append({"quantity": 2**63 - 1, "sku": "日本"}), 2)
+        self.assertEqual(table[0], ("bread", 5))
+        self.assertEqual((table[1].sku, table[-1].quantity), ("", 2**63 - 1))
+        self.assertEqual(repr(table[0]), "Row(sku='bread', quantity=5)")
+
+    def test_missing_cells(self) -> None:
+        table = self.table
+        table.extend([(None, None), ("bread", fc.NA), (fc.NA, 5)])
+        self.assertEqual(list(table), [(None, None), ("bread", None), (None, 5)])
+        table.set(0, "sku", "rye")
+        table.set(2, "quantity", None)
+        table.append(("oat", 1))
+        self.assertEqual(list(table), [("rye", None), ("bread", None), (None, None), ("oat", 1)])
+
+    def test_texts_of_every_kind(self) -> None:
+        texts = ["", "\0", "a\0b", "é", "日本語", "👩‍🍳", "x" * 4096, "\n", '"']
+        self.table.extend((text, at) for at, text in enumerate(texts))
+        self.assertEqual(self.table["sku"][:], texts)
+        self.assertEqual([row.sku for row in self.table], texts)
+        for place, text in enumerate(reversed(texts)):
+            self.table.set(place, "sku", text)
+        self.assertEqual(self.table["sku"][:], texts[::-1])
+
+    def test_removed_rows_keep_their_places(self) -> None:
+        table = self.table
+        table.extend([("bread", 5), ("rye", 3), ("oat", 1)])
+        del table[1]
+        self.assertEqual((len(table), table.places), (2, 3))
+        self.assertEqual(list(table), [("bread", 5), ("oat", 1)])
+        self.assertEqual(table["quantity"].to_list(), [5, None, 1])
+        self.assertEqual(list(table["quantity"]), [5, 1])
+        self.assertEqual([table.is_alive(place) for place in range(3)], [True, False, True])
+        for refused in (
+            lambda: table[1],
+            lambda: table.set(1, "sku", "x"),
+            lambda: table.remove(1),
+        ):
+            with self.assertRaises(errors.RemovedRow):
+                refused()
+        self.assertEqual(table.append(("cake", 9)), 3)
+
+    def test_negative_places_and_slices(self) -> None:
+        table = self.table
+        table.extend((f"sku{n}", n) for n in range(10))
+        table.set(-1, "quantity", 90)
+        table.remove(-2)
+        self.assertEqual(table[-1], ("sku9", 90))
+        self.assertEqual(table["quantity"][-1], 90)
+        self.assertEqual(table[7:], [("sku7", 7), ("sku9", 90)])
+        self.assertEqual(table["sku"][2:5], ["sku2", "sku3", "sku4"])
+        self.assertEqual(table["sku"][5:2], [])
+        self.assertEqual(table["sku"][4:1:-1], ["sku4", "sku3", "sku2"])
+        self.assertEqual(table["sku"][::4], ["sku0", "sku4", None])
+        self.assertEqual(table["sku"][100:200], [])
+        for place in (10, -11, 2**40):
+            with self.assertRaises(IndexError):
+                table[place]
+            with self.assertRaises(IndexError):
+                table["quantity"][place]
+
+    def test_batches(self) -> None:
+        table = self.table
+        table.extend((f"sku{n}", n) for n in range(1000))
+        for place in range(0, 1000, 2):
+            table.remove(place)
+        batches = list(table.batches(300))
+        self.assertEqual([len(batch.places) for batch in batches], [150, 150, 150, 50])
+        self.assertEqual(sum(sum(batch["quantity"]) for batch in batches), sum(range(1, 1000, 2)))
+        self.assertEqual(list(batches[0].rows())[0], ("sku1", 1))
+        self.assertEqual(table.head(2), [("sku1", 1), ("sku3", 3)])
+        self.assertEqual(table.tail(2), [("sku997", 997), ("sku999", 999)])
+
+    def test_extend_counts_what_went_in_before_a_refusal(self) -> None:
+        table = self.table
+        with self.assertRaises(errors.TextTooLong) as caught:
+            table.extend([("bread", 5), ("rye", 3), ("x" * 4097, 1), ("oat", 1)])
+        self.assertEqual((caught.exception.inserted, len(table)), (2, 2))
+        with self.assertRaises(errors.RowWidth) as width:
+            table.extend([("bread", 5), ("rye",)])
+        self.assertEqual((width.exception.inserted, len(table)), (1, 3))
+        with self.assertRaises(errors.WrongKind):
+            table.extend([("bread", 5), ("rye", "x")])
+        self.assertEqual(len(table), 3)
+        self.assertEqual(table.extend([]), range(3, 3))
+        self.assertEqual(table.extend(iter([("cake", 1)])), range(3, 4))
+
+
+class Refusals(Case):
+    def refused(self, kind: type[Exception], said: str, call: Any) -> None:
+        with self.subTest(said=said), self.assertRaises(kind) as caught:
+            call()
+        self.assertIn(said, str(caught.exception))
+
+    def test_each_names_what_is_the_matter(self) -> None:
+        table = self.table
+        table.append(("bread", 5))
+        self.refused(
+            errors.NoColumn,
+            "no column 'prize'; there are sku, quantity [4]",
+            lambda: table.set(0, "prize", 1),
+        )
+        self.refused(errors.NoColumn, "no column 'prize'", lambda: table["prize"])
+        self.refused(
+            errors.WrongKind,
+            "column sku has texts, and 5 is none [5]",
+            lambda: table.set(0, "sku", 5),
+        )
+        self.refused(
+            errors.WrongKind,
+            "quantity has whole numbers of 64 bits, and 'x' is none",
+            lambda: table.append(("bread", "x")),
+        )
+        self.refused(errors.WrongKind, "1.5", lambda: table.set(0, "quantity", 1.5))
+        self.refused(errors.WrongKind, "is none", lambda: table.set(0, "quantity", 2**63))
+        self.refused(errors.WrongKind, "is none", lambda: table.append((b"bread", 1)))
+        self.refused(errors.RowWidth, "3 cells, and the table 2", lambda: table.append((1, 2, 3)))
+        self.refused(errors.RowWidth, "no value of sku", lambda: table.append({"quantity": 1}))
+        self.refused(errors.NoColumn, "prize", lambda: table.append({"prize": 1}))
+        self.refused(errors.TextTooLong, "4,096", lambda: table.set(0, "sku", "x" * 4097))
+        self.refused(errors.NoUtf8, "surrogate", lambda: table.set(0, "sku", "\ud800"))
+        self.refused(errors.NoUtf8, "surrogate", lambda: table.append(("\udfff", 1)))
+        self.refused(errors.NoRow, "no place 7; the last one is 0 [8]", lambda: table[7])
+        self.refused(errors.OutOfRange, "[14]", lambda: table.evict("sku", 1))
+        self.refused(errors.StaleJob, "[20]", lambda: table.fetch("sku", 0))
+        self.assertEqual(list(table), [("bread", 5)])
+        table.set(0, "quantity", 6)
+        self.assertEqual(list(table), [("bread", 6)])
+
+    def test_they_are_pythons_exceptions_too(self) -> None:
+        kinds = {
+            errors.NoColumn: KeyError,
+            errors.WrongKind: TypeError,
+            errors.NoRow: IndexError,
+            errors.NoMemory: MemoryError,
+            errors.FarFault: OSError,
+            errors.RowWidth: ValueError,
+            errors.EngineError: errors.FarFault,
+        }
+        for kind, built_in in kinds.items():
+            self.assertTrue(issubclass(kind, built_in) and issubclass(kind, fc.Refused))
+
+    def test_they_can_be_pickled(self) -> None:
+        error = errors.Absent(column="sku", group=3)
+        again = pickle.loads(pickle.dumps(error))
+        self.assertEqual((str(again), again.group), (str(error), 3))
+
+    def test_schemas(self) -> None:
+        for columns, said in (
+            ({}, "1 to 16 columns"),
+            ({f"c{n}": int for n in range(17)}, "not 17"),
+            ({"a": float}, "column 'a' is to hold float"),
+            ({"": int}, "not empty"),
+            ([("a", int), ("a", str)], "two columns are named 'a'"),
+        ):
+            self.refused(errors.BadSchema, said, lambda: fc.Table(columns))  # noqa: B023
+        self.refused(
+            errors.BadSchema, "no amount of memory", lambda: fc.Table(COLUMNS, local="much")
+        )
+        self.refused(errors.BadSchema, "group is 1 to 65,536", lambda: fc.Table(COLUMNS, group=0))
+
+    def test_a_closed_table(self) -> None:
+        table = self.table
+        sold = table.watch(fc.totals("quantity"))
+        table.append(("bread", 5))
+        table.close()
+        table.close()
+        self.assertTrue(table.closed)
+        for call in (
+            lambda: table.append(("rye", 1)),
+            lambda: table[0],
+            lambda: table.set(0, "sku", "x"),
+            lambda: table["sku"][0:1],
+            lambda: table.watch(fc.totals("quantity")),
+            lambda: table.evict(),
+            lambda: table.stats(),
+            lambda: sold.value,
+            table.__enter__,
+        ):
+            with self.assertRaises(errors.Closed):
+                call()
+        self.assertIn("closed", repr(table))
+        self.assertIn("not watched", repr(sold))
+        self.assertIn("closed", table._repr_html_())
+
+
+class Life(unittest.TestCase):
+    def test_a_table_that_is_dropped_frees_its_engine(self) -> None:
+        engine = fc.Memory()
+        table = fc.Table(COLUMNS, far=engine)
+        with self.assertRaisesRegex(errors.BadArgument, "the engine of another table"):
+            fc.Table(COLUMNS, far=engine)
+        del table
+        gc.collect()
+        fc.Table(COLUMNS, far=engine).close()
+
+    def test_no_engine(self) -> None:
+        with self.assertRaisesRegex(TypeError, "no engine"):
+            fc.Table(COLUMNS, far=object())  # type: ignore[arg-type]
+
+    def test_threads_share_a_table(self) -> None:
+        with fc.Table(COLUMNS, local="64KB") as table:
+            sold = table.watch(fc.totals("quantity", by="sku"))
+
+            def work(name: str) -> None:
+                for number in range(500):
+                    place = table.append((name, number))
+                    table.set(place, "quantity", number + 1)
+                    if number % 50 == 0:
+                        self.assertGreater(sold[name].count, 0)
+                        table.evict()
+
+            threads = [threading.Thread(target=work, args=(f"t{n}",)) for n in range(4)]
+            for thread in threads:
+                thread.start()
+            for thread in threads:
+                thread.join()
+            due = fc.Total(500, sum(range(1, 501)))
+            self.assertEqual(sold.to_dict(), {f"t{n}": due for n in range(4)})
+
+
+if __name__ == "__main__":
+    unittest.main()
