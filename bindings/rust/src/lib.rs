@@ -28,7 +28,7 @@
 //! The table itself is a static library whose code is proved, for all inputs, to do what its contracts
 //! say: each answer is the fold over the rows as they are, whichever objects are away; a refused call
 //! changes no row, no answer and no object. What an engine returns is compared with the length and the
-//! SHA-256 of what was put. One premise is left: no two contents that meet have the same SHA-256.
+//! digest of what was put, by SHA-256. One premise is left: no two contents that meet have one digest.
 //!
 //! This crate is the thin layer in front of it, ordinary Rust that is tested and not proved. It moves
 //! bytes between the library and the engine, decides when to move what, and turns codes into errors. A

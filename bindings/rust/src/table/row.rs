@@ -48,10 +48,9 @@ impl<'t> Row<'t> {
     #[must_use]
     pub fn get(&self, column: impl ColumnRef) -> Option<Cell<'t>> {
         let column = column.index_in(self.schema).ok()?;
+        let cell = self.cells.get(column as usize)?;
         // SAFETY: rule 3, by `new`.
-        self.cells
-            .get(column as usize)
-            .map(|cell| unsafe { Cell::of_raw(cell) })
+        Some(unsafe { Cell::of_raw(cell) })
     }
 
     /// The cells, in the order of the columns.
