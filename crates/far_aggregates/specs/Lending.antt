@@ -8,7 +8,7 @@ use Rattle.far_types.specs.Cells.{cells_of}
 use Rattle.far_types.specs.Table.{Place, Registered}
 use Rattle.far_offload.specs.Columns.{cell_of}
 
--- a column whose first cells are those of these places. Others may stand behind them
+-- a column whose first cells are those of these places. Others may follow
 abbrev pub IsOfPlaces : List Place → ℕ × List Cell → Type 0
 IsOfPlaces here column = (i : ℕ) (place : Place) → slice_get here i ≡ Some place → Some (cell_of i column) ≡ cells_of place.cells column.0
 
@@ -17,7 +17,7 @@ abbrev pub IsLent : List Place → ℕ → Option ℕ → ℕ × List Cell → T
 IsLent here other None column = column.0 ≡ other
 IsLent here other (Some number) column = (column.0 ≡ number) × IsOfPlaces here column
 
--- an aggregate of at most 4 tests, as a table registers it, and all columns that it needs are at hand
+-- an aggregate of at most 4 tests, as a table registers it, and all columns that it needs are available
 pub record IsServed (has : ℕ → Bool) (spec : Spec) : Type 0 where
   pub tests : length spec.filter ≤ 4
   pub at_hand : (c : ℕ) → needs spec c ≡ true → has c ≡ true

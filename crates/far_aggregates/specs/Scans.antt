@@ -39,6 +39,6 @@ abbrev pub AccumulatorMayScan : Spec → ℕ → List Place → Accumulator → 
 AccumulatorMayScan spec g here (accumulator.Totals live) = (live.left ≡ 0 → ⊥) × CanJoin live.totals (totals (pairs_here spec here))
 AccumulatorMayScan spec g here (accumulator.Extrema live) = (live.left ≡ 0 → ⊥) × (group_at live.groups g ≡ fin.empty)
 
--- what is kept is that of some places, which are few, and those of the row group are these
+-- the registry is up to date for a table of at most 2^24 rows in which this row group has these rows
 abbrev pub EntryMayScan : ℕ → ℕ → List Place → RegistryEntry → Type 0
 EntryMayScan size g here entry = (places : List Place) × (here ≡ in_group size g places) × (length places ≤ 2 ^ 24) × KeepsEntry size places entry

@@ -36,19 +36,6 @@ use std::marker::Model;
 /// 3. The pairs of the old row are retracted, which cannot fail.
 ///
 /// Contracts see the registry entry of each number that was ever used.
-///
-/// ```
-/// let pending = self
-///     .aggregates
-///     .apply_deltas(self.alloc, &self.rows.new_row_ref(), size, place)?;
-/// if let Err(refusal) = self.rows.push(self.alloc) {
-///     // The rows are as before, and now the aggregates are too.
-///     self.aggregates.undo(pending);
-///     return Err(refusal);
-/// }
-/// self.aggregates.end(pending);
-/// Ok(place as u32)
-/// ```
 #[derive(Drop)]
 pub struct Aggregates {
     registry: Vec<Option<Aggregate>>,

@@ -10,8 +10,8 @@ use far_types::{Answer, Key, Refusal};
 use std::alloc::Global;
 use std::marker::Model;
 
-/// Live extrema. For an aggregate without key column they note, for the first row groups, the min-max under no key. So it needs
-/// no look-up. Contracts see what they see of the live extrema.
+/// Live extrema with a cache: for an aggregate without key column, the min-max under no key of the first row groups, which then needs no
+/// look-up. Contracts see the model of `LiveExtrema`; the cache is invisible.
 #[derive(Drop)]
 pub struct KnownExtrema {
     live: LiveExtrema,
@@ -41,8 +41,7 @@ fn make_place(plain: &mut Vec<Option<MinMax>>, group: usize)
     }
 }
 
-/// Notes the min-max under no key in a row group, or that it is not known. If the list has no place for it, nothing is noted,
-/// nor behind the row group after the last. Allocates nothing.
+/// Caches the min-max under no key of a row group, or that it is not known. Ignores row groups past the end of the cache. Allocates nothing.
 fn note(plain: &mut Vec<Option<MinMax>>, group: usize, min_max: Option<MinMax>)
     ensures { IsNoted plain.old.items group min_max plain.new.items }
 {

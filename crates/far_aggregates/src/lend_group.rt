@@ -5,30 +5,16 @@ ghost use Rattle.far_aggregates.specs.Lending.{IsOfPlaces};
 
 use far_offload::Column;
 
-/// What has columns of one row group at hand, wherever they lie. Aggregates scan what it lends, and extrema shrink by it.
-///
-/// ```
-/// fn column(&self, number: u32) -> Option<Column<'_>> {
-///     match self.columns.get(number as usize)? {
-///         Some(LentColumn::Numbers(numbers)) => Some(Column::of_numbers(number, numbers)),
-///         Some(LentColumn::Form(form)) => Some(Column::of_form(number, form)),
-///         None => None,
-///     }
-/// }
-///
-/// fn alive(&self) -> &[bool] {
-///     self.alive
-/// }
-/// ```
+/// A row group whose columns can be read, from memory or from a far copy.
 pub trait LendGroup {
     /// The places of the row group, in order.
     ghost places: { Self → List Place };
 
-    /// Whether the column of a number is at hand.
+    /// Whether the column of a number is available.
     ghost has: { Self → ℕ → Bool };
 
-    /// Returns the column of a number, read in place, or `None` if it is not at hand. Its first cells are those of the places;
-    /// others may stand behind them. Allocates nothing.
+    /// Returns the column of a number, read in place, or `None` if it is not available. Its first cells are those of the places;
+    /// others may follow. Allocates nothing.
     fn column(&self, number: u32) -> Option<Column<'_>>
         ensures there { has self.now number ≡ true → IsSome result }
         ensures number { IfSome result (λ column. column.0 ≡ number) }

@@ -1,6 +1,6 @@
 #![tactic(auto)]
 //! What a table keeps for its aggregates, up to date under every edit. It knows neither how rows are kept nor where their
-//! columns lie. An edit brings its row. Whatever has the columns of a row group at hand lends them.
+//! columns lie. An edit brings its row. Whatever has the columns of a row group lends them.
 
 mod aggregate;
 pub mod aggregates;

@@ -18,7 +18,7 @@ fn test_column(spec: &Spec, test: usize) -> Option<u32>
     }
 }
 
-/// Returns the column of a number, which the row group has at hand. If no number is asked for, it returns a column without a
+/// Returns the column of a number, which the row group has. If no number is asked for, it returns a column without a
 /// value, which has the number `other`.
 fn lent<'a, G: LendGroup>(group: &'a G, number: Option<u32>, other: u32) -> Column<'a>
     requires { IfSome number (λ n. G.has group.now n ≡ true) }

@@ -7,13 +7,6 @@ use std::alloc::Global;
 
 /// The deltas that an edit applied, and the pairs to retract once the rows are changed. If the rows refuse the edit, give this
 /// to `Aggregates::undo`. If they changed, give it to `Aggregates::retract`.
-///
-/// ```
-/// if !aggregates.needs_rows(&pending) {
-///     aggregates.retract_totals(pending);
-///     return;
-/// }
-/// ```
 #[derive(Drop)]
 pub struct Pending {
     pub(crate) group: u32,

@@ -1,6 +1,6 @@
 // Tables of cases, and answers that are due.
 //
-// A test hands them on and has no way out of its own. What is made for a case goes to these functions as it is, refused or not: they
+// A test hands them on and has no return of its own. What is made for a case goes to these functions as it is, refused or not: they
 // know it as a type parameter alone.
 use far_types::Refusal;
 use std::alloc::Global;

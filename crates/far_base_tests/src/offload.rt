@@ -1,4 +1,4 @@
-// Tests of far_offload: worked row groups that are folded at hand, and a job that is carried at the second call.
+// Tests of far_offload: worked row groups that are folded from memory, and a job that is carried at the second call.
 mod cases;
 mod folding;
 mod jobs;

@@ -10,7 +10,7 @@ use std::fmt;
 use std::marker::Model;
 use std::sync::atomic::{AtomicUsize, Ordering};
 
-/// A log of bytes in memory, in which each write lies behind the one before. Contracts see the names of its slots, one
+/// A log of bytes in memory, in which each write lies after the one before. Contracts see the names of its slots, one
 /// for each byte that it can hold.
 ///
 /// A write takes its slots in one atomic step and then fills them, so threads share the log with no lock. A write that does

@@ -9,7 +9,7 @@ use Rattle.far_codec.specs.Reading.{count_in, number_of}
 abbrev pub plain_form : List ℤ → List ℕ
 plain_form numbers = ints_form (map Some numbers)
 
--- the numbers behind a head without a mask
+-- the numbers after a head without a mask
 abbrev pub plain_meaning : List ℕ → List ℤ
 plain_meaning bytes = map number_of (first_chunks 8 (count_in bytes) (drop 6 bytes))
 

@@ -9,7 +9,7 @@ use Rattle.far_codec.specs.FarForm.{ints_form, AreInts}
 abbrev pub count_in : List ℕ → ℕ
 count_in bytes = from_le_bytes w32 (drop 2 bytes)
 
--- the mask, which is behind the head if the first byte is 2
+-- the mask, which is after the head if the first byte is 2
 abbrev pub mask_in : List ℕ → List ℕ
 mask_in bytes = cond (slice_index bytes 0 == 2) (take ((count_in bytes + 7) / 8) (drop 6 bytes)) []
 

@@ -73,7 +73,7 @@ pub text_bytes_is : (texts : Texts) → text_bytes texts ≡ length (flat_map by
 text_bytes_is [] = refl
 text_bytes_is (text ∷ texts) = omega (arith, sum_by-cons option_length text texts, one_length text, text_bytes_is texts, length-append (bytes_of text) (flat_map bytes_of texts))
 
--- chunks of one length are read from the front
+-- chunks of one length are read from the beginning
 pub chunks_before : {A : Type 0} (n : ℕ) (f : A → List ℕ) → ((x : A) → length (f x) ≡ n) → (xs : List A) (rest : List ℕ) → first_chunks n (length xs) (flat_map f xs ++ rest) ≡ map f xs
 chunks_before n f len [] rest = refl
 chunks_before n f len (x ∷ xs) rest =

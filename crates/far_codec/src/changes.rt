@@ -32,7 +32,7 @@ fn push_moved(
     Ok(())
 }
 
-/// Appends the ends and the bytes of the texts once text `i` is this one. Copies the rest unchanged, but for the ends behind it.
+/// Appends the ends and the bytes of the texts once text `i` is this one. Copies the rest unchanged, but for the ends after it.
 fn push_fields(
     form: &mut Vec<u8>,
     parts: TextParts<'_>,

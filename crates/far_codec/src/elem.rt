@@ -8,15 +8,6 @@ use std::alloc::Global;
 /// What an object holds: numbers, numbers that may be missing, or the bytes of a far form of texts.
 ///
 /// A list of elements has at most one spelling, which is its encoding as bytes. A spelling reads back.
-///
-/// Elements are read from bytes, and compared with them:
-///
-/// ```
-/// let Some(read) = T::unspell(alloc, bytes)? else {
-///     return Ok(false);
-/// };
-/// let is_same = read.as_slice() == list && T::spells(bytes, list);
-/// ```
 pub trait Elem: Copy + Drop + Send + Sync {
     /// The element is a value of its type, as each element of a running program is.
     ///

@@ -13,15 +13,6 @@ use crate::texts::{TextParts, text_in};
 use std::marker::Model;
 
 /// The numbers of a far form, read in place. Contracts see their list.
-///
-/// The cell of a place in a column of numbers, as an arm of the match over the column's values:
-///
-/// ```
-/// ColumnValues::Ints(numbers) => match numbers.get(place) {
-///     Some(number) => CellRef::Int(number),
-///     None => CellRef::Missing,
-/// },
-/// ```
 #[derive(Drop)]
 pub struct LentInts<'a> {
     mask: &'a [u8],
@@ -63,15 +54,6 @@ impl<'a> LentInts<'a> {
 }
 
 /// The texts of a far form, read in place. Contracts see the list of the lists of their bytes.
-///
-/// The cell of a place in a column of texts, as an arm of the match over the column's values:
-///
-/// ```
-/// ColumnValues::Texts(texts) => match texts.get(place) {
-///     Some(text) => CellRef::Text(text),
-///     None => CellRef::Missing,
-/// },
-/// ```
 #[derive(Drop)]
 pub struct LentTexts<'a> {
     parts: TextParts<'a>,
@@ -108,15 +90,6 @@ impl<'a> LentTexts<'a> {
 }
 
 /// The values of a far form, read in place.
-///
-/// A column of a row group has them by kind:
-///
-/// ```
-/// match values {
-///     LentValues::Ints(numbers) => ColumnValues::Ints(numbers),
-///     LentValues::Texts(texts) => ColumnValues::Texts(texts),
-/// }
-/// ```
 #[derive(Drop)]
 pub enum LentValues<'a> {
     Ints(LentInts<'a>),

@@ -5,15 +5,6 @@ use far_types::Text;
 use std::marker::Model;
 
 /// A list of numbers, each of which may be missing. Contracts see the list.
-///
-/// Whether bytes are the far form of these numbers:
-///
-/// ```
-/// let Some(Values::Ints(list)) = decode(alloc, bytes)? else {
-///     return Ok(false);
-/// };
-/// Ok(list.as_slice() == numbers && ints_length(list.as_slice()) == bytes.len())
-/// ```
 #[derive(Drop, Debug)]
 pub struct IntList {
     numbers: Vec<Option<i64>>,
@@ -51,15 +42,6 @@ impl IntList {
 }
 
 /// A list of texts, each of which may be missing. Contracts see the list of the lists of their bytes.
-///
-/// Whether bytes are a far form of texts, and as long as it has to be:
-///
-/// ```
-/// let Some(Values::Texts(list)) = decode(alloc, bytes)? else {
-///     return Ok(false);
-/// };
-/// Ok(texts_length(list.as_slice()) == bytes.len())
-/// ```
 #[derive(Drop, Debug)]
 pub struct TextList {
     texts: Vec<Option<Text>>,

@@ -11,16 +11,6 @@ use far_types::{Kind, Refusal};
 use std::alloc::Global;
 
 /// The values of a far form, in their order. Each may be missing.
-///
-/// Bytes are decoded, and encoded again:
-///
-/// ```
-/// let (read, form) = match decode(alloc, bytes)? {
-///     Some(Values::Ints(list)) => (Kind::Int, encode_ints(alloc, list.as_slice())),
-///     Some(Values::Texts(list)) => (Kind::Text, encode_texts(alloc, list.as_slice())),
-///     None => return Ok(false),
-/// };
-/// ```
 #[derive(Drop, Debug)]
 pub enum Values {
     Ints(IntList),

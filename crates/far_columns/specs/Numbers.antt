@@ -16,7 +16,7 @@ number_lists content m = list_of ints_meaning content m
 abbrev pub numbers_in : {K : Type 0} → (K → List ℕ) → Movement (Option ℤ) K → Vector (Option ℤ) → Numbers
 numbers_in content m c = elements (number_lists content m) c
 
--- each piece with the flags of its places; the pieces lie one behind the other
+-- each piece with the flags of its places; the pieces lie one after another
 abbrev pub with_flags : List Numbers → List Bool → List (Numbers × List Bool)
 with_flags [] flags = []
 with_flags (piece ∷ pieces) flags = (piece, take (length piece) flags) ∷ with_flags pieces (drop (length piece) flags)

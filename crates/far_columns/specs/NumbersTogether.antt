@@ -34,7 +34,7 @@ abbrev pub after_push_all : ℕ → NumberColumns → NumberColumns
 after_push_all n [] = []
 after_push_all n (c ∷ columns) = after_push c n ∷ after_push_all (n + 1) columns
 
--- the numbers of each column with one more behind them
+-- the numbers of each column with one more after them
 abbrev pub all_numbers_with : NumberLists → NumberColumns → Numbers → List Numbers
 all_numbers_with lists [] numbers = []
 all_numbers_with lists (c ∷ columns) [] = []

@@ -18,7 +18,7 @@ module _ {K : Type 0} where
     pub local : is_local m o ≡ true
     pub unpinned : pins_of m o ≡ 0
 
-  -- the last row group of each column is begun (`IsNewGroup`); the objects are this one and those behind it, to the last of all
+  -- the last row group of each column is begun (`IsNewGroup`); the objects are this one and those after it, to the last of all
   abbrev pub AreBegunFrom : Movement (Option ℤ) K → ℕ → NumberColumns → Type 0
   AreBegunFrom m o [] = o ≡ length m.records
   AreBegunFrom m o (c ∷ columns) = IsNewGroup m o c × AreBegunFrom m (o + 1) columns

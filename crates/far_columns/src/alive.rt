@@ -6,14 +6,6 @@ use std::alloc::Global;
 use std::marker::Model;
 
 /// The alive flags of a table's places, by place. Contracts see their list.
-///
-/// ```
-/// if alive.len() < count {
-///     alive.push()?;
-/// } else if alive.len() > count {
-///     alive.unpush();
-/// }
-/// ```
 #[derive(Drop)]
 pub struct Alive {
     flags: Vec<bool>,

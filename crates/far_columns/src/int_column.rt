@@ -28,13 +28,6 @@ pub use together::{fill_numbers, may_push_numbers, push_numbers, unpush_numbers}
 /// `Objects<Option<i64>, S>` that each call names. Places that are not yet used hold 0.
 ///
 /// Contracts see the column as a vector, whose default value is 0, and its numbers by the lists of its objects.
-///
-/// ```
-/// if objects.count() >= 1 << 28 {
-///     return Err(Refusal::TableFull);
-/// }
-/// column.push(objects, number)
-/// ```
 #[derive(Drop)]
 pub struct IntColumn {
     vector: FarVector<Option<i64>>,

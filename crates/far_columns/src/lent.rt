@@ -9,11 +9,6 @@ use std::marker::Model;
 
 /// The numbers of adjacent places of one row group, each of which may be missing, and the alive flag of each place. Both are
 /// borrowed.
-///
-/// ```
-/// let index = place - from;
-/// let (number, flag) = (piece.values.get(index), piece.alive.get(index));
-/// ```
 #[derive(Drop)]
 pub struct Lent<'a> {
     pub values: &'a [Option<i64>],
@@ -22,15 +17,6 @@ pub struct Lent<'a> {
 
 /// A part of a column, piece by piece: one for each row group that has some of it, with the flags of its places. No piece is
 /// empty.
-///
-/// ```
-/// let mut lents = view.ints(column, from, to)?;
-/// let mut copies = Vec::with_capacity(alloc, lents.len())?;
-/// while let Some(lent) = lents.next() {
-///     copies.push(copy_ints(alloc, &lent)?)?;
-/// }
-/// Ok(copies)
-/// ```
 #[derive(Drop)]
 pub struct Lents<'a, S: FarTickets> {
     pieces: Pieces<'a, Option<i64>, S>,
@@ -51,7 +37,7 @@ impl<'a, S: FarTickets> Model for Lents<'a, S> {
 }
 
 impl<'a, S: FarTickets> Lents<'a, S> {
-    /// Returns pieces with the flags of their places, one piece behind the other.
+    /// Returns pieces with the flags of their places, one piece after the other.
     pub(crate) fn new(pieces: Pieces<'a, Option<i64>, S>, alive: &'a [bool]) -> Lents<'a, S>
         requires { length alive.now ≡ length (flat_map (λ piece. piece) pieces) }
         ensures { result ≡ with_flags pieces.entry alive.now }

@@ -20,15 +20,6 @@ use std::alloc::Global;
 use std::marker::PhantomData;
 
 /// Which object an evacuation takes.
-///
-/// The object that is wanted, if there is one:
-///
-/// ```
-/// let wanted = match want {
-///     Want::Object(o) => Some(o),
-///     Want::Coldest => objects.coldest(),
-/// };
-/// ```
 #[derive(Clone, Copy, Debug, PartialEq, Eq)]
 pub enum Want {
     /// The object with this number.

@@ -12,18 +12,6 @@ use std::alloc::Global;
 use std::marker::{Model, PhantomData};
 
 /// The far form that an evacuation was begun with.
-///
-/// An evacuation takes it of an object:
-///
-/// ```
-/// let form = if objects.word(object).dirty() {
-///     EvacForm::Dirty(FarForm {
-///         bytes: T::spell(alloc, list)?,
-///     })
-/// } else {
-///     EvacForm::Clean(again_of(objects, store, object))
-/// };
-/// ```
 #[derive(Drop)]
 pub enum EvacForm<K> {
     /// The far form of an object that was dirty, to be put into the far store.
@@ -35,20 +23,7 @@ pub enum EvacForm<K> {
 /// An evacuation that was begun: the frame and the object, how often the object had been written and away, and its far form. It borrows
 /// nothing, so any thread can carry it.
 ///
-/// A job is carried. If that is refused, it is kept, to be carried again:
-///
-/// ```
-/// match job.carry(alloc, self.store, &mut Meter::new()) {
-///     Ok(carried) => {
-///         self.carried = Some(carried);
-///         Ok(())
-///     }
-///     Err((refusal, job)) => {
-///         self.evac = Some(job);
-///         Err(refusal)
-///     }
-/// }
-/// ```
+/// A carry that is refused hands the job back, so that it can be carried again.
 ///
 /// That an object with a good far copy is not written again is AIFM's (OSDI 2020, section 5). The phases are this project's own.
 #[derive(Drop)]
@@ -73,15 +48,6 @@ impl<T: Elem, S: FarTickets> Model for EvacJob<T, S> {
 }
 
 /// An evacuation that was carried: the job, and the ticket of its far form in the far store.
-///
-/// The evacuation that was carried last is committed:
-///
-/// ```
-/// match &self.carried {
-///     Some(carried) => commit_unwritten(&mut self.objects, self.store, carried),
-///     None => Err(Refusal::StaleJob),
-/// }
-/// ```
 #[derive(Drop)]
 pub struct Carried<T: Elem, S: FarTickets> {
     pub(crate) job: EvacJob<T, S>,

@@ -2,14 +2,6 @@
 use std::marker::Model;
 
 /// The far form of a list, as a job holds it. Contracts see its bytes.
-///
-/// An evacuation encodes a dirty object:
-///
-/// ```
-/// EvacForm::Dirty(FarForm {
-///     bytes: T::spell(alloc, list)?,
-/// })
-/// ```
 #[derive(Drop)]
 pub struct FarForm {
     pub(crate) bytes: Vec<u8>,

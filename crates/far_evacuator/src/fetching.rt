@@ -9,21 +9,6 @@ use std::marker::Model;
 
 /// A fetch that was begun: the frame and the object, how often the object had been away, and its ticket. It borrows nothing, so any thread
 /// can carry it.
-///
-/// A job is carried. If that is refused, it is kept, to be carried again:
-///
-/// ```
-/// match job.carry(alloc, self.store, &mut Meter::new()) {
-///     Ok(fetched) => {
-///         self.fetched = Some(fetched);
-///         Ok(())
-///     }
-///     Err((refusal, job)) => {
-///         self.fetch = Some(job);
-///         Err(refusal)
-///     }
-/// }
-/// ```
 #[derive(Drop)]
 pub struct FetchJob<S: FarTickets> {
     pub(crate) number: u32,
@@ -41,15 +26,6 @@ impl<S: FarTickets> Model for FetchJob<S> {
 }
 
 /// A fetch that was carried: the job, and the content of its ticket.
-///
-/// The fetch that was carried last is installed:
-///
-/// ```
-/// match &self.fetched {
-///     Some(fetched) => install(alloc, &mut self.objects, self.store, fetched),
-///     None => Err(Refusal::StaleJob),
-/// }
-/// ```
 #[derive(Drop)]
 pub struct Fetched<S: FarTickets> {
     pub(crate) job: FetchJob<S>,

@@ -21,16 +21,6 @@ use std::marker::Model;
 /// Each key has the row groups in which it occurs in runs of at most 64. So a changed min-max costs a look-up by key, a search for the run,
 /// and one in it. The cost of an answer does not depend on the row groups.
 ///
-/// The first row under a key in row group 1 had none before it. Each further row returns the min-max before it:
-///
-/// ```
-/// let first = live.observe_under(1, key, 4)?;
-/// let beyond = live.observe_under(1, key, 9);
-/// let within = live.observe_under(1, key, 5);
-/// let four_to_nine = MinMax { min: 4, max: 9 };
-/// Ok(first.is_none() && beyond == Ok(Some(MinMax::of(4))) && within == Ok(Some(four_to_nine)))
-/// ```
-///
 /// Contracts see how many row groups are pending. For each row group that is reserved, in their order, they see the extrema of its rows.
 #[derive(Drop)]
 pub struct LiveExtrema {

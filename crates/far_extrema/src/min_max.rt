@@ -6,15 +6,6 @@ use std::marker::Model;
 
 /// The least and the greatest of some values.
 ///
-/// A value more, where there may be none yet:
-///
-/// ```
-/// match min_max {
-///     Some(min_max) => min_max.with(value),
-///     None => MinMax::of(value),
-/// }
-/// ```
-///
 /// Contracts see the pair of the two.
 #[derive(Clone, Copy, Debug, PartialEq, Eq)]
 pub struct MinMax {

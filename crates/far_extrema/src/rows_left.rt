@@ -4,20 +4,6 @@ ghost use Rattle.std.specs.Prelude.{◌≡◌, Option, ℤ};
 use super::min_max::MinMax;
 
 /// The rows of a row group that are left under one key once a row is removed. Extrema keep no rows, so a caller that has them reads them.
-///
-/// The rows left under a key, if their min-max is known already:
-///
-/// ```
-/// impl RowsLeft for Left {
-///     ghost at_hand = { λ left. Unit {0} };
-///
-///     ghost extremes = { λ left. left.0 };
-///
-///     fn min_max(&self) -> Option<MinMax> {
-///         self.0
-///     }
-/// }
-/// ```
 pub trait RowsLeft {
     /// Whether the rows can be read.
     ghost at_hand: { Self → Type 0 };

@@ -108,7 +108,7 @@ fn apart_at(
     }
 }
 
-/// Returns what all runs but one are joined to: it is at hand if that run stands apart.
+/// Returns what all runs but one are joined to: it is available if that run stands apart.
 fn others_of(
     apart: &Option<(usize, Option<MinMax>)>,
     firsts: &[u32],

@@ -36,21 +36,38 @@ use std::marker::Model;
 /// A table without rows:
 ///
 /// ```
-/// match schema(alloc, kinds) {
-///     Ok(schema) => Frame::open(alloc, schema, limits, number),
-///     Err(refusal) => Err(refusal),
+/// pub fn frame<S: FarTickets>(
+///     alloc: Global,
+///     kinds: &[Kind],
+///     limits: Limits,
+///     number: u32,
+/// ) -> Result<Frame<S>, Refusal>
+///     ensures { IfOk result (λ frame. (id : List ℕ) → AreAt S.is_of id frame.rows) }
+/// {
+///     match schema(alloc, kinds) {
+///         Ok(schema) => Frame::open(alloc, schema, limits, number),
+///         Err(refusal) => Err(refusal),
+///     }
 /// }
 /// ```
 ///
 /// An insert of a row, which gets the next place:
 ///
 /// ```
-/// match row_of(alloc, number) {
-///     Ok(row) => match frame.insert(row) {
-///         Ok(_) => Ok(()),
+/// pub fn insert<S: FarTickets>(
+///     alloc: Global,
+///     frame: &mut Frame<S>,
+///     number: i64,
+/// ) -> Result<(), Refusal>
+///     ensures { (id : List ℕ) → AreAt S.is_of id frame.old.rows → AreAt S.is_of id frame.new.rows }
+/// {
+///     match row_of(alloc, number) {
+///         Ok(row) => match frame.insert(row) {
+///             Ok(_) => Ok(()),
+///             Err(refusal) => Err(refusal),
+///         },
 ///         Err(refusal) => Err(refusal),
-///     },
-///     Err(refusal) => Err(refusal),
+///     }
 /// }
 /// ```
 #[derive(Drop)]

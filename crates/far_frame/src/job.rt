@@ -12,14 +12,6 @@ use std::alloc::Global;
 use std::marker::Model;
 
 /// What a job does.
-///
-/// ```
-/// match job.kind() {
-///     JobKind::Evac => frame.commit(store, job),
-///     JobKind::Fetch => frame.install(store, job),
-///     JobKind::Offload => frame.merge(store, job),
-/// }
-/// ```
 #[derive(Clone, Copy, Debug, PartialEq, Eq)]
 pub enum JobKind {
     /// It sends an object away.
@@ -31,17 +23,6 @@ pub enum JobKind {
 }
 
 /// The work of a job, by kind and phase. The parameters are the jobs of the crates below.
-///
-/// ```
-/// match &job.work {
-///     JobPhase::Offloaded(carried) => self.table.merge(store, carried),
-///     JobPhase::Offload(_) => Err(Refusal::StaleJob),
-///     JobPhase::Evac(_) => Err(Refusal::StaleJob),
-///     JobPhase::Carried(_) => Err(Refusal::StaleJob),
-///     JobPhase::Fetch(_) => Err(Refusal::StaleJob),
-///     JobPhase::Fetched(_) => Err(Refusal::StaleJob),
-/// }
-/// ```
 #[derive(Drop)]
 pub enum JobPhase<E, C, F, D, B, M> {
     /// A begun evacuation.
@@ -70,35 +51,6 @@ type JobWork<S> = JobPhase<
 
 /// A job of a table. It owns all that it holds, so it borrows no table between its beginning and its end, and any thread can
 /// carry it. Contracts see the name of its object, if it moves one, and its work.
-///
-/// A job begins:
-///
-/// ```
-/// match end {
-///     End::Commit => frame.begin_evac(store, 0, 0),
-///     End::Install => frame.begin_fetch(store, 0, 0),
-///     End::Merge => frame.begin_offload(store, 0, 0),
-/// }
-/// ```
-///
-/// Then it is carried, and only that talks to the store:
-///
-/// ```
-/// match begun(frame, store, end) {
-///     Ok(job) => job.carry(alloc, store, &mut Meter::new()).map_err(why),
-///     Err(refusal) => Err(refusal),
-/// }
-/// ```
-///
-/// And it ends:
-///
-/// ```
-/// let reply = match end {
-///     End::Commit => frame.commit(store, job),
-///     End::Install => frame.install(store, job),
-///     End::Merge => frame.merge(store, job),
-/// };
-/// ```
 #[derive(Drop)]
 pub struct Job<S: FarTickets> {
     pub(crate) name: Option<Name>,

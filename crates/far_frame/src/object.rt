@@ -8,13 +8,6 @@ use far_scopes::Objects;
 use far_store::FarTickets;
 
 /// What an object is: the chunk of one column in one row group.
-///
-/// ```
-/// match frame.object(store, column, group) {
-///     Ok(object) => object.local && !object.dirty,
-///     Err(_) => false,
-/// }
-/// ```
 #[derive(Clone, Copy, Debug, PartialEq, Eq)]
 pub struct ObjectState {
     /// It lies in the local region; if not, it is away.

@@ -2,13 +2,6 @@
 use far_types::Text;
 
 /// Numbers of adjacent places of one row group, each of which may be missing, and whether each place is alive.
-///
-/// ```
-/// Ok(IntPiece {
-///     values: Vec::from_slice(alloc, lent.values)?,
-///     flags: Vec::from_slice(alloc, lent.alive)?,
-/// })
-/// ```
 #[derive(Drop, Debug)]
 pub struct IntPiece {
     /// The numbers.
@@ -18,16 +11,6 @@ pub struct IntPiece {
 }
 
 /// Texts of adjacent places of one row group, each of which may be missing, and whether each place is alive.
-///
-/// ```
-/// let mut values = Vec::new(alloc);
-/// let mut flags = Vec::new(alloc);
-/// while let Some(cell) = lent.next() {
-///     values.push(copy_text(alloc, cell.text)?)?;
-///     flags.push(cell.alive)?;
-/// }
-/// Ok(TextPiece { values, flags })
-/// ```
 #[derive(Drop, Debug)]
 pub struct TextPiece {
     /// The texts.

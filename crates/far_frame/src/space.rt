@@ -1,14 +1,9 @@
 // The space of a local region.
 
 /// The space of the local region of one kind, in elements: numbers, or bytes of texts.
-///
-/// ```
-/// let space = frame.space(Kind::Int);
-/// space.free < u64::from(space.size)
-/// ```
 #[derive(Clone, Copy, Debug, PartialEq, Eq)]
 pub struct Space {
-    /// How many elements are used: by objects, and by what was left behind them until a compaction.
+    /// How many elements are used: by objects, and by what was left after them until a compaction.
     pub used: u64,
     /// How many elements are free, in all segments together.
     pub free: u64,

@@ -6,17 +6,6 @@ use super::piece::{IntPiece, TextPiece};
 use far_types::{Answer, Edit, Kind, Refusal, Spec};
 
 /// One request to a table.
-///
-/// ```
-/// match cell(alloc, value) {
-///     Ok(cell) => Ok(Step::Edit(Edit::Set {
-///         place,
-///         column,
-///         cell,
-///     })),
-///     Err(refusal) => Err(refusal),
-/// }
-/// ```
 #[derive(Drop, Debug)]
 pub enum Step {
     /// Changes the rows.
@@ -40,7 +29,7 @@ pub enum Step {
         column: u32,
         /// The first place.
         from: u32,
-        /// The place behind the last.
+        /// The place after the last.
         to: u32,
     },
     /// Pins the object of a row group of a column once more, so that it does not go away.
@@ -93,20 +82,6 @@ pub enum Step {
 }
 
 /// The reply to a step: there is one for each.
-///
-/// ```
-/// match reply {
-///     Reply::Place(place) => numbered(page, "place", u64::from(*place)),
-///     Reply::Done => page.text(done),
-///     Reply::Aggregate(aggregate) => numbered(page, "aggregate", u64::from(*aggregate)),
-///     Reply::Answer(found) => answer(page, found),
-///     Reply::Ints(copies) => ints(page, copies.as_slice()),
-///     Reply::Texts(copies) => texts(page, copies.as_slice()),
-///     Reply::Job(job) => numbered(page, "job", *job),
-///     Reply::Next(groups) => next(page, groups.as_slice()),
-///     Reply::Refused(refusal) => refused(page, refusal),
-/// }
-/// ```
 #[derive(Drop, Debug)]
 pub enum Reply {
     /// The place of an inserted row.

@@ -22,13 +22,25 @@ use std::marker::Model;
 /// A part of a column is borrowed piece by piece. Here each piece is copied:
 ///
 /// ```
-/// let view = frame.scope();
-/// let mut lents = view.ints(column, from, to)?;
-/// let mut copies = Vec::with_capacity(alloc, lents.len())?;
-/// while let Some(lent) = lents.next() {
-///     copies.push(copy_ints(alloc, &lent)?)?;
+/// fn copied_ints<S: FarTickets>(
+///     frame: &Frame<S>,
+///     alloc: Global,
+///     column: u32,
+///     from: u32,
+///     to: u32,
+/// ) -> Result<Vec<IntPiece>, Refusal>
+///     ensures pieces { IfOk result (λ copies. map int_piece copies.items ≡ lent_part frame.now.table column from to) }
+///     ensures due { OnOk result (ints_refusal frame.now.rows column from to ≡ None) }
+///     ensures refused { IfErr result (MayRefuse (ints_refusal frame.now.rows column from to) true) }
+/// {
+///     let view = frame.scope();
+///     let mut lents = view.ints(column, from, to)?;
+///     let mut copies = Vec::with_capacity(alloc, lents.len())?;
+///     while let Some(lent) = lents.next() {
+///         copies.push(copy_ints(alloc, &lent)?)?;
+///     }
+///     Ok(copies)
 /// }
-/// Ok(copies)
 /// ```
 #[derive(Drop)]
 pub struct View<'a, S: FarTickets> {
@@ -140,7 +152,7 @@ impl<'a, S: FarTickets> View<'a, S> {
     /// Refused with the first of these that applies:
     ///
     /// - `NoColumn` (4): there is no such column.
-    /// - `WrongKind` (5): the column is of texts.
+    /// - `WrongKind` (5): the column is a text column.
     /// - `OutOfRange` (14): `from` is above `to`, or `to` is past the places.
     /// - `Absent` (16): the object of a row group with some of them is away. It names the first such.
     pub fn ints(&self, column: u32, from: u32, to: u32) -> Result<Lents<'a, S>, Refusal>

@@ -33,10 +33,12 @@ use std::marker::Model;
 /// Steps are served in order, and each has a reply. Here few faults occurred before:
 ///
 /// ```
-/// if world.faults() < 9 && steps.len() < 99 {
-///     run(world, steps)
-/// } else {
-///     Err(Refusal::FarFault)
+/// fn run_few<S: FarStore>(world: &mut World<S>, steps: Vec<Step>) -> Result<Vec<Reply>, Refusal> {
+///     if world.faults() < 9 && steps.len() < 99 {
+///         run(world, steps)
+///     } else {
+///         Err(Refusal::FarFault)
+///     }
 /// }
 /// ```
 #[derive(Drop)]
@@ -120,8 +122,7 @@ impl<S: FarStore> World<S> {
         serving::edit(&mut self.frame, edit)
     }
 
-    /// Records that a part of a column was lent, as the step `Lend` records it. Use it after reading the part in a view of the
-    /// frame, which copies no value. There is a reply with the part, and the world changes as by the step with this reply.
+    /// Has the same effect as the step `Lend`, without copying the values. Use it after reading the part in a view of the frame.
     /// Allocates nothing.
     ///
     /// Refused with the first of these that applies:

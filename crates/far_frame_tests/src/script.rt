@@ -140,7 +140,7 @@ fn play_first<S: FarStore, R: Threads + Sync>(
     }
 }
 
-// Returns what is wrong so far: a call, or the index behind all calls if a world did not go on with another store as is due.
+// Returns what is wrong so far: a call, or the index after all calls if a world did not go on with another store as is due.
 fn so_far(
     wrong: Result<Option<usize>, Refusal>,
     refused: Option<Refusal>,

@@ -248,7 +248,7 @@ const FULL_OF_TEXTS: Calls = &[
     (Call::Lend(0, 4, 5), Due::Lent(4, &[(Text("rye"), true)])),
 ];
 
-/// The rows are lent in turn, so the row group behind them is proposed once it is there: of those behind the last that was lent one is.
+/// The rows are lent in turn, so the row group after them is proposed once it is there: of those after the last that was lent one is.
 const STRIDE: Calls = &[
     (Call::Insert(&[Int(8)]), Due::Place(3)),
     (Call::Insert(&[Int(9)]), Due::Place(4)),

@@ -7,12 +7,6 @@ use std::marker::Model;
 
 /// How many values there are, and their sum.
 ///
-/// Rows under no key are added at once, three whose sum is -6:
-///
-/// ```
-/// live.add_rows(None, CountSum { count: 3, sum: -6 })?;
-/// ```
-///
 /// Contracts see the pair of the two.
 #[derive(Clone, Copy, Debug, PartialEq, Eq)]
 pub struct CountSum {

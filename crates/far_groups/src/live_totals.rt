@@ -11,17 +11,6 @@ use std::marker::Model;
 /// The count and the sum of the rows under each key, kept up to date row by row. It also counts the row groups that are still pending.
 /// Without a key column all rows have the key `None`. A sum is exact: at most 2^26 numbers of 64 bits have one key.
 ///
-/// Rows under no key are added at once, by their count and their sum:
-///
-/// ```
-/// let mut live = LiveTotals::new(alloc, 0);
-/// let count_sum = count_sum_of(spec, columns, alive);
-/// if count_sum.count != 0 {
-///     live.add_rows(None, count_sum)?;
-/// }
-/// Ok(live)
-/// ```
-///
 /// Contracts see how many row groups are pending, and the totals of the pairs that are in. Each key has a count of at least 1 and a sum.
 /// The lists of pairs with these totals follow each call by the laws of `far_types::laws`.
 #[derive(Drop)]

@@ -19,7 +19,7 @@ session_state v = record { by = v.by; seen = v.seen; mine = v.mine }
 abbrev pub newcomer : ℕ → SessionState
 newcomer n = record { by = n; seen = []; mine = [] }
 
--- a pass with a session alone, whose entries in what it has seen are its own
+-- a session's pass: it does not own the history, and knows exactly its own entries in the prefix that it has seen
 abbrev pub IsSession : PassView → Type 0
 IsSession v = (v ≡ session v.by v.seen v.mine) × (by_session v.by v.seen ≡ v.mine)
 

@@ -8,15 +8,6 @@ use std::marker::{Brand, PhantomData};
 
 /// Names the plan of a shared table: its schema, its limits, its gauge and how many sessions it has. A proof knows a lock's value by its
 /// type alone, so the plan is a type parameter of all that lies under a lock.
-///
-/// A plan that was made gets a `Brand` as its tag:
-///
-/// ```
-/// match plan_of(alloc, scene.table, scene.roles.len() as u64) {
-///     Ok(plan) => planned::<Brand, S, R>(rt, alloc, plan, store, scene),
-///     Err(refusal) => Err(refusal),
-/// }
-/// ```
 pub trait PlanTag {
     ghost use Rattle.far_history.specs.Histories.{Planned};
 

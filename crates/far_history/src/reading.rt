@@ -3,15 +3,6 @@ ghost use Rattle.std.specs.Prelude.{◌≡◌};
 ghost use Rattle.far_history.specs.Readings.{reading_in};
 
 /// What a table's history so far leaves: the reading of its gauge.
-///
-/// The keeper of a stripe adds an edit. `after` is the reading that the longer history has:
-///
-/// ```
-/// add(rt, &stripe_cell.cell, &mut pass, words_of(after), edit);
-/// look(rt, &stripe_cell.cell, &mut pass);
-/// me.pass = split_session(&stripe_cell.cell, &mut pass);
-/// self.pass = Some(Kept::new(pass));
-/// ```
 #[derive(Clone, Copy, Debug, PartialEq, Eq)]
 pub struct Reading {
     /// How many edits were accepted.

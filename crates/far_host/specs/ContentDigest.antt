@@ -1,7 +1,7 @@
 -- The digest that a store notes of a content: its SHA-256 if it is short, and else the SHA-256 of the digests of its four parts.
 -- Contents of one length that differ and have one digest show two messages that differ and have one SHA-256. If they are short, these
 -- are the contents. Else they are the two lists of digests, if the lists differ. If the lists are the same, so are the digests of the
--- parts, each of 32 bytes, and the bytes behind the parts: so the contents differ in a part, and that part of each is the message.
+-- parts, each of 32 bytes, and the bytes after the parts: so the contents differ in a part, and that part of each is the message.
 use Rattle.std.specs.Prelude.{ℕ, ◌*◌, ◌/◌, ltb, cond, List, ◌++◌, length, take, drop}
 use Rattle.sha2.specs.Sha256.{sha256}
 
@@ -13,11 +13,11 @@ part_len content = length content / 256 * 64
 abbrev pub part : List ℕ → ℕ → List ℕ
 part content j = take (part_len content) (drop (j * part_len content) content)
 
--- the bytes behind the four parts, fewer than 256
+-- the bytes after the four parts, fewer than 256
 abbrev pub rest : List ℕ → List ℕ
 rest content = drop (4 * part_len content) content
 
--- the digests of the four parts one behind the other, and the rest
+-- the digests of the four parts one after another, and the rest
 abbrev pub part_digests : List ℕ → List ℕ
 part_digests content =
     sha256 (part content 0) ++ (sha256 (part content 1) ++ (sha256 (part content 2) ++ (sha256 (part content 3) ++ rest content)))

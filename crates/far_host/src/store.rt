@@ -31,13 +31,17 @@ use std::sync::atomic::{AtomicU64, Ordering};
 /// Bytes are put. Later the same bytes are delivered and read:
 ///
 /// ```
-/// let ticket = store.put(alloc, &mut meter, bytes)?;
-/// let number = store.number(&ticket);
-/// store.deliver(alloc, &mut meter, &ticket, bytes)?;
-/// let mut buffer = Vec::new(alloc);
-/// store.get(alloc, &mut meter, &ticket, &mut buffer)?;
-/// store.forget(&ticket);
-/// Ok((number, buffer))
+/// fn comes_back(alloc: Global, capacity: u64, bytes: &[u8]) -> Result<(u64, Vec<u8>), Refusal> {
+///     let mut store = HostStore::new(alloc, capacity)?;
+///     let mut meter = Meter::new();
+///     let ticket = store.put(alloc, &mut meter, bytes)?;
+///     let number = store.number(&ticket);
+///     store.deliver(alloc, &mut meter, &ticket, bytes)?;
+///     let mut buffer = Vec::new(alloc);
+///     store.get(alloc, &mut meter, &ticket, &mut buffer)?;
+///     store.forget(&ticket);
+///     Ok((number, buffer))
+/// }
 /// ```
 #[derive(Drop)]
 pub struct HostStore {

@@ -7,13 +7,6 @@ use boxcar::slot::Written;
 use std::marker::Model;
 
 /// A ticket of a [`HostStore`](crate::HostStore): 8 bytes, its number. What shows the note of its content is there for clauses alone.
-///
-/// The program keeps the bytes under the ticket's number:
-///
-/// ```
-/// let ticket = store.put(alloc, &mut meter, bytes)?;
-/// let number = store.number(&ticket);
-/// ```
 #[derive(Drop)]
 pub struct HostTicket {
     pub(crate) number: u64,

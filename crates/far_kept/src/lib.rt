@@ -2,7 +2,7 @@
 //! A pass of a ruled cell, wrapped so that it may lie under a lock which many threads read at once.
 //!
 //! A pass is a value without bytes. A thread carries in it what it knows of a cell. A pass may go from thread to thread, but is not known
-//! to be safe behind a shared reference. A [`Kept`] is safe there: through a reference nothing can be done with it.
+//! to be safe through a shared reference. A [`Kept`] is safe there: through a reference nothing can be done with it.
 
 ghost use Rattle.std.specs.Prelude.{◌≡◌};
 
@@ -11,21 +11,7 @@ use std::marker::Model;
 
 /// A pass that is put away. It takes no bytes.
 ///
-/// Only its owner gets the pass out again. Threads that share a reference to it learn nothing and do nothing by it.
-///
-/// The keeper of a stripe shows a session the history, by the pass that it keeps:
-///
-/// ```
-/// let Some(kept) = self.pass.take() else {
-///     unreachable!()
-/// };
-/// let mut pass = kept.into_pass();
-/// let session = split_session(&stripe_cell.cell, &mut me.pass);
-/// join_session(&stripe_cell.cell, &mut pass, session);
-/// let words = look(rt, &stripe_cell.cell, &mut pass);
-/// me.pass = split_session(&stripe_cell.cell, &mut pass);
-/// self.pass = Some(Kept::new(pass));
-/// ```
+/// Only its owner gets the pass out again. `&Kept` gives no access to the pass, so it is `Sync`.
 pub struct Kept<S, V> {
     pass: Seat<S, V>,
 }

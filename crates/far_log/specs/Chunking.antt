@@ -8,7 +8,7 @@ abbrev pub capacity_at : ℕ → ℕ → ℕ
 capacity_at size zero = size
 capacity_at size (suc number) = capacity_at (size + size) number
 
--- how many elements lie in front of that chunk
+-- how many elements lie before that chunk
 abbrev pub start_at : ℕ → ℕ → ℕ
 start_at size zero = 0
 start_at size (suc number) = size + start_at (size + size) number
@@ -19,7 +19,7 @@ pub record IsPlaceOf (index chunk at : ℕ) : Type 0 where
   pub within : at < capacity_at 64 chunk
 
 module _ {X Z : Type 0} where
-  -- the elements of chunks, one chunk behind the other
+  -- the elements of chunks, one chunk after the other
   abbrev pub items_of : List (Vec X Z) → List X
   items_of [] = []
   items_of (c ∷ cs) = c.items ++ items_of cs
@@ -30,7 +30,7 @@ module _ {X Z : Type 0} where
   AreChunks size (c ∷ []) = (length c.items ≤ size) × (size ≤ vec_capacity c)
   AreChunks size (c ∷ (d ∷ cs)) = (length c.items ≡ size) × AreChunks (size + size) (d ∷ cs)
 
-  -- the first `len` elements of the chunks are the list; those behind them were cut off
+  -- the first `len` elements of the chunks are the list; those after them were cut off
   pub record IsChunked (cs : List (Vec X Z)) (len : ℕ) : Type 0 where
     pub chunks : AreChunks 64 cs
     pub within : len ≤ length (items_of cs)

@@ -42,7 +42,7 @@ module _ {X : Type 0} where
   abbrev pub with_segment : RegionState X → ℕ → SegmentState X → RegionState X
   with_segment state number s = slice_set state number s
 
-  -- the region with ws written over its elements from the i-th behind a location on
+  -- the region with ws written over its elements from the i-th after a location on
   abbrev pub after_write_at : RegionState X → At → ℕ → List X → RegionState X
   after_write_at state at i ws =
       with_segment state at.segment (after_write (segment_of state at.segment) (at.offset + i) ws)
@@ -57,7 +57,7 @@ module _ {X : Type 0} where
     pub state : new ≡ with_list_at old at list
     pub change : ChangesOnly old new at (Some list)
 
-  -- lists as parts, one behind the other
+  -- lists as parts, one after another
   abbrev pub layout_from : ℕ → List (List X) → List (Part X)
   layout_from from [] = []
   layout_from from (xs ∷ xss) = record { offset = from; list = xs } ∷ layout_from (from + length xs) xss

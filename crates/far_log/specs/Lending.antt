@@ -31,10 +31,10 @@ module _ (T : RattleType) (s : MutBor (Stacked T.Denot)) where
   lends_stack number from r = Lends (stacks.the_row T) (Array T 0) s r (λ ws. with_stack s.now number (written_over (stack_of s.now number) from ws))
 
 module _ (T : RattleType) (s : MutBor (RegionState T.Denot)) where
-  -- internal: what the borrow r leaves is written over the elements from the i-th behind a location on
+  -- internal: what the borrow r leaves is written over the elements from the i-th after a location on
   abbrev pub lends_range : At → ℕ → MutBor (List T.Denot) → Fml
   lends_range at i r = Lends (segments.the_row T) (Array T 0) s r (after_write_at s.now at i)
 
-  -- what the borrow r leaves is written over the elements from the i-th behind a location on
+  -- what the borrow r leaves is written over the elements from the i-th after a location on
   abbrev pub lends_part : At → ℕ → MutBor (List T.Denot) → Fml
   lends_part at i r = Lends (region.the_row T) (Array T 0) s r (after_write_at s.now at i)

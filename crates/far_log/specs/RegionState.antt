@@ -1,4 +1,4 @@
--- What contracts see of a local region: which parts lie where, and how much space is behind them.
+-- What contracts see of a local region: which parts lie where, and how much space is after them.
 use Rattle.std.specs.Prelude.{◌≡◌, ℕ, ◌+◌, ◌-◌, ◌≤◌, ◌<◌, ◌==◌, nat_le, if◌then◌else◌, Bool, true, false, List, [], ◌∷◌, length, map, sum_by, position, All, is_some, Option, Some, None, slice_index_or, slice_index, slice_set}
 use Rattle.std.specs.Option.{option_map_or}
 use Rattle.far_pointer.specs.declared.pointer.At.{At}
@@ -18,7 +18,7 @@ abbrev pub RegionState : Type 0 → Type 0
 RegionState X = List (SegmentState X)
 
 module _ {X : Type 0} where
-  -- the offset behind a part
+  -- the offset after a part
   abbrev pub end_of : Part X → ℕ
   end_of p = p.offset + length p.list
 
@@ -31,7 +31,7 @@ module _ {X : Type 0} where
   abbrev pub fill_of : SegmentState X → ℕ
   fill_of s = fill_from 0 s.parts
 
-  -- the space of a segment: how many elements fit behind its fill
+  -- the space of a segment: how many elements fit after its fill
   abbrev pub space_in : SegmentState X → ℕ
   space_in s = s.size - fill_of s
 

@@ -1,4 +1,4 @@
--- Stacks that share one block. Each has a range of it of the same capacity, one behind the other.
+-- Stacks that share one block. Each has a range of it of the same capacity, one after another.
 -- Internal: no public contract cites it.
 use Rattle.std.specs.Prelude.{◌≡◌, ℕ, ◌+◌, ◌-◌, ◌*◌, ◌≤◌, ◌<◌, ◌^◌, ◌⊎◌, List, [], ◌∷◌, ◌++◌, length, take, drop, slice_set, slice_index_or}
 
@@ -21,7 +21,7 @@ module _ {X : Type 0} where
   stacks_from size block from [] = []
   stacks_from size block from (n ∷ ns) = take n (drop from block) ∷ stacks_from size block (from + size) ns
 
-  -- new is old once xs is written at an index. A list in front of it or behind it stays, and one that ends there is longer by xs
+  -- new is old once xs is written at an index. A list before it or after it stays, and one that ends there is longer by xs
   pub record IsPut (old new : List X) (at : ℕ) (xs : List X) : Type 0 where
     pub long : length old ≤ length new
     pub reach : at + length xs ≤ length new

@@ -20,7 +20,7 @@ abbrev pub AreAdjacent : ℕ → List Extent → Type 0
 AreAdjacent from [] = Unit {0}
 AreAdjacent from (s ∷ ss) = (s.offset ≡ from) × (0 < s.len) × AreAdjacent (from + s.len) ss
 
--- each extent begins behind those with lower numbers
+-- each extent begins after those with lower numbers
 abbrev pub IsSorted : List Extent → Type 0
 IsSorted extents = (j k : ℕ) (s t : Extent) → slice_get extents j ≡ Some s → slice_get extents k ≡ Some t → j < k → s.offset < t.offset
 
@@ -42,7 +42,7 @@ emptied_at (s ∷ ss) zero = record s { live = false } ∷ ss
 emptied_at (s ∷ ss) (suc number) = s ∷ emptied_at ss number
 
 -- the live extents of a table, from this number on, are linked. Each has the count of extents up to the live one before it, and that one
--- has its number. `before` and `behind` are the two for the extents in front
+-- has its number. `before` and `behind` are the two for the extents before it
 abbrev pub AreLinked : ℕ → ℕ → ℕ → List Extent → List Link → Type 0
 AreLinked number before behind [] [] = Unit {0}
 AreLinked number before behind [] (l ∷ ls) = ⊥
@@ -51,7 +51,7 @@ AreLinked number before behind (s ∷ ss) (l ∷ ls) =
     (s.live ≡ true → (l.before ≡ before) × (0 < before → behind ≡ number))
     × AreLinked (suc number) (if s.live then suc number else before) (if s.live then l.behind else behind) ss ls
 
--- links in which one has another extent behind it
+-- links in which one has another extent after it
 abbrev pub with_behind : List Link → ℕ → ℕ → List Link
 with_behind [] i behind = []
 with_behind (l ∷ ls) zero behind = record l { behind = behind } ∷ ls

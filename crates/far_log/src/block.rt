@@ -10,7 +10,7 @@ pub struct Block<T> {
 }
 
 impl<T: Copy + Drop> Block<T> {
-    /// Writes a list at index `at`. Fills a gap in front of it with the list's first element. Allocates nothing.
+    /// Writes a list at index `at`. Fills a gap before it with the list's first element. Allocates nothing.
     #[inline(always)]
     pub fn write_at(&mut self, at: usize, list: &[T])
         requires some { 0 < length list.now }
@@ -85,7 +85,7 @@ impl<T> Block<T> {
     /// Mutably borrows a range of the block. What the borrow leaves counts as no more than `most` elements, the space of the range.
     ///
     /// A slice keeps its length, so this does what `slice_mut` does. But a contract on a borrow speaks of longer lists too. By the contract
-    /// of `slice_mut` they would lie over what comes behind the space.
+    /// of `slice_mut` they would lie over what comes after the space.
     pub fn lend(&mut self, begin: usize, end: usize, most: usize) -> &mut [T]
         requires ordered { begin ≤ end }
         requires within { end ≤ vec_len self.old.items }

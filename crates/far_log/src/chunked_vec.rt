@@ -34,7 +34,7 @@ fn place_of(index: usize) -> Place
     ensures place { IsPlaceOf index result.chunk result.at }
     ensures few { result.chunk ≤ 26 }
 {
-    // In front of chunk k lie 64 * 2^k - 64 elements, so the highest bit of the sum gives the chunk. The index is a number of 32 bits, so a
+    // Before chunk k lie 64 * 2^k - 64 elements, so the highest bit of the sum gives the chunk. The index is a number of 32 bits, so a
     // compiler knows that the sum is not 0, and need not ask.
     let sum = index as u32 as usize + FIRST;
     let chunk = sum.ilog2() as usize - FIRST_LEVEL;

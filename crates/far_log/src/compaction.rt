@@ -9,15 +9,6 @@ use far_types::Refusal;
 use std::alloc::Global;
 
 /// Where the parts of a compacted segment are.
-///
-/// A segment is compacted, and the result compared with what is due:
-///
-/// ```
-/// match region.compact(alloc, u32::from(from), order) {
-///     Ok(moved) => wanted == Ok((moved.segment, moved.offsets.as_slice())),
-///     Err(refusal) => wanted == Err(refusal),
-/// }
-/// ```
 #[derive(Debug, Drop)]
 pub struct Moved {
     /// The number of the segment in which they lie now.

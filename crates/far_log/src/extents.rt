@@ -78,7 +78,7 @@ pub fn number_at(table: &ChunkedVec<PartEntry>, offset: u32) -> usize
     requires adjacent { AreAdjacent 0 (extents_of table.now) }
     ensures { (k : ℕ) (s : Extent) → slice_get (extents_of table.now) k ≡ Some s → s.offset ≡ offset → result ≡ k }
 {
-    // An object that gets another list loses its part once the new one lies behind it. So the last extent but one is tried first. If the
+    // An object that gets another list loses its part once the new one lies after it. So the last extent but one is tried first. If the
     // new part lies in another segment, the old one may be the last.
     let last = table.len() - 1;
     let number = last.saturating_sub(1);

@@ -1,8 +1,8 @@
 #![tactic(auto)]
-//! The local region: parts of elements in segments. Each part lies behind the one before it, as in a log.
+//! The local region: parts of elements in segments. Each part lies after the one before it, as in a log.
 //!
 //! A `Region` allocates all its memory for elements when it is made:
-//! - `place` puts a list behind the last part of the lowest segment that has the space.
+//! - `place` puts a list after the last part of the lowest segment that has the space.
 //! - `part`, `part_mut` and `range_mut` borrow a part in place.
 //! - `drop_at` drops a part. The space between parts is not used again until `compact` moves a segment's parts into an empty one.
 //!

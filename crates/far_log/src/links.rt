@@ -12,11 +12,11 @@ use far_types::Refusal;
 pub struct Link {
     /// How many extents there are up to the live one before it; 0 if there is none.
     pub before: u32,
-    /// The number of the live one behind it, if there is one.
+    /// The number of the live one after it, if there is one.
     pub behind: u32,
 }
 
-// Sets the number of the live extent behind an extent.
+// Sets the number of the live extent after an extent.
 fn set_behind(table: &mut ChunkedVec<PartEntry>, number: usize, behind: u32)
     requires { number < length table.old }
     ensures extents { extents_of table.new ≡ extents_of table.old }
@@ -69,7 +69,7 @@ pub fn push_linked(table: &mut ChunkedVec<PartEntry>, extent: Extent) -> Result<
     Ok(())
 }
 
-/// Takes a live extent out of the links. Returns how many extents are left once those behind the last part are cut off. Reads only the
+/// Takes a live extent out of the links. Returns how many extents are left once those after the last part are cut off. Reads only the
 /// extent's neighbours.
 pub fn unlink(table: &mut ChunkedVec<PartEntry>, number: usize) -> usize
     requires linked { AreLinked 0 0 0 (extents_of table.old) (links_of table.old) }

@@ -19,16 +19,6 @@ use std::marker::Model;
 /// - A part is a list of elements that is not empty. It lies in one segment, in one piece.
 /// - A segment's fill is where its last part ends, 0 if it has none. It falls when the last part is dropped.
 /// - A location is a segment and where in it the part begins, counted in elements.
-///
-/// An object gets another list. The new part is placed before the old one is dropped:
-///
-/// ```
-/// let word = self.words[o];
-/// let at = self.region.place(items)?;
-/// self.words[o] = word.with_at(at);
-/// self.region.drop_at(at_of(word));
-/// Ok(())
-/// ```
 #[derive(Drop)]
 pub struct Region<T> {
     segments: Segments<T>,
@@ -89,7 +79,7 @@ impl<T: Copy + Drop> Region<T> {
         None
     }
 
-    /// Returns whether some segment has the space for a list of `len` elements behind its fill. Allocates nothing.
+    /// Returns whether some segment has the space for a list of `len` elements after its fill. Allocates nothing.
     pub fn fits(&self, len: usize) -> bool
         ensures fits { result ≡ fits_in self.now len }
         ensures sound { IsRegion self.now }
@@ -129,7 +119,7 @@ impl<T: Copy + Drop> Region<T> {
         self.segments.used()
     }
 
-    /// Returns how many elements the segments have space for behind their fills, all together. Allocates nothing.
+    /// Returns how many elements the segments have space for after their fills, all together. Allocates nothing.
     ///
     /// A list needs its space in one segment. So a list that is no longer than this may still not fit.
     pub fn space(&self) -> usize

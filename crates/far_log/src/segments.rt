@@ -62,7 +62,7 @@ impl<T: Copy + Drop> Segments<T> {
         self.stacks.size()
     }
 
-    /// Returns how many elements a segment has space for behind its last part.
+    /// Returns how many elements a segment has space for after its last part.
     pub fn space(&self, number: usize) -> usize
         requires { number < length self.now }
         ensures space { result ≡ space_in (segment_of self.now number) }
@@ -129,7 +129,7 @@ impl<T: Copy + Drop> Segments<T> {
             .slice(at.segment as usize, at.offset as usize, len)
     }
 
-    /// Places a list behind the last part of a segment. Returns where it begins. Refused with `NoMemory` (1) alone, if the table of parts
+    /// Places a list after the last part of a segment. Returns where it begins. Refused with `NoMemory` (1) alone, if the table of parts
     /// cannot grow. It allocates nothing for elements.
     #[inline(always)]
     pub fn place(&mut self, number: usize, items: &[T]) -> Result<u32, Refusal>
@@ -148,7 +148,7 @@ impl<T: Copy + Drop> Segments<T> {
         Ok(offset)
     }
 
-    /// Places a copy of the part at a location behind the last part of a segment. Returns where it begins. Refused with `NoMemory` (1)
+    /// Places a copy of the part at a location after the last part of a segment. Returns where it begins. Refused with `NoMemory` (1)
     /// alone, if the table of parts cannot grow. It allocates nothing for elements.
     pub fn place_copy(&mut self, from: At, number: usize) -> Result<u32, Refusal>
         requires there { number < length self.old }

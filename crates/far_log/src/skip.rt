@@ -3,15 +3,15 @@ ghost use Rattle.std.specs.Prelude.{◌≡◌, ◌≤◌, ◌⊎◌, nat_le, tru
 ghost use Rattle.std.specs.List.{list_all};
 ghost use Rattle.far_log.specs.Skipping.{IsSpaced};
 
-// How many segments each search may go through again, so that shorter lists still skip those in front.
+// How many segments each search may go through again, so that shorter lists still skip those before.
 const NEAR: usize = 64;
 
 /// The segments that a search for space skips: no segment below `next`, except `first`, has the space for `len` elements. So a search for a
-/// list that is not shorter tries `first`, and then `next` and those behind it.
+/// list that is not shorter tries `first`, and then `next` and those after it.
 ///
 /// One segment number would not do:
 /// - A full segment mostly has the space for some short list, so `len` says for which lists it counts as full.
-/// - A list that is replaced leaves space in its segment, which may be far in front of the others that have some. That segment is `first`.
+/// - A list that is replaced leaves space in its segment, which may be far before the others that have some. That segment is `first`.
 ///   When it is full again, the search goes on where it was.
 #[derive(Clone, Copy)]
 pub struct Skip {

@@ -35,7 +35,7 @@ impl Table {
         }
     }
 
-    /// Adds a part of `len` elements behind the last. Returns where it begins. Refused with `NoMemory` (1) alone, if the table cannot grow.
+    /// Adds a part of `len` elements after the last. Returns where it begins. Refused with `NoMemory` (1) alone, if the table cannot grow.
     /// Then it is as before.
     #[inline(always)]
     pub fn push(&mut self, offset: usize, len: usize) -> Result<u32, Refusal>

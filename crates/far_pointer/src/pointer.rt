@@ -1,15 +1,6 @@
 // What a pointer word can say.
 
 /// Where in the local region an object's elements begin.
-///
-/// The second element of the second segment:
-///
-/// ```
-/// const AT_1: At = At {
-///     segment: 1,
-///     offset: 1,
-/// };
-/// ```
 #[derive(Clone, Copy, Debug, PartialEq, Eq)]
 pub struct At {
     /// The number of the segment.
@@ -19,20 +10,6 @@ pub struct At {
 }
 
 /// What a pointer word says of its object.
-///
-/// The word that says it, if there is one:
-///
-/// ```
-/// match pointer {
-///     Pointer::Local {
-///         at,
-///         dirty,
-///         hot,
-///         far,
-///     } => Word::local(at, dirty, hot, far),
-///     Pointer::Remote => Some(Word::remote()),
-/// }
-/// ```
 #[derive(Clone, Copy, Debug, PartialEq, Eq)]
 pub enum Pointer {
     /// The object is in local memory.

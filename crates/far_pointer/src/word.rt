@@ -41,15 +41,23 @@ const REMOTE: u64 = 1 << FAR;
 /// The word of a clean object that is not hot is moved. Then its object is used, and written:
 ///
 /// ```
-/// let Some(word) = Word::from_bits(0x9000_0000_0000_0000) else {
-///     return false;
-/// };
-/// let moved = word.with_at(At {
-///     segment: 3,
-///     offset: 9,
-/// });
-/// let hot = moved.with_hot(true);
-/// let dirty = hot.with_dirty();
+/// fn changes_part_by_part() -> bool {
+///     let Some(word) = Word::from_bits(0x9000_0000_0000_0000) else {
+///         return false;
+///     };
+///     let moved = word.with_at(At {
+///         segment: 3,
+///         offset: 9,
+///     });
+///     let hot = moved.with_hot(true);
+///     let dirty = hot.with_dirty();
+///     moved.bits() == 0x9000_0003_0000_0009
+///         && hot.bits() == 0xb000_0003_0000_0009
+///         && dirty.bits() == 0xf000_0003_0000_0009
+///         && dirty.dirty()
+///         && dirty.hot()
+///         && dirty.with_hot(false).bits() == 0xd000_0003_0000_0009
+/// }
 /// ```
 ///
 /// After the remoteable pointer of AIFM (Ruan et al., OSDI 2020), whose flags and address lie in one word too.

@@ -13,21 +13,15 @@ use std::marker::Model;
 /// Row groups of column 0 of three are accessed:
 ///
 /// ```
-/// let mut prefetcher = Prefetcher::new(alloc, 3)?;
-/// for group in accessed {
-///     prefetcher.saw(0, *group);
+/// fn after(alloc: Global, accessed: &[u32]) -> Result<Prefetcher, Refusal>
+///     ensures columns { IfOk result (λ prefetcher. length prefetcher ≡ 3) }
+/// {
+///     let mut prefetcher = Prefetcher::new(alloc, 3)?;
+///     for group in accessed {
+///         prefetcher.saw(0, *group);
+///     }
+///     Ok(prefetcher)
 /// }
-/// ```
-///
-/// If these were 0 to 3, of 6 row groups 4 and 5 are proposed for column 0, and none for column 1:
-///
-/// ```
-/// prefetcher.saw(1, 9);
-/// prefetcher.saw(2, 0);
-/// all(&[
-///     is_list(prefetcher.proposals(alloc, 0, 6), &[4, 5]),
-///     is_list(prefetcher.proposals(alloc, 1, 6), &[]),
-/// ])
 /// ```
 ///
 /// After the prefetcher of AIFM (Ruan et al., OSDI 2020), which proposes from a window of recent accesses too.

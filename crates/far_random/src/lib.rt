@@ -3,15 +3,6 @@
 ghost use Rattle.std.specs.Prelude.{◌≡◌, ◌<◌, ◌≤◌};
 
 /// Pseudorandom numbers that follow from a seed: Knuth's linear congruential generator (MMIX), of which the upper 31 bits are used.
-///
-/// A byte of a list is changed at random:
-///
-/// ```
-/// let at = draws.index_or_end(bytes.len());
-/// if at < bytes.len() {
-///     bytes[at] = draws.below(4) as u8;
-/// }
-/// ```
 #[derive(Drop)]
 pub struct Draws {
     state: u64,
@@ -40,7 +31,7 @@ impl Draws {
         }
     }
 
-    /// Draws an index of a list of `len` elements, or the one behind its last.
+    /// Draws an index of a list of `len` elements, or the one after its last.
     pub fn index_or_end(&mut self, len: usize) -> usize
         ensures { result ≤ len }
     {

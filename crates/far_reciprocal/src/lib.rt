@@ -12,10 +12,12 @@ ghost use Rattle.std.specs.Prelude.{◌≡◌, ◌<◌, ◌/◌, ◌%◌, ◌+�
 /// Divisions with the hint for the divisor, and with one for another number:
 ///
 /// ```
-/// let hint = Reciprocal::new(64);
-/// hint.quotient(number, 64) == number / 64
-///     && hint.remainder(number, 64) == number % 64
-///     && Reciprocal::new(3).quotient(number, 64) == number / 64
+/// fn is_divided(number: usize) -> bool {
+///     let hint = Reciprocal::new(64);
+///     hint.quotient(number, 64) == number / 64
+///         && hint.remainder(number, 64) == number % 64
+///         && Reciprocal::new(3).quotient(number, 64) == number / 64
+/// }
 /// ```
 ///
 /// After Granlund and Montgomery, "Division by Invariant Integers using Multiplication" (PLDI 1994).

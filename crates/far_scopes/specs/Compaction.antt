@@ -29,7 +29,7 @@ module _ {X : Type 0} where
       let hot : ℕ → Bool = λ offset. hot_at memory.words record { segment = segment; offset = offset }
       in filter hot (offsets_in memory.state segment) ++ filter (λ offset. not (hot offset)) (offsets_in memory.state segment)
 
-  -- where the part that began at this offset begins in an order: behind all that come before it
+  -- where the part that began at this offset begins in an order: after all that come before it
   abbrev pub offset_after : List (Part X) → List ℕ → ℕ → ℕ
   offset_after parts [] offset = 0
   offset_after parts (o ∷ order) offset = if o == offset then 0 else length (list_or_none parts o) + offset_after parts order offset

@@ -1,17 +1,6 @@
 // What objects are opened for.
 
 /// The limits of objects: how much memory they get for their elements, and how often each may be written and may go away.
-///
-/// Two segments of four elements; two writes and one leaving of each object:
-///
-/// ```
-/// pub const TWO_OF_FOUR: ObjectLimits = ObjectLimits {
-///     segments: 2,
-///     size: 4,
-///     max_writes: 2,
-///     leavings: 1,
-/// };
-/// ```
 #[derive(Clone, Copy, Debug, PartialEq, Eq)]
 pub struct ObjectLimits {
     /// How many segments the local region has: at most 65,536.

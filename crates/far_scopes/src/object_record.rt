@@ -5,19 +5,6 @@ ghost use Rattle.far_scopes.specs.Renewal.{renewed_record};
 use far_types::Name;
 
 /// The record of an object: it is always in local memory, wherever the object's list is.
-///
-/// The record of a new object:
-///
-/// ```
-/// self.records.push_reserved(ObjectRecord {
-///     name,
-///     len: items.len(),
-///     version: 0,
-///     leavings: 0,
-///     pins: 0,
-///     ticket: None,
-/// });
-/// ```
 #[derive(Drop)]
 pub struct ObjectRecord<K> {
     /// The name of the object: its column and its row group.

@@ -30,18 +30,6 @@ use std::alloc::Global;
 use std::marker::Model;
 
 /// Objects, each a list of elements, that move between local memory and the far store of `S`.
-///
-/// An object goes away: its list is put into the store, and its local part is dropped:
-///
-/// ```
-/// let list = objects.lend(o)?;
-/// if !T::is_spelled(list) || objects.pins(o) > 0 || !objects.may_leave(o) {
-///     return Err(Refusal::Pinned);
-/// }
-/// let ticket = put(alloc, store, list)?;
-/// objects.leave(store, o, &ticket);
-/// Ok(())
-/// ```
 #[derive(Drop)]
 pub struct Objects<T: Elem, S: FarTickets> {
     number: u32,

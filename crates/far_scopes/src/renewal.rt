@@ -7,14 +7,6 @@ use std::marker::Model;
 /// object that was away, and `None` for each that was local.
 ///
 /// It has the space for the records of the objects too, so `Objects::renew` allocates nothing.
-///
-/// The objects of numbers and those of texts of a table are renewed:
-///
-/// ```
-/// let numbers = self.number_objects.renewal(alloc, store, new_store, meter)?;
-/// let texts = self.text_objects.renewal(alloc, store, new_store, meter)?;
-/// Ok(RowsRenewal { numbers, texts })
-/// ```
 #[derive(Drop)]
 pub struct Renewal<N: FarTickets> {
     pub(crate) tickets: Vec<Option<N::Ticket>>,

@@ -1,15 +1,6 @@
 // A new list for an object.
 
 /// Another list for an object. `Objects::replace_all` takes several.
-///
-/// A copy of a list for an object:
-///
-/// ```
-/// Ok(Replacement {
-///     object,
-///     list: list.to_vec(alloc)?,
-/// })
-/// ```
 #[derive(Drop)]
 pub struct Replacement<T> {
     /// The number of the object.

@@ -5,15 +5,6 @@ use std::marker::Model;
 /// listed.
 ///
 /// A scope must be spent by `Objects::close`: dropping one does not compile.
-///
-/// From a test, whose helper `enter` calls `Objects::enter`: objects are pinned together, one is unpinned, and the scope is
-/// closed. `close` returns how many pins it took back:
-///
-/// ```
-/// let scope = enter(alloc, objects, listed)?;
-/// unpin_one(objects, first);
-/// found(objects.close(scope) == pins)
-/// ```
 pub struct Scope {
     pub(crate) objects: Vec<u32>,
 }

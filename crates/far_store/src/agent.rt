@@ -17,20 +17,19 @@ use std::sync::Wait;
 ///
 /// Reading never waits. A `put` may wait while another thread allocates the space for the next contents.
 ///
-/// ```
-/// let Ok(store) = AgentStore::new(rt, alloc, STORE_CAPACITY) else {
-///     return Err(Stop::Memory);
-/// };
-/// ```
-///
 /// Bytes that are put into any store are read back:
 ///
 /// ```
-/// let mut meter = Meter::new();
-/// let ticket = store.put(alloc, &mut meter, bytes)?;
-/// let mut buffer = Vec::new(alloc);
-/// store.get(alloc, &mut meter, &store.again(&ticket), &mut buffer)?;
-/// Ok(buffer)
+/// pub fn round_trip<S: FarStore>(store: &S, alloc: Global, bytes: &[u8]) -> Result<Vec<u8>, Refusal>
+///     ensures whole { IfOk result (λ got. got.items ≡ bytes.now) }
+///     ensures refused { RefusedBy (21 ∷ 22 ∷ 1 ∷ []) result }
+/// {
+///     let mut meter = Meter::new();
+///     let ticket = store.put(alloc, &mut meter, bytes)?;
+///     let mut buffer = Vec::new(alloc);
+///     store.get(alloc, &mut meter, &store.again(&ticket), &mut buffer)?;
+///     Ok(buffer)
+/// }
 /// ```
 #[derive(Drop)]
 pub struct AgentStore<R> {

@@ -11,15 +11,6 @@ use std::alloc::Global;
 ///
 /// A get reads what was delivered for its ticket, and is a fault of the store if nothing was. The store believes nobody: it compares what
 /// comes back with what it noted at the put.
-///
-/// A content is delivered, a second time if the first call runs out of memory:
-///
-/// ```
-/// match store.deliver(alloc, &mut Meter::new(), ticket, content) {
-///     Err(Refusal::NoMemory) => store.deliver(alloc, &mut Meter::new(), ticket, content),
-///     answer => answer,
-/// }
-/// ```
 pub trait FarDelivery: FarStore {
     /// What the store noted of a ticket's content holds of these bytes: their length and their digest, say.
     ghost matches: { Self.Ticket → List ℕ → Type 0 };

@@ -6,15 +6,6 @@ use std::error::Error;
 use std::fmt;
 
 /// Why an engine did not serve a call.
-///
-/// An engine over another one passes its failures on as its own:
-///
-/// ```
-/// match failure {
-///     Failure::NoMemory => Failure::NoMemory,
-///     Failure::Engine(_) => Failure::Engine(Failed),
-/// }
-/// ```
 #[derive(Drop, Debug)]
 pub enum Failure<E> {
     /// A local allocation failed: out of memory.
@@ -58,34 +49,6 @@ impl<T: Drop, E> From<AllocFailed<T>> for Failure<E> {
 /// [`read`](Engine::read).
 ///
 /// The split of a table from what moves its bytes is AIFM's device (OSDI 2020).
-///
-/// A log of bytes in memory (far_byte_log) begins so:
-///
-/// ```
-/// impl Engine for ByteLog {
-///     type Key = LogKey;
-///
-///     type Error = LogFull;
-///
-///     ghost written = { λ key. map (λ token. token.value) key.written.items };
-///
-///     ghost engine_id = { λ log. log };
-///
-///     ghost is_of = { λ key id. (i : ℕ) → IfSome (slice_get key.written.items i) (λ token. slice_get id (key.offset + i) ≡ Some token.of) };
-///
-///     fn write(&self, alloc: Global, bytes: &[u8]) -> Result<LogKey, Failure<LogFull>> {
-///         let mut written = Vec::with_capacity(alloc, bytes.len())?;
-///         let Some(offset) = self.take(bytes.len()) else {
-///             return Err(Failure::Engine(LogFull));
-///         };
-///         // For the proof: the place of a slot is a `usize`.
-///         let _size = self.size();
-///         for (i, byte) in bytes.iter().enumerate() {
-///             written.push(self.write_at(offset + i, *byte)?)?;
-///         }
-///         Ok(LogKey { offset, written })
-///     }
-/// ```
 pub trait Engine: Sync + Drop {
     /// The key under which the engine finds bytes again. It borrows nothing and goes from thread to thread.
     type Key: Send + Sync + Drop;

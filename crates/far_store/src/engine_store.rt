@@ -21,12 +21,6 @@ use std::sync::Wait;
 ///
 /// The store keeps the engine's keys, one for each number. If the engine fails for a reason of its own, the store returns `FarFault` (21)
 /// and counts the fault. Reading waits only if the engine does; a put may wait for other threads, as an agent's.
-///
-/// Over a log of five bytes, with space for eight contents:
-///
-/// ```
-/// let store = EngineStore::new(rt, alloc, ByteLog::new(alloc, 5)?, 8)?;
-/// ```
 #[derive(Drop)]
 pub struct EngineStore<E: Engine, R> {
     rt: R,

@@ -13,15 +13,6 @@ use std::sync::atomic::{AtomicBool, AtomicU64, Ordering};
 ///
 /// It is there to try how a caller handles a fault: the failing call returns `FarFault` (21) without asking the store under it. The same
 /// call made again is served.
-///
-/// The faults are planned over a store, if that was made:
-///
-/// ```
-/// match made {
-///     Ok(store) => Ok(FaultyStore::new(store, plan.failing_put, plan.failing_get)),
-///     Err(refusal) => Err(refusal),
-/// }
-/// ```
 #[derive(Drop)]
 pub struct FaultyStore<S> {
     store: S,

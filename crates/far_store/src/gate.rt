@@ -20,19 +20,6 @@ const YIELDING: u32 = 10_000;
 ///
 /// It is there to see what else a table can do while a put is under way. A put is held for at most 10,000,000 turns of a loop, and then
 /// returns `FarFault` (21). So no call waits for ever.
-///
-/// Another thread waits until a put is held, and then opens the gate:
-///
-/// ```
-/// for _ in 0..1_000_000 {
-///     if gate.held() {
-///         gate.release();
-///         return true;
-///     }
-///     thread::yield_now();
-/// }
-/// false
-/// ```
 #[derive(Drop)]
 pub struct GateStore<S> {
     store: S,

@@ -7,14 +7,6 @@ use std::marker::Model;
 ///
 /// Threads share a far store, so the caller keeps the count. Each call that may fault takes the caller's meter, and adds one to it exactly
 /// if it returns `FarFault` (21). So only a store calls [`Meter::rise`], whichever crate it stands in.
-///
-/// Numbers are put into a store:
-///
-/// ```
-/// let mut meter = Meter::new();
-/// let form = encode_ints(alloc, numbers)?;
-/// store.put(alloc, &mut meter, &form)
-/// ```
 #[derive(Drop, Debug)]
 pub struct Meter {
     faults: u64,

@@ -8,17 +8,8 @@ use std::alloc::Global;
 
 /// What a table knows of a far store's tickets, without talking to the store.
 ///
-/// [`FarRead`] and [`FarStore`] are traits of their own since each of these may wait: a store behind a network waits in every read. Code
+/// [`FarRead`] and [`FarStore`] are traits of their own since each of these may wait: a store over a network waits in every read. Code
 /// under a lock asks for `FarTickets` alone, and is known to return.
-///
-/// Whether one object's content was put before another's:
-///
-/// ```
-/// match (objects.ticket(o), objects.ticket(p)) {
-///     (Some(one), Some(other)) => store.number(one) < store.number(other),
-///     _ => false,
-/// }
-/// ```
 ///
 /// A far store behind a small interface is AIFM's remote device (OSDI 2020). Tickets that name one content for good are this project's own.
 pub trait FarTickets: Sync + Drop {
@@ -60,17 +51,6 @@ pub trait FarTickets: Sync + Drop {
 }
 
 /// A far store whose contents can be read.
-///
-/// An object comes back from the content of its ticket:
-///
-/// ```
-/// let mut bytes = Vec::new(alloc);
-/// store.get(alloc, &mut Meter::new(), ticket, &mut bytes)?;
-/// let Some(list) = T::unspell(alloc, &bytes)? else {
-///     return Err(Refusal::StaleJob);
-/// };
-/// objects.arrive(o, &list)
-/// ```
 pub trait FarRead: FarTickets {
     /// Writes the ticket's content into the buffer, in place of what the buffer has. If it is refused, the buffer is empty. Refused with:
     /// - `FarFault` (21) if the store fails in this call;
@@ -95,9 +75,19 @@ pub trait FarRead: FarTickets {
 /// Bytes are put, a second time if the first call runs out of memory:
 ///
 /// ```
-/// match store.put(alloc, &mut Meter::new(), &bytes) {
-///     Err(Refusal::NoMemory) => store.put(alloc, &mut Meter::new(), &bytes),
-///     reply => reply,
+/// pub fn put<T: Elem, S: FarStore>(alloc: Global, store: &S, list: &[T]) -> Result<S::Ticket, Refusal>
+///     requires { T.has_spelling list.now }
+///     ensures here { IfOk result (λ ticket. S.is_of ticket (S.store_id store.now)) }
+///     ensures spelled { IfOk result (λ ticket. IsSpelled T.in_range T.has_spelling T.spelling list.now (S.content ticket)) }
+/// {
+///     let bytes = match T::spell(alloc, list) {
+///         Err(Refusal::NoMemory) => T::spell(alloc, list),
+///         reply => reply,
+///     }?;
+///     match store.put(alloc, &mut Meter::new(), &bytes) {
+///         Err(Refusal::NoMemory) => store.put(alloc, &mut Meter::new(), &bytes),
+///         reply => reply,
+///     }
 /// }
 /// ```
 pub trait FarStore: FarRead {

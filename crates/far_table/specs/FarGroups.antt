@@ -29,7 +29,7 @@ module _ {K : Type 0} where
   abbrev pub places_there : (K → List ℕ) → FarRows K → List Place
   places_there content g = in_group g.rows.size g.build.group (places_in content g.rows)
 
-  -- the columns that the build needs are at hand
+  -- the columns that the build needs are available
   abbrev pub needs_column : FarRows K → ℕ → Bool
   needs_column g column = needs g.build.job.spec column
 

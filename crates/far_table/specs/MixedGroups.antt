@@ -26,7 +26,7 @@ module _ {K : Type 0} where
   abbrev pub places_mixed : (K → List ℕ) → MixedRows K → List Place
   places_mixed content m = places_here content m.group
 
-  -- the columns that the aggregate needs are at hand
+  -- the columns that the aggregate needs are available
   abbrev pub has_needed : MixedRows K → ℕ → Bool
   has_needed m column = needs m.spec column
 

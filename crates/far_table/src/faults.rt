@@ -87,7 +87,7 @@ fn one_more(limits: &Limits, len: usize) -> Result<(), Refusal>
     Ok(())
 }
 
-/// Checks a new row behind `len` places. Refused with the first of these that applies: `WrongKind` (5), `RowWidth` (6),
+/// Checks a new row after `len` places. Refused with the first of these that applies: `WrongKind` (5), `RowWidth` (6),
 /// `TextTooLong` (7), `TableFull` (10).
 pub(crate) fn row_faults(
     schema: &Schema,

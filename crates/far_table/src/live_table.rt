@@ -27,17 +27,6 @@ use std::marker::Model;
 
 /// A table whose rows lie in objects that are local or away, and whose aggregates are kept up to date under every edit.
 /// Contracts see the plain table and the rows that hold its places.
-///
-/// ```
-/// let columns = schema.len();
-/// let table = LiveTable::open(alloc, schema, limits, number)?;
-/// let prefetcher = Prefetcher::new(alloc, columns as u32)?;
-/// Ok(Frame {
-///     alloc,
-///     table,
-///     prefetcher,
-/// })
-/// ```
 #[derive(Drop)]
 pub struct LiveTable<S: FarTickets> {
     alloc: Global,

@@ -17,14 +17,6 @@ use std::marker::Model;
 ///
 /// `carry` reads the contents into buffers, and `merge` folds them. Computing an aggregate from far data without fetching its
 /// objects is AIFM's offloading (OSDI 2020, section 4.4). There the fold runs beside the far data.
-///
-/// ```
-/// let build = self.table.begin_offload(store, a, group)?;
-/// Ok(Job {
-///     name: None,
-///     work: JobPhase::Offload(build),
-/// })
-/// ```
 #[derive(Drop)]
 pub struct OffloadBuild<S: FarTickets> {
     pub(crate) number: u32,
@@ -44,17 +36,6 @@ impl<S: FarTickets> Model for OffloadBuild<S> {
 
 /// An offloaded build whose contents were read. Contracts see the build. That the contents are those of its tickets is the
 /// invariant.
-///
-/// ```
-/// match &job.work {
-///     JobPhase::Offloaded(carried) => self.table.merge(store, carried),
-///     JobPhase::Offload(_) => Err(Refusal::StaleJob),
-///     JobPhase::Evac(_) => Err(Refusal::StaleJob),
-///     JobPhase::Carried(_) => Err(Refusal::StaleJob),
-///     JobPhase::Fetch(_) => Err(Refusal::StaleJob),
-///     JobPhase::Fetched(_) => Err(Refusal::StaleJob),
-/// }
-/// ```
 #[derive(Drop)]
 pub struct OffloadCarried<S: FarTickets> {
     pub(crate) build: OffloadBuild<S>,

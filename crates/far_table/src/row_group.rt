@@ -8,12 +8,8 @@ use far_rows::{LentColumn, Rows};
 use far_store::FarTickets;
 use std::marker::Model;
 
-/// A row group of a table. Its columns are read in place, and one whose object is away is not at hand. Contracts see the rows
+/// A row group of a table. Its columns are read in place, and one whose object is away is not available. Contracts see the rows
 /// and the number of the row group. A table has at most 16 columns.
-///
-/// ```
-/// aggregates.retract(&rows.group(pending.row_group()), pending);
-/// ```
 #[derive(Drop)]
 pub struct RowGroup<'a, S: FarTickets> {
     // For the proof: contracts alone read the rows and the number. What is lent was looked up when the row group was made.

@@ -28,17 +28,6 @@ use std::marker::Model;
 ///
 /// An insert first takes its row, into values that are made once, when the table is opened. `new_row_ref` borrows it until it
 /// is appended. Contracts see the places as the plain table has them (`specs/TableRows.antt`), and the rows that hold them.
-///
-/// ```
-/// limits.check()?;
-/// let rows = TableRows::new(alloc, schema, limits, number)?;
-/// Ok(LiveTable {
-///     alloc,
-///     rows,
-///     registrations: 0,
-///     aggregates: Aggregates::new(alloc),
-/// })
-/// ```
 #[derive(Drop)]
 pub struct TableRows<S: FarTickets> {
     schema: Schema,

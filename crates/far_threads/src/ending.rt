@@ -1,5 +1,4 @@
-// How a run ends. The contract of a closed table says whose entries its histories have. So no session saw those of another, and the rows
-// that are counted are those of the sessions.
+// How a run ends. Closing proves that each history contains exactly its sessions' inserts, so the counted rows are exactly those.
 ghost use Rattle.std.specs.Prelude.{◌≡◌, ◌↔◌, ℕ, ℤ, IfOk, IfNone, IfSome, IsOk, IsOkAnd, IsTrue};
 ghost use Rattle.far_types.specs.declared.answer.Answer.{Answer};
 ghost use Rattle.far_types.specs.Answers.{answer_over};

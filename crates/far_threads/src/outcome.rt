@@ -7,16 +7,6 @@ use std::alloc::{AllocError, AllocFailed};
 use std::fmt;
 
 /// What a run of sessions leaves, as it is read when all sessions have ended.
-///
-/// ```
-/// let (sessions, outcome) = left?;
-/// let frames = close_all(rt, shared, sessions);
-/// let closed = answer_closed(alloc, frames)?;
-/// if !have_same_line(&outcome.answer, &closed) {
-///     return Err(Stop::Turns);
-/// }
-/// Ok(outcome)
-/// ```
 #[derive(Drop, Debug)]
 pub struct Outcome {
     /// The gauge of each session's home stripe, in the order of the sessions.
@@ -26,13 +16,6 @@ pub struct Outcome {
 }
 
 /// What ends a run of sessions early.
-///
-/// ```
-/// match cleared {
-///     Err(Refusal::NoMemory) => Err(Stop::Memory),
-///     _ => Ok(()),
-/// }
-/// ```
 #[derive(Clone, Copy, Debug, PartialEq, Eq)]
 pub enum Stop {
     /// A call ran out of memory.

@@ -55,7 +55,7 @@ is_int (Some kind.Int) = true
 is_int (Some kind.Text) = false
 is_int None = false
 
--- whether there is such a column, and it is of texts
+-- whether there is such a column, and it is a text column
 abbrev pub is_text : Option Kind → Bool
 is_text (Some kind.Int) = false
 is_text (Some kind.Text) = true

@@ -12,9 +12,12 @@ use std::slice;
 /// Two lines:
 ///
 /// ```
-/// let one = (Some(Key::from(1i64)), 1, 5);
-/// let other = (Some(Key::from(2i64)), 1, -5);
-/// let lines = TotalLines::new(Vec::from_array(alloc, [one, other])?);
+/// fn are_totals_right(alloc: Global) -> Result<bool, Refusal> {
+///     let one = (Some(Key::from(1i64)), 1, 5);
+///     let other = (Some(Key::from(2i64)), 1, -5);
+///     let lines = TotalLines::new(Vec::from_array(alloc, [one, other])?);
+///     Ok(lines_above_zero(&Answer::Totals(lines)) == 1)
+/// }
 /// ```
 #[derive(Drop, Debug)]
 pub struct TotalLines {
@@ -93,14 +96,6 @@ impl<'a> IntoIterator for &'a TotalLines {
 }
 
 /// The lines of extrema: keys in ascending order, each with a least and a greatest value. Contracts see their list.
-///
-/// A loop over the lines:
-///
-/// ```
-/// for (key, min, max) in lines.into_lines() {
-///     observe(min_maxes, key, MinMax { min, max })?;
-/// }
-/// ```
 #[derive(Drop, Debug)]
 pub struct ExtremaLines {
     lines: Vec<(Option<Key>, i64, i64)>,
@@ -164,15 +159,6 @@ impl<'a> IntoIterator for &'a ExtremaLines {
 /// bytes.
 ///
 /// Without a key column, totals always have one line, and extrema have none if no row is folded.
-///
-/// How many keys have a sum, or a least value, above 0:
-///
-/// ```
-/// match answer {
-///     Answer::Totals(lines) => lines.iter().filter(|line| line.2 > 0).count(),
-///     Answer::Extrema(lines) => lines.iter().filter(|line| line.1 > 0).count(),
-/// }
-/// ```
 #[derive(Drop, Debug)]
 pub enum Answer {
     Totals(TotalLines),

@@ -6,13 +6,6 @@ use super::text::Text;
 use std::alloc::Global;
 
 /// The kind of a column: what its cells hold, if they have a value.
-///
-/// A schema has a column of texts and one of numbers:
-///
-/// ```
-/// let kinds = Vec::from_array(alloc, [Kind::Text, Kind::Int])?;
-/// Schema::new(kinds)
-/// ```
 #[derive(Clone, Copy, Debug, PartialEq, Eq)]
 pub enum Kind {
     /// Whole numbers of 64 bits, signed.
@@ -24,10 +17,12 @@ pub enum Kind {
 /// One cell of a row: a number, a text, or no value. A cell without a value fits a column of either kind.
 ///
 /// ```
-/// let bread = Cell::of_text(alloc, "bread")?;
-/// let sold = Cell::from(5i64);
-/// let unknown = Cell::from(None::<i64>);
-/// Ok(Vec::from_array(alloc, [bread, sold, unknown])?)
+/// fn cells(alloc: Global) -> Result<Vec<Cell>, Refusal> {
+///     let bread = Cell::of_text(alloc, "bread")?;
+///     let sold = Cell::from(5i64);
+///     let unknown = Cell::from(None::<i64>);
+///     Ok(Vec::from_array(alloc, [bread, sold, unknown])?)
+/// }
 /// ```
 #[derive(Drop, Debug)]
 pub enum Cell {

@@ -13,16 +13,6 @@ use super::text::Text;
 use std::alloc::Global;
 
 /// A cell that is borrowed in place. `lent_cell` in `specs/Lent.antt` is the cell that it stands for.
-///
-/// The cell of a key, which may be missing:
-///
-/// ```
-/// match key {
-///     Some(Key::Int(number)) => CellRef::Int(*number),
-///     Some(Key::Text(text)) => CellRef::Text(text.as_str()),
-///     None => CellRef::Missing,
-/// }
-/// ```
 #[derive(Clone, Copy, Debug)]
 pub enum CellRef<'a> {
     /// A number.

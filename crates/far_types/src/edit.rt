@@ -6,13 +6,6 @@ use super::refusal::Refusal;
 use super::row::Row;
 
 /// A change of the table's rows.
-///
-/// Inserts the cells of a line of a load:
-///
-/// ```
-/// let cells = cells_in(alloc, spare, world.frame().schema().as_slice(), line)?;
-/// Ok(world.edit(Edit::Insert(Row::new(cells))))
-/// ```
 #[derive(Drop, Debug)]
 pub enum Edit {
     /// Appends a row, which gets the next place.

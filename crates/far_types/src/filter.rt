@@ -12,16 +12,6 @@ use std::marker::Model;
 use std::slice;
 
 /// How a number is compared with a constant.
-///
-/// The test that the number of column 0 is above 0:
-///
-/// ```
-/// Test::Int {
-///     column: 0,
-///     op: Op::Gt,
-///     value: 0,
-/// }
-/// ```
 #[derive(Clone, Copy, Debug, PartialEq, Eq)]
 pub enum Op {
     Eq,
@@ -54,15 +44,6 @@ impl Op {
 /// - the row has no such column;
 /// - the cell is of the other kind;
 /// - the cell has no value.
-///
-/// ```
-/// let is_rye = Test::text_is(alloc, 0, "rye")?;
-/// let are_many = Test::Int {
-///     column: 1,
-///     op: Op::Gt,
-///     value: 2,
-/// };
-/// ```
 #[derive(Drop, Debug)]
 pub enum Test {
     /// The number compares with the constant as `op` says.
@@ -197,13 +178,15 @@ impl Test {
 /// More than two, and each of them rye:
 ///
 /// ```
-/// let is_rye = Test::text_is(alloc, 0, "rye")?;
-/// let are_many = Test::Int {
-///     column: 1,
-///     op: Op::Gt,
-///     value: 2,
-/// };
-/// Ok(Filter::from(Vec::from_array(alloc, [is_rye, are_many])?))
+/// fn many_ryes(alloc: Global) -> Result<Filter, Refusal> {
+///     let is_rye = Test::text_is(alloc, 0, "rye")?;
+///     let are_many = Test::Int {
+///         column: 1,
+///         op: Op::Gt,
+///         value: 2,
+///     };
+///     Ok(Filter::from(Vec::from_array(alloc, [is_rye, are_many])?))
+/// }
 /// ```
 #[derive(Drop, Debug)]
 pub struct Filter {

@@ -11,9 +11,11 @@ use std::cmp::Ordering;
 /// Numbers are ordered by value, texts by bytes. Numbers come before texts. No answer shows that, since one column has one kind.
 ///
 /// ```
-/// let bread = Key::of_text(alloc, "bread")?;
-/// let rye = Key::of_text(alloc, "rye")?;
-/// Ok(bread < rye && Key::from(2i64) < Key::from(10i64))
+/// fn are_in_order(alloc: Global) -> Result<bool, Refusal> {
+///     let bread = Key::of_text(alloc, "bread")?;
+///     let rye = Key::of_text(alloc, "rye")?;
+///     Ok(bread < rye && Key::from(2i64) < Key::from(10i64))
+/// }
 /// ```
 #[derive(Drop, Debug)]
 pub enum Key {

@@ -8,18 +8,6 @@ use super::row::Row;
 
 /// Something that lends the cells of a row by column number: a row, or a value that has just the columns that a reader needs.
 /// Filters and aggregates read rows through it.
-///
-/// A row of a name and of the price 5:
-///
-/// ```
-/// fn cell(&self, column: u32) -> Option<CellRef<'_>> {
-///     match column {
-///         0 => Some(CellRef::Text(self.name)),
-///         1 => Some(CellRef::Int(5)),
-///         _ => None,
-///     }
-/// }
-/// ```
 pub trait LendCells {
     /// The cells by column number: nothing if there is no such column.
     ghost cells: { Self → Cells };

@@ -11,14 +11,6 @@ use std::marker::Model;
 /// The cells of a row, each borrowed in place. So the columns of the row are found once for all its readers.
 ///
 /// It has at most 16 cells, as a table has at most 16 columns. Nothing here allocates. Contracts see the list of the cells.
-///
-/// A row of a number and a text:
-///
-/// ```
-/// let mut row = LentRow::new();
-/// row.push(CellRef::Int(1));
-/// row.push(CellRef::Text("a"));
-/// ```
 #[derive(Drop)]
 pub struct LentRow<'a> {
     cells: [CellRef<'a>; 16],

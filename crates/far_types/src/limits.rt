@@ -8,11 +8,13 @@ use super::refusal::Refusal;
 /// The usual limits, for at most 1,000 rows:
 ///
 /// ```
-/// let limits = Limits {
-///     places: 1_000,
-///     ..Limits::default()
-/// };
-/// limits.check() == Ok(())
+/// fn are_small_limits_allowed() -> bool {
+///     let limits = Limits {
+///         places: 1_000,
+///         ..Limits::default()
+///     };
+///     limits.check() == Ok(())
+/// }
 /// ```
 #[derive(Clone, Copy, Debug, PartialEq, Eq)]
 pub struct Limits {

@@ -10,16 +10,6 @@ use std::alloc::Global;
 
 /// What a row gives to an aggregate: its pair, or nothing if the row is not kept or not folded. A text key is borrowed in place.
 /// `lent_pair` in `specs/Lent.antt` is the pair that it stands for.
-///
-/// The value 7 under the key that a cell gives:
-///
-/// ```
-/// let mut row = LentRow::new();
-/// row.push(CellRef::Int(7));
-/// row.push(cell);
-/// let spec = Spec::totals(alloc, 0).by(1);
-/// spec.lend_pair(&row).pair(alloc, earlier)
-/// ```
 #[derive(Clone, Copy, Debug)]
 pub enum PairRef<'a> {
     /// No pair.

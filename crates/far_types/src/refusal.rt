@@ -16,9 +16,11 @@ use thiserror::Error;
 /// It prints a sentence. Here that is `2: a table may not have this schema or these limits`:
 ///
 /// ```
-/// match Schema::new(Vec::new(alloc)) {
-///     Ok(_) => Ok(String::new(alloc)),
-///     Err(refusal) => Ok(format!(in alloc; "{}: {refusal}", refusal.number())?),
+/// fn printed_of_no_column(alloc: Global) -> Result<String, Refusal> {
+///     match Schema::new(Vec::new(alloc)) {
+///         Ok(_) => Ok(String::new(alloc)),
+///         Err(refusal) => Ok(format!(in alloc; "{}: {refusal}", refusal.number())?),
+///     }
 /// }
 /// ```
 #[derive(Debug, Drop, Clone, Copy, PartialEq, Eq, Error)]
@@ -49,7 +51,7 @@ pub enum Refusal {
     NoAggregate,
     /// 13: 32 aggregates are registered, or 2^32 registrations were made.
     TooManyAggregates,
-    /// 14: a range, a group, a segment, a stripe, a count of workers or a set of sessions is not as asked.
+    /// 14: an argument is out of range.
     OutOfRange,
     /// 15: row groups are still pending in the aggregate, as many as it says.
     Building(u32),

@@ -12,19 +12,10 @@ use std::slice;
 /// The cells of a row, in the order of the columns. Contracts see their list.
 ///
 /// ```
-/// let cells = [Cell::of_text(alloc, bread)?, Cell::from(sold)];
-/// Ok(Row::from(Vec::from_array(alloc, cells)?))
-/// ```
-///
-/// A loop over the cells of a row, which ends at the first without a value:
-///
-/// ```
-/// for cell in row {
-///     if let Cell::Missing = cell {
-///         return false;
-///     }
+/// fn sale(alloc: Global, bread: &str, sold: i64) -> Result<Row, Refusal> {
+///     let cells = [Cell::of_text(alloc, bread)?, Cell::from(sold)];
+///     Ok(Row::from(Vec::from_array(alloc, cells)?))
 /// }
-/// true
 /// ```
 #[derive(Drop, Debug)]
 pub struct Row {

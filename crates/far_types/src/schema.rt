@@ -11,8 +11,10 @@ use std::slice;
 /// The kinds of a table's columns, 1 to 16 of them. Contracts see their list.
 ///
 /// ```
-/// let kinds = Vec::from_array(alloc, [Kind::Text, Kind::Int])?;
-/// Schema::new(kinds)
+/// fn breads(alloc: Global) -> Result<Schema, Refusal> {
+///     let kinds = Vec::from_array(alloc, [Kind::Text, Kind::Int])?;
+///     Schema::new(kinds)
+/// }
 /// ```
 #[derive(Drop, Debug)]
 pub struct Schema {

@@ -10,15 +10,6 @@ use super::schema::Schema;
 use std::alloc::Global;
 
 /// The aggregate function: what an aggregate computes of the values under each key.
-///
-/// What an aggregate begins with, by its fold:
-///
-/// ```
-/// match fold {
-///     Fold::Totals => Accumulator::Totals(LiveTotals::new(alloc, left)),
-///     Fold::Extrema => Accumulator::Extrema(KnownExtrema::new(alloc, left)),
-/// }
-/// ```
 #[derive(Clone, Copy, Debug, PartialEq, Eq)]
 pub enum Fold {
     /// How many there are, and their sum.
@@ -32,8 +23,10 @@ pub enum Fold {
 /// The totals of column 1 by column 0, over the rows whose text in column 0 begins with an r:
 ///
 /// ```
-/// let begins_with_r = Test::text_begins(alloc, 0, "r")?;
-/// Spec::totals(alloc, 1).by(0).only(begins_with_r)
+/// fn sold_by_bread(alloc: Global) -> Result<Spec, Refusal> {
+///     let begins_with_r = Test::text_begins(alloc, 0, "r")?;
+///     Spec::totals(alloc, 1).by(0).only(begins_with_r)
+/// }
 /// ```
 #[derive(Drop, Debug)]
 pub struct Spec {

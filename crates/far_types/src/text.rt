@@ -13,15 +13,6 @@ use std::cmp::Ordering;
 use std::marker::Model;
 
 /// A text of a cell, a key or a test: valid UTF-8, compared by bytes. Contracts see the list of its bytes.
-///
-/// The memory of an earlier text is used again for another one:
-///
-/// ```
-/// let mut string = earlier.into_string();
-/// string.clear();
-/// string.push_str(text)?;
-/// Ok(Key::Text(Text::new(string)))
-/// ```
 #[derive(Drop, Debug)]
 pub struct Text {
     string: String,

@@ -32,7 +32,7 @@ module _ {X : Type 0} where
   abbrev pub object_at : Vector X → ℕ → ℕ
   object_at v i = slice_index v.objects (i / v.size)
 
-  -- the list of row group g's object: the elements of its places, and behind them what stands in places not yet used
+  -- the list of row group g's object: the elements of its places, and after them what stands in places not yet used
   abbrev pub group_list : Vector X → List X → ℕ → List X
   group_list v elements g =
       let used : List X = in_group v.size g elements

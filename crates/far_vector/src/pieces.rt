@@ -13,17 +13,6 @@ use std::marker::Model;
 
 /// A part of a vector, piece by piece: a slice of each row group that has some of it, borrowed from its object. No piece is
 /// empty.
-///
-/// ```
-/// let mut pieces = vector.pieces(objects, from, to)?;
-/// let mut right = pieces.len() == lens.len();
-/// for len in lens {
-///     right &= match pieces.next() {
-///         Some(piece) => piece.len() == *len,
-///         None => false,
-///     };
-/// }
-/// ```
 #[derive(Drop)]
 pub struct Pieces<'a, T: Elem, S: FarTickets> {
     vector: &'a FarVector<T>,

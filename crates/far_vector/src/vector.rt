@@ -28,13 +28,6 @@ struct Position {
 ///
 /// Each object has as many elements as a row group. Places that are not yet used have the default value. The vector's column
 /// and the row groups name the objects.
-///
-/// ```
-/// match vector.push(objects, x) {
-///     Err(Refusal::NoMemory) => vector.push(objects, x),
-///     reply => reply,
-/// }
-/// ```
 #[derive(Drop)]
 pub struct FarVector<T: Elem> {
     column: u32,

@@ -1,4 +1,4 @@
-// Forms made from forms in which one text changes, or comes behind the others.
+// Forms made from forms in which one text changes, or comes after the others.
 ghost use Rattle.far_codec.specs.TextForm.{IsTextsForm};
 
 use crate::cases::{Case, is_list};
@@ -16,7 +16,7 @@ fn text(alloc: Global, word: Option<&str>) -> Result<Option<Text>, Refusal> {
     }
 }
 
-/// Returns the form with this text in place of text `i`, or behind the others if there is no text `i`. No bytes if that is too long.
+/// Returns the form with this text in place of text `i`, or after the others if there is no text `i`. No bytes if that is too long.
 fn changed_texts(
     alloc: Global,
     form: &[u8],
@@ -47,7 +47,7 @@ fn changed(alloc: Global, bytes: &[u8], i: usize, word: Option<&str>) -> Result<
 /// A form, the changes that are made to it, and the form that it is then.
 struct Changes {
     from: &'static [u8],
-    /// The changes: this text in place of text `i`, or behind the others if there is no text `i`.
+    /// The changes: this text in place of text `i`, or after the others if there is no text `i`.
     changes: &'static [(usize, Option<&'static str>)],
     to: &'static [u8],
 }

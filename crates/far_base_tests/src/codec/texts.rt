@@ -20,7 +20,7 @@ fn are_lent(form: &[u8], texts: &[Option<&str>]) -> bool
     count_texts(form) == texts.len() && text_at(form, texts.len()).is_none()
 }
 
-/// Returns whether the texts, and none behind them, are found in the bytes.
+/// Returns whether the texts, and none after them, are found in the bytes.
 fn are_found(alloc: Global, bytes: &[u8], texts: &[Option<&str>]) -> Result<bool, Refusal> {
     match <u8 as Elem>::unspell(alloc, bytes)? {
         Some(form) => Ok(are_lent(form.as_slice(), texts)),

@@ -1,4 +1,4 @@
-// Row groups whose columns are at hand, and the lines of their answers.
+// Row groups whose columns are available, and the lines of their answers.
 use crate::cases::all_are_right;
 use crate::lines::{Lines, Name};
 use crate::offload::folding::{Folded, RowGroup};

@@ -54,7 +54,7 @@ pub fn has_lines(
     }
 }
 
-/// Returns the columns of a row group at hand: the numbers in a list and the texts in a form.
+/// Returns the columns of a row group, in memory: the numbers in a list and the texts in a form.
 fn columns<'a>(numbers: &'a [Option<i64>], form: &'a [u8]) -> [Column<'a>; 2]
     requires { IsTextsForm form.now }
 {
@@ -90,7 +90,7 @@ impl Case for Folded {
         self.name
     }
 
-    /// Returns whether the row group with its columns at hand has the lines.
+    /// Returns whether the row group with its available columns has the lines.
     fn is_right(&self, alloc: Global) -> Result<bool, Refusal> {
         if !self.rows.is_short() {
             return Ok(false);

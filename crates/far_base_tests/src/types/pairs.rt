@@ -7,7 +7,7 @@ use std::alloc::Global;
 /// What a row gives to an aggregate.
 type Pair = Option<(Option<Key>, i64)>;
 
-/// Returns the pair of a row by the totals of its number, 7, under its second cell, if this key is at hand.
+/// Returns the pair of a row by the totals of its number, 7, under its second cell, if this key is available.
 fn pair_under(alloc: Global, cell: CellRef<'_>, earlier: Option<Key>) -> Result<Pair, Refusal> {
     let mut row = LentRow::new();
     row.push(CellRef::Int(7));
@@ -16,7 +16,7 @@ fn pair_under(alloc: Global, cell: CellRef<'_>, earlier: Option<Key>) -> Result<
     spec.lend_pair(&row).pair(alloc, earlier)
 }
 
-/// Returns whether a row gives its value under its text, if the key of a number is at hand.
+/// Returns whether a row gives its value under its text, if the key of a number is available.
 fn is_under_text(alloc: Global) -> Result<bool, Refusal> {
     let key = text_key(alloc, "ab")?;
     let pair = pair_under(alloc, CellRef::Text("ab"), Some(Key::Int(3)));

@@ -210,7 +210,7 @@ impl<S: FarTickets> Frame<S> {
         }
     }
 
-    /// Compacts a segment of the objects of a kind. Its parts then lie in the lowest other segment without parts, one behind
+    /// Compacts a segment of the objects of a kind. Its parts then lie in the lowest other segment without parts, one after
     /// the other, those of hot objects first. None of their objects is hot afterwards.
     ///
     /// Refused with the first of these that applies:

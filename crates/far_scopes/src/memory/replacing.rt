@@ -15,7 +15,7 @@ impl<T: Elem> LocalMemory<T> {
     /// Gives listed objects, which are local, other lists: places all new ones, in order, before it drops an old one.
     /// If they fit, it returns `checked`. If it is refused, nothing is changed.
     ///
-    /// Until all are placed, each new list is that of a further object behind the others.
+    /// Until all are placed, each new list is that of a further object after the others.
     pub fn replace_all(
         &mut self,
         lists: &[Replacement<T>],

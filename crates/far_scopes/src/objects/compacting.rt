@@ -11,7 +11,7 @@ use far_types::Refusal;
 use std::alloc::Global;
 
 impl<T: Elem, S: FarTickets> Objects<T, S> {
-    /// Compacts a segment: moves its parts into the lowest other segment without parts, one behind the other. Parts of hot objects come
+    /// Compacts a segment: moves its parts into the lowest other segment without parts, one after another. Parts of hot objects come
     /// first, then the others, each by where they lay.
     ///
     /// It clears the hot bits of these objects. Every list, which objects are local, dirty or away, and the order of use stay.

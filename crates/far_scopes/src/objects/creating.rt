@@ -15,7 +15,7 @@ impl<T: Elem, S: FarTickets> Objects<T, S> {
     ///
     /// - The object is local, dirty, hot and used last, and was never written, away or pinned.
     /// - `uncreate` undoes the call (`undone`).
-    /// - Lists of further lengths that fitted in order behind this one still do (`next`).
+    /// - Lists of further lengths that fitted in order after this one still do (`next`).
     ///
     /// If it is refused, nothing is changed. Refused with:
     /// - `RegionFull` (17) exactly if no segment has the space;

@@ -107,7 +107,7 @@ impl<T: Elem, S: FarTickets> Objects<T, S> {
         ensures lists { (p : ℕ) → list_of T.meaning S.content self.new p ≡ list_of T.meaning S.content self.old p }
         ensures clean { AreClean T.meaning S.content self.old → AreClean T.meaning S.content self.new }
     {
-        // The word comes last, so that the next borrow of the object finds it at hand.
+        // The word comes last, so that the next borrow of the object finds it in cache.
         self.order.touch(o);
         self.records[o as usize].version += 1;
         self.memory.mark(o as usize);

@@ -42,7 +42,7 @@ impl<T: Elem, S: FarTickets> Objects<T, S> {
         Ok(())
     }
 
-    // Checks what `may_replace` checks, but for the space if the object may be written: placing the list searches for it anyway.
+    // Like `may_replace`, but does not look for space if the object may be written: `place` will do it.
     fn may_write_if_placed(&self, o: u32, len: usize) -> Result<(), Refusal>
         requires { o < length self.now.records }
         ensures free { OnOk result (write_refusal self.now o ≡ None) }

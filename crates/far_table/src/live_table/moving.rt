@@ -161,7 +161,7 @@ impl<S: FarTickets> LiveTable<S> {
         self.rows.coldest()
     }
 
-    /// Compacts a segment of the objects of a kind. Its parts then lie in the lowest other segment without parts, one behind
+    /// Compacts a segment of the objects of a kind. Its parts then lie in the lowest other segment without parts, one after
     /// the other, those of hot objects first. None of their objects is hot afterwards.
     ///
     /// Refused with the first of these that applies:
