@@ -34,7 +34,7 @@ key-same : (key : Option ℕ) (f g : Cells) → ((c : ℕ) → option_map_or (λ
 key-same None f g h = refl
 key-same (Some k) f g h = ap (λ o. option_map Some (key_in o)) (h k (eq-eqb k k refl))
 
-pair-same : (spec : Spec) (f g : Cells) → ((c : ℕ) → needs spec c ≡ true → f c ≡ g c) → pair_of spec f ≡ pair_of spec g
+pub pair-same : (spec : Spec) (f g : Cells) → ((c : ℕ) → needs spec c ≡ true → f c ≡ g c) → pair_of spec f ≡ pair_of spec g
 pair-same spec f g h =
     let tested : ℕ → Bool = λ c. list_any (λ t. column_of t == c) spec.filter in
     let keyed : ℕ → Bool = λ c. option_map_or (λ k. k == c) spec.key false in

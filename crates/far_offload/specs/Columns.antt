@@ -1,4 +1,4 @@
--- The columns that a job has at hand: the cells that their far forms mean, and what a place has in them.
+-- The columns that a job has: the cells that their far forms mean, and what a place has in them.
 use Rattle.std.specs.Prelude.{◌≡◌, ℕ, ℤ, Bool, ◌==◌, List, map, Option, Some, option_map, slice_index_or}
 use Rattle.std.specs.List.{find}
 use Rattle.std.specs.Option.{option_and_then}
@@ -35,10 +35,14 @@ column_of columns number = find (is_number number) columns
 abbrev pub cell_of : ℕ → ℕ × List Cell → Cell
 cell_of place column = slice_index_or column.1 place cell.Missing
 
--- what a place has, by the number of the column: nothing in a column that is not at hand
+-- what a place has, by the number of the column: nothing in a column that is not available
 abbrev pub cells_at : Columns → ℕ → Cells
 cells_at columns place number = option_map (cell_of place) (column_of columns number)
 
 -- the numbers are those of the key column, of which the number is given if there is one
 abbrev pub AreKeys : Columns → Option ℕ → List (Option ℤ) → Type 0
 AreKeys columns key numbers = (column : ℕ × List Cell) × (option_and_then (column_of columns) key ≡ Some column) × (column.1 ≡ map int_cell numbers)
+
+-- the numbers are those of the column of this number
+abbrev pub AreValues : Columns → ℕ → List (Option ℤ) → Type 0
+AreValues columns number numbers = (column : ℕ × List Cell) × (column_of columns number ≡ Some column) × (column.1 ≡ map int_cell numbers)

@@ -1,4 +1,4 @@
-// Columns whose values are at hand.
+// Columns whose values are available.
 ghost use Rattle.std.specs.Prelude.{◌≡◌, [], map, slice_index_or, None, Some, IfSome};
 ghost use Rattle.std.specs.Option.{option_copied};
 ghost use Rattle.far_types.specs.declared.cell.Cell.TheVariants.{Missing};
@@ -26,10 +26,6 @@ pub(crate) enum ColumnValues<'a> {
 }
 
 /// A column: its number, and its values where they lie. Contracts see the number and the cells.
-///
-/// ```
-/// [Column::of_numbers(0, numbers), Column::of_form(1, form)]
-/// ```
 #[derive(Drop)]
 pub struct Column<'a> {
     number: u32,
@@ -170,7 +166,7 @@ fn tested(bytes: &[u8]) -> Option<LentValues<'_>>
     }
 }
 
-/// Returns the column of a number, if it is at hand.
+/// Returns the column of a number, if it is available.
 pub(crate) fn find<'a, 'b>(columns: &'a [Column<'b>], number: u32) -> Option<&'a Column<'b>>
     ensures { option_copied result ≡ column_of columns.now number }
 {

@@ -10,7 +10,7 @@ use crate::column::{Column, find};
 use far_extrema::MinMax;
 use far_types::{CellRef, LendCells, Spec};
 
-/// A place of columns at hand. It lends its cells by the number of the column.
+/// A place of available columns. It lends its cells by the number of the column.
 #[derive(Clone, Copy)]
 struct PlaceCells<'a, 'b> {
     columns: &'a [Column<'b>],

@@ -95,7 +95,7 @@ fn extrema_of(
     Ok(observed)
 }
 
-/// Folds the live places of columns at hand. There is a place for each flag, at most 2^26. A column that is not at hand, and a
+/// Folds the live places of available columns. There is a place for each flag, at most 2^26. A column that is not available, and a
 /// place past the end of a column, have no value. Of columns with one number the first counts.
 ///
 /// Refused with `NoMemory` (1) alone.

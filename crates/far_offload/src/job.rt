@@ -17,14 +17,6 @@ use std::marker::Model;
 ///
 /// Contracts see the aggregate, the tickets of the columns by number, and the alive flags. The remote agent works on far data
 /// where it lies, and only the result travels. That is AIFM's offloading (OSDI 2020, section 4.4).
-///
-/// ```
-/// let ints = put_ints(alloc, store, &[Some(1), Some(2), Some(3), Some(4)])?;
-/// let mut tickets = Vec::new(alloc);
-/// tickets.push((0, ints))?;
-/// let alive = Vec::from_array(alloc, ALIVE)?;
-/// let job = OffloadJob::new(Spec::totals(alloc, 0), tickets, alive);
-/// ```
 #[derive(Drop)]
 pub struct OffloadJob<S: FarTickets> {
     spec: Spec,

@@ -7,7 +7,7 @@ ghost use Rattle.far_offload.specs.AtHand.{AreAtHand};
 ghost use Rattle.far_offload.specs.Columns.{Columns};
 ghost use Rattle.far_offload.specs.Partials.{pairs_over};
 
-/// What columns at hand give to an aggregate is what the places of a row group of the plain table give, in order. For that, the
+/// What available columns give to an aggregate is what the places of a row group of the plain table give, in order. For that, the
 /// columns that the aggregate needs have the cells of those places first, and the flags are those of the places.
 pub fn columns_at_hand_give_the_pairs_of_their_places()
     ensures { (spec : Spec) → (columns : Columns) → (size g : ℕ) → (places : List Place) → AreAtHand spec columns (in_group size g places) → pairs_over spec columns (map (λ place. place.alive) (in_group size g places)) ≡ filter_map (place_pair spec) (in_group size g places) }

@@ -1,5 +1,5 @@
 #![tactic(auto)]
-//! Aggregates of a row group whose columns are at hand, as lists of numbers or as far forms. `fold` and `min_max_under` read
+//! Aggregates of a row group whose columns are available, as lists of numbers or as far forms. `fold` and `min_max_under` read
 //! them in place.
 //!
 //! If the columns lie in the far store, an `OffloadJob` reads the contents under their tickets and folds those. So nothing

@@ -4,13 +4,6 @@ use far_extrema::GroupExtrema;
 use far_groups::LiveTotals;
 
 /// What the live places of one row group come to, to be merged into an aggregate.
-///
-/// ```
-/// match done {
-///     PartialDone::Totals(live) => live.answer(alloc),
-///     PartialDone::Extrema(observed) => observed.answer(alloc),
-/// }
-/// ```
 #[derive(Drop)]
 pub enum PartialDone {
     /// Counts and sums by key. No row group is pending in these totals.

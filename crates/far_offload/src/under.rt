@@ -1,16 +1,17 @@
 // The least and the greatest value under one key.
-ghost use Rattle.std.specs.Prelude.{◌≡◌, ◌↔◌, Some, IsTrue, map, option_map, slice_index_or};
+ghost use Rattle.std.specs.Prelude.{◌≡◌, ◌↔◌, [], None, Some, IsTrue, IfSome, FitsSigned, map, option_map, slice_index_or};
+ghost use Rattle.std.specs.Int.{w64};
 ghost use Rattle.std.specs.FinMap as fin;
 ghost use Rattle.std.specs.Option.{option_copied, option_and_then};
 ghost use Rattle.far_types.specs.declared.cell.Cell.TheVariants as cell;
 ghost use Rattle.far_types.specs.declared.cell.Cell.TheVariants.{Missing};
 ghost use Rattle.far_types.specs.declared.key.Key.TheVariants as key_of;
-ghost use Rattle.far_types.specs.Cells.{key_in};
+ghost use Rattle.far_types.specs.Cells.{key_in, number_in};
 ghost use Rattle.far_types.specs.Lent.{int_cell};
 ghost use Rattle.far_types.specs.Pairs.{key_under};
 ghost use Rattle.far_types.specs.Answers.{extrema};
-ghost use Rattle.far_offload.specs.Columns.{column_of, cell_of, cells_at, AreKeys};
-ghost use Rattle.far_offload.specs.Partials.{pairs_over, MinMaxFits};
+ghost use Rattle.far_offload.specs.Columns.{column_of, cell_of, cells_at, AreKeys, AreValues};
+ghost use Rattle.far_offload.specs.Partials.{pairs_over, value_at, MinMaxFits};
 
 use crate::column::{Column, find};
 use crate::filtering::{value_at, value_beyond};
@@ -19,7 +20,7 @@ use far_codec::LentInts;
 use far_extrema::MinMax;
 use far_types::{Key, Spec};
 
-/// Returns the column of the keys, if there is one and it is at hand.
+/// Returns the column of the keys, if there is one and it is available.
 fn key_column<'a, 'b>(columns: &'a [Column<'b>], key: Option<u32>) -> Option<&'a Column<'b>>
     ensures { option_copied result ≡ option_and_then (column_of columns.now) key }
 {
@@ -56,7 +57,7 @@ fn stands_under(
     }
 }
 
-/// Numbers of a key column, in whatever form they are at hand.
+/// Numbers of a key column, in whatever form they are available.
 trait NumberKeys {
     ghost use Rattle.std.specs.Prelude.{ℤ, List, Option};
 
@@ -147,6 +148,73 @@ fn min_max_under_key(
     min_max
 }
 
+/// Returns the list of the values, if they lie in one and no test is made of them.
+fn untested_numbers<'a>(spec: &Spec, columns: &[Column<'a>]) -> Option<&'a [Option<i64>]>
+    ensures values { IfSome result (λ numbers. AreValues columns.now spec.now.value numbers.now) }
+    ensures untested { IfSome result (λ numbers. spec.now.filter ≡ []) }
+{
+    if !spec.filter.as_slice().is_empty() {
+        return None;
+    }
+    find(columns, spec.value)?.numbers()
+}
+
+/// Returns the number that a list has at a place, if there is one.
+#[inline(always)]
+fn number_at(numbers: &[Option<i64>], place: usize) -> Option<i64>
+    ensures number { result ≡ number_in (Some (slice_index_or (map int_cell numbers.now) place Missing)) }
+    ensures fits { IfSome result (FitsSigned w64) }
+{
+    match numbers.get(place) {
+        Some(Some(number)) => Some(*number),
+        _ => None,
+    }
+}
+
+/// Returns the value of a place, which no test is made of.
+#[inline(always)]
+fn untested_value(
+    spec: &Spec,
+    columns: &[Column<'_>],
+    numbers: &[Option<i64>],
+    place: usize,
+    alive: bool,
+) -> Option<i64>
+    requires values { AreValues columns.now spec.now.value numbers.now }
+    requires untested { spec.now.filter ≡ [] }
+    ensures value { result ≡ value_at spec.now columns.now (place, alive) }
+    ensures fits { IfSome result (FitsSigned w64) }
+{
+    if alive {
+        number_at(numbers, place)
+    } else {
+        None
+    }
+}
+
+/// Returns what `min_max_under` does under no key, if the values lie in a list and no test is made of them. Where they lie is
+/// decided once for all places.
+fn min_max_untested(
+    spec: &Spec,
+    columns: &[Column<'_>],
+    alive: &[bool],
+    numbers: &[Option<i64>],
+) -> Option<MinMax>
+    requires values { AreValues columns.now spec.now.value numbers.now }
+    requires untested { spec.now.filter ≡ [] }
+    requires plain { spec.now.key ≡ None }
+    ensures min_max { result ≡ fin.get (extrema (pairs_over spec.now columns.now alive.now)) None }
+    ensures fits { MinMaxFits result }
+{
+    let mut min_max = None;
+    for place in 0..alive.len() {
+        if let Some(value) = untested_value(spec, columns, numbers, place, alive[place]) {
+            min_max = Some(widened(min_max, value));
+        }
+    }
+    min_max
+}
+
 /// Returns the least and the greatest value of the live places that belong to a key, if there is one. That is what the extrema
 /// of `fold` have under the key. Allocates nothing.
 pub fn min_max_under(
@@ -167,6 +235,11 @@ pub fn min_max_under(
         }
         if let Some(ints) = column.ints() {
             return min_max_under_number(spec, columns, alive, ints, number);
+        }
+    }
+    if let (None, None) = (spec.key, key) {
+        if let Some(numbers) = untested_numbers(spec, columns) {
+            return min_max_untested(spec, columns, alive, numbers);
         }
     }
     min_max_under_key(spec, columns, alive, key)

@@ -1,10 +1,7 @@
 -- Columns of which one gets another value at a place.
-use Rattle.std.proofs.Common.{◌≡◌, ◌≢◌, ℕ, zero, suc, ◌<◌, List, [], ◌∷◌, inl, inr, length, map, get_or, set, Option, None, Some, refl, sym, ap, subst, ◌∙◌, arith}
-use Rattle.std.specs.Prelude.{ℤ, ◌⊎◌, Result, IfErr, slice_get, slice_set}
-use Rattle.std.specs.declared.result.Result.TheVariants.{Ok, Err}
-use Rattle.far_types.specs.declared.refusal.Refusal.{Refusal}
-use Rattle.far_types.specs.declared.refusal.Refusal.TheVariants.{NoMemory}
-use Rattle.std.proofs.lemmas.Option.{none-some, slice_get_within, get_or_from_slice_get}
+use Rattle.std.proofs.Common.{◌≡◌, ◌≢◌, ℕ, zero, suc, ◌<◌, List, [], ◌∷◌, length, map, get_or, set, Option, Some, refl, sym, ap, subst, ◌∙◌, arith}
+use Rattle.std.specs.Prelude.{ℤ, slice_get, slice_set}
+use Rattle.std.proofs.lemmas.Option.{slice_get_within, get_or_from_slice_get}
 use Rattle.std.proofs.lemmas.List.{set-get_or}
 use Rattle.far_vector.specs.Vector.{Vector, IsVector, AreDisjoint, IsUntouched, elements}
 use Rattle.far_vector.specs.Vectors.{AreVectors, ChangesVector}
@@ -65,9 +62,3 @@ module _ (old new : Lists) (columns : List Texts) (are : AreColumns old columns)
   texts-set = map-one (texts_in old) (texts_in new) columns k (texts_in new c) (slice_get_within columns k c at)
       (λ d. ap (texts_in new) (get_or_from_slice_get columns k c d at))
       (λ j d ne below. ap (λ cs. texts_in new (get_or cs j d)) (sym (set-same columns k c at)) ∙ texts-after old new columns are.all_disjoint k c c at text-change j d ne below)
-
--- if no other refusal is due, lack of memory is all there is
-pub only-memory : {A : Type 0} (r : Result A Refusal) (due : Option Refusal) → due ≡ None → IfErr r (λ e. (due ≡ Some e) ⊎ ((due ≡ None) × (e ≡ NoMemory))) → IfErr r (λ e. e ≡ NoMemory)
-only-memory (Ok x) due free refused = tt
-only-memory (Err e) due free (inl is) = absurd (none-some e (sym free ∙ is))
-only-memory (Err e) due free (inr memory) = memory.1

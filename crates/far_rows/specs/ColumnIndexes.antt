@@ -8,7 +8,7 @@ use Rattle.far_rows.specs.declared.column_index.ColumnIndex.{ColumnIndex}
 use Rattle.far_rows.specs.declared.column_index.ColumnIndex.TheVariants as column_index
 use Rattle.far_types.specs.Lent.{int_cell, text_cell}
 
--- the indexes of columns of these kinds, behind `numbers` columns of numbers and `texts` of texts
+-- the indexes of columns of these kinds, after `numbers` columns of numbers and `texts` of texts
 abbrev pub column_indexes_from : ℕ → ℕ → List Kind → List ColumnIndex
 column_indexes_from numbers texts [] = []
 column_indexes_from numbers texts (kind.Int ∷ kinds) = column_index.Number numbers ∷ column_indexes_from (numbers + 1) texts kinds

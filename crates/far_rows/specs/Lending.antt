@@ -14,7 +14,7 @@ use Rattle.far_rows.specs.declared.column_index.ColumnIndex.TheVariants as colum
 use Rattle.far_rows.specs.Rows.{Rows, all_numbers, all_texts}
 
 module _ {K : Type 0} (content : K → List ℕ) (r : Rows K) where
-  -- the numbers of an index's column, which has none if it is of texts
+  -- the numbers of an index's column, which has none if it is a text column
   abbrev pub numbers_of : ColumnIndex → Numbers
   numbers_of (column_index.Number i) = slice_index_or (all_numbers content r) i []
   numbers_of (column_index.Text i) = []

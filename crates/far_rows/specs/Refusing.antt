@@ -49,7 +49,7 @@ module _ {K : Type 0} (r : Rows K) where
     abbrev pub no_column : Bool × Refusal
     no_column = (is_none (slice_get r.column_indexes column), refusal.NoColumn)
 
-    -- it is of texts
+    -- it is a text column
     abbrev pub of_texts : Bool × Refusal
     of_texts = (is_text (option_map kind_of (slice_get r.column_indexes column)), refusal.WrongKind)
 

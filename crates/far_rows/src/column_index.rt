@@ -1,13 +1,6 @@
 // Where the columns of a table lie.
 
 /// Index of a column among the number columns or among the text columns.
-///
-/// ```
-/// match self.column_indexes.get(column)? {
-///     ColumnIndex::Number(_) => Some(Kind::Int),
-///     ColumnIndex::Text(_) => Some(Kind::Text),
-/// }
-/// ```
 #[derive(Clone, Copy, Debug, PartialEq, Eq)]
 pub enum ColumnIndex {
     /// Among the columns of numbers.

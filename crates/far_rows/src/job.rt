@@ -11,13 +11,6 @@ use std::alloc::Global;
 use std::marker::Model;
 
 /// One of two: for numbers, or for texts.
-///
-/// ```
-/// match &carried.carried {
-///     ByKind::Numbers(carried) => self.commit_numbers(store, carried),
-///     ByKind::Texts(carried) => self.commit_texts(store, carried),
-/// }
-/// ```
 #[derive(Drop)]
 pub enum ByKind<N, T> {
     /// For numbers.
@@ -27,17 +20,6 @@ pub enum ByKind<N, T> {
 }
 
 /// A begun evacuation of an object of a table. It borrows nothing, so any thread can carry it.
-///
-/// ```
-/// match job.carry(alloc, store, &mut Meter::new()) {
-///     Err((Refusal::NoMemory, job)) => carry_once(alloc, store, job),
-///     Err((refusal, job)) => {
-///         drop(job);
-///         Err(refusal)
-///     }
-///     Ok(carried) => Ok(carried),
-/// }
-/// ```
 #[derive(Drop)]
 pub struct RowsEvac<S: FarTickets> {
     pub(crate) job: ByKind<EvacJob<Option<i64>, S>, EvacJob<u8, S>>,
@@ -53,10 +35,6 @@ impl<S: FarTickets> Model for RowsEvac<S> {
 }
 
 /// An evacuation of an object of a table whose far form is in the far store.
-///
-/// ```
-/// rows.commit(store, carried)
-/// ```
 #[derive(Drop)]
 pub struct RowsCarried<S: FarTickets> {
     pub(crate) carried: ByKind<Carried<Option<i64>, S>, Carried<u8, S>>,
@@ -72,17 +50,6 @@ impl<S: FarTickets> Model for RowsCarried<S> {
 }
 
 /// A begun fetch of an object of a table. It borrows nothing, so any thread can carry it.
-///
-/// ```
-/// match job.carry(alloc, store, &mut Meter::new()) {
-///     Err((Refusal::NoMemory, job)) => fetch_once(alloc, store, job),
-///     Err((refusal, job)) => {
-///         drop(job);
-///         Err(refusal)
-///     }
-///     Ok(fetched) => Ok(fetched),
-/// }
-/// ```
 #[derive(Drop)]
 pub struct RowsFetch<S: FarTickets> {
     pub(crate) job: ByKind<FetchJob<S>, FetchJob<S>>,
@@ -98,13 +65,6 @@ impl<S: FarTickets> Model for RowsFetch<S> {
 }
 
 /// A fetch of an object of a table whose bytes were read.
-///
-/// ```
-/// match rows.install(alloc, store, fetched) {
-///     Err(Refusal::NoMemory) => rows.install(alloc, store, fetched),
-///     reply => reply,
-/// }
-/// ```
 #[derive(Drop)]
 pub struct RowsFetched<S: FarTickets> {
     pub(crate) fetched: ByKind<Fetched<S>, Fetched<S>>,

@@ -2,13 +2,6 @@
 
 /// The values of a row group of a column, borrowed: one for each of its places that is used. `specs/Lending.antt` defines their
 /// cells (`cells_lent`).
-///
-/// ```
-/// match rows.group_column(column, group) {
-///     Ok(LentColumn::Numbers(lent)) => lent == numbers,
-///     _ => false,
-/// }
-/// ```
 #[derive(Clone, Copy, Debug)]
 pub enum LentColumn<'a> {
     /// For a column of numbers.

@@ -7,13 +7,6 @@ ghost use Rattle.far_rows.specs.Setting.{cell_of, kind_in};
 use far_types::{Cell, CellRef, Kind, Text};
 
 /// A value for a place of a column: a number or a text, each of which may be missing.
-///
-/// ```
-/// if column % 2 == 1 {
-///     return Ok(NewCell::new(Kind::Int, number_cell(value)));
-/// }
-/// Ok(NewCell::new(Kind::Text, text_cell(alloc, value)?))
-/// ```
 #[derive(Drop, Debug)]
 pub enum NewCell {
     /// For a column of numbers.

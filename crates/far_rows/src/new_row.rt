@@ -17,18 +17,6 @@ use std::mem;
 
 /// The values of a new row, split into those of its number columns and those of its text columns. It is made once for a table,
 /// and loaded for each row without an allocation.
-///
-/// ```
-/// let column_indexes = [
-///     ColumnIndex::Text(0),
-///     ColumnIndex::Number(0),
-///     ColumnIndex::Text(1),
-///     ColumnIndex::Number(1),
-/// ];
-/// let mut taken = NewRow::new(alloc, 2, 2)?;
-/// taken.load(&column_indexes, row(alloc, values)?);
-/// Ok(taken)
-/// ```
 #[derive(Drop, Debug)]
 pub struct NewRow {
     numbers: Vec<Option<i64>>,

@@ -9,12 +9,6 @@ use far_types::{CellRef, LendCells};
 use std::marker::Model;
 
 /// A new row that is not copied: each cell is borrowed when it is asked for. Contracts see the list of the cells.
-///
-/// ```
-/// let pending = self
-///     .aggregates
-///     .apply_deltas(self.alloc, &self.rows.new_row_ref(), size, place)?;
-/// ```
 #[derive(Drop)]
 pub struct NewRowRef<'a> {
     values: &'a NewRow,

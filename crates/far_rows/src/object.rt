@@ -1,13 +1,6 @@
 // The objects of a table.
 
 /// An object of a table, by its number among those of numbers or among those of texts.
-///
-/// ```
-/// match self.object(column, group)? {
-///     Object::Number(o) => self.number_objects.pin(o),
-///     Object::Text(o) => self.text_objects.pin(o),
-/// }
-/// ```
 #[derive(Clone, Copy, Debug, PartialEq, Eq)]
 pub enum Object {
     /// An object of numbers.

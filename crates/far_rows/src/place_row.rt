@@ -33,12 +33,6 @@ impl<'a> PlaceCell<'a> {
 /// nobody asks for. Contracts see the list of the cells.
 ///
 /// It has at most 16 cells, as a table has at most 16 columns. Nothing here allocates.
-///
-/// ```
-/// let Ok(row) = self.rows.place_row(place as usize) else {
-///     unreachable!()
-/// };
-/// ```
 #[derive(Drop)]
 pub struct PlaceRow<'a> {
     cells: [PlaceCell<'a>; 16],

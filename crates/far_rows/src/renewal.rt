@@ -5,20 +5,6 @@ use std::marker::Model;
 
 /// The far copies that `Rows::renewal` put into another store. Contracts see a list by object number for numbers, and one for
 /// texts. Each has the ticket of each object that was away, and `None` for each that was local.
-///
-/// ```
-/// match rows.renewal(alloc, self.store, self.other, &mut Meter::new()) {
-///     Ok(renewal) => Ok(Fixture {
-///         store: self.other,
-///         other: self.store,
-///         rows: rows.renew(renewal),
-///     }),
-///     Err(refusal) => {
-///         drop(rows);
-///         Err(refusal)
-///     }
-/// }
-/// ```
 #[derive(Drop)]
 pub struct RowsRenewal<N: FarTickets> {
     pub(crate) numbers: Renewal<N>,

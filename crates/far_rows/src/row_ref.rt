@@ -13,14 +13,6 @@ use std::marker::Model;
 
 /// The row of a place whose objects are all local. The row is not copied: each cell is borrowed when it is asked for. Contracts
 /// see the list of the cells.
-///
-/// ```
-/// let rows = self.table.rows();
-/// if place as usize >= rows.len() {
-///     return Err(Refusal::NoRow);
-/// }
-/// rows.row_ref(place as usize)
-/// ```
 #[derive(Drop)]
 pub struct RowRef<'a, S: FarTickets> {
     rows: &'a Rows<S>,

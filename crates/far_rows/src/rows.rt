@@ -37,14 +37,6 @@ use std::marker::Model;
 /// The cells of a table by column, in objects that are local or away, and the alive flag of each place.
 ///
 /// Contracts see the columns and their indexes, the objects and the flags. `specs/Rows.antt` defines their cells (`cells_of`).
-///
-/// ```
-/// limits.check()?;
-/// match four_columns(alloc) {
-///     Ok(schema) => Rows::new(alloc, &schema, limits, 7),
-///     Err(refusal) => Err(refusal),
-/// }
-/// ```
 #[derive(Drop)]
 pub struct Rows<S: FarTickets> {
     column_indexes: Vec<ColumnIndex>,

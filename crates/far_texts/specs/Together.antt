@@ -44,7 +44,7 @@ abbrev pub after_push_all : ℕ → List Texts → List Texts
 after_push_all n [] = []
 after_push_all n (c ∷ columns) = after_push c n ∷ after_push_all (n + 1) columns
 
--- the texts of each column with one more behind them
+-- the texts of each column with one more after them
 abbrev pub all_texts_with : Lists → List Texts → List (Option (List ℕ)) → List (List (Option (List ℕ)))
 all_texts_with lists [] texts = []
 all_texts_with lists (c ∷ columns) [] = []

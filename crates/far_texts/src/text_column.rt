@@ -20,16 +20,6 @@ pub use together::{fill_texts, may_push_texts, push_texts};
 /// list of one object of the `Objects<u8, S>` that each call names.
 ///
 /// Contracts see the column as the record of its fields, and its texts by the lists of its objects.
-///
-/// ```
-/// let due = column.may_set(objects, place, text);
-/// let reply = column.set(alloc, objects, place, text);
-/// if reply == due || reply == Err(Refusal::NoMemory) {
-///     reply
-/// } else {
-///     Err(WRONG)
-/// }
-/// ```
 #[derive(Drop)]
 pub struct TextColumn {
     // The column's number, by which its objects are named.

@@ -10,7 +10,7 @@ use far_types::Refusal;
 use std::alloc::Global;
 
 impl<S: FarTickets> Rows<S> {
-    /// Compacts a segment of the objects of numbers. Its parts then lie in the lowest other segment without parts, one behind
+    /// Compacts a segment of the objects of numbers. Its parts then lie in the lowest other segment without parts, one after
     /// the other, those of hot objects first. None of their objects is hot afterwards.
     ///
     /// Refused with the first of these that applies:

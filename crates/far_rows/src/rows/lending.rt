@@ -24,7 +24,7 @@ impl<S: FarTickets> Rows<S> {
     /// Refused with the first of these that applies:
     ///
     /// - `NoColumn` (4): there is no such column.
-    /// - `WrongKind` (5): it is of texts.
+    /// - `WrongKind` (5): it is a text column.
     /// - `OutOfRange` (14): `from` is above `to`, or `to` is past the places.
     /// - `Absent` (16): the object of a row group with some of them is away. It names the first such.
     pub fn ints(&self, column: usize, from: usize, to: usize) -> Result<Lents<'_, S>, Refusal>

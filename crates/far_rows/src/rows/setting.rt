@@ -127,7 +127,7 @@ impl<S: FarTickets> Rows<S> {
         ensures memory { IfErr result (λ e. e ≡ Refusal.NoMemory) }
         ensures err { OnErr result (self.new ≡ self.old) }
     {
-        self.texts[i].set(alloc, &mut self.text_objects, place, text)
+        self.texts[i].set_accepted(alloc, &mut self.text_objects, place, text)
     }
 
     /// Puts a value in a column of a place. Its row group's object is written. A text's form is placed anew before the old one

@@ -15,13 +15,6 @@ use far_types::Refusal;
 use std::marker::Model;
 
 /// A text of a column, borrowed, and the flag of its place.
-///
-/// ```
-/// let Some(cell) = cell else {
-///     return false;
-/// };
-/// column.text(objects, place) == Ok(cell.text) && alive.get(place) == Some(cell.alive)
-/// ```
 #[derive(Clone, Copy)]
 pub struct TextCell<'a> {
     /// The text; `None` if it is missing.
@@ -34,15 +27,6 @@ pub struct TextCell<'a> {
 ///
 /// It borrows each text from its object. For a text it reads the head of one form, one bit of its mask and two ends. It looks
 /// up an object once a row group.
-///
-/// ```
-/// let mut cells = column.texts(objects, alive.all(), from, to)?;
-/// for place in from..to {
-///     if !is_cell(objects, column, alive, cells.next(), place) {
-///         return Err(WRONG);
-///     }
-/// }
-/// ```
 #[derive(Drop)]
 pub struct TextCells<'a, S: FarTickets> {
     column: &'a TextColumn,

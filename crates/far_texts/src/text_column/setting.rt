@@ -102,6 +102,32 @@ impl TextColumn {
         ensures err { OnErr result (objects.new ≡ objects.old) }
     {
         self.may_set(objects, place, text)?;
+        self.set_accepted(alloc, objects, place, text)
+    }
+
+    /// Sets the text of a place, as `set` does, after `may_set` accepted it. It measures no form and asks for no space before it
+    /// makes the form.
+    ///
+    /// Refused with `NoMemory` (1) alone, if an allocation fails. A refused call changes nothing.
+    pub fn set_accepted<S: FarTickets>(
+        &self,
+        alloc: Global,
+        objects: &mut Objects<u8, S>,
+        place: usize,
+        text: &Option<Text>,
+    ) -> Result<(), Refusal>
+        requires is { IsTextColumn (lists_of S.content objects.old) self.now }
+        requires free { set_refusal S.content objects.old self.now place text.now ≡ None }
+        ensures set { OnOk result (objects.new ≡ set_in S.content objects.old self.now place text.now) }
+        ensures list { OnOk result (ChangesList (lists_of S.content objects.old) (lists_of S.content objects.new) (object_at self.now place) (Some (texts_form (group_with (lists_of S.content objects.old) self.now place text.now)))) }
+        ensures is { IsTextColumn (lists_of S.content objects.new) self.now }
+        ensures texts { OnOk result (texts_in (lists_of S.content objects.new) self.now ≡ slice_set (texts_in (lists_of S.content objects.old) self.now) place text.now) }
+        ensures others { KeepsOthers (lists_of S.content objects.old) (lists_of S.content objects.new) self.now }
+        ensures clean { AreClean (λ bytes. bytes) S.content objects.old → AreClean (λ bytes. bytes) S.content objects.new }
+        ensures store { (id : List ℕ) → AreHere S.is_of id objects.old → AreHere S.is_of id objects.new }
+        ensures memory { IfErr result (λ e. e ≡ Refusal.NoMemory) }
+        ensures err { OnErr result (objects.new ≡ objects.old) }
+    {
         let form = self.form_set(alloc, objects, place, text)?;
         let o = self.object_in_use(objects, place / self.size);
         objects.replace(o, &form)

@@ -30,7 +30,7 @@ pub(super) fn next_objects_are_unused<S: FarTickets>(
 }
 
 impl TextColumn {
-    // Returns the object for the next text. If a row group begins, it is the k-th new object behind `count` objects.
+    // Returns the object for the next text. If a row group begins, it is the k-th new object after `count` objects.
     fn object_for(&self, count: u32, k: usize) -> u32
         requires { begins_group self.now ≡ true → count + k < 2 ^ 28 }
         ensures { result ≡ object_for self.now (count + k) }

@@ -1,4 +1,4 @@
-use Rattle.std.proofs.Common.{◌≡◌, ℕ, ◌*◌, ◌+◌, ◌<◌, ◌≤◌, arith, List, [], length, map, get_or, Option, None, Some, sym, ap, subst, ◌∙◌}
+use Rattle.std.proofs.Common.{◌≡◌, ℕ, ◌*◌, ◌+◌, ◌<◌, ◌≤◌, arith, List, [], length, map, get_or, Option, Some, sym, ap, subst, ◌∙◌}
 use Rattle.std.specs.Prelude.{All, option_map, slice_get, slice_set}
 use Rattle.std.specs.Option.{option_map_or, option_and_then}
 use Rattle.std.proofs.lemmas.Option.{slice_get-get_or, slice_get-map, get_or_from_slice_get}
@@ -16,14 +16,28 @@ use Rattle.far_rows.specs.Rows.{all_texts}
 use Rattle.far_rows.specs.Setting.{set_in}
 use Rattle.far_rows.proofs.NamingLaws.{as-many, names-after_replace, still-named}
 use Rattle.far_rows.proofs.EffectsVersions.{replaced-version}
-use Rattle.far_rows.proofs.SettingColumns.{texts-still, texts-set, only-memory}
+use Rattle.far_rows.proofs.SettingColumns.{texts-still, texts-set}
 use Rattle.far_rows.proofs.rows.Rows.set_text.Goals as goal
 
-pub set-requires-after_bounds : goal.set-requires-after_bounds
-set-requires-after_bounds g c κs within =
+pub set_accepted-requires-clause-is : goal.set_accepted-requires-clause-is
+set_accepted-requires-clause-is g c κs within =
     let columns : List Texts = c.self.inside.texts.items in
     let below = subst (λ r. c.args.i < length r.texts) (sym c.self.view_is) c.requires.within in
     subst (IsTextColumn (lists_of g.S.FarTickets.content c.self.inside.text_objects)) (sym c.index.ensures) (c.self.invariant.texts.all_disjoint.each c.args.i c.index.result.now below)
+
+pub set_accepted-requires-clause-free : goal.set_accepted-requires-clause-free
+set_accepted-requires-clause-free g c κs within =
+    let content = g.S.FarTickets.content in
+    let columns : List Texts = c.self.inside.texts.items in
+    let v : Texts = c.index.result.now in
+    let m = c.self.inside.text_objects in
+    let text = c.args.text.now in
+    let below = subst (λ r. c.args.i < length r.texts) (sym c.self.view_is) c.requires.within in
+    let at : slice_get columns c.args.i ≡ Some v = slice_get-get_or columns c.args.i v below ∙ ap Some (sym c.index.ensures) in
+    let due : Texts → Option Refusal = λ w. set_refusal content m w c.args.place text in
+    sym (ap (option_and_then due) at)
+    ∙ ap (λ r. option_and_then (λ w. set_refusal content r.text_objects w c.args.place text) (slice_get r.texts c.args.i)) c.self.view_is
+    ∙ c.requires.free
 
 pub invariant_of-self : goal.invariant_of-self
 invariant_of-self g c =
@@ -31,12 +45,12 @@ invariant_of-self g c =
     let columns : List Texts = c.self.inside.texts.items in
     let v : Texts = c.index.result.now in
     let m = c.self.inside.text_objects in
-    let now = c.set.new.objects in
+    let now = c.set_accepted.new.objects in
     let inv = c.self.invariant in
     let within = subst (λ r. c.args.i < length r.texts) (sym c.self.view_is) c.requires.within in
     let at : slice_get columns c.args.i ≡ Some v = slice_get-get_or columns c.args.i v within ∙ ap Some (sym c.index.ensures) in
     let form : List ℕ = texts_form (group_with (lists_of content m) v c.args.place c.args.text.now) in
-    let names : names_of now ≡ names_of m = still-named m now (text_set_in content m v c.args.place c.args.text.now) c.set.result c.set.ensures.set c.set.ensures.err (names-after_replace m (object_at v c.args.place) form) in
+    let names : names_of now ≡ names_of m = still-named m now (text_set_in content m v c.args.place c.args.text.now) c.set_accepted.result c.set_accepted.ensures.set c.set_accepted.ensures.err (names-after_replace m (object_at v c.args.place) form) in
     record {
       column_indexes = inv.column_indexes;
       few = inv.few;
@@ -44,7 +58,7 @@ invariant_of-self g c =
       small = inv.small;
       places = inv.places;
       numbers = inv.numbers;
-      texts = texts-still (lists_of content m) (lists_of content now) columns inv.texts c.args.i v at c.set.ensures.is c.set.ensures.others;
+      texts = texts-still (lists_of content m) (lists_of content now) columns inv.texts c.args.i v at c.set_accepted.ensures.is c.set_accepted.ensures.others;
       shaped = inv.shaped;
       grouped = inv.grouped;
       same_length_numbers = inv.same_length_numbers;
@@ -59,7 +73,7 @@ invariant_of-self g c =
       owned_numbers = inv.owned_numbers;
       owned_texts = subst (λ ns. AreOwned (λ (w : Texts). w.column) (λ w. w.objects) ns columns) (sym names) inv.owned_texts;
       clean_numbers = inv.clean_numbers;
-      clean_texts = c.set.ensures.clean inv.clean_texts;
+      clean_texts = c.set_accepted.ensures.clean inv.clean_texts;
     }
 
 pub returns-clause-moved : goal.returns-clause-moved
@@ -71,8 +85,8 @@ returns-clause-moved g c =
     let within = subst (λ r. c.args.i < length r.texts) (sym c.self.view_is) c.requires.within in
     let at : slice_get columns c.args.i ≡ Some v = slice_get-get_or columns c.args.i v within ∙ ap Some (sym c.index.ensures) in
     let put : Texts → Movement ℕ g.row.S-Ticket.Denot = λ w. text_set_in content m w c.args.place c.args.text.now in
-    on-ok c.set.result c.set.ensures.set (λ is.
-    let written : c.set.new.objects ≡ option_map_or put (slice_get columns c.args.i) m = is ∙ sym (ap (λ o. option_map_or put o m) at) in
+    on-ok c.set_accepted.result c.set_accepted.ensures.set (λ is.
+    let written : c.set_accepted.new.objects ≡ option_map_or put (slice_get columns c.args.i) m = is ∙ sym (ap (λ o. option_map_or put o m) at) in
     (λ j. record {
       column_indexes = c.self.inside.column_indexes.items;
       size = c.self.inside.size;
@@ -90,7 +104,7 @@ returns-clause-texts g c =
     let columns : List Texts = c.self.inside.texts.items in
     let v : Texts = c.index.result.now in
     let m = c.self.inside.text_objects in
-    let now = c.set.new.objects in
+    let now = c.set_accepted.new.objects in
     let old_lists : Lists = lists_of content m in
     let new_lists : Lists = lists_of content now in
     let i = c.args.i in
@@ -99,36 +113,20 @@ returns-clause-texts g c =
     let at : slice_get columns i ≡ Some v = slice_get-get_or columns i v within ∙ ap Some (sym c.index.ensures) in
     let was = map (texts_in old_lists) columns in
     let here : texts_in old_lists v ≡ get_or was i [] = sym (get_or_from_slice_get was i (texts_in old_lists v) [] (slice_get-map (texts_in old_lists) columns i ∙ ap (option_map (texts_in old_lists)) at)) in
-    on-ok c.set.result c.set.ensures.texts (λ is.
-    texts-set old_lists new_lists columns c.self.invariant.texts i v at c.set.ensures.is c.set.ensures.others
+    on-ok c.set_accepted.result c.set_accepted.ensures.texts (λ is.
+    texts-set old_lists new_lists columns c.self.invariant.texts i v at c.set_accepted.ensures.is c.set_accepted.ensures.others
     ∙ ap (slice_set was i) (is ∙ ap (λ l. slice_set l c.args.place text) here)
     ∙ ap (λ r. slice_set (all_texts content r) i (slice_set (get_or (all_texts content r) i []) c.args.place text)) c.self.view_is)
 
 pub returns-clause-store : goal.returns-clause-store
-returns-clause-store g c = λ id here. c.set.ensures.store id (subst (λ r. AreHere g.S.FarTickets.is_of id r.text_objects) (sym c.self.view_is) here)
-
-pub returns-clause-memory : goal.returns-clause-memory
-returns-clause-memory g c =
-    let content = g.S.FarTickets.content in
-    let columns : List Texts = c.self.inside.texts.items in
-    let v : Texts = c.index.result.now in
-    let m = c.self.inside.text_objects in
-    let text = c.args.text.now in
-    let within = subst (λ r. c.args.i < length r.texts) (sym c.self.view_is) c.requires.within in
-    let at : slice_get columns c.args.i ≡ Some v = slice_get-get_or columns c.args.i v within ∙ ap Some (sym c.index.ensures) in
-    let due : Texts → Option Refusal = λ w. set_refusal content m w c.args.place text in
-    let free : due v ≡ None =
-    sym (ap (option_and_then due) at)
-    ∙ ap (λ r. option_and_then (λ w. set_refusal content r.text_objects w c.args.place text) (slice_get r.texts c.args.i)) c.self.view_is
-    ∙ c.requires.free in
-    only-memory c.set.result (due v) free c.set.ensures.refused
+returns-clause-store g c = λ id here. c.set_accepted.ensures.store id (subst (λ r. AreHere g.S.FarTickets.is_of id r.text_objects) (sym c.self.view_is) here)
 
 pub returns-clause-versions : goal.returns-clause-versions
 returns-clause-versions g c = λ o.
     let v : Texts = c.index.result.now in
     let m = c.self.inside.text_objects in
     let form : List ℕ = texts_form (group_with (lists_of g.S.FarTickets.content m) v c.args.place c.args.text.now) in
-    subst (λ r. version_of c.set.new.objects o ≤ version_of r.text_objects o + 1) c.self.view_is
-    (by-outcome c.set.result c.set.ensures.set c.set.ensures.err
+    subst (λ r. version_of c.set_accepted.new.objects o ≤ version_of r.text_objects o + 1) c.self.view_is
+    (by-outcome c.set_accepted.result c.set_accepted.ensures.set c.set_accepted.ensures.err
     (λ is. subst (λ (now : Movement ℕ g.row.S-Ticket.Denot). version_of now o ≤ version_of m o + 1) (sym is) (replaced-version m (object_at v c.args.place) (length form) o))
     (λ is. subst (λ (now : Movement ℕ g.row.S-Ticket.Denot). version_of now o ≤ version_of m o + 1) (sym is) (omega arith)))
