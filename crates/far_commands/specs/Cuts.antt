@@ -11,7 +11,7 @@ use Rattle.far_commands.specs.Commands.{command_of}
 use Rattle.far_commands.specs.Listings.{listing_of}
 use Rattle.far_commands.specs.Progress.{At}
 
--- a front of a reply; it may be empty
+-- a prefix of a reply; it may be empty
 abbrev pub IsFront : (List ℕ → Type 0) → List ℕ → Type 0
 IsFront answer text = (text ≡ []) ⊎ ((rest : List ℕ) × answer (text ++ rest))
 
@@ -23,7 +23,7 @@ CutOff fault.Output answer text = IsFront answer text
 CutOff fault.Memory answer text = IsFront answer text
 CutOff fault.Turns answer text = ⊥
 
--- a fault comes, and a front of a reply is printed
+-- a fault comes, and a prefix of a reply is printed
 abbrev pub PrintsCut : ShellFault → (List ℕ → Type 0) → Option (List ℕ) → List ℕ → Option (List ℕ) → List ℕ → Type 0
 PrintsCut why answer old held new left = (text : List ℕ) × Prints old held text new left × CutOff why answer text
 
@@ -31,7 +31,7 @@ PrintsCut why answer old held new left = (text : List ℕ) × Prints old held te
 abbrev pub FailsBy : Type 0 → Option Command → List ℕ → Type 0
 FailsBy short asked behind = (count : ℕ) × (asked ≡ Some (command.Load count)) × (((length behind < count) × short) ⊎ ((count ≤ length behind) × ¬ (IsUtf8 (take count behind))))
 
--- a line can get no reply with the bytes behind it: it is no text, or such a load
+-- a line can get no reply with the bytes after it: it is no text, or such a load
 abbrev pub Fails : Type 0 → List Kind → List ℕ → List ℕ → Type 0
 Fails short kinds line behind = ¬ (IsUtf8 line) ⊎ FailsBy short (command_of kinds line) behind
 

@@ -17,7 +17,7 @@ abbrev pub pieces_text : List Piece → List ℕ
 pieces_text [] = codes "empty\n"
 pieces_text (piece ∷ pieces) = texts_of piece_text (piece ∷ pieces)
 
--- a row group, behind a space
+-- a row group, after a space
 abbrev pub group_text : ℕ → List ℕ
 group_text group = space ++ decimal group
 

@@ -59,14 +59,14 @@ module _ {S K : Type 0} (tickets : Tickets S K) where
   abbrev pub Takes : World K → Step → List ℕ → World K → Type 0
   Takes old s text new = (given : Reply) × IsStep tickets.content tickets.number_of old s given new × (text ≡ reply_text (done_text s) given)
 
-  -- the records of a load are inserted in order, up to the first that is refused, behind as many as count
+  -- the records of a load are inserted in order, up to the first that is refused, after as many as count
   abbrev pub Loads : ℕ → World K → List (List (List ℕ)) → List ℕ → World K → Type 0
   Loads count old [] text new = (new ≡ old) × (text ≡ numbered_text (codes "loaded") count)
   Loads count old (fields ∷ more) text new =
       (given : Reply) × (mid : World K) × IsStep tickets.content tickets.number_of old (insert_of_record old.state.table.schema fields) given mid
       × AfterReply given (λ refusal. (new ≡ mid) × (text ≡ numbered_text (codes "loaded") count ++ refusal_text refusal)) (Loads (count + 1) mid more text new)
 
-  -- a command is served, and the text is its reply. The rows are the bytes behind its line that belong to it
+  -- a command is served, and the text is its reply. The rows are the bytes after its line that belong to it
   abbrev pub Serves : World K → Command → List ℕ → List ℕ → World K → Type 0
   Serves old (command.Step s) rows text new = (rows ≡ []) × Takes old s text new
   Serves old (command.Load count) rows text new = (length rows ≡ count) × IsUtf8 rows × Loads 0 old (records_of rows) text new

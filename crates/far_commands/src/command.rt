@@ -12,14 +12,7 @@ use far_script::watch::spec;
 use far_types::{Cell, Edit, Kind, Name, Refusal};
 use std::alloc::Global;
 
-/// A command of a script, behind the line that opens the table.
-///
-/// ```
-/// match row(alloc, spare, kinds, text)? {
-///     Some(row) => Ok(Some(Command::Step(Step::Edit(Edit::Insert(row))))),
-///     None => Ok(None),
-/// }
-/// ```
+/// A command of a script, after the line that opens the table.
 #[derive(Drop, Debug)]
 pub enum Command {
     /// `insert CSV`, `set PLACE COLUMN CSV`, `remove PLACE`,
@@ -28,7 +21,7 @@ pub enum Command {
     /// `fetch COLUMN GROUP`, `carry JOB`, `commit JOB`, `install JOB`, `compact KIND SEGMENT`, `prefetch COLUMN`,
     /// `offload AGGREGATE GROUP`, `merge JOB`: a step of the table
     Step(Step),
-    /// `load BYTES`: the bytes behind the line are rows
+    /// `load BYTES`: the bytes after the line are rows
     Load(u32),
     /// `dump`
     Dump,

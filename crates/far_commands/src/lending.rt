@@ -55,7 +55,7 @@ fn marks_at<S: FarTickets>(
     Ok(())
 }
 
-/// Prints the other texts of a row, behind the first two.
+/// Prints the other texts of a row, after the first two.
 fn more_texts<S: FarTickets>(page: &mut Page, texts: &mut TextCells<'_, S>) -> Result<(), Refusal>
     ensures ok { OnOk result (page.new ≡ page.old ++ fields_text default_writer (map cell_text (map (λ it. text_cell it.0) texts.old))) }
     ensures memory { IfErr result (λ e. e ≡ Refusal.NoMemory) }
@@ -143,7 +143,7 @@ fn lent_texts<S: FarTickets>(
     Ok(true)
 }
 
-/// Makes the reply at hand a part of a column: its pieces, or `empty`, each value read in place. Returns false if the part cannot be lent.
+/// Makes the current reply a part of a column: its pieces, or `empty`, each value read in place. Returns false if the part cannot be lent.
 #[inline(never)]
 pub fn lent<S: FarTickets>(
     reply: &mut Page,

@@ -53,7 +53,7 @@ pub fn cell(page: &mut Page, is_lone: bool, cell: CellRef) -> Result<(), Refusal
     }
 }
 
-/// Prints the other fields of a row, behind the first.
+/// Prints the other fields of a row, after the first.
 fn more_fields<S: FarTickets>(page: &mut Page, row: &RowRef<'_, S>) -> Result<(), Refusal>
     ensures ok { OnOk result (page.new ≡ page.old ++ fields_text default_writer (map cell_text (drop 1 row.now))) }
     ensures memory { IfErr result (λ e. e ≡ Refusal.NoMemory) }
@@ -121,7 +121,7 @@ fn live_rows<S: FarTickets>(frame: &Frame<S>) -> u64
     count
 }
 
-/// Adds the reply at hand to the output if it is long, and makes it empty.
+/// Adds the current reply to the output if it is long, and makes it empty.
 fn add_if_long<W: Sink>(output: &mut Output<W>, writer: &mut W) -> Result<(), ShellFault>
     ensures ok { OnOk result ((text : List ℕ) × Prints (W.contents writer.old) output.old.page text (W.contents writer.new) output.new.page × (output.old.reply ≡ text ++ output.new.reply)) }
     ensures err { IfErr result (λ fault. PrintsCut fault (λ said. said ≡ output.old.reply) (W.contents writer.old) output.old.page (W.contents writer.new) output.new.page) }

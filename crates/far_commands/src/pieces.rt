@@ -60,7 +60,7 @@ fn marks(page: &mut Page, flags: &[bool]) -> Result<(), Refusal>
     Ok(())
 }
 
-/// Prints the other fields of a row, behind the first.
+/// Prints the other fields of a row, after the first.
 fn more_values<V: Value>(page: &mut Page, values: &[V]) -> Result<(), Refusal>
     ensures ok { OnOk result (page.new ≡ page.old ++ fields_text default_writer (map cell_text (map V.cell values.now))) }
     ensures memory { IfErr result (λ e. e ≡ Refusal.NoMemory) }

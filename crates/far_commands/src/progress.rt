@@ -8,13 +8,7 @@ use std::marker::Model;
 /// The state of a script. Contracts see the world of its table, and the number of the last command. A command meets at most one fault of
 /// the store.
 ///
-/// The lines behind a first command are answered over it:
-///
-/// The lines behind a first command are answered over it:
-///
-/// ```
-/// let served = serve_lines(resources, &mut progress, input, output, writer);
-/// ```
+/// The lines after a first command are answered over it:
 #[derive(Drop)]
 pub struct Progress<S: FarStore> {
     pub(crate) world: World<S>,
@@ -33,7 +27,7 @@ impl<S: FarStore> Model for Progress<S> {
 }
 
 impl<S: FarStore> Progress<S> {
-    /// Returns a script behind its first command, which opened this table.
+    /// Returns a script past its first command, which opened this table.
     pub fn new(world: World<S>) -> Progress<S>
         requires few { world.faults ≤ 1 }
         ensures { result ≡ record { world = world; number = 1 } }

@@ -7,13 +7,6 @@ use std::alloc::Global;
 use std::thread::Threads;
 
 /// The resources of a script: its allocator, the runtime that makes its threads, and what makes the stores of its table.
-///
-/// ```
-/// let store = match resources.store(STORE_CAPACITY) {
-///     Ok(store) => store,
-///     Err(refusal) => return Err(ShellFault::of_memory(refusal)),
-/// };
-/// ```
 pub trait Resources<S: FarTickets> {
     /// The type of the runtime.
     type Runtime: Threads + Sync;
@@ -32,12 +25,6 @@ pub trait Resources<S: FarTickets> {
 }
 
 /// Stores in this process, whose puts wait by `rt`, and threads of `rt`.
-///
-/// ```
-/// let agents = Agents::new(rt, rt.alloc());
-/// let mut output = Output::new(rt.alloc());
-/// let outcome = serve(rt, &agents, input, &mut output, writer);
-/// ```
 #[derive(Drop)]
 pub struct Agents<R> {
     rt: R,

@@ -149,7 +149,7 @@ fn take_step<S: FarStore>(world: &mut World<S>, step: Step, reply: &mut Page) ->
     }
 }
 
-/// Loads the rows behind a line, which have this many bytes, and prints the reply.
+/// Loads the rows after a line, which have this many bytes, and prints the reply.
 fn serve_load<S: FarStore, R: Source + Drop, W: Sink>(
     alloc: Global,
     world: &mut World<S>,
@@ -170,7 +170,7 @@ fn serve_load<S: FarStore, R: Source + Drop, W: Sink>(
     output.add_printed(printed)
 }
 
-/// Serves a command, with the bytes behind its line that belong to it, and prints its reply.
+/// Serves a command, with the bytes after its line that belong to it, and prints its reply.
 fn serve_command<S: FarStore, A: Resources<S>, R: Source + Drop, W: Sink>(
     resources: &A,
     world: &mut World<S>,

@@ -1,6 +1,7 @@
 -- The digits of a number, copied with what stands behind them.
-use Rattle.std.proofs.Common.{◌≡◌, ◌+◌, ◌-◌, ◌≤◌, ℕ, List, [], ◌∷◌, ◌++◌, decimal, length, take, drop, append_assoc, length-append, take-append-drop, ◌∙◌, refl, sym, ap, arith}
+use Rattle.std.proofs.Common.{◌≡◌, ◌+◌, ◌-◌, ◌≤◌, ◌<◌, ◌/◌, ◌%◌, ℕ, List, [], ◌∷◌, ◌++◌, decimal, length, take, drop, append_assoc, length-append, take-append-drop, ◌∙◌, refl, sym, ap, arith}
 use Rattle.std.specs.Prelude.{ℤ, slice_range}
+use Rattle.std.proofs.lemmas.Fmt.{decimal_digit, decimal_step}
 use Rattle.std.specs.Fmt.{signed_decimal}
 use Rattle.std.proofs.lemmas.List.{length-drop, length-take-le, take_at, take-take}
 
@@ -30,3 +31,25 @@ digits-stay page digits zeros row part mid start len count from wide is grown co
 -- a minus and the digits
 pub with-minus : (page mid : List ℕ) (n : ℕ) (z : ℤ) → mid ≡ page ++ 45 ∷ [] → 45 ∷ decimal n ≡ signed_decimal z → mid ++ decimal n ≡ page ++ signed_decimal z
 with-minus page mid n z minus digits = ap (λ (t : List ℕ). t ++ decimal n) minus ∙ append_assoc page (45 ∷ []) (decimal n) ∙ ap (λ (t : List ℕ). page ++ t) digits
+
+-- a number of two, three and four digits, each digit by itself
+pub two-digits : (n : ℕ) → 10 ≤ n → n < 100 → decimal n ≡ (48 + n / 10 % 10) ∷ (48 + n % 10) ∷ []
+two-digits n low high =
+    let front : n / 10 % 10 ≡ n / 10 = omega arith in
+    rw (decimal_step n low (omega (arith, high)), decimal_digit (n / 10) (omega (arith, high)), front) refl
+
+pub three-digits : (n : ℕ) → 100 ≤ n → n < 1000 → decimal n ≡ (48 + n / 100 % 10) ∷ (48 + n / 10 % 10) ∷ (48 + n % 10) ∷ []
+three-digits n low high =
+    let front : n / 10 / 10 % 10 ≡ n / 100 % 10 = omega arith in
+    rw (decimal_step n (omega (arith, low)) (omega (arith, high)), two-digits (n / 10) (omega (arith, low)) (omega (arith, high)), front) refl
+
+pub four-digits : (n : ℕ) → 1000 ≤ n → n < 10000 → decimal n ≡ (48 + n / 1000 % 10) ∷ (48 + n / 100 % 10) ∷ (48 + n / 10 % 10) ∷ (48 + n % 10) ∷ []
+four-digits n low high =
+    let first : n / 10 / 100 % 10 ≡ n / 1000 % 10 = omega arith in
+    let second : n / 10 / 10 % 10 ≡ n / 100 % 10 = omega arith in
+    rw (decimal_step n (omega (arith, low)) (omega (arith, high)), three-digits (n / 10) (omega (arith, low)) (omega (arith, high)), first, second) refl
+
+pub one-digit : (n : ℕ) → n < 10 → decimal n ≡ (48 + n % 10) ∷ []
+one-digit n high =
+    let same : n % 10 ≡ n = omega (arith, high) in
+    rw (decimal_digit n high, same) refl

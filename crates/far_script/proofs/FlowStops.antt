@@ -7,7 +7,7 @@ use Rattle.std.specs.declared.io.traits.Read.{Ghosts}
 use Rattle.far_script.specs.declared.fault.ShellFault.{ShellFault}
 use Rattle.far_script.specs.declared.fault.ShellFault.TheVariants as fault
 use Rattle.far_script.specs.declared.input.Input.{Input}
-use Rattle.far_script.specs.Faults.{IfInput, IsCut}
+use Rattle.far_script.specs.Faults.{IfInput, IfMemory, IsCut}
 use Rattle.far_script.specs.Flow.{Counts, Gives, IsFrontOf, IsShort, IsAtEnd, IsUnseen, Leaves, Reads, StartsWith, Stops, unread}
 use Rattle.far_script.proofs.FlowLaws.{few-bytes, not-before, spent-nothing, spent-stays}
 
@@ -53,9 +53,17 @@ not-input fault.Output P other = tt
 not-input fault.Memory P other = tt
 not-input fault.Turns P other = tt
 
+-- what is said if memory ran out
+pub if-memory : (why : ShellFault) (P Q : Type 0) → (P → Q) → IfMemory why P → IfMemory why Q
+if-memory fault.BadStart P Q f h = tt
+if-memory fault.Input P Q f h = tt
+if-memory fault.Output P Q f h = tt
+if-memory fault.Memory P Q f h = f h
+if-memory fault.Turns P Q f h = tt
+
 -- nothing came
 pub leaves-same : (known : Option (List ℕ)) (bytes_left : ℕ) → Leaves known known [] bytes_left
-leaves-same known bytes_left = ([], Consumes-nil known, λ some. refl)
+leaves-same known bytes_left = ([], Consumes-nil known, λ some. refl, omega arith)
 
 keeps-consumes : (known left : Option (List ℕ)) → Keeps known left → Consumes known left []
 keeps-consumes None left h = tt
@@ -63,16 +71,16 @@ keeps-consumes (Some xs) None h = absurd h
 keeps-consumes (Some xs) (Some ys) h = sym h
 
 pub leaves-unchanged : (known left : Option (List ℕ)) (bytes_left : ℕ) → Keeps known left → Leaves known left [] bytes_left
-leaves-unchanged known left bytes_left h = ([], keeps-consumes known left h, λ some. refl)
+leaves-unchanged known left bytes_left h = ([], keeps-consumes known left h, λ some. refl, omega arith)
 
 -- a byte more came than may be taken
-pub leaves-lost : (known left : Option (List ℕ)) (lost : List ℕ) (bytes_left : ℕ) → bytes_left ≡ 0 → Consumes known left lost → Leaves known left [] bytes_left
-leaves-lost known left lost bytes_left none h = (lost, h, λ some. absurd (omega (arith, none, some)))
+pub leaves-lost : (known left : Option (List ℕ)) (lost : List ℕ) (bytes_left : ℕ) → bytes_left ≡ 0 → length lost ≤ 1 → Consumes known left lost → Leaves known left [] bytes_left
+leaves-lost known left lost bytes_left none one h = (lost, h, (λ some. absurd (omega (arith, none, some))), one)
 
 -- bytes came before
 leaves-then : (known mid left : Option (List ℕ)) (came more : List ℕ) (bytes_left : ℕ) → Consumes known mid came → Leaves mid left more bytes_left → Leaves known left (came ++ more) bytes_left
 leaves-then known mid left came more bytes_left p l =
-    (l.0, subst (λ (t : List ℕ). Consumes known left t) (sym (append_assoc came more l.0)) (Consumes-trans known mid left came (more ++ l.0) p l.1), l.2)
+    (l.0, subst (λ (t : List ℕ). Consumes known left t) (sym (append_assoc came more l.0)) (Consumes-trans known mid left came (more ++ l.0) p l.1), l.2, l.3)
 
 -- an end that was not found need not stay found
 pub not-found : (a b : Bool) → a ≡ false → a ≡ true → b ≡ true

@@ -21,7 +21,7 @@ abbrev pub number_or_text : Option ℤ → List ℕ → Cell
 number_or_text None field = cell.Text field
 number_or_text (Some number) field = cell.Int number
 
--- a field with a value, in a column of this kind, or behind the last column
+-- a field with a value, in a column of this kind, or after the last column
 abbrev pub cell_with_value : Option Kind → List ℕ → Cell
 cell_with_value None field = cell.Text field
 cell_with_value (Some kind.Text) field = cell.Text field

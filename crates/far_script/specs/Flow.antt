@@ -22,13 +22,14 @@ Prints old held text new left = (sent : List ℕ) × Appends old new sent × (he
 abbrev pub has_failed : {W : Type 0} {sink : Sinks W} {write : Writes W} → Output W sink write → Bool
 has_failed output = output.failed
 
--- the bytes of a script, if they are known, are these and the rest behind them; and these are within the bound
+-- the bytes of a script, if they are known, are these and the rest after them; and these are within the bound
 abbrev pub IsFrontOf : Option (List ℕ) → List ℕ → List ℕ → Type 0
 IsFrontOf known bytes rest = IfSome known (λ script. script ≡ bytes ++ rest) × (length bytes ≤ 16777216)
 
--- these bytes came from a reader, and no more; but if no bytes are left to be taken, more may have come and be lost
+-- these bytes came from a reader, and no more; but if no bytes are left to be taken, one more may have come and be lost
 abbrev pub Leaves : Option (List ℕ) → Option (List ℕ) → List ℕ → ℕ → Type 0
-Leaves old new came bytes_left = (lost : List ℕ) × Consumes old new (came ++ lost) × (0 < bytes_left → lost ≡ [])
+Leaves old new came bytes_left =
+    (lost : List ℕ) × Consumes old new (came ++ lost) × (0 < bytes_left → lost ≡ []) × (length lost ≤ 1)
 
 module _ {R : Type 0} (read : Ghosts R) where
   -- what was read and not taken yet
@@ -54,7 +55,7 @@ module _ {R : Type 0} (read : Ghosts R) where
     pub none : old.source.ended ≡ true → came ≡ []
     pub ended : old.source.ended ≡ true → new.source.ended ≡ true
 
-  -- a line was taken without its end: with the line feed behind it, or the last one, which has none
+  -- a line was taken without its end: with the line feed after it, or the last one, which has none
   abbrev pub TakesLine : Input R read → Line → Input R read → Type 0
   TakesLine old (line.Whole byte_range) new =
       (raw : List ℕ) × (list_any (λ c. c == 10) raw ≡ false) × (bytes_in new byte_range ≡ strip_last 13 raw) × Reads old (raw ++ 10 ∷ []) new
@@ -83,12 +84,12 @@ module _ {R : Type 0} (read : Ghosts R) where
   abbrev pub IsShort : Type 0 → Input R read → Input R read → List ℕ → Type 0
   IsShort may_fail old new rest = IsOver new rest ⊎ IsUnseen may_fail old new
 
-  -- what is left of a script, if it is known, is these bytes and the rest behind them
+  -- what is left of a script, if it is known, is these bytes and the rest after them
   abbrev pub StartsWith : Input R read → List ℕ → List ℕ → Type 0
   StartsWith input bytes rest = IfSome (read.remaining input.source.reader) (λ coming. unread input ++ coming ≡ bytes ++ rest)
       × (IsAtEnd input → bytes ++ rest ≡ [])
 
-  -- bytes are at hand, those that were held and those that came since, and they were counted. An end that was found stays found
+  -- the bytes in memory are those that were held and those that came since, and they were counted. An end that was found stays found
   abbrev pub Counts : Input R read → List ℕ → Input R read → Type 0
   Counts old bytes new = (new.source.bytes + length bytes ≡ old.source.bytes + length (unread old)) × (old.source.ended ≡ true → new.source.ended ≡ true)
       × ((came : List ℕ) × (unread old ++ came ≡ bytes) × Leaves (read.remaining old.source.reader) (read.remaining new.source.reader) came new.source.bytes)

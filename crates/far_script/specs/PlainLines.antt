@@ -12,10 +12,10 @@ is_break c = (c == 34) || (c == 13)
 abbrev pub are_plain_lines : List ℕ → Bool
 are_plain_lines text = not (begins_as_order_mark text) && not (list_any is_break text)
 
--- the first line of a text, without its end, and what stands behind it
+-- the first line of a text, without its end, and what follows it
 abbrev pub line_of : List ℕ → List ℕ
 line_of text = before_first is_line_feed text
 
--- what stands behind the first line of a text
+-- what follows the first line of a text
 abbrev pub lines_behind : List ℕ → List ℕ
 lines_behind text = after_first is_line_feed text

@@ -56,7 +56,7 @@ refusal_text r = codes "refused " ++ decimal (number_of r) ++ space ++ name_of r
 abbrev pub numbered_text : List ℕ → ℕ → List ℕ
 numbered_text word n = word ++ space ++ decimal n ++ line_end
 
--- a key comes before its line as a record of one field, and a space behind it
+-- a key comes before its line as a record of one field, and a space after it
 abbrev pub key_text : Option Key → List ℕ
 key_text None = []
 key_text (Some (key.Int n)) = record_text (signed_decimal n ∷ []) ++ space

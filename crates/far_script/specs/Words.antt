@@ -13,7 +13,7 @@ is_space c = c == 32
 abbrev pub word_of : List ℕ → List ℕ
 word_of text = before_first is_space text
 
--- what stands behind the first word and its space, if there is a space
+-- what follows the first word and its space, if there is a space
 abbrev pub rest_of : List ℕ → Option (List ℕ)
 rest_of text = if nat_lt (position_or_len is_space text) (length text) then Some (after_first is_space text) else None
 
@@ -21,7 +21,7 @@ rest_of text = if nat_lt (position_or_len is_space text) (length text) then Some
 abbrev pub word_in : Option (List ℕ) → Option (List ℕ)
 word_in left = option_map word_of left
 
--- what is left behind it
+-- what is left after it
 abbrev pub after : Option (List ℕ) → Option (List ℕ)
 after left = option_and_then rest_of left
 

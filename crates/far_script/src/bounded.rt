@@ -11,14 +11,7 @@ pub const MAX_BYTES: u32 = 16_777_216;
 /// The most reads that are made for a script. The one that finds its end counts.
 pub const MAX_READS: u32 = 1_048_576;
 
-/// A reader with the reads and the bytes that are left for it. `Input` returns how many are left:
-///
-/// ```
-/// for _ in 0..3 {
-///     input.line(output, replies)?;
-/// }
-/// Ok((input.reads_left(), input.bytes_left()))
-/// ```
+/// A reader with the reads and the bytes that are left for it.
 #[derive(Drop)]
 pub struct Bounded<R: Read + Drop> {
     /// The reader, which is asked through `read` alone.

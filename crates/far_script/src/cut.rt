@@ -2,7 +2,7 @@
 ghost use Rattle.std.specs.Prelude.{◌≡◌, ◌==◌, ◌<◌, length, MatchOption};
 ghost use Rattle.std.specs.List.{position_or_len, before_first, after_first};
 
-/// Returns what stands before the first byte that is `wanted`, and what stands behind it, if there is one. The byte is ASCII.
+/// Returns what stands before the first byte that is `wanted`, and what follows it, if there is one. The byte is ASCII.
 /// It looks at one byte after the other. For words and fields that is faster than `split_once`, which is made for long texts.
 pub fn cut(text: &str, wanted: u8) -> Option<(&str, &str)>
     requires { wanted < 128 }
@@ -24,7 +24,7 @@ pub(crate) fn before(text: &str, at: usize, wanted: u8) -> &str
     if at < text.len() { &text[..at] } else { text }
 }
 
-/// Returns what stands behind the first such byte of ASCII, whose place is known, or nothing if there is none.
+/// Returns the text after the ASCII byte at `at`, or an empty text if there is no such byte.
 #[inline(always)]
 pub(crate) fn behind(text: &str, at: usize, wanted: u8) -> &str
     requires ascii { wanted < 128 }

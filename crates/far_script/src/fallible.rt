@@ -7,14 +7,6 @@ use std::io;
 use std::io::{Read, Write};
 
 /// A reader or a writer whose type says that it may fail. It reads and writes as the one in it does.
-///
-/// ```
-/// let mut writer = Fallible(io::writer(&rt));
-/// match run_script(&rt, Fallible(rt.reader()), &mut writer) {
-///     Ok(()) => ExitCode::SUCCESS,
-///     Err(fault) => ExitCode::from(fault.status()),
-/// }
-/// ```
 #[derive(Drop)]
 pub struct Fallible<T>(pub T);
 

@@ -6,19 +6,12 @@ use std::alloc::{AllocError, AllocFailed};
 use thiserror::Error;
 
 /// What ends a script before its end. Earlier replies stay.
-///
-/// ```
-/// match run_script(&rt, Fallible(rt.reader()), &mut writer) {
-///     Ok(()) => ExitCode::SUCCESS,
-///     Err(fault) => ExitCode::from(fault.status()),
-/// }
-/// ```
 #[derive(Drop, Debug, Clone, Copy, PartialEq, Eq, Error)]
 pub enum ShellFault {
     /// The first command opens no table and asks for no sessions.
     #[error("the first command opens no table and asks for no sessions")]
     BadStart,
-    /// A read failed, or the script is too long or needs too many reads. Or a line or a load is no UTF-8, or the script ends
+    /// A read failed, or the script is too long or needs too many reads. Or a line or a load is not valid UTF-8, or the script ends
     /// before the bytes of a load.
     #[error("the script could not be read")]
     Input,

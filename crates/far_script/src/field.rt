@@ -81,7 +81,7 @@ fn cell_in(alloc: Global, spare: Cell, column: Option<Kind>, field: &str) -> Res
     Ok(Cell::Text(Text::new(string_in(alloc, spare, field)?)))
 }
 
-/// Writes the cell of the first field of a text behind the first `at` cells of a list. It overwrites a cell that is no longer
+/// Writes the cell of the first field of a text after the first `at` cells of a list. It overwrites a cell that is no longer
 /// needed, if there is one. Returns how long that field is. Most numbers are read in one go with their comma.
 #[inline(always)]
 fn write_cell(

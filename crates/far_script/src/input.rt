@@ -10,48 +10,26 @@ use super::bounded::Bounded;
 use super::page::Page;
 use std::io::Read;
 
-/// The range of a line or a load in what was read. The rows of a load are read as text:
-///
-/// ```
-/// let rows = input.bytes(output, writer, count as usize)?;
-/// let printed = load(alloc, world, input.text(rows)?, &mut output.reply);
-/// ```
+/// The range of a line or a load in what was read.
 #[derive(Clone, Copy, Debug, Drop)]
 pub struct ByteRange {
     /// Where it begins.
     pub from: usize,
-    /// The place behind its last byte.
+    /// The place after its last byte.
     pub to: usize,
 }
 
 /// A line of a script, without its end.
-///
-/// ```
-/// match input.line(output, writer)? {
-///     Line::Whole(line) => answer_line(resources, progress, line, input, output, writer)?,
-///     Line::Last(line) => {
-///         answer_line(resources, progress, line, input, output, writer)?;
-///         return Ok(());
-///     }
-/// }
-/// ```
 #[derive(Clone, Copy, Debug, Drop)]
 pub enum Line {
     /// A line with its end.
     Whole(ByteRange),
-    /// What stands behind the last end of a line. It may be empty.
+    /// What follows the last end of a line. It may be empty.
     Last(ByteRange),
 }
 
 /// A script that is read while it is answered. It holds at most one line or one load of it, and what came with that. It makes
 /// at most 1,048,576 reads, and takes at most 16,777,216 bytes.
-///
-/// ```
-/// for _ in 0..3 {
-///     input.line(output, replies)?;
-/// }
-/// Ok((input.reads_left(), input.bytes_left()))
-/// ```
 #[derive(Drop)]
 pub struct Input<R: Read + Drop> {
     /// The reader, and how much of it is left.

@@ -31,7 +31,7 @@ pub(crate) fn first_feed(bytes: &[u8]) -> Option<usize>
     memchr(b'\n', bytes)
 }
 
-/// Returns the first line of a text, without its end, and what stands behind it.
+/// Returns the first line of a text, without its end, and what follows it.
 pub fn next_line(text: &str) -> (&str, &str)
     ensures line { result.0.now ≡ line_of text.now }
     ensures behind { result.1.now ≡ lines_behind text.now }

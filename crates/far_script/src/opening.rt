@@ -10,13 +10,6 @@ use std::alloc::Global;
 
 /// What the line `schema GROUP KINDS` or `schema GROUP KINDS PLACES EDITS INT_SEGMENTS INT_SIZE TEXT_SEGMENTS TEXT_SIZE` asks
 /// for.
-///
-/// ```
-/// match read_limits(group, words) {
-///     Some(limits) => Ok(Some(Opening { kinds, limits })),
-///     None => Ok(None),
-/// }
-/// ```
 #[derive(Drop, Debug)]
 pub struct Opening {
     /// The kinds of the columns, as many as were named.
@@ -32,18 +25,6 @@ pub const MAX_SESSIONS: u32 = 4;
 pub const MAX_EDITS: u32 = 1_000;
 
 /// What the first line of a script says.
-///
-/// ```
-/// let mut words = Words::new(line);
-/// match words.word() {
-///     Some(word) if word == "schema" => match read_opening(alloc, words)? {
-///         Some(opening) => Ok(Some(FirstLine::Schema(opening))),
-///         None => Ok(None),
-///     },
-///     Some(word) if word == "threads" => Ok(read_threads(words)),
-///     _ => Ok(None),
-/// }
-/// ```
 #[derive(Drop, Debug)]
 pub enum FirstLine {
     /// `schema ..`: a table is opened

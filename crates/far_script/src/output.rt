@@ -9,13 +9,6 @@ use super::sink::Sink;
 use std::marker::PhantomData;
 
 /// The output of a script: the replies that were printed and not yet written, for writers of the type `W`.
-///
-/// ```
-/// output.reply.truncate(0);
-/// let printed = outcome(&mut output.reply, &ended);
-/// output.add_printed(printed)?;
-/// Ok(())
-/// ```
 #[derive(Drop)]
 pub struct Output<W: Sink> {
     /// The replies that were added and not yet written.

@@ -1,5 +1,5 @@
 // Replies as text, gathered before they are written.
-ghost use Rattle.std.specs.Prelude.{◌≡◌, ◌==◌, ◌++◌, ◌∷◌, true, IfOk, OnOk, OnErr, IfErr, length, take, drop, ◌≤◌, []};
+ghost use Rattle.std.specs.Prelude.{◌≡◌, ◌==◌, ◌++◌, ◌∷◌, true, IfOk, OnOk, OnErr, IfErr, length, take, drop, ◌≤◌, ◌+◌, []};
 ghost use Rattle.csv.specs.Writing.{default_writer, field_text, needs_quotes, row_text};
 ghost use Rattle.far_script.specs.Printing.{record_text};
 
@@ -11,15 +11,6 @@ use std::alloc::Global;
 use std::marker::Model;
 
 /// Replies that were not written yet. Contracts see their bytes.
-///
-/// ```
-/// page.text("refused ")?;
-/// page.number(u64::from(refusal.number()))?;
-/// page.text(" ")?;
-/// page.text(refusal.name())?;
-/// carried(page, refusal)?;
-/// page.text("\n")
-/// ```
 #[derive(Drop, Debug)]
 pub struct Page {
     bytes: Vec<u8>,
@@ -64,7 +55,7 @@ impl Page {
         self.bytes.is_empty()
     }
 
-    /// Removes what stands behind the first `len` bytes.
+    /// Removes what follows the first `len` bytes.
     pub fn truncate(&mut self, len: usize)
         ensures { self.new ≡ take len self.old }
     {
@@ -82,6 +73,17 @@ impl Page {
         let len = self.bytes.len();
         self.bytes.copy_within(count..len, 0);
         self.bytes.truncate(len - count);
+    }
+
+    /// Puts bytes in place of those behind the first `len`. There are no more of them than stand there, so it allocates nothing.
+    pub fn replace_behind(&mut self, len: usize, bytes: &[u8])
+        requires { len + length bytes.now ≤ length self.old }
+        ensures { self.new ≡ take len self.old ++ bytes.now }
+    {
+        self.bytes.truncate(len);
+        let Ok(()) = self.bytes.extend_from_slice(bytes) else {
+            unreachable!()
+        };
     }
 
     /// Adds bytes. Refused with `NoMemory` (1) alone.

@@ -8,18 +8,6 @@ use std::io::Write;
 
 /// A writer whose type says whether a write may fail. So if a script ends by a failed write, writers of its type may fail.
 ///
-/// An implementation writes and flushes as `write` and `flush` do:
-///
-/// ```
-/// fn write_some(&mut self, bytes: &[u8]) -> io::Result<usize> {
-///     self.write(bytes)
-/// }
-///
-/// fn flush_all(&mut self) -> io::Result<()> {
-///     self.flush()
-/// }
-/// ```
-///
 /// [`io::Sink`], which drops what it is given, never fails. Any other writer is wrapped in [`Fallible`](crate::Fallible). A `Vec` is too,
 /// since it may run out of memory.
 pub trait Sink: Write {

@@ -8,15 +8,7 @@ use std::io::Read;
 
 /// A reader whose type says whether a read may fail. So if a script ends by a failed read, readers of its type may fail.
 ///
-/// An implementation reads as `read` does:
-///
-/// ```
-/// fn read_some(&mut self, buffer: &mut [u8]) -> io::Result<usize> {
-///     self.read(buffer)
-/// }
-/// ```
-///
-/// Bytes at hand (`&[u8]`) never fail. Any other reader is wrapped in [`Fallible`](crate::Fallible).
+/// Bytes in memory (`&[u8]`) never fail. Any other reader is wrapped in [`Fallible`](crate::Fallible).
 pub trait Source: Read {
     /// Whether reads of readers of this type may fail.
     ghost may_fail: { Type 0 };

@@ -3,11 +3,6 @@ ghost use Rattle.std.specs.Prelude.{◌≡◌};
 ghost use Rattle.far_script.specs.Verbs.{movement_named, verb_of};
 
 /// A first word about objects or jobs: the word of the variant's name.
-///
-/// ```
-/// let step = movement_step(verb, words)?;
-/// Some(Command::Step(step))
-/// ```
 #[derive(Clone, Copy, Debug, PartialEq, Eq)]
 pub enum Movement {
     Lend,
@@ -25,17 +20,6 @@ pub enum Movement {
 }
 
 /// The first word of a command: the word of the variant's name, or one about objects or jobs.
-///
-/// ```
-/// let mut words = Words::new(line);
-/// let Some(word) = words.word() else {
-///     return Ok(None);
-/// };
-/// match read_verb(word) {
-///     Some(verb) => complete(alloc, spare, kinds, verb, words),
-///     None => Ok(None),
-/// }
-/// ```
 #[derive(Clone, Copy, Debug, PartialEq, Eq)]
 pub enum Verb {
     Insert,

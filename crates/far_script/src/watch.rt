@@ -10,16 +10,6 @@ use far_types::{Filter, Fold, Kind, Op, Refusal, Spec, Test, Text};
 use std::alloc::Global;
 
 /// The operator of a test.
-///
-/// ```
-/// match operator {
-///     Operator::Compares(op) => compare(alloc, kind, column, op, constant),
-///     Operator::Begins => {
-///         let text = text(alloc, constant)?;
-///         Ok(Some(Test::TextBegins { column, text }))
-///     }
-/// }
-/// ```
 #[derive(Clone, Copy, Debug, PartialEq, Eq)]
 pub enum Operator {
     /// `=`, `!=`, `<`, `<=`, `>`, `>=`

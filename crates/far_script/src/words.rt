@@ -9,12 +9,6 @@ use std::marker::Model;
 
 /// What is left of a line: words with exactly one space between them, from the first on. Contracts see the text that is left,
 /// and nothing once the last word was taken.
-///
-/// ```
-/// let sessions = between(1, MAX_SESSIONS, words.number())?;
-/// let edits = between(1, MAX_EDITS, words.last_number())?;
-/// Some(FirstLine::Threads { sessions, edits })
-/// ```
 #[derive(Drop)]
 pub struct Words<'a> {
     left: Option<&'a str>,
@@ -28,7 +22,7 @@ impl<'a> Model for Words<'a> {
     ghost view = { λ words. option_map (λ text. text.now) words.left };
 }
 
-/// Returns what stands behind the first word of a text, which has `len` bytes, and its space.
+/// Returns what follows the first word of a text, which has `len` bytes, and its space.
 #[inline(always)]
 fn rest_behind(text: &str, len: usize) -> Option<&str>
     requires { len ≡ position_or_len is_space text.now }
@@ -120,7 +114,7 @@ impl<'a> Words<'a> {
         }
     }
 
-    /// Returns the last word as a number below 2^32: there is no other word behind it.
+    /// Returns the last word as a number below 2^32: there is no other word after it.
     pub fn last_number(mut self) -> Option<u32>
         ensures { result ≡ last_number_in self.entry }
     {
@@ -128,7 +122,7 @@ impl<'a> Words<'a> {
         if self.is_empty() { number } else { None }
     }
 
-    /// Returns the last word as a number below 2^64: there is no other word behind it.
+    /// Returns the last word as a number below 2^64: there is no other word after it.
     pub fn last_long_number(mut self) -> Option<u64>
         ensures { result ≡ last_long_number_in self.entry }
     {

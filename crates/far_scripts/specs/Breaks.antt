@@ -1,4 +1,4 @@
--- What was printed up to a fault: of the first line of a script, and of the lines behind it.
+-- What was printed up to a fault: of the first line of a script, and of the lines after it.
 use Rattle.std.specs.Prelude.{◌≡◌, ◌⊎◌, ℕ, List, [], ◌∷◌, ◌++◌, None, Some, IsUtf8, codes}
 use Rattle.far_types.specs.declared.refusal.Refusal.TheVariants as refusal
 use Rattle.far_types.specs.Bounds.{IsSchema, AreLimits}
@@ -12,8 +12,8 @@ use Rattle.far_commands.specs.Progress.{At}
 use Rattle.far_script.specs.Lines.{Blank, IsOneLine, without_return}
 use Rattle.far_scripts.specs.Scripts.{AnswersLines, Begins, IsNew, Opens}
 
--- bytes that begin with no line that can get a reply. Either no line has its end: `unseen` is why no more came. Or they are the last line,
--- and it is at fault: `spent` is that nothing comes behind it. Or the first line is at fault
+-- the input stops before a line that can be answered: it ends inside a line (`unseen` says why no more came), its last line is invalid
+-- (`spent` says that nothing follows), or its first line is
 abbrev pub HasNoTurn : Type 0 → Type 0 → (List ℕ → List ℕ → Type 0) → List ℕ → Type 0
 HasNoTurn unseen spent fails bytes = (IsOneLine bytes × (unseen ⊎ (spent × fails bytes [])))
     ⊎ ((line : List ℕ) × (behind : List ℕ) × IsOneLine line × (bytes ≡ line ++ 10 ∷ behind) × fails (without_return line) behind)
@@ -46,7 +46,7 @@ HasNoCommand bytes spent = (blanks : List (List ℕ)) × Blank bytes blanks × s
 abbrev pub Rejects : List ℕ → Type 0 → List ℕ → Type 0
 Rejects bytes spent text = ((line : List ℕ) × Begins bytes spent line × IsRejected line text) ⊎ (HasNoCommand bytes spent × (text ≡ []))
 
--- no first command came: behind empty lines none has its end, or the first is no text
+-- no first command came: after empty lines none has its end, or the first is no text
 pub record HasNoStart (unseen spent : Type 0) (bytes : List ℕ) : Type 0 where
   pub blanks : List (List ℕ)
   pub blank : List ℕ
@@ -64,14 +64,13 @@ HasNotBegun unseen spent fault.Memory bytes rest text = text ≡ []
 HasNotBegun unseen spent fault.Turns bytes rest text = ⊥
 
 module _ {K : Type 0} where
-  -- a line asks for a dump, and this is what is listed. Its end comes behind it, and it may lose a carriage return; or it is the last one,
-  -- and nothing comes behind it
+  -- a line asks for a dump, and this is what is listed. Its end comes after it, and it may lose a carriage return; or it is the last one,
+  -- and nothing comes after it
   abbrev pub ListsNext : At K → List ℕ → List ℕ → List ℕ → Type 0
   ListsNext at line rest text = ((behind : List ℕ) × (rest ≡ 10 ∷ behind) × IsListing at (without_return line) text) ⊎ ((rest ≡ []) × IsListing at line text)
 
-  -- what follows the lines that got their replies, and what is printed for it. If the input is at fault, it is all that came, and no whole
-  -- turn. Else it is a line, and if it asks for a dump, a front of that may be printed. `unseen` is why no more came though the end was not
-  -- seen, and `spent` that nothing comes behind. Either may be why a load lacks bytes
+  -- the command during which the fault occurred, and the part of its reply that was printed. Only a dump is printed in part. At the fault
+  -- `Input` it is all that came, and no whole turn: `unseen` says why no more came though the end was not seen, `spent` that nothing follows
   abbrev pub BreaksIn : Type 0 → Type 0 → ShellFault → At K → List ℕ → List ℕ → List ℕ → Type 0
   BreaksIn unseen spent fault.BadStart at next rest front = ⊥
   BreaksIn unseen spent fault.Input at next rest front = (front ≡ []) × HasNoTurn unseen spent (Fails (spent ⊎ unseen) at.world.state.table.schema) next
@@ -81,7 +80,7 @@ module _ {K : Type 0} where
 
 -- `unseen` and `spent` say why no more came
 module _ {S K : Type 0} (tickets : Tickets S K) (unseen spent : Type 0) where
-  -- a script breaks off behind its first command: whole lines get their replies, and then no more
+  -- a script breaks off after its first command: whole lines get their replies, and then no more
   pub record BreaksOff (old : At K) (why : ShellFault) (bytes rest text : List ℕ) : Type 0 where
     pub before : List ℕ
     pub printed : List ℕ
@@ -93,12 +92,12 @@ module _ {S K : Type 0} (tickets : Tickets S K) (unseen spent : Type 0) where
     pub whole : bytes ≡ before ++ next
     pub said : text ≡ printed ++ front
 
-  -- a script breaks off behind a first command that asks for a table of these columns and limits. Either the table is not opened, and
-  -- nothing behind the command is read. Or the table is opened, and its lines break off
+  -- a script breaks off after a first command that asks for a table of these columns and limits. Either the table is not opened, and
+  -- nothing after the command is read. Or the table is opened, and its lines break off
   abbrev pub BreaksServing : Opened → ShellFault → List ℕ → List ℕ → List ℕ → Type 0
   BreaksServing opened why bytes rest text = ((bytes ≡ []) × Rejection why (IsRefused opened) text) ⊎ ((at : At K) × (tail : List ℕ) × IsNew tickets opened at × BreaksOff at why bytes rest tail × (text ≡ codes "ok\n" ++ tail))
 
-  -- a script breaks off behind its first command
+  -- a script breaks off after its first command
   pub record BreaksLater (why : ShellFault) (bytes rest text : List ℕ) : Type 0 where
     pub first : List ℕ
     pub at : At K

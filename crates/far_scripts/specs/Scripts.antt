@@ -9,7 +9,7 @@ use Rattle.far_commands.specs.Replies.{AnswersLine}
 use Rattle.far_commands.specs.Tables.{IsEmpty}
 use Rattle.far_frame.specs.Worlds.{World}
 
--- a turn: one line of a script without its line feed, the bytes behind it that belong to it, and the text of its reply
+-- a turn: one line of a script without its line feed, the bytes after it that belong to it, and the text of its reply
 pub record Turn : Type 0 where
   pub line : List ℕ
   pub rows : List ℕ
@@ -24,7 +24,7 @@ abbrev pub text_of : Turn → List ℕ
 text_of turn = turn.text
 
 -- the first command of a script is this line: empty lines stand before it, it has a byte, and it is text. It may lack its end only if
--- nothing comes behind it
+-- nothing comes after it
 pub record Begins (bytes : List ℕ) (spent : Type 0) (line : List ℕ) : Type 0 where
   pub blanks : List (List ℕ)
   pub blank : List ℕ
@@ -44,7 +44,7 @@ module _ {S K : Type 0} (tickets : Tickets S K) where
   abbrev pub HasStore : ℕ → World K → Type 0
   HasStore capacity world = (store : S) × (tickets.capacity_of store ≡ capacity) × (world.store ≡ tickets.store_id store)
 
-  -- a script stands behind its first command, which opened an empty table over a store of the first capacity
+  -- a script is past its first command, which opened an empty table over a store of the first capacity
   abbrev pub IsNew : Opened → At K → Type 0
   IsNew opened at = IsEmpty opened at.world × HasStore first_capacity at.world × (at.number ≡ 1)
 
@@ -80,7 +80,7 @@ module _ {S K : Type 0} (tickets : Tickets S K) where
     pub said : text ≡ printed ++ tail
 
   -- the text is the replies to a script from its first command on. That asks for a table of these columns and limits: the table is opened,
-  -- and the lines behind the command get their replies
+  -- and the lines after the command get their replies
   abbrev pub IsServed : Opened → List ℕ → List ℕ → Type 0
   IsServed opened bytes text = (at : At K) × (tail : List ℕ) × IsNew opened at × Ends at bytes tail × (text ≡ codes "ok\n" ++ tail)
 

@@ -1,4 +1,4 @@
-// The lines behind the first command of a script.
+// The lines after the first command of a script.
 ghost use Rattle.std.specs.Prelude.{◌≡◌, ◌≤◌, ℕ, List, true, IfErr, OnOk};
 ghost use Rattle.far_script.specs.Flow.{Gives, IsOver, IsAtEnd, IsUnseen, Prints, Reads, has_failed};
 ghost use Rattle.far_scripts.specs.Breaks.{BreaksOff};

@@ -13,7 +13,7 @@ const STORE_CAPACITY: u64 = 1_048_576;
 
 /// Returns the value if its reply was added. If memory ran out instead, the fault is that of the reply, and the value is dropped.
 ///
-/// It takes a value of any type. For the proof: a way out that drops a table costs the proof of a function much, and here it costs
+/// It takes a value of any type. For the proof: a return that drops a table costs the proof of a function much, and here it costs
 /// none.
 fn once_said<T: Drop>(value: T, said: Result<(), ShellFault>) -> Result<T, ShellFault>
     ensures ok { IfOk result (λ kept. (kept ≡ value) × IsOk said) }

@@ -10,7 +10,7 @@ use far_commands::Resources;
 use far_script::{Input, Opening, Output, ShellFault, Sink, Source};
 use far_store::FarStore;
 
-/// Answers a script behind a first command that asks for a table. Opens the table over a new store, and answers its lines up to the end
+/// Answers a script after a first command that asks for a table. Opens the table over a new store, and answers its lines up to the end
 /// of the script. If the store cannot be allocated, the fault is `Memory`. If the table is refused, the refusal is printed, and the fault
 /// is `BadStart`.
 pub fn serve_table<S: FarStore, A: Resources<S>, R: Source + Drop, W: Sink>(

@@ -18,14 +18,6 @@ pub(crate) type Spacers = Vec<Vec<u64>>;
 ///
 /// Each holder is padded, so that no two are on one cache line. The words of each cell lie in a block of their own, with
 /// spacers between these blocks. So an edit of one stripe does not slow the readings of another stripe's gauge.
-///
-/// ```
-/// let mut me = worked.session;
-/// let home = home_of(&me);
-/// let Ok(reading) = cells.gauge(rt, &mut me, home) else {
-///     unreachable!()
-/// };
-/// ```
 #[derive(Drop)]
 pub struct Cells<N: PlanTag, B: CellsTag> {
     pub(crate) zero: CachePadded<StripeCell<N, B, 0>>,

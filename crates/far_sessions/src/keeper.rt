@@ -21,17 +21,6 @@ use std::sync::Wait;
 /// Keeps the history of stripe I. It lies beside the table, under its lock. No list of edits is stored.
 ///
 /// Contracts see the history. It is legal, and each entry is of a session of the plan.
-///
-/// ```
-/// let before = self.keeper.look(rt, stripe_cell, me);
-/// let copy = Snapshot::of(&edit);
-/// let changed = change::<N, S>(&mut self.frame, before.edits, edit)?;
-/// self.keeper.add(rt, stripe_cell, me, changed.after, copy);
-/// Ok(Applied {
-///     number: changed.after.edits,
-///     place: changed.place,
-/// })
-/// ```
 #[derive(Drop)]
 pub struct Keeper<N: PlanTag, B: CellsTag, const I: usize> {
     pub(crate) pass: Option<Kept<[u64; 4], Doing<[u64; 4], PassView>>>,
@@ -51,13 +40,6 @@ impl<N: PlanTag, B: CellsTag, const I: usize> Model for Keeper<N, B, I> {
 }
 
 /// The keepers of the four histories.
-///
-/// ```
-/// keepers.zero.end_session(rt, cells.zero(), zero);
-/// keepers.one.end_session(rt, cells.one(), one);
-/// keepers.two.end_session(rt, cells.two(), two);
-/// keepers.three.end_session(rt, cells.three(), three);
-/// ```
 #[derive(Drop)]
 pub struct Keepers<N: PlanTag, B: CellsTag> {
     /// The keeper of stripe 0.

@@ -1,5 +1,5 @@
 // How four histories begin.
-ghost use Rattle.std.specs.Prelude.{◌≡◌, ◌+◌, [], IfOk};
+ghost use Rattle.std.specs.Prelude.{◌≡◌, ◌+◌, ◌*◌, [], length, IfOk, OnOk};
 ghost use Rattle.far_history.specs.Sessions.{newcomer};
 ghost use Rattle.far_sessions.specs.Known.{newcomers};
 
@@ -61,8 +61,10 @@ const SPACERS: u32 = 4;
 
 // Adds spacers. Each is a block of a cell's size. An allocator places blocks of one size next to each other. One large block
 // could lie elsewhere, and leave two cells adjacent.
-fn add_spacers(alloc: Global, spacers: &mut Spacers) -> Result<(), AllocError> {
-    for _ in 0..SPACERS {
+fn add_spacers(alloc: Global, spacers: &mut Spacers) -> Result<(), AllocError>
+    ensures { OnOk result (length spacers.new.items ≡ length spacers.old.items + SPACERS) }
+{
+    for turn in 0..SPACERS {
         spacers.push(Vec::with_capacity(alloc, CELL_WORDS)?)?;
     }
     Ok(())
@@ -70,7 +72,9 @@ fn add_spacers(alloc: Global, spacers: &mut Spacers) -> Result<(), AllocError> {
 
 impl<N: PlanTag> Fresh<N> {
     // Makes a cell, after spacers that separate it from the one before.
-    fn make(alloc: Global, spacers: &mut Spacers) -> Result<Fresh<N>, AllocError> {
+    fn make(alloc: Global, spacers: &mut Spacers) -> Result<Fresh<N>, AllocError>
+        ensures { OnOk result (length spacers.new.items ≡ length spacers.old.items + SPACERS) }
+    {
         add_spacers(alloc, spacers)?;
         let (cell, pass) = begin(alloc)?;
         Ok(Fresh { cell, pass })
@@ -122,13 +126,6 @@ impl<B: CellsTag, const I: usize> Giver<B, I> {
 }
 
 /// Four new cells, of empty histories. Contracts see which cell each stripe has.
-///
-/// ```
-/// match with_other(frames, cells.open::<B>(alloc, sessions)) {
-///     Ok((frames, opened)) => Ok(share(alloc, count, frames, opened)),
-///     Err(refusal) => Err(refusal),
-/// }
-/// ```
 #[derive(Drop)]
 pub struct NewCells<N: PlanTag> {
     zero: Fresh<N>,
@@ -139,14 +136,6 @@ pub struct NewCells<N: PlanTag> {
 }
 
 /// What four histories begin with.
-///
-/// ```
-/// let Opened {
-///     keepers,
-///     cells,
-///     sessions,
-/// } = opened;
-/// ```
 #[derive(Drop)]
 pub struct Opened<N: PlanTag, B: CellsTag> {
     /// For each table a keeper, to lie beside it under its lock.
@@ -158,8 +147,10 @@ pub struct Opened<N: PlanTag, B: CellsTag> {
 }
 
 impl<N: PlanTag> NewCells<N> {
-    /// Makes the four cells. Refused if memory is out.
-    pub fn make(alloc: Global) -> Result<NewCells<N>, AllocError> {
+    /// Makes the four cells, each behind spacers that separate it from the one before. Refused if memory is out.
+    pub fn make(alloc: Global) -> Result<NewCells<N>, AllocError>
+        ensures spacers { IfOk result (λ cells. length cells.spacers.items ≡ 4 * SPACERS) }
+    {
         let mut spacers = Vec::new(alloc);
         Ok(NewCells {
             zero: Fresh::make(alloc, &mut spacers)?,

@@ -11,20 +11,6 @@ use std::marker::{Model, PhantomData};
 use std::sync::Wait;
 
 /// A session at stripe I. Contracts see its number, the history that it has seen, and its own entries in it.
-///
-/// ```
-/// let Session {
-///     number: _,
-///     zero,
-///     one,
-///     two,
-///     three,
-/// } = session;
-/// keepers.zero.end_session(rt, cells.zero(), zero);
-/// keepers.one.end_session(rt, cells.one(), one);
-/// keepers.two.end_session(rt, cells.two(), two);
-/// keepers.three.end_session(rt, cells.three(), three);
-/// ```
 #[derive(Drop)]
 pub struct SessionAt<B: CellsTag, const I: usize> {
     pub(crate) pass: Pass,
@@ -44,14 +30,6 @@ impl<B: CellsTag, const I: usize> Model for SessionAt<B, I> {
 }
 
 /// A session, at each of the four stripes.
-///
-/// Reads a stripe's gauge without its lock:
-///
-/// ```
-/// let Ok(reading) = cells.gauge(rt, &mut me, home) else {
-///     unreachable!()
-/// };
-/// ```
 #[derive(Drop)]
 pub struct Session<B: CellsTag> {
     pub(crate) number: u64,

@@ -5,10 +5,6 @@ use far_history::{HistoryCell, PlanTag};
 use std::marker::{Brand, PhantomData};
 
 /// Names the four cells. It has no functions: a caller picks a type, as `Brand`.
-///
-/// ```
-/// opened::<N, Brand, S, R>(rt, alloc, made, store, edits)
-/// ```
 pub trait CellsTag {
     ghost use Rattle.std.specs.Prelude.{ℕ};
     ghost use Rattle.atomic_table.specs.Seated.{TableId};
@@ -23,16 +19,6 @@ impl CellsTag for Brand {
 }
 
 /// The cell of stripe I, outside any lock.
-///
-/// ```
-/// match stripe {
-///     0 => Ok(self.zero().gauge(rt, &mut me.zero)),
-///     1 => Ok(self.one().gauge(rt, &mut me.one)),
-///     2 => Ok(self.two().gauge(rt, &mut me.two)),
-///     3 => Ok(self.three().gauge(rt, &mut me.three)),
-///     _ => Err(Refusal::OutOfRange),
-/// }
-/// ```
 #[derive(Drop)]
 pub struct StripeCell<N: PlanTag, B: CellsTag, const I: usize> {
     pub(crate) cell: HistoryCell<N>,

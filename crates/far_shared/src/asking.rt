@@ -13,13 +13,6 @@ use std::alloc::Global;
 use std::sync::{RwLock, RwLockReadGuard, Wait};
 
 /// A stripe under its read lock. While it is held, no edit is made there and no object moves.
-///
-/// ```
-/// match shared.scope(rt, stripe) {
-///     Ok(scope) => first_row(&scope.view(), signals, times),
-///     Err(refusal) => Err(refusal),
-/// }
-/// ```
 #[derive(Drop)]
 pub enum StripeGuard<'a, N: PlanTag, B: TableTag, S: FarTickets> {
     /// Stripe 0.

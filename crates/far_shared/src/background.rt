@@ -123,9 +123,18 @@ fn serve_chunks<
 /// Several threads do a list of works. No lock is held while one waits for the store:
 ///
 /// ```
-/// match list_of(alloc, works_in(works)) {
-///     Ok(list) => worked(Background::run(rt, shared, store, workers, list)),
-///     Err(_) => Err(Refusal::NoMemory),
+/// pub fn run<
+///     N: PlanTag + Send + Sync,
+///     B: TableTag + Send + Sync,
+///     S: FarStore,
+///     R: Threads + Wait + Sync,
+/// >(rt: &R, alloc: Global, shared: &Shared<N, B, S>, store: &S, workers: u32, works: Works) -> Replied
+///     requires store { S.store_id store.now ≡ B.store }
+/// {
+///     match list_of(alloc, works_in(works)) {
+///         Ok(list) => worked(Background::run(rt, shared, store, workers, list)),
+///         Err(_) => Err(Refusal::NoMemory),
+///     }
 /// }
 /// ```
 #[derive(Clone, Copy, Debug)]

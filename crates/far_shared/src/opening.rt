@@ -19,17 +19,6 @@ use std::marker::{Model, PhantomData};
 use std::sync::RwLock;
 
 /// One of each of the four stripes.
-///
-/// ```
-/// let answer = answer_four(
-///     alloc,
-///     &frames.zero,
-///     &frames.one,
-///     &frames.two,
-///     &frames.three,
-///     0,
-/// );
-/// ```
 #[derive(Drop)]
 pub struct Four<T> {
     /// That of stripe 0.
@@ -119,13 +108,6 @@ fn once_done<T: Drop, U: Drop>(value: T, done: Result<U, Refusal>) -> Result<T, 
 }
 
 /// Four empty tables with their gauges, and four cells that have no name yet. Contracts see which cell each stripe has.
-///
-/// ```
-/// let Ok(made) = plan.make::<N, S>(alloc) else {
-///     return Err(Stop::Memory);
-/// };
-/// named(rt, alloc, made, store, edits)
-/// ```
 #[derive(Drop)]
 pub struct Made<N: PlanTag, S: FarTickets> {
     sessions: u64,

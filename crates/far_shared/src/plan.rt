@@ -12,11 +12,23 @@ use std::marker::Model;
 /// Here the count and the sum of a column of numbers are the gauge of each stripe:
 ///
 /// ```
-/// let limits = Limits::in_groups_of(4);
-/// let gauge = Spec::totals(alloc, 0);
-/// let Ok(plan) = Plan::new(schema, limits, gauge, u64::from(sessions)) else {
-///     unreachable!()
-/// };
+/// pub(crate) fn plan_for(alloc: Global, sessions: u32) -> Result<Plan, Stop>
+///     requires some { 1 ≤ sessions }
+///     requires few { sessions ≤ 4 }
+///     ensures ok { IfOk result (λ plan. plan ≡ plan_for sessions) }
+/// {
+///     let mut kinds = Vec::new(alloc);
+///     kinds.push(Kind::Int)?;
+///     let Ok(schema) = Schema::new(kinds) else {
+///         unreachable!()
+///     };
+///     let limits = Limits::in_groups_of(4);
+///     let gauge = Spec::totals(alloc, 0);
+///     let Ok(plan) = Plan::new(schema, limits, gauge, u64::from(sessions)) else {
+///         unreachable!()
+///     };
+///     Ok(plan)
+/// }
 /// ```
 #[derive(Drop)]
 pub struct Plan {

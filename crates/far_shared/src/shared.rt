@@ -28,30 +28,29 @@ pub(crate) struct Count<N: PlanTag> {
 /// A session is used with the shared table that made it: its type says which. No two stripes are on one cache line, so that a
 /// writer of one does not slow the next.
 ///
-/// What a plan made is opened:
-///
-/// ```
-/// let Ok((shared, sessions)) = made.open::<B>(alloc) else {
-///     return Err(Stop::Memory);
-/// };
-/// ```
-///
 /// A session makes an edit. A fetch or an eviction may mend a refusal:
 ///
 /// ```
-/// let edit = Edit::Insert(row_of_one(alloc)?);
-/// match shared.apply(rt, me, stripe, edit) {
-///     Ok(_) => return Ok(()),
-///     Err(refusal) => clear_way(rt, shared, store, stripe, refusal)?,
-/// }
-/// ```
-///
-/// All stripes are asked:
-///
-/// ```
-/// match shared.ask_all(rt, 0) {
-///     Ok(answer) => Ok((sessions, Outcome { gauges, answer })),
-///     Err(_) => Err(Stop::Memory),
+/// fn insert_one<N: PlanTag, B: TableTag, S: FarStore, R: Wait>(
+///     rt: &R,
+///     alloc: Global,
+///     shared: &Shared<N, B, S>,
+///     store: &S,
+///     me: &mut Session<B>,
+///     stripe: u32,
+/// ) -> Result<(), Stop>
+///     requires store { S.store_id store.now ≡ B.store }
+///     requires stripe { stripe < 4 }
+///     ensures ok { OnOk result (Makes stripe 1 me.old me.new) }
+/// {
+///     for turn in 0..MOST_TRIES {
+///         let edit = Edit::Insert(row_of_one(alloc)?);
+///         match shared.apply(rt, me, stripe, edit) {
+///             Ok(_) => return Ok(()),
+///             Err(refusal) => clear_way(rt, shared, store, stripe, refusal)?,
+///         }
+///     }
+///     Err(Stop::Turns)
 /// }
 /// ```
 #[derive(Drop)]

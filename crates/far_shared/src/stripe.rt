@@ -19,10 +19,6 @@ use std::sync::Wait;
 
 /// Names a shared table: its four cells, and the store to which its objects go. It has no functions: a caller picks a type, as
 /// `Brand`.
-///
-/// ```
-/// opened::<N, Brand, S, R>(rt, alloc, made, store, edits)
-/// ```
 pub trait TableTag: CellsTag {
     ghost use Rattle.std.specs.Prelude.{ℕ, List};
 
@@ -36,13 +32,6 @@ impl TableTag for Brand {
 }
 
 /// What an accepted edit returns.
-///
-/// ```
-/// match applied {
-///     Ok(applied) => Ok(Reply::Applied(applied.number, applied.place)),
-///     Err(refusal) => Err(refusal),
-/// }
-/// ```
 #[derive(Clone, Copy, Debug, PartialEq, Eq)]
 pub struct Applied {
     /// How many edits the stripe has accepted by then, this one included.
@@ -55,10 +44,6 @@ pub struct Applied {
 ///
 /// Contracts see the history and the table's state. The table is the replay of the history, and the gauge is its aggregate 0.
 /// Its objects have the number I, and all its tickets are of the store.
-///
-/// ```
-/// lock.write(rt).apply(rt, stripe_cell, me, edit)
-/// ```
 #[derive(Drop)]
 pub struct Stripe<N: PlanTag, B: TableTag, S: FarTickets, const I: usize> {
     pub(crate) frame: Frame<S>,

@@ -5,14 +5,6 @@ ghost use Rattle.far_shared.specs.Works.{columns_for, stripe_of};
 use far_types::Name;
 
 /// One thing that is done to a stripe in the background. It changes no row. Each variant begins with the number of its stripe.
-///
-/// ```
-/// match work {
-///     Work::Evacuate(_) => frame.begin_coldest(store),
-///     Work::Fetch(_, name) => Ok(Some(fetch_on(frame, store, *name)?)),
-///     Work::Build(_) => build_on(frame, store),
-/// }
-/// ```
 #[derive(Clone, Copy, Debug, PartialEq, Eq)]
 pub enum Work {
     /// Sends the coldest object away.
@@ -47,20 +39,6 @@ impl Work {
 }
 
 /// How a list of works came out.
-///
-/// ```
-/// let mut report = Report {
-///     done: 0,
-///     refused: 0,
-/// };
-/// for work in works {
-///     match serve(rt, shared, store, work) {
-///         Ok(()) => report.done += 1,
-///         Err(_) => report.refused += 1,
-///     }
-/// }
-/// report
-/// ```
 #[derive(Clone, Copy, Debug, PartialEq, Eq)]
 pub struct Report {
     /// How many works were done, also those for which there was nothing to do.
@@ -70,20 +48,6 @@ pub struct Report {
 }
 
 /// How a pending row group is scanned into its aggregate. The parameter is a job.
-///
-/// ```
-/// match building_under(rt, lock, store)? {
-///     Building::Nothing => Ok(false),
-///     Building::Scan { aggregate, group } => {
-///         scan_under(rt, lock, aggregate, group)?;
-///         Ok(true)
-///     }
-///     Building::Offload(job) => {
-///         complete_under(rt, alloc, lock, stripe, store, meter, job)?;
-///         Ok(true)
-///     }
-/// }
-/// ```
 #[derive(Drop)]
 pub enum Building<J> {
     /// No row group of any aggregate is pending.

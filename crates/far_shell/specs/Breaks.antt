@@ -7,9 +7,9 @@ use Rattle.far_script.specs.declared.fault.ShellFault.TheVariants as fault
 use Rattle.far_scripts.specs.Breaks.{BreaksLater, HasNotBegun}
 use Rattle.far_shell.specs.Sessions.{AsksSessions, IsAnswered}
 
--- `unseen` says of the first bytes why no more came, and `spent` says of the rest that nothing comes behind the first bytes
+-- `unseen` says of the first bytes why no more came, and `spent` says of the rest that nothing comes after the first bytes
 module _ {S K : Type 0} (tickets : Tickets S K) (unseen spent : List ℕ → Type 0) where
-  -- the text is what is printed for these first bytes of a script, with the rest behind them, up to a fault
+  -- the text is what is printed for these first bytes of a script, with the rest after them, up to a fault
   abbrev pub IsBroken : ShellFault → List ℕ → List ℕ → List ℕ → Type 0
   IsBroken fault.BadStart bytes rest text = HasNotBegun (unseen bytes) (spent rest) fault.BadStart bytes rest text
   IsBroken fault.Input bytes rest text = HasNotBegun (unseen bytes) (spent rest) fault.Input bytes rest text ⊎ BreaksLater tickets (unseen bytes) (spent rest) fault.Input bytes rest text
@@ -27,7 +27,7 @@ module _ {S K : Type 0} (tickets : Tickets S K) (unseen spent : List ℕ → Typ
   EndsBy splits may_fail fault.Output bytes rest text lost =
       IsTrue may_fail × (IsAnswered tickets bytes (rest ≡ []) text ⊎ ((why : ShellFault) × splits why bytes rest × IsBroken why bytes rest text))
 
-  -- a script ends early: what was written is a front of the replies to its first bytes
+  -- a script ends early: what was written is a prefix of the replies to its first bytes
   pub record Breaks (splits : ShellFault → List ℕ → List ℕ → Type 0) (may_fail : Bool) (old new : Option (List ℕ)) (why : ShellFault) : Type 0 where
     pub bytes : List ℕ
     pub rest : List ℕ

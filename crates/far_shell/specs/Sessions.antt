@@ -39,7 +39,7 @@ abbrev pub fault_of : Stop → ShellFault
 fault_of stop.Memory = fault.Memory
 fault_of stop.Turns = fault.Turns
 
--- what was written of the outcome of sessions if a fault comes: a front if the writer is at fault, and else nothing. The writer is at fault
+-- what was written of the outcome of sessions if a fault comes: a prefix if the writer is at fault, and else nothing. The writer is at fault
 -- only if writers of its type may fail, which the first argument says
 abbrev pub CutOutcome : Bool → ShellFault → ℕ → ℕ → List ℕ → Type 0
 CutOutcome may_fail fault.BadStart sessions edits sent = ⊥
@@ -52,7 +52,7 @@ CutOutcome may_fail fault.Turns sessions edits sent = sent ≡ []
 abbrev pub AsksSessions : List ℕ → Type 0 → ℕ → ℕ → Type 0
 AsksSessions bytes spent sessions edits = (line : List ℕ) × Begins bytes spent line × (start_in line ≡ Some (Threads sessions edits))
 
--- a script begins with sessions, and the reply is their outcome. What stands behind its first command changes nothing
+-- a script begins with sessions, and the reply is their outcome. What follows its first command changes nothing
 pub record IsThreads (bytes : List ℕ) (spent : Type 0) (text : List ℕ) : Type 0 where
   pub sessions : ℕ
   pub edits : ℕ

@@ -7,8 +7,8 @@ ghost use Rattle.far_shell.specs.Breaks.{Breaks, IsUnfinished};
 use far_script::Source;
 use far_store::FarTickets;
 
-/// All bytes of a script come if it has fewer than 1,048,576 bytes and they are at hand. Bytes at hand never fail, and a script may have
-/// more reads than it has bytes. So if it ends by `Input`, a line or the bytes of a load are no UTF-8, or it ends within a load.
+/// All bytes of a script come if it has fewer than 1,048,576 bytes and they are in memory. Bytes in memory never fail, and a script may have
+/// more reads than it has bytes. So if it ends by `Input`, a line or the bytes of a load are not valid UTF-8, or it ends within a load.
 ///
 /// The premise is what `run_script` says of such a script at a fault. In the conclusion no line lacks its end, and a load lacks bytes only
 /// at the end.

@@ -13,8 +13,8 @@ use far_store::{AgentStore, FarStore, FarTickets};
 use std::sync::Wait;
 use std::thread::Threads;
 
-/// Runs a script by its first command. If that opens a table, the lines behind it are answered. If it asks for sessions, they share a
-/// table, and nothing behind the command is read. The store is a type parameter, so the proof unfolds no store.
+/// Runs a script by its first command. If that opens a table, the lines after it are answered. If it asks for sessions, they share a
+/// table, and nothing after the command is read. The store is a type parameter, so the proof unfolds no store.
 ///
 /// The faults are those of `run_script`.
 fn serve<
@@ -75,12 +75,12 @@ fn flush_at<W: Sink>(
 /// the bytes that came are subtracted from those that were left. That holds too for a reader whose bytes no contract knows, as standard
 /// input.
 ///
-/// At the fault `Input` all whole lines that came are answered. The next line or its load is no UTF-8, or it is incomplete:
+/// At the fault `Input` all whole lines that came are answered. The next line or its load is not valid UTF-8, or it is incomplete:
 ///
 /// - A line lacks its end. Then the end of the script was not seen.
-/// - A load lacks bytes. If the end of the script was seen, nothing is left behind them.
+/// - A load lacks bytes. If the end of the script was seen, nothing is left after them.
 ///
-/// The last line, which has no end, is no UTF-8 only if the end of the script was seen. If it was not seen, the reader was asked, or no
+/// The last line, which has no end, is not valid UTF-8 only if the end of the script was seen. If it was not seen, the reader was asked, or no
 /// reads are left. One of these holds too:
 ///
 /// - readers of its type may fail;
@@ -112,11 +112,11 @@ pub fn run_input<T: AllocGlobal + Sync + Threads + Wait, R: Source + Drop, W: Si
 
 /// Runs a script: reads its commands and writes the replies. Each reply is written before the reader is asked for more. The objects of
 /// its table go to a store in this process, which takes 1,048,576 contents. If the first command asks for sessions, it is the whole
-/// script (`run_threads`), and no line behind it is read.
+/// script (`run_threads`), and no line after it is read.
 ///
 /// A script has at most 16,777,216 bytes, and is read in at most 1,048,576 reads. All lines before a fault are answered. Ends with:
 ///
-/// - `Input`, if a read fails or one of these bounds is exceeded. Also if a line or the bytes of a load are no UTF-8, or the script ends
+/// - `Input`, if a read fails or one of these bounds is exceeded. Also if a line or the bytes of a load are not valid UTF-8, or the script ends
 ///   inside a load;
 /// - `Output`, if a write fails;
 /// - `Memory`, if the shell itself runs out of memory;
@@ -124,7 +124,7 @@ pub fn run_input<T: AllocGlobal + Sync + Threads + Wait, R: Source + Drop, W: Si
 /// - `Turns`, if sessions give up on an edit.
 ///
 /// Take a script with fewer than 1,048,576 bytes that are known, and a reader whose type never fails. It ends with `Input` only if a line
-/// or the bytes of a load are no UTF-8, or the script ends inside a load
+/// or the bytes of a load are not valid UTF-8, or the script ends inside a load
 /// ([`a_short_script_at_hand_comes_whole`](crate::laws::a_short_script_at_hand_comes_whole)).
 ///
 /// It ends with `Output` only if writers of the type of its writer may fail
@@ -133,10 +133,12 @@ pub fn run_input<T: AllocGlobal + Sync + Threads + Wait, R: Source + Drop, W: Si
 /// The program does this:
 ///
 /// ```
-/// let mut writer = Fallible(io::writer(&rt));
-/// match run_script(&rt, Fallible(rt.reader()), &mut writer) {
-///     Ok(()) => ExitCode::SUCCESS,
-///     Err(fault) => ExitCode::from(fault.status()),
+/// fn main(rt: HostRuntime) -> ExitCode {
+///     let mut writer = Fallible(io::writer(&rt));
+///     match run_script(&rt, Fallible(rt.reader()), &mut writer) {
+///         Ok(()) => ExitCode::SUCCESS,
+///         Err(fault) => ExitCode::from(fault.status()),
+///     }
 /// }
 /// ```
 pub fn run_script<T: AllocGlobal + Sync + Threads + Wait, R: Source + Drop, W: Sink>(

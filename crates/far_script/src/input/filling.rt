@@ -1,8 +1,7 @@
 // Bytes of a script, as they come.
 ghost use Rattle.std.specs.Prelude.{◌≡◌, ◌≢◌, ◌==◌, ◌≤◌, ◌<◌, ◌+◌, ◌++◌, [], false, true, slice_index, slice_range, take, length, IfNone, IfErr, IfOk, IfSome, OnOk};
 ghost use Rattle.std.specs.List.{list_any};
-ghost use Rattle.std.specs.Str.{IsAscii};
-ghost use Rattle.far_script.specs.Faults.{IfInput};
+ghost use Rattle.far_script.specs.Faults.{IfInput, IfMemory};
 ghost use Rattle.far_script.specs.Flow.{IsUnseen, Leaves, Reads, unread};
 
 use super::Input;
@@ -64,7 +63,8 @@ impl<R: Read + Drop> Input<R> {
 }
 
 impl<R: Source + Drop> Input<R> {
-    /// Reads once, and returns whether bytes came. They stop at the end of the script alone. All replies were written before.
+    /// Reads once, and returns whether bytes came. They stop at the end of the script alone. All replies were written before. If there is no
+    /// memory for the bytes, nothing is read.
     pub fn read_more(&mut self, gathered: &Page) -> Result<bool, ShellFault>
         requires flushed { gathered.now ≡ [] }
         ensures read { OnOk result (Reads R.Read self.old [] self.new) }
@@ -72,6 +72,7 @@ impl<R: Source + Drop> Input<R> {
         ensures turns { IfErr result (λ fault. fault ≢ ShellFault.Turns) }
         ensures unwritten { IfErr result (λ fault. fault ≢ ShellFault.Output) }
         ensures stopped { IfErr result (λ fault. IfInput fault ((self.new.source.bytes ≡ self.old.source.bytes) × (unread R.Read self.new ≡ unread R.Read self.old) × Leaves (R.remaining self.old.source.reader) (R.remaining self.new.source.reader) [] self.new.source.bytes)) }
+        ensures kept { IfErr result (λ fault. IfMemory fault (Reads R.Read self.old [] self.new)) }
         ensures unseen { IfErr result (λ fault. IfInput fault (IsUnseen R.Read R.may_fail self.old self.new)) }
         ensures asked { self.new.source.reads ≤ self.old.source.reads }
         ensures going { IfOk result (λ more. more ≡ true → self.new.source.ended ≡ false) }
@@ -82,11 +83,23 @@ impl<R: Source + Drop> Input<R> {
         if self.chunk.is_empty() {
             return Err(ShellFault::Memory);
         }
-        let count = self.source.read(self.chunk.as_mut_slice())?;
-        self.is_ascii = stay_ascii(self.is_ascii, &self.held, &self.chunk[..count]);
-        match self.held.bytes(&self.chunk[..count]) {
-            Ok(()) => Ok(count > 0),
-            Err(refusal) => Err(ShellFault::of_memory(refusal)),
+        let len = self.held.len();
+        let is_plain = self.is_ascii || len == 0;
+        // Space for the bytes comes first. If there is none, nothing is read, so that no byte that came is lost.
+        if let Err(refusal) = self.held.bytes(self.chunk.as_slice()) {
+            return Err(ShellFault::of_memory(refusal));
+        }
+        match self.source.read(self.chunk.as_mut_slice()) {
+            Ok(count) => {
+                let came = &self.chunk[..count];
+                self.is_ascii = is_plain && came.is_ascii();
+                self.held.replace_behind(len, came);
+                Ok(count > 0)
+            }
+            Err(fault) => {
+                self.held.truncate(len);
+                Err(fault)
+            }
         }
     }
 }
@@ -111,18 +124,6 @@ impl<R: Read + Drop> Input<R> {
             }
         }
     }
-}
-
-/// Returns whether all bytes are known to be ASCII when these have come behind those that are held.
-fn stay_ascii(is_ascii: bool, held: &Page, came: &[u8]) -> bool
-    requires { is_ascii ≡ true → IsAscii held.now }
-    ensures before { result ≡ true → IsAscii held.now }
-    ensures behind { result ≡ true → IsAscii (held.now ++ came.now) }
-{
-    if !is_ascii && !held.is_empty() {
-        return false;
-    }
-    came.is_ascii()
 }
 
 /// Returns the place of the first line feed. There is none before `from`.

@@ -2,7 +2,7 @@
 ghost use Rattle.std.specs.Prelude.{◌↔◌, ◌≡◌, ◌≢◌, ◌==◌, ◌≤◌, ◌<◌, [], false, true, length, slice_index, slice_range, take, IsTrue, IsUtf8, IfNone, IfErr, IfOk, IfSome, OnOk};
 ghost use Rattle.std.specs.Io.BufRead.{strip_last};
 ghost use Rattle.std.specs.List.{list_any};
-ghost use Rattle.far_script.specs.Faults.{IfInput};
+ghost use Rattle.far_script.specs.Faults.{IfInput, IfMemory};
 ghost use Rattle.far_script.specs.Flow.{Holds, IsShort, IsUnseen, Prints, Reads, Stops, TakesLine, has_failed, byte_range_of, bytes_in, unread};
 ghost use Rattle.far_script.specs.Lines.{IsOneLine};
 
@@ -40,7 +40,7 @@ fn line_len(line: &[u8]) -> usize
 }
 
 impl<R: Source + Drop> Input<R> {
-    /// Reads until a whole line is at hand, and returns where it ends; `None` at the end of the script. Replies are written
+    /// Reads until a whole line is in memory, and returns where it ends; `None` at the end of the script. Replies are written
     /// before the reader is asked.
     fn seek_line<W: Sink>(
         &mut self,
@@ -52,6 +52,7 @@ impl<R: Source + Drop> Input<R> {
         ensures turns { IfErr result (λ fault. fault ≢ ShellFault.Turns) }
         ensures stopped { IfErr result (λ fault. IfInput fault (Stops R.Read (λ bytes rest. IsOneLine bytes) self.old self.new)) }
         ensures unseen { IfErr result (λ fault. IfInput fault (IsUnseen R.Read R.may_fail self.old self.new)) }
+        ensures kept { IfErr result (λ fault. IfMemory fault (Reads R.Read self.old [] self.new)) }
         ensures asked { self.new.source.reads ≤ self.old.source.reads }
         ensures printed { Prints (W.contents writer.old) output.old.page [] (W.contents writer.new) output.new.page }
         ensures failed { IfErr result (λ fault. fault ≡ ShellFault.Output → has_failed output.new ≡ true) }
@@ -96,6 +97,7 @@ impl<R: Source + Drop> Input<R> {
         ensures turns { IfErr result (λ fault. fault ≢ ShellFault.Turns) }
         ensures stopped { IfErr result (λ fault. IfInput fault (Stops R.Read (λ bytes rest. IsOneLine bytes) self.old self.new)) }
         ensures unseen { IfErr result (λ fault. IfInput fault (IsUnseen R.Read R.may_fail self.old self.new)) }
+        ensures kept { IfErr result (λ fault. IfMemory fault (Reads R.Read self.old [] self.new)) }
         ensures asked { self.new.source.reads ≤ self.old.source.reads }
         ensures printed { Prints (W.contents writer.old) output.old.page [] (W.contents writer.new) output.new.page }
         ensures failed { IfErr result (λ fault. fault ≡ ShellFault.Output → has_failed output.new ≡ true) }
@@ -124,6 +126,7 @@ impl<R: Source + Drop> Input<R> {
         ensures fault { IfErr result (λ fault. fault ≢ ShellFault.BadStart) }
         ensures turns { IfErr result (λ fault. fault ≢ ShellFault.Turns) }
         ensures stopped { IfErr result (λ fault. IfInput fault (Stops R.Read (λ bytes rest. (length bytes < count) × IsShort R.Read R.may_fail self.old self.new rest) self.old self.new)) }
+        ensures kept { IfErr result (λ fault. IfMemory fault (Reads R.Read self.old [] self.new)) }
         ensures asked { self.new.source.reads ≤ self.old.source.reads }
         ensures printed { Prints (W.contents writer.old) output.old.page [] (W.contents writer.new) output.new.page }
         ensures failed { IfErr result (λ fault. fault ≡ ShellFault.Output → has_failed output.new ≡ true) }
@@ -141,7 +144,7 @@ impl<R: Source + Drop> Input<R> {
         Err(ShellFault::Input)
     }
 
-    /// Returns the text of a line or of a load that was just taken. If it is no UTF-8, the fault is `Input`.
+    /// Returns the text of a line or of a load that was just taken. If it is not valid UTF-8, the fault is `Input`.
     pub fn text(&self, byte_range: ByteRange) -> Result<&str, ShellFault>
         requires { Holds R.Read self.now byte_range }
         ensures ok { IfOk result (λ text. (text.now ≡ bytes_in R.Read self.now byte_range) × IsUtf8 text.now) }

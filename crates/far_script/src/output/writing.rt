@@ -38,7 +38,7 @@ fn write_out<W: Sink>(writer: &mut W, bytes: &[u8]) -> usize
 impl<W: Sink> Output<W> {
     /// Writes the replies and flushes the writer. Does nothing if there are no replies.
     ///
-    /// Ends with `Output` if that fails, or if a write failed before. What the writer took is a front of the replies, and nothing is
+    /// Ends with `Output` if that fails, or if a write failed before. What the writer took is a prefix of the replies, and nothing is
     /// written afterwards.
     pub fn flush(&mut self, writer: &mut W) -> Result<(), ShellFault>
         ensures printed { Prints (W.contents writer.old) self.old.page [] (W.contents writer.new) self.new.page }

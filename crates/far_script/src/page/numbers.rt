@@ -1,10 +1,13 @@
 // Numbers of replies, in decimal digits.
-ghost use Rattle.std.specs.Prelude.{◌≡◌, ◌<◌, ◌≤◌, ◌++◌, length, OnOk, IfErr, decimal};
+ghost use Rattle.std.specs.Prelude.{◌≡◌, ◌<◌, ◌≤◌, ◌+◌, ◌%◌, ◌++◌, length, OnOk, IfErr, decimal};
 ghost use Rattle.std.specs.Fmt.{signed_decimal};
 
 use super::Page;
 use far_types::Refusal;
 use itoa::{Buffer, write_digits};
+
+/// Smaller numbers, which are most, have at most four digits. Each of those is computed by itself.
+const SHORT: u64 = 10_000;
 
 /// The most digits of a number of 64 bits.
 const DIGITS: usize = 20;
@@ -38,10 +41,57 @@ fn digit_count(number: u64) -> usize
     short_count(number / 10_000) + 4
 }
 
+/// Returns the last decimal digit of a number.
+#[inline(always)]
+fn last_digit(number: u32) -> u8
+    ensures { result ≡ 48 + number % 10 }
+{
+    b'0' + (number % 10) as u8
+}
+
 impl Page {
     /// Adds a number in decimal digits. Refused with `NoMemory` (1) alone.
     #[inline(always)]
     pub fn number(&mut self, number: u64) -> Result<(), Refusal>
+        ensures ok { OnOk result (self.new ≡ self.old ++ decimal number) }
+        ensures memory { IfErr result (λ e. e ≡ Refusal.NoMemory) }
+    {
+        // A compiler that knows of the space omits the tests for it, and has no call on this way.
+        if number < SHORT && self.bytes.capacity() - self.bytes.len() >= 4 {
+            return self.short_number(number as u32);
+        }
+        self.any_number(number)
+    }
+
+    /// Does the same for a number of at most four digits.
+    #[inline(always)]
+    fn short_number(&mut self, number: u32) -> Result<(), Refusal>
+        requires { number < 10000 }
+        ensures ok { OnOk result (self.new ≡ self.old ++ decimal number) }
+        ensures memory { IfErr result (λ e. e ≡ Refusal.NoMemory) }
+    {
+        let last = last_digit(number);
+        if number < 10 {
+            return self.byte(last);
+        }
+        let third = last_digit(number / 10);
+        if number < 100 {
+            self.bytes.extend_from_slice(&[third, last])?;
+            return Ok(());
+        }
+        let second = last_digit(number / 100);
+        if number < 1000 {
+            self.bytes.extend_from_slice(&[second, third, last])?;
+            return Ok(());
+        }
+        let first = last_digit(number / 1000);
+        self.bytes.extend_from_slice(&[first, second, third, last])?;
+        Ok(())
+    }
+
+    /// Does the same for any number. It is a function of its own, so that a short number has no stack frame.
+    #[inline(never)]
+    fn any_number(&mut self, number: u64) -> Result<(), Refusal>
         ensures ok { OnOk result (self.new ≡ self.old ++ decimal number) }
         ensures memory { IfErr result (λ e. e ≡ Refusal.NoMemory) }
     {
@@ -75,7 +125,7 @@ impl Page {
     {
         let mut buffer = [0u8; 40];
         let start = write_digits(number, &mut buffer, DIGITS);
-        // The number of bytes copied is always the same, so that no call has to compute it. Those behind the digits are
+        // The number of bytes copied is always the same, so that no call has to compute it. Those after the digits are
         // removed.
         self.bytes(&buffer[start..start + DIGITS])?;
         let len = self.len() - start;

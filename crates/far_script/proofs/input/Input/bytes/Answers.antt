@@ -1,6 +1,6 @@
 use Rattle.std.proofs.Common.{◌≡◌, ◌<◌, [], length, inl, inr, refl, sym, ◌∙◌, arith}
 use Rattle.far_script.specs.Flow.{IsShort, unread}
-use Rattle.far_script.proofs.FlowStops.{handed-on, if-input-both, leaves-same, not-found, short-later, stops-still}
+use Rattle.far_script.proofs.FlowStops.{handed-on, if-input-both, if-memory, leaves-same, not-found, short-later, stops-still}
 use Rattle.far_script.proofs.FlowLaws.{dropped, fewer, front-within, prints-none, prints-then-nothing, range-length, reads-none, reads-range, reads-then, turns-past}
 use Rattle.far_script.proofs.input.Input.bytes.Goals as goal
 
@@ -65,3 +65,9 @@ returns-then-not-branch-clause-asked g c = omega (arith, c.read_more.ensures.ask
 
 pub returns-clause-asked : goal.returns-clause-asked
 returns-clause-asked g c = fewer _ _ _ c.loop-turn.invariant.2
+
+pub returns-in_err-read_more-clause-kept : goal.returns-in_err-read_more-clause-kept
+returns-in_err-read_more-clause-kept g c =
+    let why = c.in_err-read_more.field-0.0 in
+    handed-on c.from_residual-in_err-read_more.result why _ c.from_residual-in_err-read_more.ensures.1
+    (if-memory why _ _ (λ t. reads-then g.R.Read c.args.self.now c.loop-turn.self c.read_more.new.self [] [] c.loop-turn.invariant.0 t) c.in_err-read_more.ensures.kept)
