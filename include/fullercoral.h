@@ -140,7 +140,7 @@ typedef struct fc_aggregate {
     bool has_key;
 } fc_aggregate;
 
-/* A column of rows to be inserted, as Arrow lays columns out. */
+/* A column of rows to be inserted, or the cells of a column to be set, as Arrow lays columns out. */
 typedef struct fc_column {
     const int64_t *numbers; /* of FC_INT: the values; else of length 0 */
     size_t numbers_len;
@@ -239,6 +239,12 @@ uint32_t fc_insert_columns(fc_table *table, const fc_column *columns, size_t col
  * FC_BAD_ARGUMENT (a kind) and FC_NO_UTF8. */
 uint32_t fc_set(fc_table *table, uint32_t column, uint32_t place, const fc_cell *cell);
 
+/* Puts a cell into a column of each of `places`, in order, until one is refused. `values` has a row for each of them. Writes how many
+ * were set, also if it is refused; the code is then the refusal of the next one, as fc_set has it. A place may stand there more than
+ * once. Refused with FC_BAD_ARGUMENT before any cell if `values` has no kind that there is or another length than it should, or offsets
+ * that descend or leave `bytes`; FC_NO_COLUMN and FC_WRONG_KIND come with the first cell. */
+uint32_t fc_set_column(fc_table *table, uint32_t column, const uint32_t *places, size_t places_len, const fc_column *values, size_t *set);
+
 /* Removes the row of a place. Refused with FC_NO_ROW, FC_REMOVED_ROW, FC_ABSENT, FC_EDITS_USED_UP, FC_NO_MEMORY. */
 uint32_t fc_remove(fc_table *table, uint32_t place);
 
@@ -270,6 +276,11 @@ uint32_t fc_recount(fc_table *table, uint32_t aggregate, size_t *lines);
 /* Writes a line of the answer that stays in the handle. Lines are sorted by key: numbers by value, texts by bytes. `line->key_text` is
  * lent. Refused with FC_NOTHING if there is no such line. */
 uint32_t fc_line_at(fc_table *table, size_t index, fc_line *line);
+
+/* Writes the index of the line with a key in the answer that stays in the handle, found by a binary search. If `key` is missing, it is
+ * the line of an aggregate without key column. Refused with FC_NOTHING if no line has this key; before that with FC_BAD_ARGUMENT (a kind)
+ * and FC_NO_UTF8. */
+uint32_t fc_find(fc_table *table, const fc_cell *key, size_t *index);
 
 /* Writes the count and the sum of an aggregate of totals without key. Refused with FC_NOTHING if it is none, or row groups are pending. */
 uint32_t fc_plain(fc_table *table, uint32_t aggregate, fc_sum *sum);

@@ -1,5 +1,5 @@
-/* What the library costs: an insert, many rows by columns, an ask, a part copied out, a content that goes out and comes back; beside
- * memcpy. bench [ROWS]. At the top of the repository:
+/* What the library costs: an insert, many rows by columns, a set, many cells by columns, an ask, a line that is found, a part copied out,
+ * a content that goes out and comes back; beside memcpy. bench [ROWS]. At the top of the repository:
  *     cc -O2 -Iinclude bindings/c/bench.c lib/libfullercoral.a -o bench && ./bench */
 #define _XOPEN_SOURCE 700
 #include <stdio.h>
@@ -54,6 +54,43 @@ static void insert_columns(fc_table *table, size_t rows, const int64_t *numbers)
     ok(fc_insert_columns(table, columns, COLUMNS, rows, &inserted), "insert_columns");
 }
 
+/* Sets the cells of each place, call by call and then in one call. */
+static void set_all(fc_table *table, size_t rows, const int64_t *numbers) {
+    static const uint64_t no_offsets[1];
+    const fc_column column = {.numbers = numbers, .numbers_len = rows, .offsets = no_offsets, .bytes = fc_no_bytes.at,
+                              .valid = fc_no_bytes.at, .kind = FC_INT};
+    uint32_t *places = room(4 * rows);
+    size_t set;
+    for (size_t i = 0; i < rows; i++) places[i] = (uint32_t)i;
+    double begun = now();
+    for (size_t i = 0; i < rows; i++) {
+        const fc_cell cell = {numbers[i], fc_no_bytes, FC_INT};
+        ok(fc_set(table, 1, places[i], &cell), "set");
+    }
+    const double each = (now() - begun) / (double)rows;
+    begun = now();
+    ok(fc_set_column(table, 1, places, rows, &column, &set), "set_column");
+    printf("set of a number: %.0f ns; of many in one call: %.0f ns each\n", each * 1e9, (now() - begun) / (double)rows * 1e9);
+    free(places);
+}
+
+static void find(fc_table *table) {
+    const fc_test none = {.text = fc_no_bytes};
+    const fc_spec by_key = {.tests = &none, .fold = FC_TOTALS, .value = 1, .key = 0, .has_key = true};
+    const int finds = 1000000;
+    uint32_t aggregate;
+    size_t lines, index;
+    ok(fc_watch(table, &by_key, &aggregate), "watch");
+    ok(fc_recount(table, aggregate, &lines), "recount");
+    double begun = now();
+    for (int i = 0; i < finds; i++) {
+        const fc_cell key = {i % 1000, fc_no_bytes, FC_INT};
+        ok(fc_find(table, &key, &index), "find");
+    }
+    printf("find among %zu lines: %.0f ns\n", lines, (now() - begun) / finds * 1e9);
+    ok(fc_unwatch(table, aggregate), "unwatch");
+}
+
 static void ask(fc_table *table) {
     const fc_test none = {.text = fc_no_bytes};
     const fc_spec total = {.tests = &none, .fold = FC_TOTALS, .value = 1};
@@ -67,23 +104,32 @@ static void ask(fc_table *table) {
     printf("ask of one line: %.0f ns\n", (now() - begun) / asks * 1e9);
 }
 
+/* The least time of some turns: a machine that does other things too adds to the others. */
+static double least(double best, double took) { return took < best ? took : best; }
+
 static void copy_out(fc_table *table, size_t rows, int64_t *values, bool *valid, bool *alive) {
-    const int turns = 20;
     const uint32_t part = (uint32_t)(rows < 1000000 ? rows : 1000000);
-    double begun = now();
-    for (int i = 0; i < turns; i++) ok(fc_numbers(table, 1, 0, part, values, part, valid, part, alive, part), "numbers");
-    double took = (now() - begun) / turns;
-    int64_t *from = room(8 * (size_t)part);
-    begun = now();
-    for (int i = 0; i < turns; i++) memcpy(values, from, 8 * (size_t)part);
-    double copied = (now() - begun) / turns;
-    printf("numbers of %u places: %.2f ns each; memcpy of as many numbers: %.2f ns each\n", (unsigned)part, took / part * 1e9,
+    /* It reads 17 bytes a place (a number, and whether it is alive) and writes 10. */
+    const size_t half = (size_t)part * 27 / 2;
+    uint8_t *from = room(half), *to = room(half);
+    double took = 1e9, copied = 1e9;
+    for (int turn = 0; turn < 20; turn++) {
+        const double begun = now();
+        ok(fc_numbers(table, 1, 0, part, values, part, valid, part, alive, part), "numbers");
+        took = least(took, now() - begun);
+        const double again = now();
+        memcpy(to, from, half);
+        copied = least(copied, now() - again);
+        from[turn] = to[turn + 1];
+    }
+    printf("numbers of %u places: %.2f ns each; memcpy of as many bytes: %.2f ns each\n", (unsigned)part, took / part * 1e9,
            copied / part * 1e9);
     free(from);
+    free(to);
 }
 
 static void move(fc_table *table, size_t rows) {
-    double begin = 0, carry = 0, commit = 0, wanted = 0, deliver = 0, read = 0, install = 0;
+    double begin = 0, carry = 0, commit = 0, wanted = 0, deliver = 0, read = 0, install = 0, copied = 0;
     const uint32_t groups = (uint32_t)(rows / GROUP);
     size_t moved = 0;
     uint8_t *shelf = room((size_t)GROUP * 16 + 64);
@@ -97,8 +143,10 @@ static void move(fc_table *table, size_t rows) {
         ok(fc_carry(table, job), "carry");
         at[2] = now();
         ok(fc_outgoing(table, job, &number, &bytes), "outgoing");
-        memcpy(shelf, bytes.at, bytes.len);
         const size_t len = bytes.len;
+        const double copy = now();
+        memcpy(shelf, bytes.at, len);
+        copied += now() - copy;
         double again = now();
         ok(fc_commit(table, job), "commit");
         commit += now() - again;
@@ -123,6 +171,7 @@ static void move(fc_table *table, size_t rows) {
     printf("out, ms a MiB: begin %.2f, carry (SHA-256) %.2f, commit %.2f\n", begin / mib * 1e3, carry / mib * 1e3, commit / mib * 1e3);
     printf("back, ms a MiB: begin %.2f, deliver (SHA-256) %.2f, carry %.2f, install %.2f\n", wanted / mib * 1e3, deliver / mib * 1e3,
            read / mib * 1e3, install / mib * 1e3);
+    printf("memcpy of as many bytes, ms a MiB: %.2f\n", copied / mib * 1e3);
     free(shelf);
 }
 
@@ -135,12 +184,14 @@ int main(int argc, char **argv) {
     double begun = now();
     insert_all(&table, rows);
     printf("insert of a row of two numbers: %.0f ns\n", (now() - begun) / (double)rows * 1e9);
+    find(&table);
     ok(fc_close(&table), "close");
     open_table(&table, rows);
     begun = now();
     insert_columns(&table, rows, numbers);
     printf("a row by columns: %.0f ns\n", (now() - begun) / (double)rows * 1e9);
     ask(&table);
+    set_all(&table, rows, numbers);
     copy_out(&table, rows, numbers, valid, alive);
     move(&table, rows);
     ok(fc_close(&table), "close");

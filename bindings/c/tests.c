@@ -1,58 +1,8 @@
 /* Each call of the library once as it should go and once refused; contents that are not what was put; and each allocation refused in
- * turn. The heap is this file's own: it counts allocations, and refuses one of them. Prints 'N passed, M failed' in the end. */
-#include <stdio.h>
-#include <stdlib.h>
+ * turn. The heap is that of checks.h. Prints 'N passed, M failed' in the end. */
 #include <string.h>
+#include "checks.h"
 #include "fullercoral.h"
-
-static unsigned long passed, failed;
-
-static void check(bool holds, const char *what, int line) {
-    if (holds) {
-        passed++;
-        return;
-    }
-    failed++;
-    printf("line %d: %s\n", line, what);
-}
-
-#define CHECK(holds) check((holds), #holds, __LINE__)
-#define CODE(call, code) check((call) == (code), #call " gives " #code, __LINE__)
-#define OK(call) CODE(call, FC_OK)
-
-/* --- The heap ------------------------------------------------------------------------------------------------------------------- */
-
-typedef struct {
-    bool is_made;
-    void *block;
-} tried;
-
-static unsigned long allocations, refused_one; /* how many were asked for, and which one is refused; 0: none */
-static long blocks;                            /* how many are not freed */
-static char nowhere;
-
-static tried given(void *block) { return block ? (tried){true, block} : (tried){false, &nowhere}; }
-
-tried rattle_alloc(size_t size, size_t align);
-tried rattle_realloc(void *block, size_t kept, size_t size, size_t align);
-void rattle_dealloc(void *block);
-
-tried rattle_alloc(size_t size, size_t align) {
-    if (++allocations == refused_one) return given(NULL);
-    blocks++;
-    return given(malloc(size ? size : align));
-}
-
-tried rattle_realloc(void *block, size_t kept, size_t size, size_t align) {
-    (void)kept;
-    if (++allocations == refused_one) return given(NULL);
-    return given(realloc(block, size ? size : align));
-}
-
-void rattle_dealloc(void *block) {
-    blocks--;
-    free(block);
-}
 
 /* --- A table of texts and numbers in row groups of 4 ------------------------------------------------------------------------------ */
 
@@ -208,6 +158,100 @@ static void many_rows(void) {
     for (int i = 0; i < 3; i++) OK(fc_insert_columns(&table, columns, 2, 3, &inserted));
     CODE(fc_insert_columns(&table, columns, 2, 3, &inserted), FC_TABLE_FULL);
     CHECK(inserted == 1);
+    OK(fc_close(&table));
+}
+
+/* Whether the cell of column 1 of a place is this number, or missing if there is none. */
+static bool has_number(fc_table *table, uint32_t place, const int64_t *number) {
+    fc_cell row[2] = {{0, fc_no_bytes, 0}, {0, fc_no_bytes, 0}};
+    if (fc_row(table, place, row, 2) != FC_OK) return false;
+    return number ? row[1].kind == FC_INT && row[1].number == *number : row[1].kind == FC_MISSING;
+}
+
+static void many_cells(void) {
+    fc_table table = {NULL};
+    const int64_t numbers[5] = {7, 0, -2, 9, 4};
+    const uint64_t offsets[4] = {0, 3, 3, 6};
+    const uint8_t valid[1] = {29};
+    const uint32_t places[5] = {2, 1, 2, 0, 4}, removed[3] = {0, 1, 2}, none[1] = {0};
+    fc_column ints = {numbers, 5, offsets, 0, (const uint8_t *)"", 0, valid, 1, FC_INT};
+    fc_column texts = {numbers, 0, offsets, 4, (const uint8_t *)"oatr\xff" "e", 6, valid, 0, FC_TEXT};
+    fc_column bad = ints;
+    uint32_t total;
+    size_t set = 99;
+    CODE(fc_set_column(&table, 1, places, 5, &ints, &set), FC_CLOSED);
+    CHECK(set == 99);
+    open_bakery(&table);
+    for (int i = 0; i < 3; i++) OK(insert(&table, "oat", i));
+    OK(fc_watch(&table, &TOTAL, &total));
+    OK(fc_scan(&table, total, 0));
+    OK(fc_scan(&table, total, 1));
+    OK(fc_set_column(&table, 1, places, 5, &ints, &set));
+    CHECK(set == 5);
+    CHECK(has_number(&table, 2, &numbers[2]) && has_number(&table, 1, NULL) && has_number(&table, 0, &numbers[3]) &&
+          has_number(&table, 4, &numbers[4]));
+    CHECK(is_total(&table, total, 5, 9 - 2 + 0 + 4 + 2));
+    CODE(fc_set_column(&table, 0, places, 3, &texts, &set), FC_NO_UTF8);
+    CHECK(set == 2);
+    texts.bytes = (const uint8_t *)"oatrye";
+    OK(fc_set_column(&table, 0, places, 3, &texts, &set));
+    CHECK(set == 3);
+    OK(fc_set_column(&table, 1, none, 0, &(fc_column){numbers, 0, offsets, 0, (const uint8_t *)"", 0, valid, 0, FC_INT}, &set));
+    CHECK(set == 0);
+    CODE(fc_set_column(&table, 1, places, 4, &ints, &set), FC_BAD_ARGUMENT);
+    CHECK(set == 0);
+    bad.kind = FC_MISSING;
+    CODE(fc_set_column(&table, 1, places, 5, &bad, &set), FC_BAD_ARGUMENT);
+    texts.bytes_len = 5;
+    CODE(fc_set_column(&table, 0, places, 3, &texts, &set), FC_BAD_ARGUMENT);
+    CODE(fc_set_column(&table, 2, places, 5, &ints, &set), FC_NO_COLUMN);
+    CODE(fc_set_column(&table, 0, places, 5, &ints, &set), FC_WRONG_KIND);
+    CHECK(set == 0);
+    OK(fc_remove(&table, 1));
+    ints.numbers_len = 3;
+    CODE(fc_set_column(&table, 1, removed, 3, &ints, &set), FC_REMOVED_ROW);
+    CHECK(set == 1);
+    CODE(fc_set_column(&table, 1, (const uint32_t[3]){3, 9, 0}, 3, &ints, &set), FC_NO_ROW);
+    CHECK(set == 1);
+    evict(&table, 1, 1);
+    CODE(fc_set_column(&table, 1, (const uint32_t[3]){0, 2, 4}, 3, &ints, &set), FC_ABSENT);
+    CHECK(set == 2 && has_number(&table, 2, NULL));
+    OK(fc_close(&table));
+    CHECK(blocks == 0);
+}
+
+static bool is_found(fc_table *table, fc_cell key, size_t at) {
+    size_t index = 99;
+    return fc_find(table, &key, &index) == FC_OK && index == at;
+}
+
+static void finding(void) {
+    fc_table table = {NULL};
+    uint32_t by_name, by_number, total;
+    size_t lines, index = 99;
+    const fc_cell missing = {0, fc_no_bytes, FC_MISSING}, bread = text_cell("bread"), bad = {0, {(const uint8_t *)"\xff", 1}, FC_TEXT};
+    fc_spec spec = {.tests = NO_TESTS, .fold = FC_EXTREMA, .value = 1, .key = 1, .has_key = true};
+    CODE(fc_find(&table, &bread, &index), FC_CLOSED);
+    open_bakery(&table);
+    CODE(fc_find(&table, &bread, &index), FC_NOTHING);
+    OK(fc_watch(&table, &BY_NAME, &by_name));
+    OK(fc_scan(&table, by_name, 0));
+    OK(fc_ask(&table, by_name, &lines));
+    CHECK(is_found(&table, bread, 0) && is_found(&table, text_cell("rye"), 1));
+    CODE(fc_find(&table, &(fc_cell){0, text("brea"), FC_TEXT}, &index), FC_NOTHING);
+    CODE(fc_find(&table, &(fc_cell){0, text("s"), FC_TEXT}, &index), FC_NOTHING);
+    CODE(fc_find(&table, &(fc_cell){3, fc_no_bytes, FC_INT}, &index), FC_NOTHING);
+    CODE(fc_find(&table, &missing, &index), FC_NOTHING);
+    CODE(fc_find(&table, &bad, &index), FC_NO_UTF8);
+    CODE(fc_find(&table, &(fc_cell){0, fc_no_bytes, 9}, &index), FC_BAD_ARGUMENT);
+    CHECK(index == 99);
+    OK(fc_watch(&table, &spec, &by_number));
+    OK(fc_recount(&table, by_number, &lines));
+    CHECK(lines == 3 && is_found(&table, int_cell(2), 0) && is_found(&table, int_cell(3), 1) && is_found(&table, int_cell(5), 2));
+    CODE(fc_find(&table, &(fc_cell){4, fc_no_bytes, FC_INT}, &index), FC_NOTHING);
+    OK(fc_watch(&table, &TOTAL, &total));
+    OK(fc_recount(&table, total, &lines));
+    CHECK(lines == 1 && is_found(&table, missing, 0));
     OK(fc_close(&table));
 }
 
@@ -455,11 +499,23 @@ static void lies(void) {
 /* Calls again once if memory ran out: a refused call left everything as it was. */
 #define AGAIN(call) (code = (call), code == FC_NO_MEMORY ? (call) : code)
 
+/* Sets the names of two places, from the first on that is not set yet. */
+static uint32_t set_names(fc_table *table, size_t *done) {
+    static const uint32_t places[2] = {0, 1};
+    static const uint64_t offsets[3] = {0, 3, 6};
+    static const int64_t no_numbers[1];
+    const fc_column names = {no_numbers, 0, offsets + *done, 3 - *done, (const uint8_t *)"oatrye", 6, fc_no_bytes.at, 0, FC_TEXT};
+    size_t set;
+    const uint32_t code = fc_set_column(table, 0, places + *done, 2 - *done, &names, &set);
+    *done += set;
+    return code;
+}
+
 static void a_day_without_memory(unsigned long which) {
     fc_table table = {NULL};
     uint32_t by_name, code;
     uint64_t job, number;
-    size_t lines = 0;
+    size_t lines = 0, set = 0;
     fc_line line = {.key_text = fc_no_bytes};
     allocations = 0;
     refused_one = which;
@@ -477,9 +533,11 @@ static void a_day_without_memory(unsigned long which) {
     OK(AGAIN(fc_deliver(&table, job, number, shelf[number].bytes, shelf[number].len)));
     OK(AGAIN(fc_carry(&table, job)));
     OK(AGAIN(fc_install(&table, job)));
+    OK(AGAIN(set_names(&table, &set)));
     OK(AGAIN(fc_remove(&table, 0)));
     OK(AGAIN(fc_recount(&table, by_name, &lines)));
     OK(AGAIN(fc_ask(&table, by_name, &lines)));
+    CHECK(is_found(&table, text_cell("rye"), 0));
     OK(fc_line_at(&table, 0, &line));
     CHECK(lines == 1 && line.key_text.len == 3 && line.count == 1 && line.sum_low == 3);
     OK(AGAIN(fc_migrate(&table, 10)));
@@ -492,6 +550,8 @@ int main(void) {
     opening();
     edits();
     many_rows();
+    many_cells();
+    finding();
     aggregates();
     reading();
     moving();

@@ -4,3 +4,5 @@ pub mod Buffers
 pub mod Joined
 pub mod Faults
 pub mod Ended
+pub mod Sorted
+pub mod InOrder

@@ -1,4 +1,4 @@
--- The answer that stays behind a handle, and its lines as C has them.
+-- The answer that stays in a handle, and its lines as C has them.
 use Rattle.std.specs.Prelude.{◌≡◌, ℕ, ℤ, List, length, Option, None, Some, IsSomeAnd, slice_get}
 use Rattle.far_types.specs.declared.answer.Answer.{Answer}
 use Rattle.far_types.specs.declared.answer.Answer.TheVariants as answer

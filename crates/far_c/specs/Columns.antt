@@ -1,5 +1,5 @@
--- Rows that C passes column by column.
-use Rattle.std.specs.Prelude.{◌≡◌, ℕ, pos, zero, suc, ◌+◌, ◌/◌, ◌%◌, ◌==◌, Bool, true, cond, List, map, Option, None, Some, slice_get, slice_range, unwrap_or, IsSomeAnd, ◌⊎◌}
+-- Rows that C passes column by column, and cells of one column.
+use Rattle.std.specs.Prelude.{◌≡◌, ℕ, pos, zero, suc, ◌+◌, ◌/◌, ◌%◌, ◌==◌, Bool, true, cond, ⊤, List, map, Option, None, Some, slice_get, slice_index, slice_range, unwrap_or, IsSomeAnd, ◌⊎◌}
 use Rattle.std.specs.Int.{bit_at}
 use Rattle.far_types.specs.declared.cell.Cell.{Cell}
 use Rattle.far_types.specs.declared.cell.Cell.TheVariants as cell
@@ -9,6 +9,7 @@ use Rattle.far_types.specs.Refusals.{number_of as refusal_number}
 use Rattle.far_host.specs.HostTickets.{TicketState}
 use Rattle.far_frame.specs.declared.step.Step.{Step}
 use Rattle.far_frame.specs.declared.step.Step.TheVariants as step
+use Rattle.far_frame.specs.declared.step.Reply.{Reply}
 use Rattle.far_frame.specs.declared.step.Reply.TheVariants as reply
 use Rattle.far_frame.specs.Steps.{IsStep}
 use Rattle.far_frame.specs.Worlds.{World}
@@ -43,16 +44,32 @@ column_row columns row = map (λ (c : FcColumn). column_cell c row) columns
 abbrev pub insert_of : List FcColumn → ℕ → Step
 insert_of columns row = step.Edit (edit.Insert (column_row columns row))
 
+-- the set of the cell at an index, in a column of the place at that index
+abbrev pub set_of : ℕ → List ℕ → FcColumn → ℕ → Step
+set_of column places values index = step.Edit (edit.Set (slice_index places index) column (column_cell values index))
+
+-- a reply is no refusal
+abbrev pub IsAccepted : Reply → Type 0
+IsAccepted (reply.Refused why) = ⊥
+IsAccepted _ = ⊤
+
+-- the first steps of some are accepted, in order, as many as this
+abbrev pub AreAccepted : (ℕ → Step) → ℕ → World TicketState → World TicketState → Type 0
+AreAccepted steps zero old new = new ≡ old
+AreAccepted steps (suc n) old new = (mid : World TicketState) × (given : Reply) × AreAccepted steps n old mid × IsStep content number_of mid (steps n) given new × IsAccepted given
+
+-- likewise, of a handle: nothing else changes but the last refusal
+abbrev pub AreServed : (ℕ → Step) → ℕ → TableState → TableState → Type 0
+AreServed steps count old new = AreAccepted steps count old.world new.world × (new ≡ record old { world = new.world; refusal = new.refusal })
+
 -- the first rows are inserted, in order, as many as this
-abbrev pub AreInserted : List FcColumn → ℕ → World TicketState → World TicketState → Type 0
-AreInserted columns zero old new = new ≡ old
-AreInserted columns (suc n) old new = (mid : World TicketState) × (place : ℕ) × AreInserted columns n old mid × IsStep content number_of mid (insert_of columns n) (reply.Place place) new
-
--- likewise behind a handle: nothing else changes but the last refusal
 abbrev pub AreAppended : List FcColumn → ℕ → TableState → TableState → Type 0
-AreAppended columns count old new = AreInserted columns count old.world new.world × (new ≡ record old { world = new.world; refusal = new.refusal })
+AreAppended columns = AreServed (insert_of columns)
 
--- the row behind those that are inserted is refused by the refusal of this number, which is kept; or memory ran out before the table was
--- asked
-abbrev pub IsNextRefused : List FcColumn → ℕ → ℕ → TableState → Type 0
-IsNextRefused columns count code new = IsSomeAnd new.refusal (λ why. (code ≡ refusal_number why) × (IsStep content number_of new.world (insert_of columns count) (reply.Refused why) new.world ⊎ (why ≡ NoMemory)))
+-- the first cells are set, in order, as many as this
+abbrev pub AreSet : ℕ → List ℕ → FcColumn → ℕ → TableState → TableState → Type 0
+AreSet column places values = AreServed (set_of column places values)
+
+-- the next step is refused by the refusal of this number, which is kept; or memory ran out before the table was asked
+abbrev pub IsNextRefused : Step → ℕ → TableState → Type 0
+IsNextRefused next code new = IsSomeAnd new.refusal (λ why. (code ≡ refusal_number why) × (IsStep content number_of new.world next (reply.Refused why) new.world ⊎ (why ≡ NoMemory)))

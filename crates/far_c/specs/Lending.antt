@@ -11,6 +11,6 @@ use Rattle.far_c.specs.contracts.handle.Handle.{the_row}
 abbrev pub with_table : Handle → TableState → Handle
 with_table h w = record h { table = Some w }
 
--- h ends with the last table behind r, and as it was without one
+-- h ends with the last table after r, and as it was without one
 abbrev pub LendsTable : MutBor Handle → Option (MutBor TableState) → Fml
 LendsTable h r = LendsIf the_row Table.the_row h r (with_table h.now) h.now

@@ -11,6 +11,7 @@ pub mod Opening
 pub mod Specs
 pub mod Sums
 pub mod Answering
+pub mod Keys
 pub mod Parts
 pub mod Delivering
 pub mod Jobs

@@ -1,4 +1,4 @@
--- What a call makes of what stands behind its handle, by the code that it returns.
+-- What a call makes of the table of its handle, by the code that it returns.
 use Rattle.std.specs.Prelude.{◌≡◌, ℕ, ◌≤◌, ◌<◌, ◌⊎◌, List, [], ◌∷◌, Option, Some, IsSomeAnd}
 use Rattle.std.specs.Option.{MatchOption}
 use Rattle.far_types.specs.declared.refusal.Refusal.{Refusal}
@@ -33,7 +33,7 @@ IsRefused code step old new = IsSomeAnd new.refusal (λ why. (code ≡ refusal_n
 abbrev pub IsRefusedOrStopped : ℕ → Step → TableState → TableState → Type 0
 IsRefusedOrStopped code step old new = IsRefused code step old new ⊎ ((code ≡ 1) × IsOutOfMemory old new)
 
--- both handles are open, with this between what stands behind them
+-- both handles are open, with this between their tables
 abbrev pub Behind : (TableState → TableState → Type 0) → Option TableState → Option TableState → Type 0
 Behind relates old new = IsSomeAnd old (λ before. IsSomeAnd new (relates before))
 

@@ -30,7 +30,7 @@ valid_of places column from to = map has_value (part column from to places)
 abbrev pub alive_of : List Place → ℕ → ℕ → List Bool
 alive_of places from to = slice_range (flags_of places) from to
 
--- the numbers of lent pieces, one behind the other
+-- the numbers of lent pieces, one after another
 abbrev pub numbers_in : List (List (Option ℤ) × List Bool) → List (Option ℤ)
 numbers_in pieces = flat_map (λ piece. piece.0) pieces
 

@@ -1,4 +1,4 @@
--- What stands behind an open handle.
+-- What an open handle points to.
 use Rattle.std.specs.Prelude.{◌≡◌, List, [], Option, None}
 use Rattle.far_types.specs.declared.answer.Answer.{Answer}
 use Rattle.far_types.specs.declared.cell.Kind.{Kind}

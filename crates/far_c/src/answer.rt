@@ -3,9 +3,11 @@ ghost use Rattle.std.specs.Prelude.{◌≡◌, ◌≢◌, ◌≤◌, [], ◌∷�
 ghost use Rattle.std.specs.Option.{MatchOption};
 ghost use Rattle.far_frame.specs.declared.step.Step.TheVariants as step;
 ghost use Rattle.far_c.specs.Answering.{IsAsked, IsExtremaLine, IsKey, IsLineAt, IsPast, IsRecounted, IsTotalLine};
+ghost use Rattle.far_c.specs.Cells.{cell_of};
+ghost use Rattle.far_c.specs.Keys.{IsKeyAt, IsNoKeyOf, key_of, keys_of};
 ghost use Rattle.far_c.specs.Outcomes.{Behind, IsOneOf, IsRefused, IsRefusal, IsRejected};
 
-use crate::cell::{INT, MISSING, TEXT};
+use crate::cell::{FcCell, INT, MISSING, TEXT};
 use crate::code::{CLOSED, NOTHING, OK, USED_UP};
 use crate::handle::Handle;
 use crate::replies;
@@ -86,9 +88,37 @@ pub extern "C" fn fc_line_at<'a>(handle: &'a mut Handle, index: usize, line: &mu
     let Some(answer) = table.answer() else {
         return NOTHING;
     };
-    match line_of(answer, index) {
+    match line_of(answer.get(), index) {
         Some(found) => {
             *line = found;
+            OK
+        }
+        None => NOTHING,
+    }
+}
+
+/// Writes the index of the line with a key in the answer that stays in the handle.
+#[unsafe(no_mangle)]
+pub extern "C" fn fc_find(handle: &mut Handle, key: &FcCell<'_>, index: &mut usize) -> u32
+    ensures found { result ≡ 0 → IsSomeAnd handle.old.table (λ old. IsSomeAnd old.answer (λ answer. IsKeyAt (keys_of answer) index.new (key_of (cell_of key.now)))) }
+    ensures none { result ≡ 104 → IsSomeAnd handle.old.table (λ old. IfSome old.answer (λ answer. IsNoKeyOf (keys_of answer) (key_of (cell_of key.now)))) }
+    ensures codes { MatchOption handle.old.table (result ≡ 100) (λ _. IsOneOf (0 ∷ 102 ∷ 103 ∷ 104 ∷ []) result) }
+    ensures kept { handle.new.table ≡ handle.old.table }
+    ensures index { result ≢ 0 → index.new ≡ index.old }
+{
+    let Some(table) = handle.table() else {
+        return CLOSED;
+    };
+    let key = match key.lend() {
+        Ok(key) => key,
+        Err(why) => return table.turn_away(why),
+    };
+    let Some(answer) = table.answer() else {
+        return NOTHING;
+    };
+    match answer.index_of(key) {
+        Some(found) => {
+            *index = found;
             OK
         }
         None => NOTHING,

@@ -1,5 +1,5 @@
 // Cells and rows as C passes them.
-ghost use Rattle.std.specs.Prelude.{◌≡◌, ◌<◌, ◌≤◌, ◌+◌, ◌++◌, [], ◌∷◌, IfOk, OnOk, take, vec_len};
+ghost use Rattle.std.specs.Prelude.{◌≡◌, ◌≢◌, ◌<◌, ◌≤◌, ◌+◌, ◌++◌, [], ◌∷◌, IfErr, IfOk, OnOk, take, vec_len};
 ghost use Rattle.std.specs.String.{string_bytes};
 ghost use Rattle.far_types.specs.Lent.{lent_cell};
 ghost use Rattle.far_c.specs.Cells.{cell_of, row_of};
@@ -29,7 +29,8 @@ impl<'a> FcCell<'a> {
     /// Borrows the cell for a table.
     #[inline(always)]
     pub fn lend(&self) -> Result<CellRef<'_>, Unread>
-        ensures { IfOk result (λ cell. lent_cell cell ≡ cell_of self.now) }
+        ensures ok { IfOk result (λ cell. lent_cell cell ≡ cell_of self.now) }
+        ensures err { IfErr result (λ why. why ≢ Unread.NoMemory) }
     {
         match self.kind {
             MISSING => Ok(CellRef::Missing),
@@ -46,11 +47,19 @@ impl<'a> FcCell<'a> {
     pub fn read(&self, alloc: Global) -> Result<Cell, Unread>
         ensures { IfOk result (λ cell. cell ≡ cell_of self.now) }
     {
-        match self.lend()? {
-            CellRef::Missing => Ok(Cell::Missing),
-            CellRef::Int(number) => Ok(Cell::Int(number)),
-            CellRef::Text(text) => Ok(Cell::Text(Text::new(String::from_str(alloc, text)?))),
-        }
+        copy_cell(alloc, self.lend()?)
+    }
+}
+
+/// Copies a cell for a table. It allocates for a text alone.
+#[inline(always)]
+pub fn copy_cell(alloc: Global, cell: CellRef<'_>) -> Result<Cell, Unread>
+    ensures { IfOk result (λ made. made ≡ lent_cell cell.entry) }
+{
+    match cell {
+        CellRef::Missing => Ok(Cell::Missing),
+        CellRef::Int(number) => Ok(Cell::Int(number)),
+        CellRef::Text(text) => Ok(Cell::Text(Text::new(String::from_str(alloc, text)?))),
     }
 }
 
@@ -67,7 +76,7 @@ pub fn read_row(alloc: Global, spare: Vec<Cell>, cells: &[FcCell<'_>]) -> Result
     Ok(Row::new(made))
 }
 
-/// Writes a cell behind the first `at` cells of a list, in the place of one that is no longer needed, if there is one there.
+/// Writes a cell after the first `at` cells of a list, in the place of one that is no longer needed, if there is one there.
 #[inline(always)]
 pub fn write_cell(
     alloc: Global,

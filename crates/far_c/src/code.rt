@@ -11,7 +11,7 @@ pub const CLOSED: u32 = 100;
 /// The handle is open already.
 pub const ALREADY_OPEN: u32 = 101;
 
-/// A text is no UTF-8.
+/// A text is not valid UTF-8.
 pub const NO_UTF8: u32 = 102;
 
 /// A length, a kind, a fold or a comparison is none of those that there are.

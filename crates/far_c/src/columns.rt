@@ -1,11 +1,11 @@
-// Rows that are given column by column.
-ghost use Rattle.std.specs.Prelude.{◌≡◌, ◌≤◌, ◌<◌, ◌+◌, ◌^◌, [], ◌∷◌, IfOk, IfSome, IsSomeAnd, slice_range};
+// Rows that are given column by column, and cells of one column.
+ghost use Rattle.std.specs.Prelude.{◌≡◌, ◌≤◌, ◌<◌, ◌+◌, ◌^◌, [], ◌∷◌, IfOk, IfSome, IsSomeAnd, length, slice_range};
 ghost use Rattle.std.specs.Option.{MatchOption};
 ghost use Rattle.far_types.specs.Lent.{lent_cell};
-ghost use Rattle.far_c.specs.Columns.{AreAppended, IsNextRefused, column_cell, column_row, has_value, offset_at};
+ghost use Rattle.far_c.specs.Columns.{AreAppended, AreSet, IsNextRefused, column_cell, column_row, has_value, insert_of, offset_at, set_of};
 ghost use Rattle.far_c.specs.Outcomes.{IsOneOf, IsRefusal};
 
-use crate::cell::{INT, TEXT, write_cell};
+use crate::cell::{INT, TEXT, copy_cell, write_cell};
 use crate::code::{BAD_ARGUMENT, CLOSED, OK};
 use crate::handle::Handle;
 use crate::replies;
@@ -14,7 +14,7 @@ use crate::unread::Unread;
 use far_types::{Cell, CellRef, Edit, Kind, Row};
 use std::alloc::Global;
 
-/// A column of rows to be inserted, as Arrow lays columns out.
+/// A column of rows to be inserted, or cells of a column to be set, as Arrow lays columns out.
 #[repr(C)]
 #[derive(Drop)]
 pub struct FcColumn<'a> {
@@ -36,7 +36,7 @@ pub extern "C" fn fc_insert_columns(
 ) -> u32
     ensures rows { IfSome handle.old.table (λ old. IsSomeAnd handle.new.table (AreAppended columns.now inserted.new old)) }
     ensures all { result ≡ 0 → inserted.new ≡ rows }
-    ensures next { IsRefusal result → IsSomeAnd handle.new.table (IsNextRefused columns.now inserted.new result) }
+    ensures next { IsRefusal result → IsSomeAnd handle.new.table (IsNextRefused (insert_of columns.now inserted.new) result) }
     ensures rejected { 100 ≤ result → MatchOption handle.old.table (result ≡ 100) (λ _. IsOneOf (102 ∷ 103 ∷ []) result) }
 {
     let Some(table) = handle.table() else {
@@ -68,7 +68,7 @@ fn insert_rows(
 ) -> u32
     ensures rows { AreAppended columns.now inserted.new table.old table.new }
     ensures all { result ≡ 0 → inserted.new ≡ rows }
-    ensures next { IsRefusal result → IsNextRefused columns.now inserted.new result table.new }
+    ensures next { IsRefusal result → IsNextRefused (insert_of columns.now inserted.new) result table.new }
     ensures codes { 100 ≤ result → IsOneOf (102 ∷ 103 ∷ []) result }
 {
     for row in 0..rows {
@@ -106,7 +106,75 @@ fn read_column_row(
     Ok(Row::new(made))
 }
 
+/// Puts values into a column of many places, in order, until one is refused. Writes how many were put.
+#[unsafe(no_mangle)]
+pub extern "C" fn fc_set_column(
+    alloc: Global,
+    handle: &mut Handle,
+    column: u32,
+    places: &[u32],
+    values: &FcColumn<'_>,
+    set: &mut usize,
+) -> u32
+    ensures cells { IfSome handle.old.table (λ old. IsSomeAnd handle.new.table (AreSet column places.now values.now set.new old)) }
+    ensures within { IfSome handle.old.table (λ _. set.new ≤ length places.now) }
+    ensures all { result ≡ 0 → set.new ≡ length places.now }
+    ensures next { IsRefusal result → IsSomeAnd handle.new.table (IsNextRefused (set_of column places.now values.now set.new) result) }
+    ensures rejected { 100 ≤ result → MatchOption handle.old.table (result ≡ 100) (λ _. IsOneOf (102 ∷ 103 ∷ []) result) }
+{
+    let Some(table) = handle.table() else {
+        return CLOSED;
+    };
+    if !values.has_rows(places.len()) {
+        *set = 0;
+        return BAD_ARGUMENT;
+    }
+    set_cells(alloc, table, column, places, values, set)
+}
+
+// Puts values that fit into a column, one after the other.
+fn set_cells(
+    alloc: Global,
+    table: &mut Table,
+    column: u32,
+    places: &[u32],
+    values: &FcColumn<'_>,
+    set: &mut usize,
+) -> u32
+    ensures cells { AreSet column places.now values.now set.new table.old table.new }
+    ensures within { set.new ≤ length places.now }
+    ensures all { result ≡ 0 → set.new ≡ length places.now }
+    ensures next { IsRefusal result → IsNextRefused (set_of column places.now values.now set.new) result table.new }
+    ensures codes { 100 ≤ result → IsOneOf (102 ∷ 103 ∷ []) result }
+{
+    for index in 0..places.len() {
+        let place = places[index];
+        let cell = match values.read(alloc, index) {
+            Ok(cell) => cell,
+            Err(why) => {
+                *set = index;
+                return table.turn_away(why);
+            }
+        };
+        if let Err(refusal) = replies::done(table.edit(Edit::Set {
+            place,
+            column,
+            cell,
+        })) {
+            *set = index;
+            return table.refuse(refusal);
+        }
+    }
+    *set = places.len();
+    OK
+}
+
 impl<'a> FcColumn<'a> {
+    // Whether the column is of a kind that there is, and has so many rows.
+    fn has_rows(&self, rows: usize) -> bool {
+        self.fits(Kind::Int, rows) || self.fits(Kind::Text, rows)
+    }
+
     // Whether the column is of this kind, and has so many rows.
     fn fits(&self, kind: Kind, rows: usize) -> bool {
         let of_kind = match kind {
@@ -148,6 +216,14 @@ impl<'a> FcColumn<'a> {
             Ok(text) => Ok(CellRef::Text(text)),
             Err(_) => Err(Unread::NoUtf8),
         }
+    }
+
+    // The cell of a row, copied for a table.
+    #[inline(always)]
+    fn read(&self, alloc: Global, row: usize) -> Result<Cell, Unread>
+        ensures { IfOk result (λ cell. cell ≡ column_cell self.now row) }
+    {
+        copy_cell(alloc, self.cell(row)?)
     }
 
     // The bytes of a row's text.

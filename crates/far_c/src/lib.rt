@@ -17,6 +17,7 @@ mod opening;
 mod readers;
 mod reading;
 mod replies;
+mod sorted_answer;
 mod spec;
 mod table;
 mod texts;

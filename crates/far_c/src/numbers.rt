@@ -52,7 +52,7 @@ pub extern "C" fn fc_numbers(
     table.end(outcome)
 }
 
-// Copies lent pieces, one behind the other.
+// Copies lent pieces, one after another.
 fn copy_pieces(
     lents: Lents<'_, HostStore>,
     values: &mut [i64],
@@ -70,45 +70,34 @@ fn copy_pieces(
     let mut at = 0;
     let mut flag = 0;
     while let Some(lent) = lents.next() {
-        copy_values(lent.values, values, at);
-        copy_valid(lent.values, valid, at);
+        copy_numbers(lent.values, values, valid, at);
         copy_flags(lent.alive, alive, flag);
         at += lent.values.len();
         flag += lent.alive.len();
     }
 }
 
-// Copies numbers to a place of a buffer, with 0 for a missing one.
-fn copy_values(numbers: &[Option<i64>], buffer: &mut [i64], at: usize)
-    requires { at + length numbers.now ≤ length buffer.old }
-    ensures { buffer.new ≡ take at buffer.old ++ map or_zero numbers.now ++ drop (at + length numbers.now) buffer.old }
+// Copies numbers to a place of two buffers: their values, with 0 for a missing one, and whether they have one.
+fn copy_numbers(numbers: &[Option<i64>], values: &mut [i64], valid: &mut [bool], at: usize)
+    requires values { at + length numbers.now ≤ length values.old }
+    requires valid { at + length numbers.now ≤ length valid.old }
+    ensures values { values.new ≡ take at values.old ++ map or_zero numbers.now ++ drop (at + length numbers.now) values.old }
+    ensures valid { valid.new ≡ take at valid.old ++ map is_some numbers.now ++ drop (at + length numbers.now) valid.old }
 {
-    write_values(numbers, &mut buffer[at..at + numbers.len()]);
+    let end = at + numbers.len();
+    write_numbers(numbers, &mut values[at..end], &mut valid[at..end]);
 }
 
-fn write_values(numbers: &[Option<i64>], room: &mut [i64])
-    requires { length room.old ≡ length numbers.now }
-    ensures { room.new ≡ map or_zero numbers.now }
+// It is one pass, since reading the numbers from memory is what takes the time.
+fn write_numbers(numbers: &[Option<i64>], values: &mut [i64], valid: &mut [bool])
+    requires values { length values.old ≡ length numbers.now }
+    requires valid { length valid.old ≡ length numbers.now }
+    ensures values { values.new ≡ map or_zero numbers.now }
+    ensures valid { valid.new ≡ map is_some numbers.now }
 {
     for i in 0..numbers.len() {
-        room[i] = numbers[i].unwrap_or(0);
-    }
-}
-
-// Copies to a place of a buffer whether numbers have a value.
-fn copy_valid(numbers: &[Option<i64>], buffer: &mut [bool], at: usize)
-    requires { at + length numbers.now ≤ length buffer.old }
-    ensures { buffer.new ≡ take at buffer.old ++ map is_some numbers.now ++ drop (at + length numbers.now) buffer.old }
-{
-    write_valid(numbers, &mut buffer[at..at + numbers.len()]);
-}
-
-fn write_valid(numbers: &[Option<i64>], room: &mut [bool])
-    requires { length room.old ≡ length numbers.now }
-    ensures { room.new ≡ map is_some numbers.now }
-{
-    for i in 0..numbers.len() {
-        room[i] = numbers[i].is_some();
+        values[i] = numbers[i].unwrap_or(0);
+        valid[i] = numbers[i].is_some();
     }
 }
 

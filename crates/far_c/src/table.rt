@@ -1,4 +1,4 @@
-// What stands behind an open handle.
+// What an open handle points to.
 ghost use Rattle.std.specs.Prelude.{◌≡◌, ◌<◌, ◌≤◌, ◌^◌, ◌↔◌, [], None, Some, IfOk, IfErr, IsTrue, OnOk, OnErr, option_copied};
 ghost use Rattle.far_types.specs.Refusals.{number_of as refusal_number};
 ghost use Rattle.far_frame.specs.State.{empty_state};
@@ -8,6 +8,7 @@ ghost use Rattle.far_c.specs.Contents.{content, number_of};
 mod carrying;
 
 use crate::code::{BAD_ARGUMENT, NO_UTF8, OK};
+use crate::sorted_answer::SortedAnswer;
 use crate::unread::Unread;
 use far_frame::{Frame, Reply, Step, World};
 use far_host::HostStore;
@@ -24,7 +25,7 @@ const MAX_FAULTS: u64 = 1 << 62;
 pub struct Table {
     alloc: Global,
     world: World<HostStore>,
-    answer: Option<Answer>,
+    answer: Option<SortedAnswer>,
     refusal: Option<Refusal>,
 }
 
@@ -43,6 +44,7 @@ impl Table {
     ghost use Rattle.far_c.specs.Answering.{lines_in};
     ghost use Rattle.far_c.specs.TableState.{IsNew};
     ghost use Rattle.far_c.specs.Outcomes.{IsServed, IsRefusal, IsTurnedAway, refused_with};
+    ghost use Rattle.far_c.specs.Keys.{Ascend, keys_of};
     ghost use Rattle.far_c.specs.Replies.{Fits, IsQuiet};
 
     /// Opens an empty table, with the numbers below `capacity` for its contents. Refused as [`Frame::open`] is.
@@ -155,7 +157,7 @@ impl Table {
     }
 
     /// Borrows the answer that stays.
-    pub fn answer(&self) -> Option<&Answer>
+    pub fn answer(&self) -> Option<&SortedAnswer>
         ensures { option_copied result ≡ self.now.answer }
     {
         self.answer.as_ref()
@@ -163,6 +165,7 @@ impl Table {
 
     /// Keeps an answer, in place of the one before, and returns how many lines it has.
     pub fn keep(&mut self, answer: Answer) -> usize
+        requires { Ascend (keys_of answer) }
         ensures lines { result ≡ lines_in answer }
         ensures kept { self.new ≡ record self.old { answer = Some answer } }
     {
@@ -170,7 +173,7 @@ impl Table {
             Answer::Totals(lines) => lines.as_slice().len(),
             Answer::Extrema(lines) => lines.as_slice().len(),
         };
-        self.answer = Some(answer);
+        self.answer = Some(SortedAnswer::new(answer));
         lines
     }
 }

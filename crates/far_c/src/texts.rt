@@ -44,7 +44,7 @@ fn size_of_texts(texts: TextCells<'_, HostStore>) -> usize {
     size
 }
 
-/// Copies the texts of the places `from` up to `to` of a column, one behind the other, where each begins and the last ends, whether
+/// Copies the texts of the places `from` up to `to` of a column, one after another, where each begins and the last ends, whether
 /// each place has one, and whether it is alive.
 #[unsafe(no_mangle)]
 pub extern "C" fn fc_texts(

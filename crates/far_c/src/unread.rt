@@ -6,7 +6,7 @@ use std::alloc::{AllocError, AllocFailed};
 pub enum Unread {
     /// A kind, a fold or a comparison is none of those that there are.
     BadArgument,
-    /// A text is no UTF-8.
+    /// A text is not valid UTF-8.
     NoUtf8,
     /// Memory ran out.
     NoMemory,
