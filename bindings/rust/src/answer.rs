@@ -85,7 +85,7 @@ impl Answer {
 /// The lines of an answer, sorted by key: numbers by value, texts by bytes.
 ///
 /// [`Table::ask`](crate::Table::ask) returns it. It borrows the table, whose next answer uses the same
-/// memory.
+/// memory: what is to outlive the next call is copied, as `key.to_string()`.
 ///
 /// ```
 /// use fullercoral::{Limits, Memory, Schema, Table, row, totals};
@@ -108,13 +108,36 @@ pub struct Lines<'a, A> {
 }
 
 impl<'a, A: Aggregate> Lines<'a, A> {
-    fn line(&self, line: &StoredLine) -> A::Line<'a> {
-        let key = match &line.key {
+    /// The line of a key, if there is one among the lines that are left. It is found by halving.
+    ///
+    /// ```
+    /// # use fullercoral::{Limits, Memory, Schema, Table, row, totals};
+    /// # let schema = Schema::new().text("sku").int("quantity");
+    /// # let mut table = Table::open(schema, Limits::new(), Memory::new())?;
+    /// let sold = table.watch(totals("quantity").by("sku"))?;
+    /// table.extend([row!["rye", 3], row!["bread", 5], row!["bread", 2]])?;
+    /// let lines = table.ask(sold)?;
+    /// assert_eq!(lines.get("bread").map(|line| line.sum), Some(7));
+    /// assert_eq!(lines.get("cake"), None);
+    /// # Ok::<(), Box<dyn std::error::Error>>(())
+    /// ```
+    #[must_use]
+    pub fn get<'k>(&self, key: impl Into<Key<'k>>) -> Option<A::Line<'a>> {
+        let (lines, key) = (self.lines.as_slice(), key.into());
+        let found = lines.binary_search_by(|line| self.key(line).cmp(&key));
+        Some(self.line(&lines[found.ok()?]))
+    }
+
+    fn key(&self, line: &StoredLine) -> Key<'a> {
+        match &line.key {
             StoredKey::None => Key::None,
             StoredKey::Int(number) => Key::Int(*number),
             StoredKey::Text(range) => Key::Text(&self.texts[range.clone()]),
-        };
-        A::line(key, line)
+        }
+    }
+
+    fn line(&self, line: &StoredLine) -> A::Line<'a> {
+        A::line(self.key(line), line)
     }
 }
 

@@ -1,7 +1,13 @@
+use std::borrow::Cow;
+use std::fmt;
+
 use crate::Kind;
 use crate::sys::{FC_INT, FC_MISSING, FC_TEXT, fc_bytes, fc_cell};
 
-/// A cell of a row: a number, a text, or nothing.
+/// A cell of a row: a number, a text, or nothing. It is made of a whole number that fits 64 bits signed,
+/// of a borrowed text, of an option of either, or of a reference to one.
+///
+/// `Display` writes the number or the text, and nothing if it is missing.
 ///
 /// ```
 /// use fullercoral::Cell;
@@ -9,6 +15,10 @@ use crate::sys::{FC_INT, FC_MISSING, FC_TEXT, fc_bytes, fc_cell};
 /// assert_eq!(Cell::from(5), Cell::Int(5));
 /// assert_eq!(Cell::from("rye"), Cell::Text("rye"));
 /// assert_eq!(Cell::from(None::<i64>), Cell::Missing);
+/// let (count, sku) = (3_usize, String::from("rye"));
+/// assert_eq!(Cell::from(i64::try_from(count)?), Cell::Int(3));
+/// assert_eq!(Cell::from(&sku).to_string(), "rye");
+/// # Ok::<(), std::num::TryFromIntError>(())
 /// ```
 #[derive(Debug, Clone, Copy, PartialEq, Eq, Default)]
 pub enum Cell<'a> {
@@ -113,6 +123,12 @@ macro_rules! from_number {
                 Cell::Int(number.into())
             }
         }
+
+        impl From<&$number> for Cell<'_> {
+            fn from(number: &$number) -> Self {
+                Cell::Int((*number).into())
+            }
+        }
     )* };
 }
 
@@ -130,9 +146,31 @@ impl<'a> From<&'a String> for Cell<'a> {
     }
 }
 
+impl<'a> From<&&'a str> for Cell<'a> {
+    fn from(text: &&'a str) -> Self {
+        Cell::Text(text)
+    }
+}
+
+impl<'a> From<&'a Cow<'_, str>> for Cell<'a> {
+    fn from(text: &'a Cow<'_, str>) -> Self {
+        Cell::Text(text)
+    }
+}
+
 impl<'a, T: Into<Cell<'a>>> From<Option<T>> for Cell<'a> {
     fn from(value: Option<T>) -> Self {
         value.map_or(Cell::Missing, T::into)
+    }
+}
+
+impl fmt::Display for Cell<'_> {
+    fn fmt(&self, f: &mut fmt::Formatter<'_>) -> fmt::Result {
+        match self {
+            Cell::Missing => Ok(()),
+            Cell::Int(number) => number.fmt(f),
+            Cell::Text(text) => text.fmt(f),
+        }
     }
 }
 
@@ -143,6 +181,11 @@ impl<'a, T: Into<Cell<'a>>> From<Option<T>> for Cell<'a> {
 ///
 /// let price: Option<i64> = None;
 /// assert_eq!(row!["rye", 5, price], [Cell::Text("rye"), Cell::Int(5), Cell::Missing]);
+/// // What is missing needs a type, and a number beyond 32 bits too.
+/// assert_eq!(row![None::<&str>, 5_000_000_000_i64], [Cell::Missing, Cell::Int(5_000_000_000)]);
+/// // Cells borrow their texts.
+/// let sku = format!("rye {}", 5);
+/// assert_eq!(row![&sku], [Cell::Text("rye 5")]);
 /// ```
 #[macro_export]
 macro_rules! row {

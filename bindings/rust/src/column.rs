@@ -42,7 +42,7 @@ impl<'a> Column<'a> {
     }
 
     /// A column of texts, one behind the other in `bytes`. `offsets` has where each begins, and where
-    /// the last one ends: so one more than there are texts. [`TextBuffer`] makes both.
+    /// the last one ends: so one more than there are texts. [`TextBuffer`](crate::TextBuffer) makes both.
     ///
     /// ```
     /// assert_eq!(fullercoral::Column::texts(&[0, 3, 8], b"ryebread").len(), 2);
@@ -56,6 +56,7 @@ impl<'a> Column<'a> {
     }
 
     /// Which rows have a value: a bit for each, the lowest first, set if it has one.
+    /// [`IntBuffer`](crate::IntBuffer) and [`TextBuffer`](crate::TextBuffer) keep such bits by themselves.
     ///
     /// ```
     /// let column = fullercoral::Column::ints(&[3, 0, 5]).valid(&[0b101]);
@@ -105,6 +106,17 @@ impl<'a> Column<'a> {
                 let texts = offsets[to].saturating_sub(offsets[from]);
                 texts.saturating_add(4 * (to - from) as u64)
             }
+        }
+    }
+
+    /// How many bytes the text of a row has; 0 if it is missing.
+    pub(crate) fn text_len(&self, row: usize) -> u64 {
+        let is_valid = |bits: &[u8]| bits[row / 8] >> (row % 8) & 1 == 1;
+        match self.data {
+            Data::Texts { offsets, .. } if self.valid.is_none_or(is_valid) => {
+                offsets[row + 1].saturating_sub(offsets[row])
+            }
+            _ => 0,
         }
     }
 
@@ -158,123 +170,6 @@ fn shift(all: &[u8], from: usize, to: usize, bits: &mut Vec<u8>) {
         let both = byte(first + i) | byte(first + i + 1) << 8;
         (both >> by) as u8
     }));
-}
-
-/// Texts one behind the other, with their offsets: what a [`Column`] of texts borrows.
-///
-/// ```
-/// use fullercoral::TextBuffer;
-///
-/// let mut skus: TextBuffer = ["rye", "bread"].into_iter().collect();
-/// skus.push_missing();
-/// assert_eq!(skus.column().len(), 3);
-/// ```
-#[derive(Debug, Clone)]
-pub struct TextBuffer {
-    offsets: Vec<u64>,
-    bytes: Vec<u8>,
-    valid: Vec<u8>,
-    has_missing: bool,
-}
-
-impl TextBuffer {
-    /// A buffer without texts.
-    ///
-    /// ```
-    /// assert!(fullercoral::TextBuffer::new().column().is_empty());
-    /// ```
-    #[must_use]
-    pub fn new() -> TextBuffer {
-        TextBuffer {
-            offsets: vec![0],
-            bytes: Vec::new(),
-            valid: Vec::new(),
-            has_missing: false,
-        }
-    }
-
-    /// Adds a text.
-    ///
-    /// ```
-    /// let mut skus = fullercoral::TextBuffer::new();
-    /// skus.push("rye");
-    /// assert_eq!(skus.column().len(), 1);
-    /// ```
-    pub fn push(&mut self, text: &str) {
-        self.bytes.extend_from_slice(text.as_bytes());
-        self.end_text(1);
-    }
-
-    /// Adds a row without a text.
-    ///
-    /// ```
-    /// let mut skus = fullercoral::TextBuffer::new();
-    /// skus.push_missing();
-    /// assert_eq!(skus.column().len(), 1);
-    /// ```
-    pub fn push_missing(&mut self) {
-        self.has_missing = true;
-        self.end_text(0);
-    }
-
-    fn end_text(&mut self, bit: u8) {
-        let index = self.offsets.len() - 1;
-        if index % 8 == 0 {
-            self.valid.push(0);
-        }
-        self.valid[index / 8] |= bit << (index % 8);
-        self.offsets.push(self.bytes.len() as u64);
-    }
-
-    /// Removes all texts, and keeps the memory.
-    ///
-    /// ```
-    /// let mut skus: fullercoral::TextBuffer = ["rye"].into_iter().collect();
-    /// skus.clear();
-    /// assert!(skus.column().is_empty());
-    /// ```
-    pub fn clear(&mut self) {
-        self.offsets.truncate(1);
-        self.bytes.clear();
-        self.valid.clear();
-        self.has_missing = false;
-    }
-
-    /// The texts as a column.
-    ///
-    /// ```
-    /// let skus: fullercoral::TextBuffer = ["rye", "bread"].into_iter().collect();
-    /// assert_eq!(skus.column().len(), 2);
-    /// ```
-    #[must_use]
-    pub fn column(&self) -> Column<'_> {
-        let column = Column::texts(&self.offsets, &self.bytes);
-        if self.has_missing {
-            column.valid(&self.valid)
-        } else {
-            column
-        }
-    }
-}
-
-impl Default for TextBuffer {
-    fn default() -> TextBuffer {
-        TextBuffer::new()
-    }
-}
-
-impl<'a> FromIterator<&'a str> for TextBuffer {
-    fn from_iter<I: IntoIterator<Item = &'a str>>(texts: I) -> TextBuffer {
-        let mut buffer = TextBuffer::new();
-        buffer.extend(texts);
-        buffer
-    }
-}
-
-impl<'a> Extend<&'a str> for TextBuffer {
-    fn extend<I: IntoIterator<Item = &'a str>>(&mut self, texts: I) {
-        texts.into_iter().for_each(|text| self.push(text));
-    }
 }
 
 #[cfg(test)]

@@ -1,13 +1,31 @@
 use std::error;
 use std::fmt;
+use std::io;
 
 use crate::Refusal;
 
-/// Why a call failed: the table refused it, or the engine behind it failed.
+/// Why a call failed: the table refused it, or the engine behind it failed. `E` is the error of the
+/// engine: `std::io::Error`, as it is if it is not said, of [`Files`](crate::Files) and `Resp`.
 ///
 /// `Display` is the sentence of the refusal, or that the storage failed; `source` has the engine's
 /// error. Either way the call changed no row and no answer. By an automatic policy some objects may have been
 /// evicted or fetched meanwhile.
+///
+/// ```
+/// use std::error::Error as _;
+/// use fullercoral::{Error, Files, Table, row};
+///
+/// fn insert(table: &mut Table<Files>) -> Result<u32, Error> {
+///     table.insert(row!["rye", 3])
+/// }
+///
+/// fn print(error: &Error) {
+///     eprintln!("{error}");
+///     if let Some(cause) = error.source() {
+///         eprintln!("because {cause}");
+///     }
+/// }
+/// ```
 ///
 /// ```
 /// use fullercoral::{Error, Limits, Memory, Refusal, Schema, Table};
@@ -20,7 +38,7 @@ use crate::Refusal;
 /// # Ok::<(), Box<dyn std::error::Error>>(())
 /// ```
 #[derive(Debug, Clone, PartialEq, Eq)]
-pub enum Error<E> {
+pub enum Error<E = io::Error> {
     /// The table refused the call.
     Refused(Refusal),
     /// The engine failed: the error of its `put` or `get`.
@@ -55,7 +73,7 @@ impl<E> fmt::Display for Error<E> {
     fn fmt(&self, f: &mut fmt::Formatter<'_>) -> fmt::Result {
         match self {
             Error::Refused(refusal) => refusal.fmt(f),
-            Error::Engine(_) => f.write_str("the storage failed"),
+            Error::Engine(_) => f.write_str("the storage failed: see the source of this error"),
         }
     }
 }

@@ -82,7 +82,8 @@
 //! ```
 //!
 //! An eviction in phases holds the lock only to begin and to commit. The engine works meanwhile, so here
-//! it is shared too:
+//! it is shared too. (`examples/background.rs` is a whole program over files, which evicts while more
+//! than three quarters of the local memory are in use.)
 //!
 //! ```
 //! use std::sync::{Arc, Mutex};
@@ -116,6 +117,7 @@
 #![warn(missing_debug_implementations)]
 
 mod answer;
+mod buffer;
 mod cell;
 mod column;
 mod engine;
@@ -131,8 +133,9 @@ mod sys;
 mod table;
 
 pub use answer::Lines;
+pub use buffer::{IntBuffer, TextBuffer};
 pub use cell::Cell;
-pub use column::{Column, TextBuffer};
+pub use column::Column;
 #[cfg(feature = "resp")]
 pub use engine::Resp;
 pub use engine::{Engine, Fault, Faulty, FaultyError, Files, Memory, Retry};

@@ -26,8 +26,9 @@ const LOCAL_GROUPS: usize = 32;
 ///
 /// Local memory is what the cells take that are local: 16 bytes for a number, and for a text its own
 /// bytes and 4 more. It is allocated when the table is opened, and written as it is needed. What is
-/// not in it: the answers of aggregates (by keys, not by rows), and for each content in the engine
-/// some 70 bytes.
+/// not in it: for each content in the engine some 70 bytes, and what the aggregates keep. That is a line
+/// for each key of [`totals`](crate::totals), and of [`extrema`](crate::extrema) some 24 bytes for each
+/// key in each row group: a table with many keys and extrema takes less with large row groups.
 #[derive(Debug, Clone, PartialEq, Eq)]
 #[must_use]
 pub struct Limits {
@@ -75,7 +76,8 @@ impl Limits {
         self
     }
 
-    /// How many bytes of the local memory are for texts.
+    /// How many bytes of the local memory are for texts. If there are columns of both kinds, neither may
+    /// be left without.
     ///
     /// ```
     /// let limits = fullercoral::Limits::new().local_memory(64 << 20).text_memory(48 << 20);
@@ -135,6 +137,41 @@ impl Limits {
     pub fn contents(mut self, contents: u64) -> Limits {
         self.contents = contents;
         self
+    }
+
+    /// The rule that these limits break for a table with these columns, or that the columns break.
+    pub(crate) fn broken_rule(&self, schema: &Schema) -> Option<&'static str> {
+        let group = self.group.unwrap_or(1);
+        let both = schema.count(Kind::Int) > 0 && schema.count(Kind::Text) > 0;
+        let texts = self.text_memory.filter(|_| both);
+        let rules = [
+            (
+                (1..=16).contains(&schema.len()),
+                "a table has 1 to 16 columns",
+            ),
+            (
+                !schema.has_twin_names(),
+                "each column has a name of its own",
+            ),
+            (
+                (1..=MOST_GROUP).contains(&group),
+                "a row group has 1 to 65,536 places",
+            ),
+            (
+                (1..=MOST_PLACES).contains(&self.places),
+                "a table has 1 to 16,777,216 places",
+            ),
+            (
+                (1..=MOST_EDITS).contains(&self.edits),
+                "a table takes 1 to 2^40 edits",
+            ),
+            (
+                texts.is_none_or(|texts| 0 < texts && texts < self.local_memory),
+                "text_memory is a part of the local memory, and numbers have the rest",
+            ),
+        ];
+        let broken = rules.iter().find(|(holds, _)| !holds);
+        broken.map(|(_, rule)| *rule)
     }
 
     pub(crate) fn capacity(&self) -> u64 {

@@ -2,20 +2,22 @@ use std::error::Error;
 use std::fmt;
 use std::sync::Arc;
 
+use crate::Kind;
+
 /// Why a table refused a call. A refused call changes no row, no aggregate and no object.
 ///
 /// [`number`](Refusal::number) is its number in every other language. `Display` is a sentence, with
 /// the column's name where a column is at fault.
 ///
 /// ```
-/// use fullercoral::{Error, Limits, Memory, Refusal, Schema, Table, row};
+/// use fullercoral::{Error, Kind, Limits, Memory, Refusal, Schema, Table, row};
 ///
 /// let schema = Schema::new().text("sku").int("quantity");
 /// let mut table = Table::open(schema, Limits::new(), Memory::new())?;
 /// let Err(Error::Refused(refusal)) = table.insert(row!["rye", "five"]) else { panic!() };
-/// assert_eq!(refusal, Refusal::WrongKind { column: "quantity".into() });
+/// assert_eq!(refusal, Refusal::WrongKind { column: "quantity".into(), kind: Kind::Int });
 /// assert_eq!(refusal.number(), 5);
-/// assert_eq!(refusal.to_string(), "column `quantity` is of the other kind");
+/// assert_eq!(refusal.to_string(), "column `quantity` holds numbers, not texts");
 /// # Ok::<(), Box<dyn std::error::Error>>(())
 /// ```
 #[derive(Debug, Clone, PartialEq, Eq)]
@@ -24,7 +26,10 @@ pub enum Refusal {
     /// 1: an allocation failed.
     NoMemory,
     /// 2: the columns or the limits are outside what a table may have, or two columns have one name.
-    BadSchema,
+    BadSchema {
+        /// The rule that they break.
+        rule: &'static str,
+    },
     /// 3: an aggregate has more than 4 tests, or a text constant of more than 4,096 bytes.
     BadSpec,
     /// 4: there is no such column.
@@ -36,6 +41,8 @@ pub enum Refusal {
     WrongKind {
         /// The column's name.
         column: Arc<str>,
+        /// What the column holds.
+        kind: Kind,
     },
     /// 6: a row has another number of cells than there are columns.
     RowWidth {
@@ -88,7 +95,8 @@ pub enum Refusal {
     NotPinned,
     /// 19: the object has a pin.
     Pinned,
-    /// 20: what the job or the scan rests on does not hold any more.
+    /// 20: what the job or the scan rests on does not hold any more: its object was written, moved or is
+    /// where it should go, or the row group is not pending.
     StaleJob,
     /// 21: the storage returned other bytes than were put.
     FarFault,
@@ -116,7 +124,7 @@ impl Refusal {
     pub fn number(&self) -> u32 {
         match self {
             Refusal::NoMemory => 1,
-            Refusal::BadSchema => 2,
+            Refusal::BadSchema { .. } => 2,
             Refusal::BadSpec => 3,
             Refusal::NoColumn { .. } => 4,
             Refusal::WrongKind { .. } => 5,
@@ -149,7 +157,9 @@ impl Refusal {
     pub(crate) fn of_code(code: u32) -> Refusal {
         match code {
             1 => Refusal::NoMemory,
-            2 => Refusal::BadSchema,
+            2 => Refusal::BadSchema {
+                rule: "each limit has its bounds",
+            },
             3 => Refusal::BadSpec,
             10 => Refusal::TableFull,
             11 => Refusal::ChunkFull,
@@ -175,7 +185,14 @@ impl fmt::Display for Refusal {
     fn fmt(&self, f: &mut fmt::Formatter<'_>) -> fmt::Result {
         match self {
             Refusal::NoColumn { column } => write!(f, "there is no column `{column}`"),
-            Refusal::WrongKind { column } => write!(f, "column `{column}` is of the other kind"),
+            Refusal::BadSchema { rule } => write!(f, "no table has such columns or limits: {rule}"),
+            Refusal::WrongKind { column, kind } => {
+                let (own, other) = match kind {
+                    Kind::Int => ("numbers", "texts"),
+                    Kind::Text => ("texts", "numbers"),
+                };
+                write!(f, "column `{column}` holds {own}, not {other}")
+            }
             Refusal::RowWidth { cells, columns } => {
                 write!(
                     f,
@@ -204,22 +221,27 @@ impl Refusal {
     fn sentence(&self) -> &'static str {
         match self {
             Refusal::NoMemory => "an allocation failed",
-            Refusal::BadSchema => "the columns or the limits are outside what a table may have",
             Refusal::BadSpec => "the aggregate has more than 4 tests, or a constant too long",
-            Refusal::TableFull => "the limit of places is reached",
-            Refusal::ChunkFull => "the texts of the row group would not fit a segment",
+            Refusal::TableFull => "the limit of places is reached: see Limits::places",
+            Refusal::ChunkFull => {
+                "the texts of the row group would not fit a segment: see Limits::text_memory"
+            }
             Refusal::NoAggregate => "the table does not have this aggregate",
             Refusal::TooManyAggregates => "32 aggregates are registered",
-            Refusal::OutOfRange => "the range, row group or segment does not exist",
-            Refusal::RegionFull => "no segment of the local region has the space",
+            Refusal::OutOfRange => "the table does not have these places, or this row group",
+            Refusal::RegionFull => "local memory has no space for it: see Limits::local_memory",
             Refusal::NotPinned => "the object has no pin",
             Refusal::Pinned => "the object has a pin",
-            Refusal::StaleJob => "what the job rests on does not hold any more",
+            Refusal::StaleJob => "there is nothing to do for the job, or its object was changed",
             Refusal::FarFault => "the storage returned other bytes than were put",
-            Refusal::FarFull => "the numbers of contents are used up",
-            Refusal::EditsUsedUp => "the limit of edits, of jobs or of pins is reached",
+            Refusal::FarFull => "the numbers of contents are used up: see Limits::contents",
+            Refusal::EditsUsedUp => {
+                "the limit of edits, of jobs or of pins is reached: see Limits::edits"
+            }
             Refusal::NoUtf8 => "a text is no UTF-8",
-            Refusal::BadArgument => "the columns do not have the lengths that they should",
+            Refusal::BadArgument => {
+                "the columns differ in length, or their offsets or bits are not as they should be"
+            }
             Refusal::UsedUp => "too many faults were counted: no job is carried any more",
             _ => "the call was refused",
         }

@@ -157,6 +157,14 @@ impl Schema {
         (0..self.len()).any(twin)
     }
 
+    /// The refusal of what is not of a column's kind.
+    pub(crate) fn wrong_kind(&self, index: u32) -> Refusal {
+        Refusal::WrongKind {
+            column: self.label(index),
+            kind: self.kind_at(index as usize).unwrap_or(Kind::Int),
+        }
+    }
+
     /// The name of a column for a refusal.
     pub(crate) fn label(&self, index: u32) -> Arc<str> {
         match self.columns.get(index as usize) {

@@ -19,7 +19,7 @@ use crate::{Kind, Refusal, Schema};
 #[derive(Debug, Clone, Copy, PartialEq, Eq, Hash)]
 #[non_exhaustive]
 pub enum Op {
-    /// Equal to a number.
+    /// Equal to a number or a text.
     Eq,
     /// Not equal to a number.
     Ne,
@@ -31,18 +31,20 @@ pub enum Op {
     Gt,
     /// At least a number.
     Ge,
-    /// Equal to a text.
+    /// Equal to a number or a text, as [`Op::Eq`]: the script language has this word for texts.
     Is,
-    /// Begins with a text.
+    /// Begins with a text. Beside it, texts are compared by `Eq` alone.
     Begins,
 }
 
-/// The constant of a test, made of an `i64` or a `&str`.
+/// The constant of a test, made of an `i64` (so `i64::from` of a smaller number), a `&str`, or a `String`
+/// or a reference to one.
 ///
 /// ```
 /// use fullercoral::Constant;
 ///
 /// assert_eq!(Constant::from(5), Constant::Int(5));
+/// assert_eq!(Constant::from(String::from("rye")), Constant::from("rye"));
 /// ```
 #[derive(Debug, Clone, PartialEq, Eq, Hash)]
 pub enum Constant {
@@ -60,6 +62,18 @@ impl From<i64> for Constant {
 
 impl From<&str> for Constant {
     fn from(text: &str) -> Constant {
+        Constant::Text(text.into())
+    }
+}
+
+impl From<&String> for Constant {
+    fn from(text: &String) -> Constant {
+        text.as_str().into()
+    }
+}
+
+impl From<String> for Constant {
+    fn from(text: String) -> Constant {
         Constant::Text(text.into())
     }
 }
@@ -178,6 +192,24 @@ impl<'a> Key<'a> {
     }
 }
 
+impl From<i64> for Key<'_> {
+    fn from(number: i64) -> Self {
+        Key::Int(number)
+    }
+}
+
+impl<'a> From<&'a str> for Key<'a> {
+    fn from(text: &'a str) -> Self {
+        Key::Text(text)
+    }
+}
+
+impl<'a> From<&'a String> for Key<'a> {
+    fn from(text: &'a String) -> Self {
+        Key::Text(text)
+    }
+}
+
 impl fmt::Display for Key<'_> {
     fn fmt(&self, f: &mut fmt::Formatter<'_>) -> fmt::Result {
         match self {
@@ -255,6 +287,7 @@ struct Test {
 /// let spec = fullercoral::totals("quantity").by("sku");
 /// # let _ = spec;
 /// ```
+#[doc(alias("count", "sum", "average"))]
 pub fn totals(column: &str) -> Spec<Totals> {
     Spec::of(column)
 }
@@ -262,10 +295,14 @@ pub fn totals(column: &str) -> Spec<Totals> {
 /// Finds the least and the greatest number of a column. A row without a value or a key is passed
 /// over.
 ///
+/// The table keeps both for each key in each row group, in some 24 bytes. They are beside the local
+/// memory, and fewer if row groups are larger: see [`Limits::group`](crate::Limits::group).
+///
 /// ```
 /// let spec = fullercoral::extrema("price").by("sku");
 /// # let _ = spec;
 /// ```
+#[doc(alias("min", "max"))]
 pub fn extrema(column: &str) -> Spec<Extrema> {
     Spec::of(column)
 }
@@ -286,6 +323,7 @@ impl<A> Spec<A> {
     /// let spec = fullercoral::totals("quantity").by("sku");
     /// # let _ = spec;
     /// ```
+    #[doc(alias = "group_by")]
     pub fn by(mut self, column: &str) -> Spec<A> {
         self.key = Some(column.into());
         self
@@ -299,6 +337,7 @@ impl<A> Spec<A> {
     /// let spec = totals("quantity").only("price", Op::Ge, 10).only("price", Op::Lt, 20);
     /// # let _ = spec;
     /// ```
+    #[doc(alias("filter", "where"))]
     pub fn only(mut self, column: &str, op: Op, constant: impl Into<Constant>) -> Spec<A> {
         self.tests.push(Test {
             column: column.into(),
@@ -330,11 +369,11 @@ impl<A: sealed::Numbered> Spec<A> {
         let columns = self.tests.iter().map(|test| find(&test.column));
         let columns = columns.collect::<Result<Vec<u32>, Refusal>>()?;
         if schema.kind_at(value as usize) != Some(Kind::Int) {
-            let column = Arc::clone(&self.value);
-            return Err(Refusal::WrongKind { column });
+            return Err(schema.wrong_kind(value));
         }
         let raw = |(test, column): (&Test, u32)| {
-            let op = test.code(schema.kind_at(column as usize))?;
+            let op = test.code(schema.kind_at(column as usize));
+            let op = op.ok_or_else(|| schema.wrong_kind(column))?;
             Ok((column, op, test.constant.clone()))
         };
         let tests = self.tests.iter().zip(columns).map(raw);
@@ -353,26 +392,19 @@ impl Test {
     }
 
     // The number of the comparison, if column, comparison and constant are of one kind.
-    fn code(&self, kind: Option<Kind>) -> Result<u32, Refusal> {
-        let (own, code) = match self.op {
-            Op::Eq => (Kind::Int, 0),
-            Op::Ne => (Kind::Int, 1),
-            Op::Lt => (Kind::Int, 2),
-            Op::Le => (Kind::Int, 3),
-            Op::Gt => (Kind::Int, 4),
-            Op::Ge => (Kind::Int, 5),
-            Op::Is => (Kind::Text, 6),
-            Op::Begins => (Kind::Text, 7),
+    fn code(&self, kind: Option<Kind>) -> Option<u32> {
+        let (own, code) = match (self.op, &self.constant) {
+            (Op::Eq | Op::Is, Constant::Int(_)) => (Kind::Int, 0),
+            (Op::Ne, Constant::Int(_)) => (Kind::Int, 1),
+            (Op::Lt, Constant::Int(_)) => (Kind::Int, 2),
+            (Op::Le, Constant::Int(_)) => (Kind::Int, 3),
+            (Op::Gt, Constant::Int(_)) => (Kind::Int, 4),
+            (Op::Ge, Constant::Int(_)) => (Kind::Int, 5),
+            (Op::Eq | Op::Is, Constant::Text(_)) => (Kind::Text, 6),
+            (Op::Begins, Constant::Text(_)) => (Kind::Text, 7),
+            _ => return None,
         };
-        let constant = match self.constant {
-            Constant::Int(_) => Kind::Int,
-            Constant::Text(_) => Kind::Text,
-        };
-        if kind == Some(own) && constant == own {
-            return Ok(code);
-        }
-        let column = Arc::clone(&self.column);
-        Err(Refusal::WrongKind { column })
+        (kind == Some(own)).then_some(code)
     }
 }
 

@@ -2,7 +2,7 @@
 //! of the repository.
 
 use fullercoral::{
-    Cell, Engine, Error, Key, Limits, Memory, Op, Policy, Refusal, Schema, Table, TotalsLine,
+    Cell, Engine, Error, Key, Kind, Limits, Memory, Op, Policy, Refusal, Schema, Table, TotalsLine,
     extrema, row, totals,
 };
 
@@ -203,8 +203,41 @@ fn a_lent_part_marks_removed_rows() -> Outcome {
     assert_eq!(refusal(table.ints("n", 2..9)), Refusal::OutOfRange);
     assert_eq!(
         refusal(table.ints("t", ..)),
-        Refusal::WrongKind { column: "t".into() }
+        Refusal::WrongKind {
+            column: "t".into(),
+            kind: Kind::Text
+        }
     );
+    Ok(())
+}
+
+#[test]
+fn single_cells_and_lines_are_read() -> Outcome {
+    let mut table = by_hand(Schema::new().int("n").text("t"));
+    table.extend([row![5, "a"], row![None::<i64>, "b"], row![7, "a"]])?;
+    table.remove(2)?;
+    let read: Vec<_> = (0..3).map(|place| table.int("n", place)).collect();
+    assert_eq!(read, [Ok(Some(5)), Ok(None), Ok(Some(7))]);
+    assert_eq!(refusal(table.int("n", 3)), Refusal::NoRow { place: 3 });
+    let said = "column `t` holds texts, not numbers";
+    assert_eq!(refusal(table.int("t", 0)).to_string(), said);
+    table.evict("t", 0)?;
+    assert_eq!(table.int("n", 0)?, Some(5));
+    assert_eq!(refusal(table.row(0)).number(), 16);
+    table.evict("n", 0)?;
+    assert_eq!(refusal(table.int("n", 0)).number(), 16);
+    table.set_policy(Policy::Demand);
+    let by_text = table.watch(totals("n").by("t"))?;
+    let by_number = table.watch(totals("n").by("n"))?;
+    let mut lines = table.ask(by_text)?;
+    assert_eq!(lines.get("a").map(|line| line.sum), Some(5));
+    assert_eq!(
+        (lines.get("b"), lines.get(5), lines.get("")),
+        (None, None, None)
+    );
+    lines.next();
+    assert_eq!(lines.get("a"), None);
+    assert_eq!(table.ask(by_number)?.get(5).map(|line| line.count), Some(1));
     Ok(())
 }
 
@@ -232,7 +265,7 @@ fn what_a_refusal_says() -> Outcome {
     );
     assert_eq!(
         said(table.insert(row![1, 3])),
-        "column `sku` is of the other kind"
+        "column `sku` holds texts, not numbers"
     );
     let long = "x".repeat(4_097);
     let too_long = "the text for column `sku` has more than 4096 bytes";
@@ -264,7 +297,8 @@ fn what_a_refused_registration_says() -> Outcome {
     assert_eq!(
         refusal(table.watch(spec)),
         Refusal::WrongKind {
-            column: "sku".into()
+            column: "sku".into(),
+            kind: Kind::Text
         }
     );
     assert_eq!(refusal(table.watch(totals("sku"))).number(), 5);
@@ -274,27 +308,48 @@ fn what_a_refused_registration_says() -> Outcome {
 }
 
 #[test]
-fn limits_and_schemas_are_checked() {
-    let open = |schema: Schema, limits: Limits| refusal(Table::open(schema, limits, Memory::new()));
-    assert_eq!(open(Schema::new(), Limits::new()), Refusal::BadSchema);
-    assert_eq!(
-        open(Schema::new().int("a").text("a"), Limits::new()),
-        Refusal::BadSchema
-    );
-    assert_eq!(
-        open(Schema::new().int("a"), Limits::new().group(0)),
-        Refusal::BadSchema
-    );
-    assert_eq!(
-        open(Schema::new().int("a"), Limits::new().group(65_537)),
-        Refusal::BadSchema
-    );
-    assert_eq!(
-        open(Schema::new().int("a"), Limits::new().places(0)),
-        Refusal::BadSchema
-    );
+fn a_refused_schema_or_limit_says_which_rule_it_breaks() {
+    let rule = |schema: Schema, limits: Limits| {
+        let refusal = refusal(Table::open(schema, limits, Memory::new()));
+        assert_eq!(refusal.number(), 2);
+        let said = refusal.to_string();
+        said.replace("no table has such columns or limits: ", "")
+    };
+    let one = || Schema::new().int("a");
+    let columns = "a table has 1 to 16 columns";
+    assert_eq!(rule(Schema::new(), Limits::new()), columns);
     let many = (0..17).fold(Schema::new(), |schema, n| schema.int(&n.to_string()));
-    assert_eq!(open(many, Limits::new()), Refusal::BadSchema);
+    assert_eq!(rule(many, Limits::new()), columns);
+    let names = "each column has a name of its own";
+    assert_eq!(rule(one().text("a"), Limits::new()), names);
+    let group = "a row group has 1 to 65,536 places";
+    assert_eq!(rule(one(), Limits::new().group(0)), group);
+    assert_eq!(rule(one(), Limits::new().group(65_537)), group);
+    let places = "a table has 1 to 16,777,216 places";
+    assert_eq!(rule(one(), Limits::new().places(0)), places);
+    assert_eq!(rule(one(), Limits::new().places((1 << 24) + 1)), places);
+    let edits = "a table takes 1 to 2^40 edits";
+    assert_eq!(rule(one(), Limits::new().edits(0)), edits);
+    let texts = "text_memory is a part of the local memory, and numbers have the rest";
+    for bytes in [0, 64 << 20] {
+        let limits = Limits::new().text_memory(bytes);
+        assert_eq!(rule(one().text("b"), limits), texts);
+    }
+}
+
+#[test]
+fn numbers_and_texts_are_tested_for_being_equal_by_one_comparison() -> Outcome {
+    let mut table = table(Schema::new().text("sku").int("quantity"));
+    table.extend([row!["rye", 3], row!["rye", 5], row!["bread", 5]])?;
+    for op in [Op::Eq, Op::Is] {
+        let rye = table.watch(totals("quantity").only("sku", op, "rye"))?;
+        assert_eq!(sum(&mut table, rye), (2, 8));
+        let five = table.watch(totals("quantity").only("quantity", op, 5))?;
+        assert_eq!(sum(&mut table, five), (2, 10));
+    }
+    let not = totals("quantity").only("sku", Op::Ne, "rye");
+    assert_eq!(refusal(table.watch(not)).number(), 5);
+    Ok(())
 }
 
 #[test]

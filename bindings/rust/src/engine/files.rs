@@ -2,7 +2,7 @@ use std::collections::HashMap;
 use std::fs::{self, File};
 use std::io;
 use std::os::unix::fs::FileExt;
-use std::path::{Path, PathBuf};
+use std::path::{self, Path, PathBuf};
 use std::process;
 use std::sync::atomic::{AtomicU64, Ordering};
 
@@ -16,7 +16,11 @@ const SEGMENT_BYTES: u64 = 64 << 20;
 /// An index in memory says where each content lies, in some 40 bytes. A segment is deleted when none
 /// of its contents is needed any more, and the contents of a segment are moved when more than half
 /// of all bytes are not. The folder is deleted on drop. **No crash safety is promised**: the files
-/// are of use to this engine alone, while it lives.
+/// are of use to this engine alone, while it lives. A process that is killed leaves its folder behind,
+/// named `fullercoral-` and the number of the process: it may be deleted.
+///
+/// The folder should lie on a disk. Where the system keeps its temporary folder in memory, as many do,
+/// what is evicted into that folder takes as much memory as before.
 ///
 /// ```
 /// use fullercoral::{Engine, Files};
@@ -54,7 +58,7 @@ struct Location {
 }
 
 impl Files {
-    /// Makes a folder with a new name in this one.
+    /// Makes a folder with a new name in this one, which is made too if it is not there.
     ///
     /// ```
     /// let engine = fullercoral::Files::create(std::env::temp_dir())?;
@@ -63,16 +67,11 @@ impl Files {
     /// ```
     ///
     /// # Errors
-    /// Those of making a folder and a file.
+    /// Those of making a folder and a file, with its path.
     pub fn create(parent: impl AsRef<Path>) -> io::Result<Files> {
-        static MADE: AtomicU64 = AtomicU64::new(0);
-        let made = MADE.fetch_add(1, Ordering::Relaxed);
-        let folder = parent
-            .as_ref()
-            .join(format!("fullercoral-{}-{made}", process::id()));
-        fs::create_dir(&folder)?;
+        let parent = parent.as_ref();
         let mut files = Files {
-            folder,
+            folder: new_folder(parent).map_err(|error| named(parent, &error))?,
             segments: HashMap::new(),
             open: 0,
             index: HashMap::new(),
@@ -99,11 +98,13 @@ impl Files {
     }
 
     fn begin_segment(&mut self, number: u32) -> io::Result<()> {
+        let path = self.path(number);
         let file = File::options()
             .read(true)
             .write(true)
             .create_new(true)
-            .open(self.path(number))?;
+            .open(&path)
+            .map_err(|error| named(&path, &error))?;
         let segment = Segment {
             file,
             len: 0,
@@ -120,7 +121,9 @@ impl Files {
 
     fn append(&mut self, number: u64, bytes: &[u8]) -> io::Result<()> {
         if self.segment(self.open)?.len >= self.segment_bytes {
-            self.begin_segment(self.open + 1)?;
+            let full = self.open;
+            self.begin_segment(full + 1)?;
+            self.delete_unneeded(full);
         }
         let len = u32::try_from(bytes.len()).map_err(io::Error::other)?;
         let open = self.open;
@@ -145,10 +148,16 @@ impl Files {
             return;
         };
         segment.live -= u64::from(location.len);
-        if segment.live == 0 && location.segment != self.open {
-            self.segments.remove(&location.segment);
+        self.delete_unneeded(location.segment);
+    }
+
+    // Deletes a segment of which no bytes are needed, unless it is the one that is appended to.
+    fn delete_unneeded(&mut self, number: u32) {
+        let unneeded = |segment: &Segment| segment.live == 0;
+        if number != self.open && self.segments.get(&number).is_some_and(unneeded) {
+            self.segments.remove(&number);
             // A file that cannot be deleted goes with the folder.
-            let _ = fs::remove_file(self.path(location.segment));
+            let _ = fs::remove_file(self.path(number));
         }
     }
 
@@ -180,6 +189,27 @@ impl Files {
     }
 }
 
+// Makes a folder with a new name. Its path stays right when the process changes its own folder.
+fn new_folder(parent: &Path) -> io::Result<PathBuf> {
+    static MADE: AtomicU64 = AtomicU64::new(0);
+    let parent = path::absolute(parent)?;
+    fs::create_dir_all(&parent)?;
+    loop {
+        let made = MADE.fetch_add(1, Ordering::Relaxed);
+        let folder = parent.join(format!("fullercoral-{}-{made}", process::id()));
+        match fs::create_dir(&folder) {
+            // It is of a process that had this number and was killed.
+            Err(error) if error.kind() == io::ErrorKind::AlreadyExists => {}
+            made => return made.map(|()| folder),
+        }
+    }
+}
+
+// An error with the path that it is about.
+fn named(path: &Path, error: &io::Error) -> io::Error {
+    io::Error::new(error.kind(), format!("{}: {error}", path.display()))
+}
+
 fn not_kept() -> io::Error {
     io::Error::new(io::ErrorKind::NotFound, "no such content")
 }
@@ -189,7 +219,8 @@ impl Engine for Files {
 
     fn put(&mut self, number: u64, bytes: &[u8]) -> io::Result<()> {
         if let Some(segment) = self.sparsest() {
-            self.move_segment(segment)?;
+            // What cannot be moved, since its file was spoiled, stays where it is.
+            let _ = self.move_segment(segment);
         }
         self.append(number, bytes)
     }
@@ -269,11 +300,76 @@ mod tests {
     }
 
     #[test]
+    fn the_parent_is_made_and_an_error_names_the_path() -> io::Result<()> {
+        let parent = files();
+        let there = parent.folder().join("a/b");
+        let engine = Files::create(&there)?;
+        assert!(engine.folder().starts_with(&there));
+        let file = parent.folder().join("0");
+        let error = Files::create(&file).unwrap_err();
+        let said = error.to_string();
+        assert!(said.starts_with(&*file.to_string_lossy()), "{said}");
+        Ok(())
+    }
+
+    #[test]
+    fn a_folder_that_was_left_behind_is_passed_over() -> io::Result<()> {
+        let parent = files();
+        let name = |made| format!("fullercoral-{}-{made}", process::id());
+        for made in 0..100 {
+            fs::create_dir(parent.folder().join(name(made)))?;
+        }
+        let engine = Files::create(parent.folder())?;
+        let left = (0..100).any(|made| engine.folder().ends_with(name(made)));
+        assert!(!left && engine.folder().is_dir());
+        Ok(())
+    }
+
+    #[test]
     fn the_folder_goes_with_the_engine() {
         let files = files();
         let folder = files.folder().to_owned();
         assert!(folder.is_dir());
         drop(files);
         assert!(!folder.exists());
+    }
+
+    #[test]
+    fn a_segment_that_is_full_and_not_needed_leaves_the_disk() {
+        let mut files = files();
+        for number in 0..1_000 {
+            files.put(number, &bytes(number)).unwrap();
+            // Whole segments are forgotten while they are appended to, and of others one content stays.
+            if number % 40 < 20 || number % 4 != 0 {
+                files.forget(number);
+            }
+        }
+        assert!(files.segments.values().filter(|s| s.live == 0).count() <= 1);
+        let len: u64 = files.segments.values().map(|s| s.len).sum();
+        let live: u64 = files.segments.values().map(|s| s.live).sum();
+        assert!(
+            len <= 2 * live + 300,
+            "{len} bytes, of which {live} are needed"
+        );
+    }
+
+    #[test]
+    fn a_spoiled_file_keeps_no_content_from_being_put() {
+        let mut files = files();
+        (0..100).for_each(|n| files.put(n, &bytes(n)).unwrap());
+        files
+            .segments
+            .values()
+            .for_each(|s| s.file.set_len(3).unwrap());
+        (0..100)
+            .filter(|n| n % 9 != 0)
+            .for_each(|n| files.forget(n));
+        for number in 100..300 {
+            files.put(number, &bytes(number)).unwrap();
+            let mut buffer = Vec::new();
+            files.get(number, &mut buffer).unwrap();
+            assert_eq!(buffer, bytes(number));
+        }
+        assert!(files.get(0, &mut Vec::new()).is_err());
     }
 }

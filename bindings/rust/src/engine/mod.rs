@@ -18,7 +18,8 @@ pub use retry::Retry;
 ///
 /// Nobody has to trust it. Whatever `get` returns is compared with the length and the SHA-256 of what
 /// was put, so an engine that loses, changes or mixes up contents makes calls fail, and never makes
-/// an answer wrong.
+/// an answer wrong. If an engine panics, the table gives up what it was about to move: whoever catches
+/// the panic goes on with the table as after an error.
 ///
 /// An engine over the `redis` crate, whole:
 ///
@@ -40,34 +41,41 @@ pub use retry::Retry;
 ///
 /// ```
 /// use std::collections::BTreeMap;
+/// use std::io;
 /// use fullercoral::{Engine, Limits, Schema, Table, row, totals};
 ///
 /// #[derive(Default)]
 /// struct Shelf(BTreeMap<u64, Vec<u8>>);
 ///
 /// impl Engine for Shelf {
-///     type Error = &'static str;
+///     type Error = io::Error;
 ///
-///     fn put(&mut self, number: u64, bytes: &[u8]) -> Result<(), Self::Error> {
+///     fn put(&mut self, number: u64, bytes: &[u8]) -> io::Result<()> {
 ///         self.0.insert(number, bytes.to_vec());
 ///         Ok(())
 ///     }
-///     fn get(&mut self, number: u64, buffer: &mut Vec<u8>) -> Result<(), Self::Error> {
-///         buffer.extend_from_slice(self.0.get(&number).ok_or("nothing on the shelf")?);
+///     fn get(&mut self, number: u64, buffer: &mut Vec<u8>) -> io::Result<()> {
+///         let bytes = self.0.get(&number).ok_or(io::ErrorKind::NotFound)?;
+///         buffer.extend_from_slice(bytes);
 ///         Ok(())
+///     }
+///     fn forget(&mut self, number: u64) {
+///         self.0.remove(&number);
 ///     }
 /// }
 ///
-/// let mut table = Table::open(Schema::new().int("price"), Limits::new(), Shelf::default()).unwrap();
-/// let total = table.watch(totals("price")).unwrap();
-/// table.insert(row![5]).unwrap();
-/// table.evict("price", 0).unwrap();
+/// let mut table = Table::open(Schema::new().int("price"), Limits::new(), Shelf::default())?;
+/// let total = table.watch(totals("price"))?;
+/// table.insert(row![5])?;
+/// table.evict("price", 0)?;
 /// assert_eq!(table.engine().0.len(), 1);
-/// table.insert(row![7]).unwrap();
-/// assert_eq!(table.ask(total).unwrap().next().unwrap().sum, 12);
+/// table.insert(row![7])?;
+/// assert_eq!(table.ask(total)?.next().unwrap().sum, 12);
+/// # Ok::<(), Box<dyn std::error::Error>>(())
 /// ```
 pub trait Engine {
-    /// Why a `put` or a `get` failed.
+    /// Why a `put` or a `get` failed. If it is a `std::error::Error`, so is the table's
+    /// [`Error`](crate::Error), and `?` turns that into a `Box<dyn Error>`.
     type Error;
 
     /// Keeps bytes under a number. A table gives each number once, from 0 on.
@@ -76,7 +84,8 @@ pub trait Engine {
     /// Appends the bytes that were put under a number to `buffer`, which comes empty.
     fn get(&mut self, number: u64, buffer: &mut Vec<u8>) -> Result<(), Self::Error>;
 
-    /// Takes note that a number will not be asked for any more. By default it does nothing.
+    /// Takes note that a number will not be asked for any more: its bytes may be deleted. By default it
+    /// does nothing, so that storage only grows.
     fn forget(&mut self, number: u64) {
         let _ = number;
     }

@@ -57,6 +57,28 @@ impl Library {
         })
     }
 
+    /// The number of a place, if it has one.
+    pub fn number(&mut self, column: u32, place: u32) -> Coded<Option<i64>> {
+        let (mut value, mut valid, mut alive) = (0, false, false);
+        let to = place.saturating_add(1);
+        // SAFETY: rules 1 and 2, each buffer has a length of 1.
+        done(unsafe {
+            fc_numbers(
+                &mut self.raw,
+                column,
+                place,
+                to,
+                &mut value,
+                1,
+                &mut valid,
+                1,
+                &mut alive,
+                1,
+            )
+        })?;
+        Ok(valid.then_some(value))
+    }
+
     /// Where the text of a place is lent, if it has one.
     #[inline]
     pub fn text(&mut self, column: u32, place: u32) -> Coded<Option<fc_bytes>> {

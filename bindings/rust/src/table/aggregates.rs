@@ -1,5 +1,6 @@
 use std::sync::atomic::{AtomicU64, Ordering};
 
+use super::work::Passing;
 use super::{Table, Watched};
 use crate::answer::Lines;
 use crate::library::{Code, Coded};
@@ -14,7 +15,8 @@ impl<E: Engine> Table<E> {
     /// Registers an aggregate, which follows every edit from then on. At most 32 are registered at once.
     ///
     /// The rows that are there already are scanned into it when it is first asked, or by
-    /// [`scan`](Table::scan) and [`build`](Table::build).
+    /// [`scan`](Table::scan) and [`build`](Table::build). If they are away, each such aggregate reads their
+    /// copies from the engine once; so it takes less time to register first, and insert then.
     ///
     /// ```
     /// # use fullercoral::{Limits, Memory, Op, Schema, Table, row, totals};
@@ -31,6 +33,7 @@ impl<E: Engine> Table<E> {
     /// - `BadSpec`: there are more than 4 tests, or a text constant of more than 4,096 bytes.
     /// - `NoColumn`, `WrongKind`: a column does not exist, or is not of the kind that it should be.
     /// - `TooManyAggregates`, `NoMemory`.
+    #[doc(alias("aggregate", "group_by"))]
     pub fn watch<A: Aggregate>(&mut self, spec: Spec<A>) -> Result<A, Error<E::Error>> {
         let spec = spec.resolve(&self.schema)?;
         self.register(spec).map(A::of)
@@ -86,6 +89,7 @@ impl<E: Engine> Table<E> {
     /// # Errors
     /// - `NoAggregate`: it was forgotten, or is of another table.
     /// - `Building`: by [`Policy::Manual`](crate::Policy::Manual), row groups are pending.
+    /// - `RegionFull`: by an automatic policy, a row group needs an object, and pins leave no space for it.
     /// - `FarFault`, or the engine's error: a row group that is away could not be built.
     /// - `NoMemory`.
     #[inline]
@@ -144,6 +148,7 @@ impl<E: Engine> Table<E> {
     /// - `NoAggregate`: it was forgotten, or is of another table.
     /// - `Absent`: by [`Policy::Manual`](crate::Policy::Manual), an object that it needs is away.
     /// - `TooManyAggregates`: an object is away, and there is no number left.
+    /// - `RegionFull`: by an automatic policy, a row group needs an object, and pins leave no space for it.
     /// - `FarFault`, or the engine's error: a row group that is away could not be read.
     /// - `NoMemory`.
     pub fn recount<A: Aggregate>(&mut self, aggregate: A) -> Result<Lines<'_, A>, Error<E::Error>> {
@@ -181,13 +186,12 @@ impl<E: Engine> Table<E> {
         let spec = watched
             .map(|w| w.spec.clone())
             .ok_or(Refusal::NoAggregate)?;
-        let anew = self.register(spec)?;
-        let built = self.build_pending(anew.number);
-        let asked = self.ask_into_answer(anew.number);
-        self.watched[anew.number as usize] = None;
-        let forgotten = self.library.unwatch(anew.number);
-        built?;
-        self.outcome(asked.and(forgotten))
+        let number = self.register(spec)?.number;
+        let table = self;
+        let anew = Passing { table, number };
+        anew.table.build_pending(number)?;
+        let asked = anew.table.ask_into_answer(number);
+        anew.table.outcome(asked)
     }
 
     /// How many row groups are pending in an aggregate.

@@ -23,6 +23,7 @@ impl<E: Engine> Table<E> {
     /// - `NoAggregate`, `OutOfRange`: there is no such aggregate or row group.
     /// - `StaleJob`: the row group is not pending.
     /// - `Absent`: by [`Policy::Manual`](crate::Policy::Manual), an object that it needs is away.
+    /// - `RegionFull`: by an automatic policy, an object has to be fetched, and pins leave no space for it.
     /// - `NoMemory`.
     pub fn scan<A: Aggregate>(&mut self, aggregate: A, group: u32) -> Result<(), Error<E::Error>> {
         let number = self.number_of(aggregate.id())?;
@@ -89,11 +90,7 @@ impl<E: Engine> Table<E> {
     fn build_from_copies(&mut self, number: u32, group: u32) -> Result<(), Failure<E::Error>> {
         self.give_up_abandoned();
         let job = self.library.begin_offload(number, group)?;
-        let built = self.end_build(job, number, group);
-        if built.is_err() {
-            self.library.give_up(job);
-        }
-        built
+        self.work(job, |table| table.end_build(job, number, group))
     }
 
     fn end_build(&mut self, job: u64, number: u32, group: u32) -> Result<(), Failure<E::Error>> {

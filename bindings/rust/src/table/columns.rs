@@ -57,8 +57,7 @@ impl<E: Engine> Table<E> {
         }
         for (index, column) in columns.iter().enumerate() {
             if self.schema.kind_at(index) != Some(column.kind()) {
-                let column = self.schema.label(index as u32);
-                return Err(Refusal::WrongKind { column });
+                return Err(self.schema.wrong_kind(index as u32));
             }
         }
         let rows = columns.first().map_or(0, Column::len);
@@ -99,7 +98,7 @@ impl<E: Engine> Table<E> {
         from: usize,
     ) -> Result<usize, Error<E::Error>> {
         let raw = gather(&mut self.bits, columns, from, from + 1);
-        self.persist(Given::Nothing, |library| {
+        self.persist(Given::RowOf(columns, from), |library| {
             // SAFETY: rule 1, the columns borrow valid slices, and `bits` stays as it is.
             let (inserted, ended) = unsafe { library.insert_columns(&raw, 1) };
             ended.map(|()| inserted)

@@ -20,6 +20,7 @@ impl<E: Engine> Table<E> {
     /// - `Absent`: by [`Policy::Manual`](crate::Policy::Manual), an object of the last row group is away.
     /// - `RegionFull`: there is no local memory for it.
     /// - `NoMemory`.
+    #[doc(alias("append", "push"))]
     #[inline]
     pub fn insert<'a>(&mut self, row: impl AsRef<[Cell<'a>]>) -> Result<u32, Error<E::Error>> {
         let row = row.as_ref();
@@ -29,7 +30,9 @@ impl<E: Engine> Table<E> {
     }
 
     /// Appends rows until one is refused. Returns how many they were. If one is refused, the rows before
-    /// it stay: [`places`](Table::places) says how many there are.
+    /// it stay: [`places`](Table::places) says how many there are. Cells borrow their texts; texts that
+    /// are made on the way go one by one into [`insert`](Table::insert), or into a
+    /// [`TextBuffer`](crate::TextBuffer) for [`extend_columns`](Table::extend_columns).
     ///
     /// ```
     /// # use fullercoral::{Limits, Memory, Schema, Table, row};
@@ -54,7 +57,8 @@ impl<E: Engine> Table<E> {
         Ok(inserted)
     }
 
-    /// Puts a cell into a column of a place.
+    /// Puts a cell into a column of a place. As each edit, it needs all objects of the place's row group:
+    /// by an automatic policy those that are away are fetched first.
     ///
     /// ```
     /// # use fullercoral::{Cell, Limits, Memory, Schema, Table, row};
@@ -71,6 +75,7 @@ impl<E: Engine> Table<E> {
     /// - `NoColumn`, `WrongKind`, `TextTooLong`: the cell does not suit the column.
     /// - `NoRow`, `RemovedRow`: there is no row at the place.
     /// - `Absent`, `ChunkFull`, `RegionFull`, `EditsUsedUp`, `NoMemory`: as of [`insert`](Table::insert).
+    #[doc(alias = "update")]
     #[inline]
     pub fn set<'a>(
         &mut self,
@@ -98,6 +103,7 @@ impl<E: Engine> Table<E> {
     /// # Errors
     /// - `NoRow`, `RemovedRow`: there is no row at the place.
     /// - `Absent`, `EditsUsedUp`, `NoMemory`: as of [`insert`](Table::insert).
+    #[doc(alias = "delete")]
     #[inline]
     pub fn remove(&mut self, place: u32) -> Result<(), Error<E::Error>> {
         self.persist(Given::Place(place), |library| library.remove(place))

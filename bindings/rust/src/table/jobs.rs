@@ -13,9 +13,10 @@ impl Abandoned {
         jobs.push((job, number));
     }
 
-    /// The jobs, each with the number of the content that was to be put.
-    pub fn take(&self) -> Vec<(u64, Option<u64>)> {
-        std::mem::take(&mut *self.0.lock().unwrap_or_else(PoisonError::into_inner))
+    /// One of the jobs, with the number of the content that was to be put.
+    pub fn pop(&self) -> Option<(u64, Option<u64>)> {
+        let mut jobs = self.0.lock().unwrap_or_else(PoisonError::into_inner);
+        jobs.pop()
     }
 }
 

@@ -5,7 +5,9 @@ use crate::answer::Answer;
 use crate::library::{Buffers, Code, Library};
 use crate::spec::Resolved;
 use crate::sys::{FC_INT, FC_TEXT, fc_limits};
-use crate::{Cell, ColumnRef, Engine, Error, Kind, Limits, Memory, Policy, Refusal, Schema, Stats};
+use crate::{
+    Cell, Column, ColumnRef, Engine, Error, Kind, Limits, Memory, Policy, Refusal, Schema, Stats,
+};
 
 mod aggregates;
 mod building;
@@ -22,6 +24,7 @@ mod reading;
 mod renewal;
 mod row;
 mod space;
+mod work;
 
 pub use jobs::{Incoming, Outgoing};
 pub use pieces::{IntPiece, Ints, TextPiece, Texts};
@@ -40,7 +43,8 @@ use space::Live;
 /// moves objects by itself, or leaves that to the program.
 ///
 /// A table is `Send` if its engine is, and not `Sync`: threads share it under a lock, as in the
-/// [crate's documentation](crate#threads).
+/// [crate's documentation](crate#threads). Calls that only read need a `&mut` too, since the library
+/// serves one at a time. A table that is dropped is closed, and its engine dropped with it.
 ///
 /// ```
 /// use fullercoral::{Limits, Memory, Schema, Table, row, totals};
@@ -72,6 +76,8 @@ pub struct Table<E: Engine = Memory> {
     bits: Vec<Vec<u8>>,
     stats: Stats,
     abandoned: Arc<Abandoned>,
+    /// The number of the content that the engine puts right now, or put when it panicked.
+    putting: Option<u64>,
 }
 
 /// An aggregate that is registered.
@@ -86,7 +92,12 @@ struct Watched {
 enum Given<'a> {
     Nothing,
     Row(&'a [Cell<'a>]),
-    Cell { column: u32, place: u32 },
+    /// A row of columns of rows, by its index.
+    RowOf(&'a [Column<'a>], usize),
+    Cell {
+        column: u32,
+        place: u32,
+    },
     Place(u32),
 }
 
@@ -130,11 +141,11 @@ impl<E: Engine> Table<E> {
     ///
     /// # Errors
     /// - `BadSchema`: there is no column, or more than 16, or two of one name; or a limit is out of its
-    ///   bounds.
+    ///   bounds. Its `rule` says which.
     /// - `NoMemory`.
     pub fn open(schema: Schema, limits: Limits, engine: E) -> Result<Table<E>, Error<E::Error>> {
-        if schema.has_twin_names() {
-            return Err(Refusal::BadSchema.into());
+        if let Some(rule) = limits.broken_rule(&schema) {
+            return Err(Refusal::BadSchema { rule }.into());
         }
         let kinds: Vec<u32> = schema.iter().map(|(_, kind)| kind.code()).collect();
         let (raw, capacity) = (limits.for_schema(&schema), limits.capacity());
@@ -155,6 +166,7 @@ impl<E: Engine> Table<E> {
             bits: vec![Vec::new(); schema.len()],
             stats: Stats::default(),
             abandoned: Arc::default(),
+            putting: None,
             schema,
         })
     }
@@ -221,7 +233,8 @@ impl<E: Engine> Table<E> {
         self.policy = policy;
     }
 
-    /// How many places there are, removed rows among them. The next row gets this place.
+    /// How many places there are, removed rows among them. The next row gets this place. How many rows
+    /// are left, an aggregate says: [`totals`](crate::totals) of a column without missing cells.
     ///
     /// ```
     /// # use fullercoral::{Limits, Memory, Schema, Table, row};
@@ -230,6 +243,7 @@ impl<E: Engine> Table<E> {
     /// assert_eq!(table.places(), 1);
     /// # Ok::<(), Box<dyn std::error::Error>>(())
     /// ```
+    #[doc(alias = "len")]
     pub fn places(&mut self) -> u32 {
         self.library.places()
     }
@@ -315,6 +329,7 @@ impl<E: Engine> Table<E> {
     /// assert!(table.into_engine().is_empty());
     /// # Ok::<(), Box<dyn std::error::Error>>(())
     /// ```
+    #[doc(alias = "close")]
     pub fn into_engine(self) -> E {
         self.engine
     }
@@ -334,12 +349,8 @@ impl<E: Engine> Table<E> {
             (4, Given::Cell { column, .. }) => Refusal::NoColumn {
                 column: self.schema.label(column),
             },
-            (5, Given::Cell { column, .. }) => Refusal::WrongKind {
-                column: self.schema.label(column),
-            },
-            (5, Given::Row(row)) => Refusal::WrongKind {
-                column: self.wrong_kind_in(row),
-            },
+            (5, Given::Cell { column, .. }) => self.schema.wrong_kind(column),
+            (5, Given::Row(row)) => self.wrong_kind_in(row),
             (6, Given::Row(row)) => Refusal::RowWidth {
                 cells: row.len(),
                 columns: self.schema.len(),
@@ -349,6 +360,9 @@ impl<E: Engine> Table<E> {
             },
             (7, Given::Row(row)) => Refusal::TextTooLong {
                 column: self.too_long_in(row),
+            },
+            (7, Given::RowOf(columns, row)) => Refusal::TextTooLong {
+                column: self.too_long_at(columns, row),
             },
             (8, Given::Place(place) | Given::Cell { place, .. }) => Refusal::NoRow { place },
             (9, Given::Place(place) | Given::Cell { place, .. }) => Refusal::RemovedRow { place },
@@ -368,19 +382,25 @@ impl<E: Engine> Table<E> {
         })
     }
 
-    fn wrong_kind_in(&self, row: &[Cell<'_>]) -> Arc<str> {
+    fn wrong_kind_in(&self, row: &[Cell<'_>]) -> Refusal {
         let wrong = |(i, cell): (usize, &Cell<'_>)| {
             cell.kind()
                 .is_some_and(|kind| self.schema.kind_at(i) != Some(kind))
         };
-        self.schema
-            .label(row.iter().enumerate().position(wrong).unwrap_or(0) as u32)
+        let wrong = row.iter().enumerate().position(wrong);
+        self.schema.wrong_kind(wrong.unwrap_or(0) as u32)
     }
 
     fn too_long_in(&self, row: &[Cell<'_>]) -> Arc<str> {
         let long = |cell: &Cell<'_>| cell.text().is_some_and(|text| text.len() > 4_096);
         self.schema
             .label(row.iter().position(long).unwrap_or(0) as u32)
+    }
+
+    fn too_long_at(&self, columns: &[Column<'_>], row: usize) -> Arc<str> {
+        let long = |column: &Column<'_>| column.text_len(row) > 4_096;
+        self.schema
+            .label(columns.iter().position(long).unwrap_or(0) as u32)
     }
 }
 

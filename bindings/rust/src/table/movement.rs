@@ -3,7 +3,7 @@
 use super::copies::Copy;
 use super::{Failure, Table};
 use crate::library::Code;
-use crate::sys::{FC_FAR_FULL, FC_REGION_FULL};
+use crate::sys::{FC_FAR_FULL, FC_REGION_FULL, FC_STALE_JOB};
 use crate::{ColumnRef, Engine, Error, Kind, Policy, Refusal};
 
 impl<E: Engine> Table<E> {
@@ -38,7 +38,7 @@ impl<E: Engine> Table<E> {
 
     fn try_evict(&mut self, column: u32, group: u32) -> Result<(), Failure<E::Error>> {
         let job = self.library.begin_evict(column, group)?;
-        self.end_evict(job, column, group)
+        self.work(job, |table| table.end_evict(job, column, group))
     }
 
     /// Evicts the coldest object without a pin, of the kind that has less space. Returns its column and
@@ -71,32 +71,22 @@ impl<E: Engine> Table<E> {
         let Some(job) = self.library.begin_coldest()? else {
             return Ok(None);
         };
-        let about = self.library.job(job)?;
-        self.end_evict(job, about.column, about.group)?;
-        Ok(Some((about.column as usize, about.group)))
+        self.work(job, |table| {
+            let about = table.library.job(job)?;
+            table.end_evict(job, about.column, about.group)?;
+            Ok(Some((about.column as usize, about.group)))
+        })
     }
 
-    // Carries and commits an eviction that was begun. The bytes go to the engine as they lie. If
-    // something fails, the job is given up.
+    // Carries and commits an eviction that was begun. The bytes go to the engine as they lie.
     fn end_evict(&mut self, job: u64, column: u32, group: u32) -> Result<(), Failure<E::Error>> {
-        let put = self.carry_and_put(job);
-        let committed = put.and_then(|put| match self.library.commit(job) {
-            Ok(()) => Ok(put),
-            Err(code) => {
-                self.forget(put);
-                Err(code.into())
-            }
-        });
-        match committed {
-            Ok(put) => {
-                self.committed(column, group, put);
-                Ok(())
-            }
-            Err(failure) => {
-                self.library.give_up(job);
-                Err(failure)
-            }
+        let put = self.carry_and_put(job)?;
+        if let Err(code) = self.library.commit(job) {
+            self.forget(put);
+            return Err(code.into());
         }
+        self.committed(column, group, put);
+        Ok(())
     }
 
     // Returns the copy that was put, if the engine did not have it already.
@@ -106,7 +96,10 @@ impl<E: Engine> Table<E> {
             return Ok(None);
         };
         let (number, len) = (self.copies.draw(), bytes.len() as u32);
-        if let Err(error) = self.engine.put(number, bytes) {
+        self.putting = Some(number);
+        let put = self.engine.put(number, bytes);
+        self.putting = None;
+        if let Err(error) = put {
             self.engine_failed(job);
             // It may have been kept nevertheless.
             self.engine.forget(number);
@@ -125,14 +118,12 @@ impl<E: Engine> Table<E> {
 
     // Takes note that an object is away, with this new copy or the one that it had.
     pub(super) fn committed(&mut self, column: u32, group: u32, put: Option<Copy>) {
-        if let Some(copy) = put {
-            let before = self.copies.replace(column, group, copy);
-            self.forget(before);
-        }
+        let before = put.and_then(|copy| self.copies.replace(column, group, copy));
         let len = self.copies.get(column, group).map_or(0, |copy| copy.len);
         let kind = self.schema.kind_at(column as usize);
         self.live.evicted(kind, len);
         self.stats.evictions += 1;
+        self.forget(before);
     }
 
     fn engine_failed(&mut self, job: u64) {
@@ -167,13 +158,17 @@ impl<E: Engine> Table<E> {
 
     pub(super) fn fetch_object(&mut self, column: u32, group: u32) -> Result<(), Error<E::Error>> {
         self.give_up_abandoned();
-        let job = self.library.begin_fetch(column, group);
-        let job = self.outcome(job)?;
-        let fetched = self.end_fetch(job, column, group);
-        if fetched.is_err() {
-            self.library.give_up(job);
+        loop {
+            let migrations = self.stats.migrations;
+            let job = self.library.begin_fetch(column, group);
+            let job = self.outcome(job)?;
+            match self.work(job, |table| table.end_fetch(job, column, group)) {
+                // An eviction that made space for it went on with new numbers, so all jobs are over. It
+                // begins again, with the space that was made.
+                Err(Failure::Code(Code(FC_STALE_JOB))) if self.stats.migrations > migrations => {}
+                ended => return self.outcome(ended),
+            }
         }
-        self.outcome(fetched)
     }
 
     fn end_fetch(&mut self, job: u64, column: u32, group: u32) -> Result<(), Failure<E::Error>> {
@@ -275,9 +270,12 @@ impl<E: Engine> Table<E> {
         8 * u64::from(len) <= u64::from(segments) * u64::from(size)
     }
 
-    /// Gives up the jobs whose values were dropped.
+    /// Gives up the jobs whose values were dropped, and forgets what the engine put when it panicked.
     pub(super) fn give_up_abandoned(&mut self) {
-        for (job, put) in self.abandoned.take() {
+        if let Some(number) = self.putting.take() {
+            self.engine.forget(number);
+        }
+        while let Some((job, put)) = self.abandoned.pop() {
             self.library.give_up(job);
             if let Some(number) = put {
                 self.engine.forget(number);

@@ -98,6 +98,30 @@ impl<'t, E: Engine> Ints<'t, E> {
         self.part.from = to;
         Ok(Some(piece))
     }
+
+    /// Calls a function with the place and the number of each row that is alive.
+    ///
+    /// ```
+    /// # use fullercoral::{Limits, Memory, Schema, Table, row};
+    /// # let mut table = Table::open(Schema::new().int("price"), Limits::new(), Memory::new())?;
+    /// table.extend([row![5], row![None::<i64>], row![7]])?;
+    /// let mut prices = Vec::new();
+    /// table.ints("price", ..)?.for_each(|_, price| prices.extend(price))?;
+    /// assert_eq!(prices, [5, 7]);
+    /// # Ok::<(), Box<dyn std::error::Error>>(())
+    /// ```
+    ///
+    /// # Errors
+    /// Those of [`next_piece`](Ints::next_piece).
+    pub fn for_each(
+        mut self,
+        mut each: impl FnMut(u32, Option<i64>),
+    ) -> Result<(), Error<E::Error>> {
+        while let Some(piece) = self.next_piece()? {
+            piece.rows().for_each(|(place, number)| each(place, number));
+        }
+        Ok(())
+    }
 }
 
 impl<'t, E: Engine> Texts<'t, E> {
@@ -134,6 +158,30 @@ impl<'t, E: Engine> Texts<'t, E> {
         let piece = self.part.table.text_piece(self.part.column, from, to)?;
         self.part.from = to;
         Ok(Some(piece))
+    }
+
+    /// Calls a function with the place and the text of each row that is alive.
+    ///
+    /// ```
+    /// # use fullercoral::{Limits, Memory, Schema, Table, row};
+    /// # let mut table = Table::open(Schema::new().text("sku"), Limits::new(), Memory::new())?;
+    /// table.extend([row!["rye"], row![None::<&str>], row!["bread"]])?;
+    /// let mut skus = Vec::new();
+    /// table.texts("sku", ..)?.for_each(|_, sku| skus.extend(sku.map(str::to_owned)))?;
+    /// assert_eq!(skus, ["rye", "bread"]);
+    /// # Ok::<(), Box<dyn std::error::Error>>(())
+    /// ```
+    ///
+    /// # Errors
+    /// Those of [`next_piece`](Texts::next_piece).
+    pub fn for_each(
+        mut self,
+        mut each: impl FnMut(u32, Option<&str>),
+    ) -> Result<(), Error<E::Error>> {
+        while let Some(piece) = self.next_piece()? {
+            piece.rows().for_each(|(place, text)| each(place, text));
+        }
+        Ok(())
     }
 }
 

@@ -22,6 +22,7 @@ impl<E: Engine> Table<E> {
     /// # Errors
     /// - `NoColumn`, `OutOfRange`: there is no such object.
     /// - `Absent`: by [`Policy::Manual`](crate::Policy::Manual), it is away.
+    /// - `RegionFull`: by an automatic policy, it has to be fetched, and pins leave no space for it.
     /// - `EditsUsedUp`: it has 65,535 pins.
     pub fn pin(
         &mut self,

@@ -22,6 +22,7 @@ impl<E: Engine> Table<E> {
     /// - `NoRow`: there is no such place.
     /// - `Absent`: by [`Policy::Manual`](crate::Policy::Manual), an object of its row group is away.
     /// - `RegionFull`: there is no local memory to fetch it.
+    #[doc(alias = "get")]
     pub fn row(&mut self, place: u32) -> Result<Row<'_>, Error<E::Error>> {
         let columns = self.schema.len();
         let alive = self.is_alive(place)?;
@@ -46,6 +47,34 @@ impl<E: Engine> Table<E> {
     pub fn is_alive(&mut self, place: u32) -> Result<bool, Error<E::Error>> {
         let alive = self.library.is_alive(place);
         alive.map_err(|code| self.refused(code, Given::Place(place)))
+    }
+
+    /// The number of a place, removed or not. None if it is missing. It needs the object of this column
+    /// alone; [`row`](Table::row) needs those of all columns.
+    ///
+    /// ```
+    /// # use fullercoral::{Limits, Memory, Schema, Table, row};
+    /// let mut table = Table::open(Schema::new().int("price"), Limits::new(), Memory::new())?;
+    /// table.insert(row![5])?;
+    /// assert_eq!(table.int("price", 0)?, Some(5));
+    /// # Ok::<(), Box<dyn std::error::Error>>(())
+    /// ```
+    ///
+    /// # Errors
+    /// - `NoColumn`, `WrongKind`, `NoRow`: there is no such number.
+    /// - `Absent`: by [`Policy::Manual`](crate::Policy::Manual), its object is away.
+    /// - `RegionFull`: there is no local memory to fetch it.
+    pub fn int(
+        &mut self,
+        column: impl ColumnRef,
+        place: u32,
+    ) -> Result<Option<i64>, Error<E::Error>> {
+        let column = column.index_in(&self.schema)?;
+        if self.schema.kind_at(column as usize) != Some(Kind::Int) {
+            return Err(self.schema.wrong_kind(column).into());
+        }
+        self.is_alive(place)?;
+        self.persist(Given::Nothing, |library| library.number(column, place))
     }
 
     /// The text of a place, removed or not, borrowed where it lies. None if it is missing.
@@ -87,6 +116,9 @@ impl<E: Engine> Table<E> {
     ///     sum += piece.rows().filter_map(|(_, price)| price).sum::<i64>();
     /// }
     /// assert_eq!(sum, 12);
+    /// // Or, in one call, of some places:
+    /// table.ints("price", 1..3)?.for_each(|_, price| sum += price.unwrap_or(0))?;
+    /// assert_eq!(sum, 19);
     /// # Ok::<(), Box<dyn std::error::Error>>(())
     /// ```
     ///
@@ -114,6 +146,10 @@ impl<E: Engine> Table<E> {
     ///         println!("{place}: {}", sku.unwrap_or("none"));
     ///     }
     /// }
+    /// // Or, in one call:
+    /// let mut lengths = Vec::new();
+    /// table.texts("sku", ..)?.for_each(|_, sku| lengths.push(sku.map(str::len)))?;
+    /// assert_eq!(lengths, [Some(3), None, Some(5)]);
     /// # Ok::<(), Box<dyn std::error::Error>>(())
     /// ```
     ///
@@ -137,8 +173,7 @@ impl<E: Engine> Table<E> {
     ) -> Result<(u32, u32, u32), Refusal> {
         let column = column.index_in(&self.schema)?;
         if self.schema.kind_at(column as usize) != Some(kind) {
-            let column = self.schema.label(column);
-            return Err(Refusal::WrongKind { column });
+            return Err(self.schema.wrong_kind(column));
         }
         let places = self.library.places();
         let from = match range.start_bound() {

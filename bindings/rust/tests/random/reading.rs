@@ -34,6 +34,31 @@ where
         }
     }
 
+    pub fn read_cell(&mut self) {
+        let (place, column) = (self.place(), self.random.below(5) as usize);
+        let there = (place as usize) < self.plain.len();
+        let away = self.away.contains(&(column as u32, place / GROUP));
+        let due = match (there, self.manual() && away) {
+            (false, _) => Some(8),
+            (true, away) => away.then_some(16),
+        };
+        let cell = if column % 2 == 0 {
+            let number = self.table.int(column, place);
+            number.map(|number| format!("{:?}", Cell::from(number)))
+        } else {
+            let text = self.table.text(column, place);
+            text.map(|text| format!("{:?}", Cell::from(text)))
+        };
+        match (self.reply(cell), due) {
+            (Reply::Fault, None) => {}
+            (Reply::Value(cell), None) => {
+                let due = self.plain.rows.columns[column].cell(place as usize);
+                assert_eq!(cell, format!("{due:?}"));
+            }
+            (reply, due) => assert_eq!(reply, Reply::Refused(due.unwrap_or(0))),
+        }
+    }
+
     pub fn read_part(&mut self) {
         let places = self.plain.len() as u32;
         let (from, to) = (self.random.below(places + 1), self.random.below(places + 1));
@@ -89,10 +114,7 @@ fn read_texts<E: Engine>(
     to: u32,
 ) -> Result<Vec<String>, Error<E::Error>> {
     let mut cells = Vec::new();
-    let mut part = table.texts(column, from..to)?;
-    while let Some(piece) = part.next_piece()? {
-        let print = |(place, text): (u32, Option<&str>)| format!("{place} {:?}", Cell::from(text));
-        cells.extend(piece.rows().map(print));
-    }
+    let part = table.texts(column, from..to)?;
+    part.for_each(|place, text| cells.push(format!("{place} {:?}", Cell::from(text))))?;
     Ok(cells)
 }

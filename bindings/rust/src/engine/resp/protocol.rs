@@ -50,6 +50,9 @@ pub fn receive(stream: &mut BufReader<TcpStream>, value: &mut Vec<u8>) -> io::Re
     }
 }
 
+/// More bytes than any content has: a segment of texts has 16,777,216 at most.
+const MOST_BYTES: u64 = 1 << 25;
+
 fn receive_value(
     stream: &mut BufReader<TcpStream>,
     len: &[u8],
@@ -59,6 +62,9 @@ fn receive_value(
         .ok()
         .and_then(|len| len.parse().ok());
     let len: u64 = len.ok_or(io::ErrorKind::InvalidData)?;
+    if len > MOST_BYTES {
+        return Err(io::ErrorKind::InvalidData.into());
+    }
     let read = stream.take(len).read_to_end(value)? as u64;
     let mut end = [0; 2];
     stream.read_exact(&mut end)?;

@@ -1,0 +1,92 @@
+//! What reads of the plain table return, as texts.
+
+use fullercoral::{Cell, Kind, Refusal};
+
+use super::Model;
+
+/// A refusal as the text that a reply has.
+pub fn refused(refusal: &Refusal) -> String {
+    format!("refused {} {refusal}", refusal.number())
+}
+
+impl Model {
+    /// The cells of a place, and whether it is alive.
+    pub fn row(&self, place: u32) -> String {
+        let cells = self.rows[place as usize].iter().map(|cell| cell.cell());
+        let row = (self.alive[place as usize], cells.collect::<Vec<Cell<'_>>>());
+        format!("{row:?}")
+    }
+
+    /// Why a part of a column cannot be read, whatever is local.
+    pub fn part_refusal(&self, column: usize, from: u32, to: u32) -> Result<(), Refusal> {
+        self.column(column)?;
+        if from > to || to > self.places() {
+            return Err(Refusal::OutOfRange);
+        }
+        Ok(())
+    }
+
+    /// The row groups of a part.
+    pub fn groups_of(&self, from: u32, to: u32) -> std::ops::Range<u32> {
+        if from == to {
+            return 0..0;
+        }
+        from / self.group..(to - 1) / self.group + 1
+    }
+
+    /// The piece of a row group of a part.
+    pub fn piece(&self, column: usize, group: u32, from: u32, to: u32) -> String {
+        let places = self.places_of(group);
+        let places = places.start.max(from as usize)..places.end.min(to as usize);
+        let cells = places.clone().map(|place| self.rows[place][column].cell());
+        let cells: Vec<Cell<'_>> = cells.collect();
+        let alive = &self.alive[places.clone()];
+        format!("{} {cells:?} {alive:?}\n", places.start)
+    }
+
+    /// Takes note that a row group of a column was read.
+    pub fn was_read(&mut self, column: usize, group: u32) {
+        self.object_mut(column, group).hot = true;
+        let lent = &mut self.lent[column];
+        lent.push(group);
+        if lent.len() > 4 {
+            lent.remove(0);
+        }
+    }
+
+    /// The row groups to be fetched next: those that come next if the last four reads lie equally far
+    /// apart.
+    pub fn proposals(&self, column: usize) -> Vec<u32> {
+        let lent: Vec<i64> = self.lent[column]
+            .iter()
+            .map(|group| i64::from(*group))
+            .collect();
+        let strides: Vec<i64> = lent.windows(2).map(|pair| pair[1] - pair[0]).collect();
+        let (Some(last), Some(stride)) = (lent.last(), strides.first()) else {
+            return Vec::new();
+        };
+        if lent.len() < 4 || *stride == 0 || strides.iter().any(|other| other != stride) {
+            return Vec::new();
+        }
+        let next = [last + stride, last + 2 * stride].into_iter();
+        let there = next.filter(|group| (0..i64::from(self.groups())).contains(group));
+        there.map(|group| group as u32).collect()
+    }
+
+    /// Whether each kind has segments for all objects of a row group and what is pinned, and for texts
+    /// as many again, since a row's are placed beside those that they replace: then an automatic policy
+    /// finds space for whatever a call needs.
+    pub fn is_spacious(&self) -> bool {
+        let spacious = |(kind, beside): (Kind, usize)| {
+            let of_kind = |column: &usize| self.kinds[*column] == kind;
+            let columns: Vec<usize> = (0..self.kinds.len()).filter(of_kind).collect();
+            let Some(first) = columns.first() else {
+                return true;
+            };
+            let objects = columns.iter().flat_map(|column| &self.objects[*column]);
+            let pinned = objects.filter(|object| object.pins > 0).count();
+            self.region(*first).segments() >= beside * columns.len() + pinned
+        };
+        [(Kind::Int, 1), (Kind::Text, 2)].into_iter().all(spacious)
+    }
+}
