@@ -16,6 +16,8 @@ from ._handle import EMPTY_AT
 from .errors import BadArgument, NoUtf8, WrongKind
 from .schema import NA
 
+BYTES_AT = bytes.__basicsize__ - 1  # how far behind its ``id`` the content of a bytes object lies
+
 _ALIGNED = 8  # where a number of 64 bits lies is a multiple of this
 _LEAST, _MOST = -(1 << 63), (1 << 63) - 1
 
@@ -43,6 +45,9 @@ def address_of(buffer: Any) -> int:
 
     An empty one of Python may lie at an odd address, where no number can lie.
     """
+    if buffer.__class__ is array:
+        at, length = buffer.buffer_info()
+        return int(at) if length else EMPTY_AT
     view = _PyBuffer()
     ctypes.pythonapi.PyObject_GetBuffer(ctypes.py_object(buffer), ctypes.byref(view), 0)
     try:
@@ -79,6 +84,15 @@ class ColumnBuffer:
         column.valid, column.valid_len = address_of(bits), len(bits)
         return bits
 
+    def value(self, index: int) -> int | str | None:
+        """Returns the value of a row; None if it is missing."""
+        if self.valid is not None and not self.valid[index // 8] >> index % 8 & 1:
+            return None
+        if self.kind == header.INT:
+            return ctypes.c_int64.from_address(self.numbers_at + 8 * index).value
+        start, stop = (ctypes.c_uint64 * 2).from_address(self.offsets_at + 8 * index)
+        return ctypes.string_at(self.bytes_at + start, stop - start).decode()
+
 
 def _bits_between(bits: bytes, start: int, stop: int) -> bytes:
     """Returns the bits of some rows, moved to where a mask begins."""
@@ -114,6 +128,16 @@ def column_buffer(name: str, kind: type, values: Any) -> ColumnBuffer:
     return _texts(name, values, valid)
 
 
+def repeated(name: str, kind: type, value: Any, count: int) -> ColumnBuffer:
+    """Returns a column that has the same value in so many rows."""
+    if value is None or value is NA:
+        buffer = column_buffer(name, kind, [0 if kind is int else ""] * count)
+        buffer.valid = bytes((count + 7) // 8)
+        return buffer
+    check(name, kind, value)
+    return column_buffer(name, kind, [value] * count)
+
+
 def _numbers(name: str, values: Any, valid: bytes | None) -> ColumnBuffer:
     if isinstance(values, str):
         raise WrongKind(column=name, kind="int", value=values)
@@ -123,7 +147,7 @@ def _numbers(name: str, values: Any, valid: bytes | None) -> ColumnBuffer:
     if address_of(numbers) % _ALIGNED:
         numbers = array("q", bytes(memoryview(numbers)))
     buffer = ColumnBuffer(header.INT, len(numbers), valid)
-    buffer.keeps.append(numbers)
+    buffer.keeps.append(memoryview(numbers))  # so no other thread gives them another length
     buffer.numbers_at = address_of(numbers)
     return buffer
 
@@ -150,30 +174,33 @@ def _numbers_with_missing(name: str, values: list[Any]) -> tuple[array[int], byt
     try:
         numbers = array("q", [value if has else 0 for value, has in zip(values, there)])
     except (TypeError, OverflowError):
-        for value in filter(lambda value: value is not None and value is not NA, values):
-            check_number(name, value)
+        check_all(name, int, values)
         raise
     return numbers, pack_bits(there)
 
 
-def check_number(name: str, value: Any) -> None:
-    """Refuses a value that no column of numbers holds, with its name."""
-    try:
-        fits = _LEAST <= value.__index__() <= _MOST
-    except (AttributeError, TypeError):
-        fits = False
-    if not fits:
-        raise WrongKind(column=name, kind="int", value=value)
+def check_all(name: str, kind: type, values: Sequence[Any]) -> None:
+    """Refuses the first value that no column of the kind holds, with the row that it is for."""
+    for row, value in enumerate(values):
+        if value is not None and value is not NA:
+            check(name, kind, value, row=row)
 
 
-def check_text(name: str, value: Any) -> None:
-    """Refuses a value that no column of texts holds, with its name."""
-    if not isinstance(value, str):
-        raise WrongKind(column=name, kind="str", value=value)
+def check(name: str, kind: type, value: Any, **more: Any) -> None:
+    """Refuses a value that no column of the kind holds, with its name."""
+    if not (_is_number(value) if kind is int else isinstance(value, str)):
+        raise WrongKind(column=name, kind=kind.__name__, value=value, **more) from None
     try:
-        value.encode()
+        kind is int or value.encode()
     except UnicodeEncodeError:
-        raise NoUtf8(f"column {name}: {value!r:.60} holds half of a surrogate pair") from None
+        raise NoUtf8(column=name, value=value, **more) from None
+
+
+def _is_number(value: Any) -> bool:
+    try:
+        return bool(_LEAST <= value.__index__() <= _MOST)
+    except (AttributeError, TypeError):
+        return False
 
 
 def _texts(name: str, values: Any, valid: bytes | None) -> ColumnBuffer:
@@ -191,8 +218,7 @@ def _texts(name: str, values: Any, valid: bytes | None) -> ColumnBuffer:
         if len(encoded) != len(joined):
             lengths = [len(text.encode()) for text in texts]
     except UnicodeEncodeError:
-        for text in texts:
-            check_text(name, text)
+        check_all(name, str, texts)
         raise
     buffer = ColumnBuffer(header.TEXT, len(texts), valid)
     offsets = array("Q", accumulate(lengths, initial=0))
@@ -204,11 +230,9 @@ def _texts(name: str, values: Any, valid: bytes | None) -> ColumnBuffer:
 
 def _texts_with_missing(name: str, values: Sequence[Any]) -> tuple[list[str], bytes]:
     there = [value is not None and value is not NA for value in values]
-    texts = [value if has else "" for value, has in zip(values, there)]
-    for text in texts:
-        if not isinstance(text, str):
-            raise WrongKind(column=name, kind="str", value=text)
-    return texts, pack_bits(there)
+    if not all(isinstance(value, str) for value, has in zip(values, there) if has):
+        check_all(name, str, values)
+    return [value if has else "" for value, has in zip(values, there)], pack_bits(there)
 
 
 # numpy and pandas are known by what they offer, and are not imported here.
@@ -244,14 +268,14 @@ def _from_numpy(values: Any, kind: type) -> tuple[Any, bytes | None]:
 
 
 def _whole(values: Any, missing: Any) -> tuple[Any, Any]:
-    """Returns floats as whole numbers, NaN as missing; those that are not whole if one is not."""
+    """Returns floats as whole numbers, NaN as missing; a list to be refused if one is not whole."""
     empty = values != values
     missing = empty if missing is None else missing | empty
     filled = values.copy()
     filled[missing] = 0
     whole = (filled % 1 == 0) & (abs(filled) < 2.0**63)
     if not whole.all():
-        return [value for value, fits in zip(filled.tolist(), whole) if not fits], None
+        return [0 if fits else value for value, fits in zip(filled.tolist(), whole)], None
     return filled.astype("int64"), missing
 
 

@@ -2,20 +2,23 @@
 
 What an edit passes to the library is prepared once: cells, pointers to them, and views of them as
 words of 64 bits. An item of such a view is set in a third of the time of a field of a structure,
-and refuses what is no whole number of 64 bits. One lock and one call of the library are then two
-thirds of the time of an edit.
+and refuses what is no whole number of 64 bits. A text is lent where its encoded bytes lie. What
+does not go in so, as a missing cell, is looked at behind an exception. One lock and one call of the
+library are then two thirds of the time of an edit.
 """
 
 from __future__ import annotations
 
 import threading
-from ctypes import byref, c_size_t, c_uint32
+from ctypes import ArgumentError, byref, c_size_t, c_uint32
 from itertools import islice
+from operator import index as index_of
 from typing import Any, Callable, Iterable, Mapping, Sequence, Union
 
 from . import _header as header
-from ._buffers import ColumnBuffer, check_number, check_text, column_buffer
-from ._handle import Handle
+from . import _setting
+from ._buffers import BYTES_AT, ColumnBuffer, check, column_buffer
+from ._handle import EMPTY_AT, Handle
 from .errors import BadArgument, Closed, NoColumn, NoRow, Refused, RowWidth
 from .movement import Mover
 from .policy import Helper, Policy
@@ -27,6 +30,14 @@ Progress = Callable[[int, int], Any]
 _ROWS_AT_ONCE = 1 << 16  # how many rows one call inserts; a multiple of 8, for the masks
 _ROWS_OF_EXTEND = 10_000
 _WORDS = 4  # how many words a cell has: number, where its text lies, how long it is, kind
+
+_encode = str.encode  # refuses what is no text
+
+
+def _cell(kind: int) -> tuple[Any, Any]:
+    """Returns a cell of a kind as words, and the pointer to it."""
+    cell = header.Cell(0, b"", 0, kind)
+    return memoryview(cell).cast("B").cast("q"), byref(cell)
 
 
 class Editing:
@@ -51,23 +62,17 @@ class Editing:
         }
         self._row = (header.Cell * self._width)()
         self._row_words = memoryview(self._row).cast("B").cast("q")
-        self._row_plan: list[tuple[int, Any]] = []
-        for index, kind in enumerate(kinds):
-            cell = self._row[index]
-            cell.kind, cell.text_at = kind, b""
-            self._row_plan.append((_WORDS * index, cell if kind == header.TEXT else None))
-        self._number = header.Cell(0, b"", 0, header.INT)
-        self._number_words = memoryview(self._number).cast("B").cast("q")
-        self._text = header.Cell(0, b"", 0, header.TEXT)
-        self._missing = header.Cell(0, b"", 0, header.MISSING)
+        self._row_plan = [(_WORDS * index, kind == header.TEXT) for index, kind in enumerate(kinds)]
+        self._restore_row()
+        self._number_words, self._number_at = _cell(header.INT)
+        self._text_words, self._text_at = _cell(header.TEXT)
+        _, self._missing_at = _cell(header.MISSING)
         self._place, self._size = c_uint32(), c_size_t()
         self._at = self._handle.at
         self._row_at, self._place_at = byref(self._row), byref(self._place)
-        self._number_at, self._text_at = byref(self._number), byref(self._text)
-        self._missing_at = byref(self._missing)
         lib = self._handle.lib
-        self._fc_insert, self._fc_set = lib.fast("fc_insert"), lib.fast("fc_set")
-        self._fc_remove = lib.fast("fc_remove")
+        self._fc_insert, self._fc_set = lib.short("fc_insert"), lib.short("fc_set")
+        self._fc_remove = lib.short("fc_remove")
 
     # One row
 
@@ -77,40 +82,63 @@ class Editing:
         >>> table.append(("bread", 5)), table.append({"sku": "rye", "quantity": None})
         (0, 1)
         """
-        if row.__class__ is not tuple and isinstance(row, Mapping):
+        if row.__class__ is not tuple and row.__class__ is not list and isinstance(row, Mapping):
             row = self._in_order(row)
         with self._lock:
             if len(row) != self._width:
                 raise RowWidth(f"the row has {len(row)} cells, and the table {self._width} columns")
-            words, has_missing = self._row_words, False
+            words: Any = self._row_words
+            texts: list[bytes] = []
             try:
-                for value, (at, cell) in zip(row, self._row_plan):
-                    if value is None or value is NA:
-                        words[at + 3], has_missing = header.MISSING, True
-                    elif cell is None:
-                        words[at] = value
-                    else:
-                        text = value.encode()
-                        cell.text_at = text
+                for value, (at, is_text) in zip(row, self._row_plan):
+                    if is_text:
+                        text = _encode(value)
+                        texts.append(text)
+                        words[at + 1] = id(text) + BYTES_AT
                         words[at + 2] = len(text)
-                code = self._fc_insert(self._at, self._row_at, self._width, self._place_at)
-                if code:
-                    arguments = self._at, self._row_at, self._width, self._place_at
-                    self._go_on(code, self._fc_insert, *arguments)
-            except (TypeError, ValueError, AttributeError) as error:
-                self._refuse_row(row, error)
-            finally:
-                if has_missing:
-                    self._restore_kinds()
-            place = self._place.value
-            self._places = place + 1
-            self._live += 1
-            self._answer = None
-            return place
+                    else:
+                        words[at] = value
+            except (TypeError, ValueError):
+                return self._append_with_missing(row)
+            return self._insert_filled(texts)
 
-    def _restore_kinds(self) -> None:
-        for at, cell in self._row_plan:
-            self._row_words[at + 3] = header.INT if cell is None else header.TEXT
+    def _append_with_missing(self, row: Sequence[Any]) -> int:
+        """Appends a row with missing cells; refuses one that has what does not fit."""
+        words: Any = self._row_words
+        texts: list[bytes] = []
+        try:
+            for value, (at, is_text), name in zip(row, self._row_plan, self.schema):
+                if value is None or value is NA:
+                    words[at + 1], words[at + 2], words[at + 3] = EMPTY_AT, 0, header.MISSING
+                    continue
+                check(name, str if is_text else int, value)
+                if is_text:
+                    texts.append(_encode(value))
+                    words[at + 1], words[at + 2] = id(texts[-1]) + BYTES_AT, len(texts[-1])
+                else:
+                    words[at] = value
+            return self._insert_filled(texts)
+        finally:
+            self._restore_row()
+
+    def _restore_row(self) -> None:
+        """Makes the cells of a row what they were at first: of the columns' kinds, and empty."""
+        for at, is_text in self._row_plan:
+            kind = header.TEXT if is_text else header.INT
+            words = self._row_words
+            words[at], words[at + 1], words[at + 2], words[at + 3] = 0, EMPTY_AT, 0, kind
+
+    def _insert_filled(self, texts: list[bytes]) -> int:
+        """Inserts the row that was filled in, with these texts, and returns its place."""
+        code = self._fc_insert(self._at, self._row_at, self._width, self._place_at)
+        if code:
+            arguments = self._at, self._row_at, self._width, self._place_at
+            self._go_on(code, self._fc_insert, *arguments)
+        place = self._place.value
+        self._places = place + 1
+        self._live += 1
+        self._answer = None
+        return place
 
     def _in_order(self, row: Mapping[str, Any]) -> list[Any]:
         """Returns a row that is given by names in the order of the columns."""
@@ -120,15 +148,6 @@ class Editing:
         if absent:
             raise RowWidth(f"the row has no value of {', '.join(absent)}; None is a missing one")
         return [row[name] for name in self.schema]
-
-    def _refuse_row(self, row: Sequence[Any], error: Exception) -> None:
-        """Raises what is the matter with a row that no cells could be made of."""
-        if isinstance(error, Refused):
-            raise error
-        for name, kind, value in zip(self.schema.names, self.schema.kinds, row):
-            if value is not None and value is not NA:
-                (check_number if kind is int else check_text)(name, value)
-        raise error
 
     def set(self, place: int, column: str, value: Any) -> None:
         """Sets a cell; None makes it a missing one. A negative place counts from the end.
@@ -143,26 +162,62 @@ class Editing:
                 place = self._place_of(place)
             try:
                 index, is_text = self._by_name[column]
-                if value is None or value is NA:
+                if value is None:
                     cell = self._missing_at
                 elif is_text:
-                    text = value.encode()
-                    self._text.text_at, self._text.text_len = text, len(text)
+                    text = _encode(value)
+                    words = self._text_words
+                    words[1] = id(text) + BYTES_AT
+                    words[2] = len(text)
                     cell = self._text_at
                 else:
                     self._number_words[0] = value
                     cell = self._number_at
-            except (KeyError, TypeError, ValueError, AttributeError) as error:
-                self._refuse_cell(column, value, error)
-            code = self._fc_set(self._at, index, place, cell)
+                code = self._fc_set(self._at, index, place, cell)
+            except (KeyError, TypeError, ValueError, ArgumentError):
+                index, place, cell = self._odd_cell(place, column, value)
+                code = self._fc_set(self._at, index, place, cell)
             if code:
                 self._go_on(code, self._fc_set, self._at, index, place, cell)
             self._answer = None
 
-    def _refuse_cell(self, column: str, value: Any, error: Exception) -> None:
-        kind = self.schema[column]
-        (check_number if kind is int else check_text)(column, value)
-        raise error
+    def _odd_cell(self, place: int, column: str, value: Any) -> tuple[int, int, Any]:
+        """Returns an index, a place and a cell of other kinds than most; refuses what is none."""
+        index, kind = self.schema.index(column), self.schema[column]
+        if value is None or value is NA:
+            return index, index_of(place), self._missing_at
+        check(column, kind, value)
+        number, text = (index_of(value), b"") if kind is int else (0, _encode(value))
+        cell = header.Cell(number, text, len(text), self.schema.codes()[index])
+        return index, index_of(place), byref(cell)
+
+    def set_column(self, column: str, places: Any, values: Any = ...) -> None:
+        """Sets cells of a column at many places: the values in order, or one value for all.
+
+        Places are a list, an ``array``, a slice, an array of numpy or pandas, or a mask with a flag
+        for each place; a negative one counts from the end. Values come in all forms that
+        `extend_columns` takes. A dict or a Series of pandas has both: ``{place: value}``.
+
+        Nothing is set if a value does not fit the column, or a place is not there. If a cell is
+        refused for another reason (as its row was removed), those before it stay, and the
+        exception's ``cells_set`` counts them. Where much is away, sorted places are fastest.
+
+        >>> table.extend([("bread", 5), ("rye", 3), ("oat", 1)])
+        range(0, 3)
+        >>> table.set_column("quantity", [0, 2], [7, None])
+        >>> table.set_column("sku", {1: "RYE", -1: "OAT"})
+        >>> list(table)
+        [Row(sku='bread', quantity=7), Row(sku='RYE', quantity=3), Row(sku='OAT', quantity=None)]
+        """
+        if values is ...:
+            places, values = _setting.as_pairs(places)
+        with self._lock:
+            if not self._handle.is_open:
+                raise Closed()
+            try:
+                _setting.Cells(self, column, places, values).set()
+            finally:
+                self._answer = None
 
     def remove(self, place: int) -> None:
         """Removes a row. Its place is not used again. ``del table[place]`` does the same.
@@ -174,8 +229,7 @@ class Editing:
         (1, 2, 2)
         """
         with self._lock:
-            if not 0 <= place < self._places:
-                place = self._place_of(place)
+            place = self._place_of(place)
             code = self._fc_remove(self._at, place)
             if code:
                 self._go_on(code, self._fc_remove, self._at, place)
@@ -186,7 +240,8 @@ class Editing:
         """Returns a place that is there, counted from 0."""
         if not self._handle.is_open:
             raise Closed()
-        at = place + self._places if place < 0 else place
+        at = index_of(place)
+        at += self._places if at < 0 else 0
         if not 0 <= at < self._places:
             raise NoRow(place=place, places=self._places)
         return at

@@ -47,11 +47,15 @@ class Library:
     ``fast(name)`` is the same call without these types. ctypes then converts nothing, which saves
     half of a call's time. So arguments must be prepared objects of ctypes, or integers that the
     caller knows to fit 32 bits.
+
+    ``short(name)`` is such a call that keeps Python's own lock meanwhile. To give it up and to take
+    it again costs as much as what a call on one cell does.
     """
 
     def __init__(self, path: Path | str) -> None:
         self.path = Path(path)
         self._library = ctypes.CDLL(str(path))
+        self._under_lock = ctypes.PyDLL(str(path))
         for name, arguments in CALLS.items():
             call = self.fast(name)
             call.argtypes = arguments
@@ -60,8 +64,15 @@ class Library:
 
     def fast(self, name: str) -> Any:
         """Returns a call without the types of its arguments."""
+        return self._call(self._library, name)
+
+    def short(self, name: str) -> Any:
+        """Returns a call without the types of its arguments that keeps Python's own lock."""
+        return self._call(self._under_lock, name)
+
+    def _call(self, library: ctypes.CDLL, name: str) -> Any:
         try:
-            return self._library[name]
+            return library[name]
         except AttributeError:
             return _absent(self.path, name)
 

@@ -8,7 +8,7 @@ from dataclasses import dataclass
 from typing import TYPE_CHECKING, Any, Generic, Iterator, NamedTuple, Sequence, TypeVar, Union
 
 from . import _header as header
-from ._handle import EMPTY_AT
+from ._lines import LineReader
 from .errors import BadArgument, BadSpec, NoAggregate, Nothing, WrongKind
 from .schema import Schema
 
@@ -21,8 +21,6 @@ Test = tuple[str, str, Key]
 _NUMBER_OPS = {"==": 0, "=": 0, "!=": 1, "<": 2, "<=": 3, ">": 4, ">=": 5}
 _TEXT_OPS = {"==": 6, "=": 6, "^=": 7, "begins": 7}
 _MOST_TESTS = 4
-_MOST_INDICES = 100_000  # how many keys a Watched remembers the lines of
-_NO_KEY = bytes(header.Bytes(EMPTY_AT, 0))
 
 
 class Total(NamedTuple):
@@ -156,13 +154,7 @@ class Watched(Generic[Line]):
         self.table = table
         self.spec = spec
         self._number = number
-        self._line = header.LineStruct()
-        self._line_at = byref(self._line)
-        self._key_bytes = memoryview(self._line).cast("B")[:16]
-        self._words = memoryview(self._line).cast("B").cast("q")
-        self._key_kind = int if spec.by is None else table.schema[spec.by]
-        self._has_texts = self._key_kind is str
-        self._indices: dict[Key, int] = {}
+        self._key_kind = None if spec.by is None else table.schema[spec.by]
         self._struct: Any = None  # the spec as the library took it, for the script language
         self._sum = header.SumStruct()
         self._sum_at = byref(self._sum)
@@ -173,9 +165,9 @@ class Watched(Generic[Line]):
         handle = table._handle
         self._handle = handle
         self._at = handle.at
-        self._fast_line = handle.lib.fast("fc_line_at")
-        self._fast_ask = handle.lib.fast("fc_ask")
-        self._fast_plain = handle.lib.fast("fc_plain")
+        self._lines = LineReader(handle, self._fold, self._key_kind)
+        self._fc_ask = handle.lib.fast("fc_ask")
+        self._fc_plain = handle.lib.short("fc_plain")
 
     @property
     def number(self) -> int:
@@ -207,10 +199,10 @@ class Watched(Generic[Line]):
         self._need_no_key()
         with self.table._lock:
             if self._is_plain and self._number >= 0 and self.table._handle.is_open:
-                if not self._fast_plain(self._at, self._number, self._sum_at):
+                if not self._fc_plain(self._at, self._number, self._sum_at):
                     of = self._sum
                     return Total(of.count, (of.sum_high << 64) + of.sum_low)
-            return self._line_of(0)[1] if self._ask() else None
+            return self._lines.first(1)[0][1] if self._ask() else None
 
     def _need_no_key(self) -> None:
         if self.spec.by is not None:
@@ -252,65 +244,14 @@ class Watched(Generic[Line]):
 
     def get(self, key: Key, default: Any = None) -> Any:
         """Returns the line of a key, and the default if there is none."""
-        if self.spec.by is None:
+        if self._key_kind is None:
             raise Nothing("this aggregate has no keys: ask for its value")
         if not isinstance(key, self._key_kind):
             return default
         with self.table._lock:
-            lines = self._ask()
-            wanted: Any = key.encode() if isinstance(key, str) else key
-            index = self._indices.get(key, -1)  # where it was the last time
-            if 0 <= index < lines and self._key_at(index) == wanted:
-                return self._current()
-            found = self._search(wanted, lines)
-            if found < 0:
-                return default
-            if len(self._indices) >= _MOST_INDICES:
-                self._indices.clear()
-            self._indices[key] = found
-            return self._current()
-
-    def _search(self, wanted: Any, lines: int) -> int:
-        """Finds a key by halving, since lines are sorted; its line is then the one last read."""
-        low, high = 0, lines
-        while low < high:
-            middle = (low + high) // 2
-            at = self._key_at(middle)
-            if at == wanted:
-                return middle
-            if at < wanted:
-                low = middle + 1
-            else:
-                high = middle
-        return -1
-
-    def _key_at(self, index: int) -> Any:
-        """Reads a line, and returns its key as the library has it."""
-        self._read(index)
-        words = self._words
-        return ctypes.string_at(words[0], words[1]) if self._has_texts else words[2]
-
-    def _read(self, index: int) -> None:
-        self._key_bytes[:] = _NO_KEY
-        code = self._fast_line(self._at, index, self._line_at)
-        if code:
-            raise self._handle.refusal(code)
-
-    def _current(self) -> Any:
-        line = self._line
-        if line.fold == header.TOTALS:
-            return Total(line.count, (line.sum_high << 64) + line.sum_low)
-        return MinMax(line.min, line.max)
-
-    def _line_of(self, index: int) -> tuple[Key, Line]:
-        self._read(index)
-        line = self._line
-        key: Any = None
-        if line.key_kind == header.TEXT:
-            key = ctypes.string_at(line.key_at, line.key_len).decode()
-        elif line.key_kind == header.INT:
-            key = line.key_number
-        return key, self._current()
+            self._ask()
+            found = self._lines.find(key)
+            return default if found is None else found
 
     def _ask(self) -> int:
         """Has the answer stay in the handle, unless it is there; returns how many lines it has."""
@@ -318,17 +259,17 @@ class Watched(Generic[Line]):
         if table._answer is self:
             return self._size.value
         number = self.number
-        code = self._fast_ask(self._at, number, self._size_at)
+        code = self._fc_ask(self._at, number, self._size_at)
         if code:
             table._build_for(self, code)
-            self._handle.check(self._fast_ask(self._at, number, self._size_at))
+            self._handle.check(self._fc_ask(self._at, number, self._size_at))
         table._answer = self
         return self._size.value
 
     def lines(self) -> list[tuple[Key, Line]]:
         """Returns all keys with their lines, sorted: numbers by value, texts by their bytes."""
         with self.table._lock:
-            return [self._line_of(index) for index in range(self._ask())]
+            return self._lines.first(self._ask())
 
     def items(self) -> list[tuple[Key, Line]]:
         """Returns all keys with their lines, sorted; one answer of one moment."""
@@ -360,11 +301,10 @@ class Watched(Generic[Line]):
         """Returns the answer as a DataFrame of pandas, with the keys as its index."""
         import pandas  # type: ignore[import]
 
-        lines = self.lines()
-        index = pandas.Index([key for key, _ in lines], name=self.spec.by)
-        rows: list[Any] = [tuple(line) for _, line in lines]
-        frame = pandas.DataFrame(rows, columns=list(self._fold._fields), index=index)
-        return frame if self.spec.by is not None else frame.reset_index(drop=True)
+        keys, lines = zip(*self.lines()) if len(self) else ((), ())
+        columns = {name: [line[at] for line in lines] for at, name in enumerate(self._fold._fields)}
+        index = None if self.spec.by is None else pandas.Index(keys, name=self.spec.by)
+        return pandas.DataFrame(columns, index=index)
 
     def _repr_html_(self) -> str:
         from .display import answer_as_html
@@ -379,7 +319,7 @@ class Watched(Generic[Line]):
             if pending:
                 return f"<{self.spec!r}, {pending:,} row groups pending>"
             count = self._ask()
-            shown = [self._line_of(index) for index in range(min(count, 10))]
+            shown = self._lines.first(min(count, 10))
         if self.spec.by is None:
             return f"<{self.spec!r}: {shown[0][1] if shown else None}>"
         said: list[str] = [f"  {key!r}: {line}" for key, line in shown]

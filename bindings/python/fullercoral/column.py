@@ -25,6 +25,14 @@ class Column:
     range(0, 3)
     >>> table["sku"][1:], table["quantity"][0], table["quantity"].to_list()
     (['rye', 'oat'], 5, [5, None, 1])
+
+    An assignment sets cells: ``column[place] = value``; ``column[places] = values``, or one value
+    for all of them. Places are a slice, a list, an array, or a mask, as in `Table.set_column`.
+
+    >>> table["quantity"][1:] = [3, 2]
+    >>> table["quantity"][[0, -1]] = 7
+    >>> table["quantity"].to_list()
+    [7, 3, 7]
     """
 
     def __init__(self, table: Table, name: str) -> None:
@@ -53,6 +61,12 @@ class Column:
             start, stop = stop + 1, start + 1
         part = self._part(start, max(start, stop))
         return part if step == 1 else part[::step]
+
+    def __setitem__(self, place: Any, value: Any) -> None:
+        if hasattr(place, "__index__") and not hasattr(place, "__len__"):
+            self.table.set(place.__index__(), self.name, value)
+        else:
+            self.table.set_column(self.name, place, value)
 
     def _at(self, place: int) -> Value:
         table = self.table

@@ -65,9 +65,17 @@ class Refused(Exception):
         """How many rows of many went in before the one that was refused, or None."""
         return self.details.get("inserted")
 
+    @property
+    def cells_set(self) -> int | None:
+        """How many cells of many were set before the one that was refused, or None."""
+        return self.details.get("cells_set")
+
     def __str__(self) -> str:
-        inserted = self.details.get("inserted")
-        behind = "" if inserted is None else f"; {inserted:,} rows went in before"
+        behind = ""
+        if self.inserted is not None:
+            behind = f"; {self.inserted:,} rows went in before"
+        elif self.cells_set is not None:
+            behind = f"; {self.cells_set:,} cells were set before"
         return f"{self.sentence}{behind} [{self.number}]"
 
     def __reduce__(self) -> Any:
@@ -127,7 +135,8 @@ class WrongKind(Refused, TypeError):
             return f"column {self.column} has {kind}, which this does not fit"
         value = repr(self.details["value"])
         shown = value if len(value) <= 60 else value[:57] + "..."
-        return f"column {self.column} has {kind}, and {shown} is none"
+        where = "" if self.place is None else f" for place {self.place}"
+        return f"column {self.column} has {kind}, and {shown}{where} is none"
 
 
 class RowWidth(Refused, ValueError):
@@ -142,6 +151,12 @@ class TextTooLong(Refused, ValueError):
 
     number = 7
     text = "a text has more than 4,096 bytes"
+
+    def _sentence(self) -> str:
+        if "value" not in self.details:
+            return self.text
+        where, length = f"place {self.place} of column {self.column}", len(self.details["value"])
+        return f"the text for {where} has {length:,} characters, and more than 4,096 bytes"
 
 
 class NoRow(Refused, IndexError):
@@ -310,6 +325,13 @@ class NoUtf8(Refused, ValueError):
 
     number = 102
     text = "a text has no form in UTF-8"
+
+    def _sentence(self) -> str:
+        if self.column is None:
+            return self.text
+        where = "" if self.place is None else f" for place {self.place}"
+        value = f"{self.details['value']!r:.60}"
+        return f"column {self.column}: {value}{where} holds half of a surrogate pair"
 
 
 class BadArgument(Refused, ValueError):

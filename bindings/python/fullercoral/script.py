@@ -445,8 +445,7 @@ class Script:
 def _answer_text(watched: Watched[Any], lines: int) -> str:
     """Returns the answer that stays in the handle, as a script shows it."""
     shown = []
-    for index in range(lines):
-        key, line = watched._line_of(index)
+    for key, line in watched._lines.first(lines):
         first = "" if key is None else record_text([key]) + " "
         said = " ".join(f"{name} {value}" for name, value in zip(line._fields, line))
         shown.append(first + said)

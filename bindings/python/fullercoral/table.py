@@ -5,7 +5,7 @@ from __future__ import annotations
 import os
 import threading
 from collections import namedtuple
-from ctypes import byref, c_bool, string_at
+from ctypes import byref, c_bool
 from types import TracebackType
 from typing import Any, Iterator, Sequence, Union, overload
 
@@ -13,6 +13,7 @@ from . import _header as header
 from . import display
 from ._editing import Editing, Progress
 from ._handle import EMPTY_AT, Handle
+from ._lent import lent_text
 from ._moving import Moving
 from ._reading import Reader
 from .aggregates import Key, Spec, Watched, spec_struct
@@ -87,14 +88,15 @@ class Table(Editing, Moving):
         """Makes what every reading of a row uses again."""
         no_cell = bytes(8) + bytes(header.Bytes(EMPTY_AT, 0)) + bytes(8)
         self._no_lent = no_cell * self._width
-        self._lent = (header.Cell * self._width).from_buffer_copy(self._no_lent)
-        self._lent_at = byref(self._lent)
-        self._lent_bytes = memoryview(self._lent).cast("B")
+        lent = (header.Cell * self._width).from_buffer_copy(self._no_lent)
+        self._lent_at = byref(lent)
+        self._lent_bytes = memoryview(lent).cast("B")
         self._lent_words = self._lent_bytes.cast("q")
+        self._lent_texts = [lent_text(cell, header.Cell.text_at.offset) for cell in lent]
         self._alive = c_bool()
         self._alive_at = byref(self._alive)
         lib = self._handle.lib
-        self._fc_row, self._fc_is_alive = lib.fast("fc_row"), lib.fast("fc_is_alive")
+        self._fc_row, self._fc_is_alive = lib.short("fc_row"), lib.short("fc_is_alive")
 
     # Its end
 
@@ -179,8 +181,7 @@ class Table(Editing, Moving):
 
     def _read_row(self, place: int) -> Any:
         with self._lock:
-            if not 0 <= place < self._places:
-                place = self._place_of(place)
+            place = self._place_of(place)
             self._lent_bytes[:] = self._no_lent
             arguments = self._at, place, self._lent_at, self._width
             code = self._fc_row(*arguments)
@@ -190,17 +191,16 @@ class Table(Editing, Moving):
                 self._handle.check(self._fc_row(*arguments))
             words: Any = self._lent_words
             row: list[Value] = []
-            for at in range(0, 4 * self._width, 4):
-                kind = words[at + 3] & 0xFFFFFFFF
+            for at, text in enumerate(self._lent_texts):
+                kind = words[4 * at + 3] & 0xFFFFFFFF
                 if kind == header.INT:
-                    row.append(words[at])
-                elif kind == header.TEXT:
-                    row.append(string_at(words[at + 1], words[at + 2]).decode())
+                    row.append(words[4 * at])
                 else:
-                    row.append(None)
-            self._handle.check(self._fc_is_alive(self._at, place, self._alive_at))
-            if not self._alive.value:
-                raise RemovedRow(place=place)
+                    row.append(text() if kind == header.TEXT else None)
+            if self._live < self._places:
+                self._handle.check(self._fc_is_alive(self._at, place, self._alive_at))
+                if not self._alive.value:
+                    raise RemovedRow(place=place)
             return self._Row._make(row)
 
     def __delitem__(self, place: int) -> None:
@@ -326,7 +326,7 @@ class Table(Editing, Moving):
             absent = self._mover.absent_of(watched.spec.columns())
             if absent is None:
                 handle.check(handle.lib.fc_recount(handle.at, number, watched._size_at))
-                return dict(watched._line_of(index) for index in range(watched._size.value))
+                return dict(watched._lines.first(watched._size.value))
             if self.policy is None:
                 raise Absent(column=absent[0], group=absent[1])
             beside = self.watch(watched.spec)

@@ -2,6 +2,7 @@
 
 from __future__ import annotations
 
+import random
 import tempfile
 import unittest
 from pathlib import Path
@@ -63,6 +64,25 @@ class Aggregates(unittest.TestCase):
                     wrong()
             with self.assertRaises(AttributeError):
                 plain.min
+
+    def test_each_of_many_keys_is_found_and_no_other(self) -> None:
+        draw = random.Random(9)
+        texts = {"", "a", "a\0", "é", "日本", "x" * 4096, *(f"sku{n}" for n in range(500))}
+        numbers = {0, -1, 2**63 - 1, -(2**63), *(draw.randrange(-999, 999) for _ in range(500))}
+        for kind, keys in ((str, texts), (int, numbers)):
+            with fc.Table({"key": kind, "n": int}, local="4MB") as table:
+                shuffled: list[Any] = draw.sample(sorted(keys), len(keys))
+                table.extend_columns(key=shuffled, n=range(len(shuffled)))
+                by_key = table.watch(fc.totals("n", by="key"))
+                for n, key in enumerate(shuffled):
+                    self.assertEqual(by_key[key], fc.Total(1, n))
+                in_order = sorted(keys, key=lambda key: key.encode() if kind is str else key)
+                self.assertEqual(by_key.keys(), in_order)
+                for absent in ("b", "a\0\0", "sku", "x" * 4097, "\ud800", 1000, 2**63, 2**70, None):
+                    self.assertNotIn(absent, by_key)
+                    self.assertEqual(by_key.get(absent, "none"), "none")
+                table.set_column("n", range(10), [-n for n in range(10)])
+                self.assertEqual(by_key[shuffled[7]], fc.Total(1, -7))
 
     def test_sums_are_exact_beyond_64_bits(self) -> None:
         with fc.Table({"n": int}, local="1MB") as table:

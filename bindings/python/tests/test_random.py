@@ -118,6 +118,30 @@ class Run:
         self.table.set(place, name, value)
         self.plain.set(place, name, _none([value])[0])
 
+    def do_set_column(self) -> None:
+        name, rows = self.random.choice(list(KINDS)), len(self.plain.rows)
+        places = [self.place() for _ in range(self.random.randrange(30))]
+        values = [self.value(name) for _ in places]
+        due: type[fc.Refused] | None = None
+        if any(place >= rows for place in places):
+            due, many = fc.errors.NoRow, 0
+        else:
+            gone = [at for at, place in enumerate(places) if self.plain.rows[place] is None]
+            due, many = (fc.errors.RemovedRow, gone[0]) if gone else (None, len(places))
+        done = 0
+        try:
+            said = [place - rows if place % 2 and place < rows else place for place in places]
+            self.table.set_column(name, said, values)
+            done = len(places)
+        except fc.Refused as error:
+            done = error.cells_set or 0
+            if due is None or not isinstance(error, due):
+                raise
+        finally:
+            for place, value in zip(places[:done], _none(values)):
+                self.plain.set(place, name, value)
+        self.same(done, many)
+
     def do_remove(self) -> None:
         place = self.place()
         try:
@@ -215,8 +239,8 @@ class Run:
 
 
 _WEIGHTS = {
-    "append": 30, "extend": 8, "set": 40, "remove": 12, "row": 20, "part": 12, "ask": 12,
-    "watch": 3, "evict": 12, "fetch": 10, "recount": 4, "all_rows": 2, "pin": 4,
+    "append": 30, "extend": 8, "set": 40, "set_column": 8, "remove": 12, "row": 20, "part": 12,
+    "ask": 12, "watch": 3, "evict": 12, "fetch": 10, "recount": 4, "all_rows": 2, "pin": 4,
 }  # fmt: skip
 
 

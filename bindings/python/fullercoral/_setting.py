@@ -1,0 +1,101 @@
+"""Cells of a column at many places, which one call of the library sets."""
+
+from __future__ import annotations
+
+from ctypes import byref, c_size_t
+from typing import TYPE_CHECKING, Any, Mapping
+
+from . import _header as header
+from ._buffers import ColumnBuffer, address_of, column_buffer, repeated
+from ._places import place_buffer
+from .errors import BadArgument, NoUtf8, Refused, WrongKind
+from .policy import Helper
+
+if TYPE_CHECKING:
+    from ._editing import Editing
+
+_CELLS_AT_ONCE = 1 << 13  # a multiple of 8, for the masks
+
+
+def as_pairs(places: Any) -> tuple[Any, Any]:
+    """Returns the places and the values of a mapping, or of a Series of pandas."""
+    if isinstance(places, Mapping):
+        return list(places.keys()), list(places.values())
+    if hasattr(places, "to_numpy") and hasattr(places, "index"):
+        return places.index, places
+    raise BadArgument("give places with their values: a mapping or a Series, or values behind them")
+
+
+def is_one(values: Any) -> bool:
+    """Whether one value is given for all places."""
+    is_many = hasattr(values, "__len__") or hasattr(values, "__iter__")
+    return isinstance(values, str) or not is_many
+
+
+class Cells:
+    """Values for places of a column of a table. The caller holds the table's lock."""
+
+    def __init__(self, table: Editing, column: str, places: Any, values: Any) -> None:
+        self._table = table
+        self._name = column
+        self._column = table.schema.index(column)
+        self._places = place_buffer(places, table._places)
+        self._kept = memoryview(self._places)  # so no other thread gives it another length
+        self._count = len(self._places)
+        self._values = self._buffer(table.schema.kinds[self._column], values)
+        self._done = 0
+
+    def _buffer(self, kind: type, values: Any) -> ColumnBuffer:
+        if is_one(values):
+            return repeated(self._name, kind, values, self._count)
+        try:
+            buffer = column_buffer(self._name, kind, values)
+        except (WrongKind, NoUtf8) as error:
+            details = dict(error.details)
+            row = details.pop("row", self._count)
+            if row < self._count:
+                details["place"] = int(self._places[row])
+            raise type(error)(**details) from None
+        if buffer.length != self._count:
+            given = f"{buffer.length:,} values are given for {self._count:,} places"
+            raise BadArgument(f"{given} of column {self._name}")
+        return buffer
+
+    def set(self) -> None:
+        """Sets all of them in order; the policy helps, and what was set stays."""
+        try:
+            while self._done < self._count:
+                code = self._set_some()
+                if code:
+                    self._set_one(code)
+        except Refused as error:
+            error.details["cells_set"] = self._done
+            raise
+
+    def _set_one(self, code: int) -> None:
+        """Has the policy help until the next cell is set, which was refused with a code."""
+        mover, before = self._table._mover, self._done
+        with Helper(mover, self._table.policy) as helper:
+            while code and self._done == before:
+                if not helper.has_helped(code):
+                    raise self._refusal(code)
+                mover.counters.retries += 1
+                code = self._set_some()
+
+    def _set_some(self) -> int:
+        """Sets the next cells until one is refused; returns the code."""
+        start, handle = self._done, self._table._handle
+        stop = min(start + _CELLS_AT_ONCE, self._count)
+        values, done = header.ColumnStruct(), c_size_t()
+        kept = self._values.fill(values, start, stop)
+        places = address_of(self._places) + 4 * start
+        about = self._column, places, stop - start, byref(values), byref(done)
+        code = int(handle.lib.fc_set_column(handle.at, *about))
+        del kept
+        self._done += done.value
+        return code
+
+    def _refusal(self, code: int) -> Refused:
+        place, value = int(self._places[self._done]), self._values.value(self._done)
+        more = {"column": self._name, "place": place, "value": value}
+        return self._table._handle.refusal(code, **more)

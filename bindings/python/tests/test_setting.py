@@ -1,0 +1,371 @@
+"""Many cells of a column at once: all forms of places and values, refusals, and what is away."""
+
+from __future__ import annotations
+
+import random
+import unittest
+from array import array
+from typing import Any
+
+import fullercoral as fc
+from fullercoral import errors
+from fullercoral._buffers import BYTES_AT, address_of
+
+from .engines import Faulty
+
+try:
+    import numpy
+except ImportError:
+    numpy = None  # type: ignore[assignment]
+try:
+    import pandas
+except ImportError:
+    pandas = None  # type: ignore[assignment]
+
+KINDS = {"sku": str, "quantity": int}
+SMALL = fc.Limits(group=16, int_segments=4, int_size=16, text_segments=4, text_size=1024)
+ROWS = 10
+
+
+class Case(unittest.TestCase):
+    def setUp(self) -> None:
+        self.table = fc.Table(KINDS, local="1MB")
+        self.addCleanup(self.table.close)
+        self.table.extend((f"sku{n}", n) for n in range(ROWS))
+
+    def sets(self, places: Any, values: Any, due: dict[int, Any], column: str = "quantity") -> None:
+        """Sets cells, finds those that are due and no other changed, and sets them back."""
+        before = self.table[column].to_list()
+        with self.subTest(places=type(places), values=type(values)):
+            self.table.set_column(column, places, values)
+            after = [due.get(place, value) for place, value in enumerate(before)]
+            self.assertEqual(self.table[column].to_list(), after)
+        self.table.set_column(column, range(ROWS), before)
+
+    def refused(self, kind: type[fc.Refused], said: str, *arguments: Any) -> fc.Refused:
+        with self.subTest(said=said), self.assertRaises(kind) as caught:
+            self.table.set_column(*arguments)
+        self.assertIn(said, str(caught.exception))
+        return caught.exception
+
+    def as_at_first(self) -> None:
+        self.assertEqual(list(self.table), [(f"sku{n}", n) for n in range(ROWS)])
+
+
+class Places(Case):
+    def test_sequences(self) -> None:
+        due = {7: 70, 2: 20}
+        for places in ([7, 2], (7, 2), iter([7, 2]), [-3, -8], [-3, 2], array("q", [7, 2])):
+            self.sets(places, [70, 20], due)
+        for typecode in "IHbB":
+            self.sets(array(typecode, [7, 2]), [70, 20], due)
+        self.sets(memoryview(array("I", [7, 2])), [70, 20], due)
+        self.sets(memoryview(array("I", [7, 0, 2]))[::2], [70, 20], due)
+        self.sets(bytes([7, 2]), [70, 20], due)
+        self.sets(range(7, 1, -5), [70, 20], due)
+        self.sets(slice(2, 8, 5), [20, 70], due)
+        self.sets(slice(None), range(90, 100), dict(zip(range(ROWS), range(90, 100))))
+        self.sets([], [], {})
+        self.sets(slice(5, 2), [], {})
+
+    def test_masks(self) -> None:
+        mask = [place in (2, 7) for place in range(ROWS)]
+        self.sets(mask, [20, 70], {7: 70, 2: 20})
+        self.sets(tuple(mask), 5, {7: 5, 2: 5})
+        self.refused(errors.BadArgument, "2 flags, and the table has 10", "quantity", mask[:2], 5)
+        self.refused(errors.BadArgument, "7 is none", "quantity", [*mask[:-1], 7], 5)
+
+    def test_the_last_of_a_place_counts(self) -> None:
+        self.sets([3, 3, 3], [1, None, 33], {3: 33})
+
+    def test_a_mapping_has_both(self) -> None:
+        self.table.set_column("sku", {7: "seven", -1: None})
+        self.assertEqual(self.table["sku"][7:], ["seven", "sku8", None])
+        self.refused(errors.BadArgument, "a mapping or a Series", "quantity", [1, 2])
+
+    def test_places_that_are_none(self) -> None:
+        for place in (10, -11, 2**32, 2**70, -(2**70)):
+            error = self.refused(errors.NoRow, "the last one is 9", "quantity", [1, place], [5, 5])
+            self.assertEqual((error.place, error.cells_set), (place, None))
+        self.refused(errors.BadArgument, "'x' is none", "quantity", ["x"], [5])
+        self.refused(errors.BadArgument, "1.5 is none", "quantity", [1, 1.5], [5, 5])
+        self.refused(errors.BadArgument, "None is none", "quantity", [None], [5])
+        self.as_at_first()
+
+
+class Values(Case):
+    def test_numbers(self) -> None:
+        ends = [2**63 - 1, -(2**63)]
+        self.sets([0, 9], ends, dict(zip([0, 9], ends)))
+        self.sets([0, 9], array("q", ends), dict(zip([0, 9], ends)))
+        self.sets([0, 9], [None, fc.NA], {0: None, 9: None})
+        self.sets([0, 9], (value for value in (5, None)), {0: 5, 9: None})
+
+    def test_texts(self) -> None:
+        self.sets([0, 9, 4], ["", "é", "x" * 4096], {0: "", 9: "é", 4: "x" * 4096}, "sku")
+        self.sets([0, 9], [None, "日本"], {0: None, 9: "日本"}, "sku")
+
+    def test_one_value_for_all(self) -> None:
+        self.sets([0, 9], 7, {0: 7, 9: 7})
+        self.sets([0, 9], None, {0: None, 9: None})
+        self.sets(slice(0, 9), fc.NA, dict.fromkeys(range(9)))
+        self.sets([0, 9], "日本", {0: "日本", 9: "日本"}, "sku")
+        self.sets([0, 9], None, {0: None, 9: None}, "sku")
+        self.sets([], 7, {})
+
+    def test_many_with_missing_ones_between(self) -> None:
+        draw = random.Random(7)
+        self.table.extend((f"sku{n}", n) for n in range(ROWS, 30_000))
+        places = draw.sample(range(30_000), 20_003)
+        numbers = [draw.choice([None, draw.randrange(10**6)]) for _ in places]
+        texts = [draw.choice([None, "", f"text {n % 97}", "é"]) for n in places]
+        sold = self.table.watch(fc.totals("quantity", by="sku"))
+        sold.items()
+        for column, values in (("quantity", numbers), ("sku", texts)):
+            due: list[Any] = self.table[column].to_list()
+            self.table.set_column(column, places, values)
+            for place, value in zip(places, values):
+                due[place] = value
+            self.assertEqual(self.table[column].to_list(), due)
+            self.assertEqual(sold.to_dict(), self.table.recount(sold))
+
+    def test_what_does_not_fit_is_named_and_nothing_is_set(self) -> None:
+        def refused(kind: type[fc.Refused], said: str, *arguments: Any) -> None:
+            error = self.refused(kind, said, *arguments)
+            self.assertEqual((error.place, error.cells_set), (4, None))
+
+        wrong, places = errors.WrongKind, [0, 4]
+        refused(wrong, "quantity has whole numbers of 64 bits, and 'x' for place 4 is none",
+                "quantity", places, [1, "x"])  # fmt: skip
+        refused(wrong, "1.5 for place 4", "quantity", places, [None, 1.5])
+        refused(wrong, f"{2**63} for place 4", "quantity", [-10, -6], [1, 2**63])
+        refused(wrong, "column sku has texts, and 5 for place 4", "sku", places, ["x", 5])
+        refused(wrong, "b'x' for place 4", "sku", places, [None, b"x"])
+        refused(errors.NoUtf8, "for place 4 holds half", "sku", places, ["x", "\ud800"])
+        self.refused(wrong, "'x' is none", "quantity", places, "x")
+        self.refused(wrong, "1.5 is none", "quantity", places, 1.5)
+        self.refused(wrong, "5 is none", "sku", places, 5)
+        self.refused(errors.NoColumn, "no column 'prize'", "prize", places, 5)
+        self.as_at_first()
+
+    def test_as_many_values_as_places(self) -> None:
+        for values in ([], [1], [1, 2, 3], array("q", [1, 2, 3]), (1,)):
+            said = f"{len(values)} values are given for 2 places of column quantity"
+            self.refused(errors.BadArgument, said, "quantity", [0, 1], values)
+        self.refused(errors.BadArgument, "1 values", "sku", slice(0, 2), ["x"])
+        self.as_at_first()
+
+
+class Refusals(Case):
+    def ended(self, kind: type[fc.Refused], said: str, *arguments: Any) -> None:
+        error = self.refused(kind, said, *arguments)
+        self.assertIn("; 2 cells were set before", str(error))
+        self.assertEqual((error.cells_set, error.place, error.inserted), (2, 4, None))
+
+    def test_those_before_stay(self) -> None:
+        table, places = self.table, [1, 2, 4, 5]
+        self.ended(errors.TextTooLong, "for place 4 of column sku has 4,097 characters",
+                   "sku", places, ["a", "b", "x" * 4097, "c"])  # fmt: skip
+        self.assertEqual(table["sku"][1:6], ["a", "b", "sku3", "sku4", "sku5"])
+        table.remove(4)
+        self.ended(errors.RemovedRow, "the row of place 4 was removed", "quantity", places, 70)
+        self.assertEqual(table["quantity"].to_list()[1:6], [70, 70, 3, None, 5])
+        sold = table.watch(fc.totals("quantity"))
+        self.assertEqual(sold.sum, sum(range(ROWS)) - 4 - 3 + 140)
+
+    def test_too_many_bytes_of_few_characters(self) -> None:
+        self.ended(errors.TextTooLong, "2,049 characters, and more than 4,096 bytes",
+                   "sku", [1, 2, 4], ["a", "b", "é" * 2049])  # fmt: skip
+
+    def test_the_limit_of_edits(self) -> None:
+        limits = fc.Limits(16, 4, 16, 4, 1024, edits=12)
+        with fc.Table(KINDS, limits=limits) as table:
+            table.extend((f"sku{n}", n) for n in range(ROWS))
+            with self.assertRaises(errors.EditsUsedUp) as caught:
+                table.set_column("quantity", slice(None), 7)
+            self.assertEqual((caught.exception.cells_set, caught.exception.place), (2, 2))
+            self.assertEqual(table["quantity"].to_list(), [7, 7, *range(2, ROWS)])
+
+    def test_texts_that_fit_no_segment(self) -> None:
+        with fc.Table(KINDS, limits=SMALL) as table:
+            table.extend((f"sku{n}", n) for n in range(16))
+            with self.assertRaises(errors.ChunkFull) as caught:
+                table.set_column("sku", range(16), "x" * 300)
+            done = caught.exception.cells_set
+            self.assertTrue(0 < done < 16)
+            self.assertEqual(table["sku"][done - 1 : done + 1], ["x" * 300, f"sku{done}"])
+
+    def test_a_closed_table(self) -> None:
+        self.table.close()
+        for places in ([0], []):
+            self.refused(errors.Closed, "closed", "quantity", places, 7)
+
+
+class Away(unittest.TestCase):
+    def filled(self, rows: int = 400, **options: Any) -> fc.Table:
+        table = fc.Table(KINDS, limits=SMALL, **options)
+        self.addCleanup(table.close)
+        table.extend((f"sku{n % 5}", n) for n in range(rows))
+        return table
+
+    def test_the_policy_fetches_and_evicts_on_the_way(self) -> None:
+        table, draw = self.filled(), random.Random(3)
+        sold = table.watch(fc.totals("quantity", by="sku"))
+        sold.items()
+        places = [draw.randrange(400) for _ in range(1000)]
+        values = [draw.randrange(1000) for _ in places]
+        due = list(range(400))
+        for order in (sorted(range(1000), key=lambda at: places[at]), range(1000)):
+            fetches = table.stats().moved.fetches
+            table.set_column("quantity", [places[at] for at in order], [values[at] for at in order])
+            for at in order:
+                due[places[at]] = values[at]
+            self.assertEqual(table["quantity"].to_list(), due)
+            self.assertEqual(sold.to_dict(), table.recount(sold))
+            self.assertGreater(table.stats().moved.fetches, fetches + 20)
+        self.assertEqual(table.map().counts()["pinned"], 0)
+        table.set_column("sku", range(400), "rye")
+        self.assertEqual(sold.to_dict(), {"rye": fc.Total(400, sum(due))})
+
+    def test_an_object_that_is_away_ends_it_without_policy(self) -> None:
+        table = self.filled(48, policy=None)
+        table.evict("sku", 1)
+        with self.assertRaises(errors.Absent) as caught:
+            table.set_column("quantity", [0, 1, 17, 2], [70, 71, 72, 73])
+        error = caught.exception
+        self.assertEqual((error.column, error.group, error.place), ("sku", 1, 17))
+        self.assertIn("column sku is away in row group 1", str(error))
+        self.assertIn("2 cells were set before", str(error))
+        self.assertEqual(table["quantity"].to_list()[:3], [70, 71, 2])
+        table.fetch("sku", 1)
+        table.set_column("quantity", [17, 2], [72, 73])
+        self.assertEqual(table["quantity"].to_list()[17], 72)
+
+    def test_an_engine_that_fails_ends_it_and_nothing_is_lost(self) -> None:
+        engine = Faulty(1, 0.0)
+        table = self.filled(48, far=engine)
+        table.evict("quantity", 1)
+        engine.chance = 1.0
+        with self.assertRaises(fc.FarFault) as caught:
+            table.set_column("quantity", [0, 17], [70, 72])
+        self.assertEqual(caught.exception.cells_set, 1)
+        engine.chance = 0.0
+        table.set_column("quantity", [17], [72])
+        self.assertEqual(table["quantity"].to_list(), [70, *range(1, 17), 72, *range(18, 48)])
+
+
+class Assignment(Case):
+    def test_as_numpy_has_it(self) -> None:
+        quantity, sku = self.table["quantity"], self.table["sku"]
+        quantity[0] = 70
+        quantity[-1] = None
+        quantity[1:3] = [71, 72]
+        quantity[[4, 3]] = (74, 73)
+        quantity[5:9:2] = 0
+        sku[8:] = "end"
+        sku[[place == 7 for place in range(ROWS)]] = ["seven"]
+        self.assertEqual(quantity.to_list(), [70, 71, 72, 73, 74, 0, 6, 0, 8, None])
+        self.assertEqual(sku[6:], ["sku6", "seven", "end", "end"])
+        with self.assertRaises(errors.NoRow):
+            quantity[10] = 7
+        with self.assertRaises(errors.BadArgument):
+            quantity[0:3] = [1, 2]
+
+    @unittest.skipUnless(numpy, "skipped: numpy is not installed")
+    def test_in_place(self) -> None:
+        self.table["quantity"][2:5] *= 10
+        self.table["quantity"][numpy.array([0, 9])] = numpy.array([5, 6])
+        self.assertEqual(self.table["quantity"].to_list(), [5, 1, 20, 30, 40, 5, 6, 7, 8, 6])
+
+
+@unittest.skipUnless(numpy, "skipped: numpy is not installed")
+class Numpy(Case):
+    def test_places(self) -> None:
+        due = {7: 70, 2: 20}
+        for kind in ("int64", "uint32", "uint64", "int8", "uint8", ">i4", object):
+            self.sets(numpy.array([7, 2], dtype=kind), [70, 20], due)
+        self.sets(numpy.array([-3, 2]), [70, 20], due)
+        self.sets(numpy.array([7, 0, 2, 0])[::2], [70, 20], due)
+        self.sets(numpy.array([], dtype="int64"), [], {})
+        mask = numpy.zeros(ROWS, dtype=bool)
+        mask[[2, 7]] = True
+        self.sets(mask, [20, 70], due)
+        self.refused(errors.BadArgument, "9 flags", "quantity", mask[:9], 5)
+        self.refused(errors.BadArgument, "2 dimensions", "quantity", numpy.zeros((1, 1), int), 5)
+        self.refused(errors.BadArgument, "1.5 is none", "quantity", numpy.array([1.5]), 5)
+        for place, kind in ((10, "int64"), (-11, "int8"), (2**64 - 1, "uint64"), (200, "uint8")):
+            places = numpy.array([0, place], dtype=kind)
+            error = self.refused(errors.NoRow, "the last one is 9", "quantity", places, 5)
+            self.assertEqual(error.place, place)
+        self.as_at_first()
+
+    def test_values(self) -> None:
+        due = {7: 70, 2: None}
+        self.sets([7, 2], numpy.ma.array([70, 1], mask=[False, True]), due)
+        self.sets([7, 2], numpy.array([70, numpy.nan]), due)
+        self.sets([7, 2], numpy.array([70, 20], dtype="uint16"), {7: 70, 2: 20})
+        self.sets([7, 2], numpy.int32(5), {7: 5, 2: 5})
+        self.sets([7, 2], numpy.array(["a", "é"]), {7: "a", 2: "é"}, "sku")
+        for values in (numpy.array([1, 1.5]), numpy.array([1, 2**63], dtype="uint64")):
+            error = self.refused(errors.WrongKind, "for place 2", "quantity", [7, 2], values)
+            self.assertEqual(error.place, 2)
+        self.as_at_first()
+
+    def test_a_place_of_numpy(self) -> None:
+        table, place = self.table, numpy.int64(3)
+        table.set(place, "quantity", 33)
+        table.set(place, "sku", None)
+        self.assertEqual((table[place], table["quantity"][place]), ((None, 33), 33))
+        table["quantity"][place] = 34
+        self.assertTrue(table.is_alive(place))
+        table.remove(place)
+        self.assertFalse(table.is_alive(place))
+
+
+@unittest.skipUnless(pandas, "skipped: pandas is not installed")
+class Pandas(Case):
+    def test_series(self) -> None:
+        due = {7: 70, 2: None}
+        self.sets(pandas.Series([7, 2]), pandas.Series([70, None], dtype="Int64"), due)
+        self.sets(pandas.Index([7, 2]), pandas.Series([70, None]), due)
+        mask = pandas.Series(range(ROWS)).isin([2, 7])
+        self.sets(mask, [20, 70], {2: 20, 7: 70})
+        self.sets(mask.astype("boolean"), [20, 70], {2: 20, 7: 70})
+        self.sets([7, 2], pandas.Series(["a", None]), {7: "a", 2: None}, "sku")
+
+    def test_a_frame_goes_back_where_it_came_from(self) -> None:
+        self.table.remove(4)
+        frame = self.table.to_pandas()
+        sold = frame[frame.quantity > 5].quantity * 10
+        self.table.set_column("quantity", sold)
+        self.assertEqual(list(self.table["quantity"]), [0, 1, 2, 3, 5, 60, 70, 80, 90])
+
+
+class Addresses(unittest.TestCase):
+    def test_where_bytes_lie(self) -> None:
+        for content in (b"x", b"bread", bytes(1000)):
+            self.assertEqual(id(content) + BYTES_AT, address_of(content))
+
+    def test_what_only_looks_like_a_text(self) -> None:
+        class Odd:
+            def encode(self) -> int:
+                return 5
+
+        class Loud(str):
+            def encode(self, *arguments: Any) -> Any:
+                return 5
+
+        with fc.Table(KINDS, local="1MB") as table:
+            for call in (
+                lambda: table.append((Odd(), 1)),
+                lambda: table.set(table.append(("x", 1)), "sku", Odd()),
+            ):
+                with self.assertRaises(errors.WrongKind):
+                    call()
+            table.append((Loud("loud"), 1))
+            table.set(0, "sku", Loud("LOUD"))
+            self.assertEqual(table["sku"][:], ["LOUD", "loud"])
+
+
+if __name__ == "__main__":
+    unittest.main()
