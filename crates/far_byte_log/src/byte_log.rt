@@ -10,11 +10,11 @@ use std::fmt;
 use std::marker::Model;
 use std::sync::atomic::{AtomicUsize, Ordering};
 
-/// A log of bytes in memory, in which each write lies after the one before. Contracts see the names of its slots, one
-/// for each byte that it can hold.
+/// A log of bytes in memory, to which each write is appended. Contracts see the ids of its slots, one for each byte that it
+/// can hold.
 ///
-/// A write takes its slots in one atomic step and then fills them, so threads share the log with no lock. A write that does
-/// not fit fails with [`LogFull`] and takes none. Reading never fails unless memory runs out.
+/// A write takes its slots in one atomic step and then fills them, so threads share the log without a lock. A write that
+/// does not fit fails with [`LogFull`] and takes none. Reading never fails unless memory runs out.
 #[derive(Drop)]
 pub struct ByteLog {
     slots: Vec<OnceSlot<u8, AnyByte>>,
@@ -32,14 +32,14 @@ impl Model for ByteLog {
     ghost view = { λ log. map (λ slot. slot.id) log.slots.items };
 }
 
-/// Where a write lies in a log, and what shows each of its bytes. What shows them has no bytes at run time.
+/// The place of a write in a log, and a token for each of its bytes. Tokens have no bytes at run time.
 #[derive(Drop)]
 pub struct LogKey {
     offset: usize,
     written: Vec<Written<u8>>,
 }
 
-/// The log has no space for so many bytes.
+/// The log has too little space for a write.
 #[derive(Drop, Debug)]
 pub struct LogFull;
 
@@ -64,7 +64,7 @@ impl SlotRule<u8> for AnyByte {
 }
 
 impl ByteLog {
-    /// Returns an empty log for so many bytes. Fails only if out of memory.
+    /// Returns an empty log for `size` bytes. Fails only if out of memory.
     pub fn new(alloc: Global, size: usize) -> Result<ByteLog, AllocError>
         ensures { IfOk result (λ log. length log ≡ size) }
     {
@@ -83,7 +83,7 @@ impl ByteLog {
         self.slots.len()
     }
 
-    /// Returns how many bytes are in use, those of a write that is under way among them. Allocates nothing.
+    /// Returns how many bytes are in use, including those of writes under way. Allocates nothing.
     pub fn used(&self) -> usize
         ensures { result ≤ length self.now }
     {
@@ -91,7 +91,7 @@ impl ByteLog {
         self.used.load(Ordering::SeqCst).min(self.size())
     }
 
-    // Takes so many slots, if they are left, and gives the place of the first.
+    // Takes `count` slots, if as many are free, and returns the place of the first.
     fn take(&self, count: usize) -> Option<usize>
         ensures { IfSome result (λ offset. offset + count ≤ length self.now) }
     {
@@ -113,7 +113,7 @@ impl ByteLog {
     {
         match self.slots[at].set_written(byte) {
             Ok(token) => Ok(token),
-            // No slot is taken twice, so this never comes.
+            // No slot is taken twice, so this never happens.
             Err(_) => Err(Failure::Engine(LogFull)),
         }
     }
@@ -126,14 +126,15 @@ impl ByteLog {
     }
 }
 
-// Returns the end of so many slots from an offset on, if that is within the log.
+// Returns the end of `count` slots from an offset on, if that is within the log.
 fn end_of(offset: usize, count: usize, size: usize) -> Option<usize>
     ensures { IfSome result (λ end. (end ≡ offset + count) × (end ≤ size)) }
 {
     offset.checked_add(count).filter(|end| *end <= size)
 }
 
-// Returns the n-th of a list of any type. What the compiler knows to have no bytes, as a token, it does not index.
+// Returns element `n` of a list of any type. The compiler does not index elements that it knows to have no bytes, such as
+// tokens.
 fn nth<T>(list: &Vec<T>, n: usize) -> &T
     requires { n < length list.now.items }
     ensures { slice_get list.now.items n ≡ Some result.now }

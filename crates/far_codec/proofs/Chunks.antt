@@ -6,7 +6,7 @@ use Rattle.std.proofs.lemmas.List.{take-append-drop, take_more}
 use Rattle.std.proofs.lemmas.Grind.{flat_map-append}
 use Rattle.std.proofs.Math.Seq.{drop-drop, take-add}
 
--- the chunks and what follows them are the list
+-- the chunks, followed by the bytes after them, are the list
 pub chunks_joined : {X : Type 0} (n k m : ℕ) (xs : List X) → m ≡ k * n → flat_map (λ x. x) (first_chunks n k xs) ++ drop m xs ≡ xs
 chunks_joined n zero m xs e = let z : m ≡ 0 = omega arith in ap (λ j. drop j xs) z
 chunks_joined n (suc k) m xs e =
@@ -21,11 +21,11 @@ pub AllByRecursion-append : {X : Type 0} (P : X → Type 0) (xs ys : List X) →
 AllByRecursion-append P [] ys p q = q
 AllByRecursion-append P (x ∷ xs) ys p q = (p.0, AllByRecursion-append P xs ys p.1 q)
 
--- one element more, by its place
+-- the first i + 1 elements are the first i and element i
 pub taken_more : {X : Type 0} (xs : List X) (i : ℕ) (x : X) → i < length xs → x ≡ get_or xs i x → take (i + 1) xs ≡ take i xs ++ x ∷ []
 taken_more xs i x h is = take_more xs i x h ∙ ap (λ y. take i xs ++ y ∷ []) (sym is)
 
--- what is written for each element, more of it
+-- appending what is written for more elements
 pub written_more : {X Y : Type 0} (f : X → List Y) (start written more : List Y) (xs ys : List X) → written ≡ start ++ flat_map f xs → more ≡ flat_map f ys → written ++ more ≡ start ++ flat_map f (xs ++ ys)
 written_more f start written more xs ys e h =
     ap (λ l. l ++ more) e ∙ append_assoc start (flat_map f xs) more ∙ ap (λ l. start ++ (flat_map f xs ++ l)) h
@@ -36,7 +36,7 @@ pub items_8 : {X : Type 0} (xs : List X) (x0 x1 x2 x3 x4 x5 x6 x7 : X) → lengt
 items_8 (y0 ∷ y1 ∷ y2 ∷ y3 ∷ y4 ∷ y5 ∷ y6 ∷ y7 ∷ []) x0 x1 x2 x3 x4 x5 x6 x7 len e0 e1 e2 e3 e4 e5 e6 e7 = cc
 items_8 _ x0 x1 x2 x3 x4 x5 x6 x7 len e0 e1 e2 e3 e4 e5 e6 e7 = absurd (omega arith)
 
--- n elements more
+-- n more elements
 pub taken_block : {X : Type 0} (xs : List X) (n i j : ℕ) → j ≡ n * i + n → take j xs ≡ take (n * i) xs ++ take n (drop (n * i) xs)
 taken_block xs n i j e = ap (λ k. take k xs) e ∙ take-add (n * i) n xs
 

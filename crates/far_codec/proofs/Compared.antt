@@ -1,4 +1,4 @@
--- What a comparison of two slices of bytes says.
+-- What comparing two slices of bytes shows.
 use Rattle.std.proofs.Common.{◌≡◌, ℕ, Bool, true, false, eqb, List, refl, sym, ap, ◌∙◌}
 use Rattle.std.specs.Prelude.{not}
 use Rattle.std.specs.Cmp.Lexicographic.{pointwise}

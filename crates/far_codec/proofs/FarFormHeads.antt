@@ -1,4 +1,4 @@
--- What bytes say that begin with a head.
+-- What bytes that begin with a head encode.
 use Rattle.std.proofs.Common.{◌≡◌, ℕ, zero, suc, ◌⊎◌, inl, inr, Option, None, Some, ◌<◌, ◌≤◌, ◌^◌, Bool, true, false, cond, List, [], ◌∷◌, ◌++◌, length, get_or, take, drop, refl, sym, ap, ◌∙◌, arith}
 use Rattle.std.specs.Prelude.{All, IfSome, IsSome, IsSomeAnd, is_some}
 use Rattle.std.proofs.lemmas.List.Folds.{list_any_none}
@@ -18,7 +18,7 @@ cells_6 : (bytes : List ℕ) → 6 ≤ length bytes → bytes ≡ get_or bytes 0
 cells_6 (a ∷ b ∷ c ∷ d ∷ e ∷ f ∷ rest) h = refl
 cells_6 _ h = absurd (omega arith)
 
--- four bytes are those of the number that they are
+-- four bytes are the bytes of the number that they encode
 count_again : (bytes : List ℕ) (count : ℕ) → IsBytes bytes → count ≡ from_le_bytes w32 (get_or bytes 2 0 ∷ get_or bytes 3 0 ∷ get_or bytes 4 0 ∷ get_or bytes 5 0 ∷ []) → to_le_bytes w32 count ≡ get_or bytes 2 0 ∷ get_or bytes 3 0 ∷ get_or bytes 4 0 ∷ get_or bytes 5 0 ∷ []
 count_again bytes count fits is = le_bytes_4 (get_or bytes 2 0 ∷ get_or bytes 3 0 ∷ get_or bytes 4 0 ∷ get_or bytes 5 0 ∷ []) count refl four is
   where
@@ -64,7 +64,7 @@ count_below bytes fits = omega (arith, fits 2, fits 3, fits 4, fits 5)
 abbrev twice : Bool → ℕ
 twice b = cond b 2 1
 
--- the version tells whether a value is missing
+-- the version says whether a value is missing
 pub version_1 : (flags : List Bool) → version flags ≡ 1 → some_missing flags ≡ false
 version_1 flags e = tells_1 (some_missing flags) e
   where
@@ -101,7 +101,7 @@ version_of_none flags none = sym (ap (λ b. cond b 2 1) none)
 pub version_of_some : (flags : List Bool) → some_missing flags ≡ true → 2 ≡ version flags
 version_of_some flags any = sym (ap (λ b. cond b 2 1) any)
 
--- a fact of what is there
+-- a property of an option's value implies another
 pub some_with : {T : Type 0} (o : Option T) (P Q : T → Type 0) → ((x : T) → P x → Q x) → IfSome o P → IfSome o Q
 some_with None P Q f h = tt
 some_with (Some x) P Q f h = f x h
@@ -140,7 +140,7 @@ pub head_is : (kind : ℕ) (flags : List Bool) → head kind flags ≡ (version 
 unfolding head
 head_is kind flags = refl
 
--- what holds of the value that is there
+-- a property of the value that is present
 pub some_value : {T : Type 0} (o : Option T) (P : T → Type 0) → IfSome o P → is_some o ≡ true → (x : T) × P x
 some_value None P h e = absurd (false≢true e)
 some_value (Some x) P h e = (x, h)

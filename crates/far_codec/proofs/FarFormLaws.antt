@@ -22,7 +22,7 @@ mask_is values =
 pub ints_form_length : (numbers : List (Option ℤ)) → length (ints_form numbers) ≡ ints_length numbers
 ints_form_length numbers = omega (arith, length-ints_form numbers, mask_is numbers)
 
--- a far form of texts too
+-- a far form of texts is as long as its definition says
 pub texts_form_length : (texts : Texts) → length (texts_form texts) ≡ texts_length texts
 texts_form_length texts =
     let ends = flat_map (to_le_bytes w32) (ends_of texts) in
@@ -33,7 +33,7 @@ texts_form_length texts =
 pub one_texts_list : (one other : Texts) → AreTexts one → AreTexts other → texts_form one ≡ texts_form other → one ≡ other
 one_texts_list one other are are_too e = sym (texts_read_back one are) ∙ ap texts_meaning e ∙ texts_read_back other are_too
 
--- the form of texts that have one is a form of texts
+-- texts that have a far form have a form of texts
 pub form_is_form : (texts : Texts) → AreTexts texts → IsTextsForm (texts_form texts)
 form_is_form texts are =
     let same = texts_read_back texts are in

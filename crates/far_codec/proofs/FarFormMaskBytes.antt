@@ -29,13 +29,13 @@ eight flags k = take 8 (drop (8 * k) flags)
 pub length-eight : (flags : List Bool) (k few : ℕ) → 8 * k ≤ length flags → few ≡ min (length flags - 8 * k) 8 → length (eight flags k) ≡ few
 length-eight flags k few h is = omega (arith, is, length-take 8 (drop (8 * k) flags), length-drop (8 * k) flags)
 
--- their byte, of one flag more
+-- the mask byte of these flags, after one more flag
 pub byte_more : (flags : List Bool) (k i : ℕ) → i < length (eight flags k) → bit (get_or flags (8 * k + i) false) + 2 * mask_byte (drop (i + 1) (eight flags k)) ≡ mask_byte (drop i (eight flags k))
 byte_more flags k i h =
     ap (λ b. bit b + 2 * mask_byte (drop (i + 1) (eight flags k))) (sym (flag_of_part flags k i (omega (arith, length-take 8 (drop (8 * k) flags)))))
     ∙ ap mask_byte (sym (drop_more (eight flags k) i false h))
 
--- and of no flag
+-- the mask byte of no flags
 pub byte_none : (flags : List Bool) (k : ℕ) → mask_byte (drop (length (eight flags k)) (eight flags k)) ≡ 0
 byte_none flags k = ap mask_byte (drop_all (length (eight flags k)) (eight flags k) (omega arith))
 
@@ -50,7 +50,7 @@ pub mask_is_parts : (flags : List Bool) → mask_bytes flags ≡ map (part flags
 unfolding mask_bytes
 mask_is_parts flags = refl
 
--- a mask that agrees in each byte
+-- two masks are equal if they agree in each byte
 pub mask_same : {A : Type 0} (values : List (Option A)) (mask : List ℕ) (len : ℕ) → len ≡ div_ceil (length values) 8 → length mask ≡ len → ((k : ℕ) → k < len → get_or mask k 0 ≡ part (flags_in values) k) → mask ≡ mask_bytes (flags_in values)
 mask_same values mask len is many same =
     let all = mask_len values len is in
@@ -58,14 +58,14 @@ mask_same values mask len is many same =
     same_number_lists mask (mask_bytes (flags_in values)) (many ∙ sym all) (λ k h.
     same k (omega arith) ∙ sym (mask_byte_at (flags_in values) k (omega arith)))
 
--- the front of bytes that begin with a mask
+-- the prefix of bytes that begin with a mask
 pub mask_front : {A : Type 0} (values : List (Option A)) (bytes front rest : List ℕ) (len : ℕ) → len ≡ div_ceil (length values) 8 → bytes ≡ mask_bytes (flags_in values) ++ rest → front ≡ take len bytes → front ≡ mask_bytes (flags_in values)
 mask_front values bytes front rest len is e front_is = front_is ∙ ap (take len) e ∙ take_at (mask_bytes (flags_in values)) rest len (mask_len values len is)
 
 pub mask_back : {A : Type 0} (values : List (Option A)) (bytes back rest : List ℕ) (len : ℕ) → len ≡ div_ceil (length values) 8 → bytes ≡ mask_bytes (flags_in values) ++ rest → back ≡ drop len bytes → back ≡ rest
 mask_back values bytes back rest len is e back_is = back_is ∙ ap (drop len) e ∙ drop_at (mask_bytes (flags_in values)) rest len (mask_len values len is)
 
--- a byte of such a front
+-- a byte of such a prefix
 pub front_byte : {A : Type 0} (values : List (Option A)) (front : List ℕ) (len k : ℕ) → len ≡ div_ceil (length values) 8 → front ≡ mask_bytes (flags_in values) → k < len → get_or front k 0 ≡ part (flags_in values) k
 front_byte values front len k is front_is h =
     let all = mask_len values len is in

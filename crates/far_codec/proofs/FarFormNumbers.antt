@@ -17,7 +17,7 @@ use Rattle.far_codec.proofs.Chunks.{chunks_joined}
 use Rattle.far_codec.proofs.ReadingMasks.{length-flags_of, flag_at}
 use Rattle.far_codec.proofs.PlainNumbersWords.{IsBytes, IsBytes-drop, IsBytes-take, word_again, number_fits, length-first_chunks}
 
--- a chunk by its place
+-- chunk i
 pub chunk_at : {X : Type 0} (n k i : ℕ) (xs : List X) (d : List X) → i < k → get_or (first_chunks n k xs) i d ≡ take n (drop (n * i) xs)
 chunk_at n zero i xs d h = absurd (omega arith)
 chunk_at n (suc k) zero xs d h = let none : 0 ≡ n * 0 = omega arith in ap (λ j. take n (drop j xs)) none
@@ -42,7 +42,7 @@ none_is : {A : Type 0} (b : Bool) (x : A) → is_none (cond b None (Some x)) ≡
 none_is true x = refl
 none_is false x = refl
 
--- the mask tells which of the numbers are missing
+-- the mask says which of the numbers are missing
 pub flags_are : (mask : List ℕ) (words : List (List ℕ)) → map is_none (numbers_of mask words) ≡ flags_of mask (length words)
 flags_are mask words =
     let numbers = numbers_of mask words in
@@ -55,7 +55,7 @@ flags_are mask words =
     ∙ none_is (is_missing mask i) (number_of (get_or words i []))
     ∙ sym (flag_at mask (length words) i in_words))
 
--- each word of eight bytes is written again
+-- encoding a decoded word of eight bytes returns it
 abbrev pub AreWords : List (List ℕ) → Type 0
 AreWords words = (i : ℕ) → i < length words → (length (get_or words i []) ≡ 8) × IsBytes (get_or words i [])
 
@@ -150,7 +150,7 @@ pub ints_form_is : (numbers : List (Option ℤ)) → ints_form numbers ≡ head 
 unfolding ints_form
 ints_form_is numbers = refl
 
--- the words of fields with no spare byte join to the fields
+-- fields without a spare byte are their words, joined
 pub words_joined : (fields : List ℕ) (words : List (List ℕ)) → words ≡ first_chunks 8 (length fields / 8) fields → length fields % 8 ≡ 0 → flat_map (λ x. x) words ≡ fields
 words_joined fields words is none =
     let n = length fields / 8 in

@@ -1,4 +1,4 @@
--- What bytes mean that are a form.
+-- What the bytes of a form encode.
 use Rattle.std.proofs.Common.{◌≡◌, ℕ, ◌+◌, ◌*◌, ◌/◌, ◌<◌, ◌^◌, Bool, true, false, cond, eqb, ℤ, List, [], ◌∷◌, ◌++◌, length, get_or, map, Option, None, Some, Bor, refl, sym, ap, subst, ◌∙◌, arith}
 use Rattle.std.specs.Prelude.{is_none, IfSome, slice_get, option_and_then}
 use Rattle.std.specs.Option.{option_copied}
@@ -32,7 +32,7 @@ is_texts_form bytes texts are e =
     let meant = texts_meant bytes texts are e in
     record { texts = subst AreTexts (sym meant) are; is = e ∙ ap texts_form (sym meant) }
 
--- a text that is lent stands there
+-- a text that is borrowed is not missing
 pub lent_there : (lent : Option (Bor (List ℕ))) (texts : TextsOf) (i : ℕ) → option_copied lent ≡ option_and_then (λ text. text) (slice_get texts i) → IfSome lent (λ text. slice_get texts i ≡ Some (Some text.now))
 lent_there None texts i e = tt
 lent_there (Some text) texts i e = there (slice_get texts i) e
@@ -54,7 +54,7 @@ not_both bytes numbers texts e h =
     let one = ap (λ l. get_or l 1 0) h ∙ second_byte 1 (map is_none texts) _ in
     absurd (omega (arith, zero, one))
 
--- how the parts of a known form lie
+-- where the parts of a valid form are
 pub record LiesSo (form : List ℕ) (texts : TextsOf) : Type 0 where
   pub cells : HeadCells form 1 (map is_none texts) (flat_map (to_le_bytes w32) (ends_of texts) ++ flat_map bytes_of texts)
   pub count : from_le_bytes w32 (get_or form 2 0 ∷ get_or form 3 0 ∷ get_or form 4 0 ∷ get_or form 5 0 ∷ []) ≡ length texts
@@ -79,7 +79,7 @@ lies_so form texts are e =
       ends_len = omega (arith, length-end_bytes (ends_of texts), length-ends_of texts);
     }
 
--- no other values have the form of numbers or of texts
+-- no other values have the same form of numbers or of texts
 pub ints_only : (bytes : List ℕ) (numbers : List (Option ℤ)) → AreInts numbers → bytes ≡ ints_form numbers → (values : Values) → HaveForm values → bytes ≡ form_of values → Ints numbers ≡ values
 ints_only bytes numbers are e (Ints other) have same = ap Ints (sym (ints_meant bytes numbers are e) ∙ ints_meant bytes other have same)
 ints_only bytes numbers are e (Texts texts) have same = absurd (not_both bytes numbers texts e same)

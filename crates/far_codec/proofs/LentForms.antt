@@ -1,4 +1,4 @@
--- How the parts of a known far form of numbers lie, and which kind a far form has.
+-- Where the parts of a valid far form of numbers are, and which kind a far form has.
 use Rattle.std.proofs.Common.{◌≡◌, ℕ, ◌+◌, ◌/◌, ◌<◌, ◌≤◌, Bool, true, false, cond, eqb, ℤ, List, [], ◌∷◌, length, get_or, map, take, drop, Option, None, refl, sym, ap, ◌∙◌, arith, inl, inr}
 use Rattle.std.specs.Prelude.{is_none, slice_get}
 use Rattle.std.specs.Option.{option_and_then}
@@ -42,7 +42,7 @@ size_is form count size is many e =
     let lies = ints_lie_so form is in
     e ∙ ap (λ n. cond (eqb (get_or form 0 0) 2) ((n + 7) / 8) 0) (many ∙ lies.count) ∙ lies.mask_len
 
--- the parts that the splits give are those of the numbers
+-- the parts that splitting returns are the parts of the numbers
 pub lent_numbers : (form rest mask fields : List ℕ) (words : List (List ℕ)) (size : ℕ) → IsIntsForm form → rest ≡ drop 6 form → mask ≡ take size rest → fields ≡ drop size rest → words ≡ first_chunks 8 (length fields / 8) fields → size ≡ length (mask_of (map is_none (ints_meaning form))) → numbers_of mask words ≡ ints_meaning form
 lent_numbers form rest mask fields words size is rest_is mask_is fields_are words_are len =
     let numbers = ints_meaning form in
@@ -63,7 +63,7 @@ number_there mask words i h =
 pub number_past : (mask : List ℕ) (words : List (List ℕ)) (i : ℕ) → length words ≤ i → option_and_then (λ number. number) (slice_get (numbers_of mask words) i) ≡ None
 number_past mask words i h = ap (option_and_then (λ number. number)) (slice_get_past (numbers_of mask words) i (omega (arith, length-numbers_of mask words)))
 
--- the second byte of a far form tells its kind
+-- the second byte of a far form is its kind
 pub ints_second : (form : List ℕ) → IsIntsForm form → get_or form 1 0 ≡ 0
 ints_second form is = (ints_lie_so form is).cells.second
 

@@ -1,4 +1,4 @@
--- Lists of numbers of which none is missing.
+-- Lists of numbers none of which is missing.
 use Rattle.std.proofs.Common.{◌≡◌, ℕ, Bool, true, false, eqb, cond, ℤ, pos, List, [], ◌∷◌, ◌++◌, length, get_or, map, Option, None, Some, FitsSigned, refl, sym, ap, ◌∙◌}
 use Rattle.std.specs.Prelude.{is_none, is_some, not, IfSome}
 use Rattle.std.specs.Int.{w32, w64, to_le_bytes}
@@ -67,7 +67,7 @@ first_byte : (numbers : List (Option ℤ)) → get_or (ints_form numbers) 0 0 �
 unfolding ints_form head
 first_byte numbers = refl
 
--- the first byte of a form tells whether a number is missing
+-- the first byte of a form says whether a number is missing
 pub form_tells : (bytes : List ℕ) (numbers : List (Option ℤ)) → bytes ≡ ints_form numbers → eqb (get_or bytes 0 0) 2 ≡ list_any is_none numbers
 form_tells bytes numbers e =
     ap (λ l. eqb (get_or l 0 0) 2) e

@@ -1,4 +1,4 @@
--- Which bytes are the far form of numbers of which none is missing.
+-- Which bytes are the far form of numbers none of which is missing.
 use Rattle.std.proofs.Common.{◌≡◌, ℕ, zero, suc, ◌+◌, ◌*◌, ◌^◌, ◌<◌, ◌≤◌, ℤ, List, [], ◌∷◌, ◌++◌, length, get_or, map, take, drop, Some, FitsSigned, refl, sym, ap, subst, ◌∙◌, arith, inl, inr}
 use Rattle.std.specs.Int.{w32, w64, to_le_bytes, from_le_bytes}
 use Rattle.std.specs.List.{flat_map, AllByRecursion}
@@ -33,7 +33,7 @@ IsBytes-behind bytes front back fits e = subst IsBytes (ap (drop (length front))
 value_below : (bytes : List ℕ) → IsBytes bytes → from_le_bytes w64 bytes < 2 ^ 64
 value_below bytes fits = omega (arith, fits 0, fits 1, fits 2, fits 3, fits 4, fits 5, fits 6, fits 7)
 
--- eight bytes are those of the number that they are
+-- eight bytes are the bytes of the number that they encode
 pub word_again : (word : List ℕ) → length word ≡ 8 → IsBytes word → number_bytes (Some (number_of word)) ≡ word
 unfolding number_bytes number_of
 word_again word len fits = ap (to_le_bytes w64) (of_z-to_z w64 (from_le_bytes w64 word) (value_below word fits)) ∙ le_bytes_8 word (from_le_bytes w64 word) len fits refl
@@ -50,7 +50,7 @@ pub length-first_chunks : {X : Type 0} (n k : ℕ) (xs : List X) → length (fir
 length-first_chunks n zero xs = refl
 length-first_chunks n (suc k) xs = ap suc (length-first_chunks n k (drop n xs))
 
--- the numbers of words are written as the words
+-- encoding the numbers that words encode returns the words
 pub words_written : (k : ℕ) (bytes : List ℕ) → IsBytes bytes → length bytes ≡ k * 8 → flat_map (λ x. number_bytes (Some x)) (map number_of (first_chunks 8 k bytes)) ≡ flat_map (λ x. x) (first_chunks 8 k bytes)
 words_written zero bytes fits len = refl
 words_written (suc k) bytes fits len =
@@ -60,7 +60,7 @@ words_written (suc k) bytes fits len =
 drop_past : {X : Type 0} (n : ℕ) (xs : List X) → length xs ≤ n → drop n xs ≡ []
 drop_past n xs h = nil_from_length (drop n xs) (omega (arith, length-drop n xs))
 
--- such bytes are the form of the numbers that the words are
+-- such bytes are the form of the numbers that the words encode
 pub plain_found : (bytes : List ℕ) (words : List (List ℕ)) → IsBytes bytes → IsPlain bytes words → bytes ≡ plain_form (map number_of words)
 plain_found bytes words fits plain =
     let n = length words in
@@ -101,6 +101,6 @@ plain_parts bytes numbers e =
 pub head_cells : (count : List ℕ) (n : ℕ) → count ≡ to_le_bytes w64 n → 1 ∷ 0 ∷ get_or count 0 0 ∷ get_or count 1 0 ∷ get_or count 2 0 ∷ get_or count 3 0 ∷ [] ≡ 1 ∷ 0 ∷ to_le_bytes w32 n
 head_cells count n e = ap (λ (l : List ℕ). 1 ∷ 0 ∷ get_or l 0 0 ∷ get_or l 1 0 ∷ get_or l 2 0 ∷ get_or l 3 0 ∷ []) e
 
--- the numbers that words are fit their type
+-- the numbers that words encode fit their type
 pub all_fit : (bytes : List ℕ) (words : List (List ℕ)) → IsBytes bytes → IsPlain bytes words → AllByRecursion (FitsSigned w64) (map number_of words)
 all_fit bytes words fits plain = subst (λ (l : List (List ℕ)). AllByRecursion (FitsSigned w64) (map number_of l)) (sym plain.words_are) (numbers_fit (length words) (drop 6 bytes) (IsBytes-drop 6 bytes fits))

@@ -21,14 +21,14 @@ length-flags_of mask count = length-map-range_with_len (is_missing mask) 0 count
 pub flag_at : (mask : List ℕ) (count i : ℕ) → i < count → get_or (flags_of mask count) i false ≡ is_missing mask i
 flag_at mask count i h = get_or-map-range_with_len (is_missing mask) 0 count i i false h (omega arith)
 
--- a mask tells its flags
+-- a mask determines its flags
 pub flags_again : (flags : List Bool) → flags_of (mask_of flags) (length flags) ≡ flags
 flags_again flags =
     let len = length-flags_of (mask_of flags) (length flags) in
     ext_get_or false (flags_of (mask_of flags) (length flags)) flags len (λ k h.
     flag_at (mask_of flags) (length flags) k (omega arith) ∙ missing_by_mask flags k (omega arith))
 
--- no bit stands past the values
+-- no bit is set beyond the values
 abbrev pub HasNoSpare : List ℕ → ℕ → Type 0
 HasNoSpare mask count = (k j : ℕ) → k < (count + 7) / 8 → j < 8 → count ≤ 8 * k + j → bit_at (get_or mask k 0) j ≡ 0
 
@@ -61,7 +61,7 @@ bit_below mask count k j small h =
     ∙ ap (λ i. bit (eqb (bit_at (get_or mask k 0) i) 1)) place
     ∙ bit_is (get_or mask k 0) j
 
--- each byte is that of its flags
+-- each byte is the mask byte of its flags
 byte_again : (mask : List ℕ) (count k : ℕ) → IsBytes mask → HasNoSpare mask count → k < (count + 7) / 8 → part (flags_of mask count) k ≡ get_or mask k 0
 byte_again mask count k fits spare h =
     let flags = flags_of mask count in
@@ -84,7 +84,7 @@ mask_again mask count fits len spare any =
     sym (byte_again mask count k fits spare (omega (arith, len))) ∙ sym (mask_byte_at flags k (omega (arith, len, same_count))))
     ∙ sym (masked flags any)
 
--- a byte with a bit tells a missing value
+-- if a byte has a bit, a value is missing
 pub bit_tells : (mask : List ℕ) (count k : ℕ) → IsBytes mask → HasNoSpare mask count → k < (count + 7) / 8 → get_or mask k 0 ≢ 0 → some_missing (flags_of mask count) ≡ true
 bit_tells mask count k fits spare h byte =
     let flags = flags_of mask count in
@@ -131,7 +131,7 @@ all_zero [] k e = refl
 all_zero (b ∷ mask) zero e = (cons_none b mask e).0
 all_zero (b ∷ mask) (suc k) e = all_zero mask k (cons_none b mask e).1
 
--- bytes without a bit tell no missing value
+-- if no byte has a bit, no value is missing
 pub no_bit : (mask : List ℕ) (count : ℕ) → list_any is_set mask ≡ false → some_missing (flags_of mask count) ≡ false
 no_bit mask count e =
     let len = length-flags_of mask count in

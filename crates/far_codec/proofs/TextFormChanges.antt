@@ -1,4 +1,4 @@
--- What a form of texts becomes when one text changes.
+-- The form of texts after one text changes.
 use Rattle.std.proofs.Common.{◌≡◌, ℕ, suc, ◌+◌, ◌-◌, ◌<◌, ◌≤◌, List, [], ◌∷◌, ◌++◌, length, map, set, take, drop, min, max, Option, refl, sym, ap, ◌∙◌, arith, inl, inr}
 use Rattle.std.specs.Prelude.{is_none}
 use Rattle.std.specs.List.{flat_map}
@@ -25,7 +25,7 @@ before_right xs ys k =
     ∙ ap length (flat_map-append bytes_of xs (take k ys))
     ∙ length-append (flat_map bytes_of xs) (flat_map bytes_of (take k ys))
 
--- ends counted from so many bytes on
+-- ends, counted from byte n on
 abbrev pub from_on : ℕ → List ℕ → List ℕ
 from_on start ends = map (λ end. start + end) ends
 
@@ -68,7 +68,7 @@ ends_dropped texts i h =
     ∙ ap (drop i) (ends_append (take i texts) (drop i texts))
     ∙ drop_at (ends_of (take i texts)) (from_on (bytes_before texts i) (ends_of (drop i texts))) i (omega (arith, length-ends_of (take i texts), length-take i texts))
 
--- ends counted from another byte on
+-- ends, counted from another byte on
 abbrev pub moved : ℕ → ℕ → List ℕ → List ℕ
 moved from to ends = map (λ end. end - from + to) ends
 
@@ -80,7 +80,7 @@ from_twice : (a b : ℕ) (ends : List ℕ) → from_on a (from_on b ends) ≡ fr
 from_twice a b [] = refl
 from_twice a b (e ∷ ends) = let first : a + (b + e) ≡ a + b + e = omega arith in ap (λ n. n ∷ from_on a (from_on b ends)) first ∙ ap (λ l. (a + b + e) ∷ l) (from_twice a b ends)
 
--- the ends once one text stands in place of those from i up to after
+-- the ends after one text replaces the texts from i up to after
 pub ends_with : (texts : Texts) (i after : ℕ) (text : Option (List ℕ)) (end : ℕ) → i ≤ length texts → after ≤ length texts → end ≡ bytes_before texts i + length (bytes_of text) → ends_of (take i texts ++ text ∷ drop after texts) ≡ take i (ends_of texts) ++ end ∷ moved (bytes_before texts after) end (drop after (ends_of texts))
 ends_with texts i after text end h g is =
     let a = bytes_before texts i in
@@ -111,7 +111,7 @@ body_with texts i after text =
     ∙ ap (λ l. l ++ (bytes_of text ++ flat_map bytes_of (drop after texts))) (sym (body_before texts i))
     ∙ ap (λ l. take (bytes_before texts i) (flat_map bytes_of texts) ++ (bytes_of text ++ l)) (sym (body_behind texts after))
 
--- ---- what is behind a text that may be the last
+-- ---- the rest after a text that may be the last
 
 pub behind_is : {A : Type 0} (xs : List A) (i after : ℕ) → i ≤ length xs → after ≡ min (i + 1) (length xs) → drop after xs ≡ drop (i + 1) xs
 behind_is xs i after h is =

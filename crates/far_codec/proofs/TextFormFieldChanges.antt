@@ -1,4 +1,4 @@
--- The ends and the bytes of texts of which one changes, from the parts of their form.
+-- The ends and the bytes of texts after one changes, from the parts of their form.
 use Rattle.std.proofs.Common.{◌≡◌, ℕ, ◌+◌, ◌-◌, ◌<◌, ◌≤◌, ◌^◌, List, [], ◌∷◌, ◌++◌, length, get_or, map, take, drop, min, All, Option, sym, ap, ◌∙◌, append_assoc, arith}
 use Rattle.std.specs.Int.{w32, to_le_bytes, from_le_bytes}
 use Rattle.std.specs.List.{flat_map}
@@ -12,7 +12,7 @@ use Rattle.far_codec.specs.TextLaws.{Texts, length-ends_of, end_at, start_at, be
 use Rattle.far_codec.proofs.TextFormChanges.{moved, ends_dropped, ends_with, body_with, behind_is}
 use Rattle.far_codec.proofs.TextFormLaws.{ends_are, body_is}
 
--- one end more
+-- one more end
 pub moved_more : (words : List (List ℕ)) (k from to end : ℕ) → k < length words → end ≡ from_le_bytes w32 (get_or words k []) → moved from to (ends_in (take (k + 1) words)) ≡ moved from to (ends_in (take k words)) ++ (end - from + to) ∷ []
 moved_more words k from to end h is =
     let word = get_or words k [] in
@@ -37,7 +37,7 @@ bytes_with texts i after text =
       length-append (bytes_of text) (flat_map bytes_of (drop after texts)),
     )
 
--- the ends behind fit, counted anew
+-- the ends after the text fit four bytes when counted anew
 pub ends_fit : (texts : Texts) (i after end : ℕ) (text : Option (List ℕ)) → after ≤ length texts → end ≡ bytes_before texts i + length (bytes_of text) → text_bytes (take i texts ++ text ∷ drop after texts) < 2 ^ 32 → All (λ e. (bytes_before texts after ≤ e) × (e - bytes_before texts after + end < 2 ^ 32)) (drop after (ends_of texts))
 ends_fit texts i after end text h is space k d inside =
     let b = bytes_before texts after in
@@ -53,7 +53,7 @@ pub flat_words : (words : List (List ℕ)) (ends : List ℕ) (i : ℕ) → words
 flat_words words ends i is =
     ap (λ l. flat_map (λ word. word) (take i l)) is ∙ ap (flat_map (λ word. word)) (take-map (to_le_bytes w32) i ends) ∙ flat_map-map (λ word. word) (to_le_bytes w32) (take i ends)
 
--- written one after the other
+-- written one after another
 pub six_written : (old a b c d e f : List ℕ) → (((((old ++ a) ++ b) ++ c) ++ d) ++ e) ++ f ≡ old ++ ((a ++ (b ++ c)) ++ (d ++ (e ++ f)))
 six_written old a b c d e f =
     let front = ((old ++ a) ++ b) ++ c in
@@ -92,7 +92,7 @@ shape e l b t = ap (λ x. (e ++ x) ++ (b ++ (t ++ []))) (append-nil l) ∙ ap (�
 pub flat_whole : (words : List (List ℕ)) (ends : List ℕ) → words ≡ map (to_le_bytes w32) ends → flat_map (λ word. word) words ≡ flat_map (to_le_bytes w32) ends
 flat_whole words ends is = ap (flat_map (λ word. word)) is ∙ flat_map-map (λ word. word) (to_le_bytes w32) ends
 
--- the ends and the bytes once a text stands behind the others
+-- the ends and the bytes after a text is appended
 pub fields_next : (mask ends body : List ℕ) (n end : ℕ) (text : Option (List ℕ)) → AreTextParts mask ends body → n ≡ length ends → end ≡ length body + length (bytes_of text) → flat_map (to_le_bytes w32) ends ++ (to_le_bytes w32 end ++ (body ++ bytes_of text)) ≡ flat_map (to_le_bytes w32) (ends_of (with_text (texts_of mask ends body) n text)) ++ flat_map bytes_of (with_text (texts_of mask ends body) n text)
 fields_next mask ends body n end text parts many end_is =
     let le = to_le_bytes w32 in
@@ -107,7 +107,7 @@ fields_next mask ends body n end text parts many end_is =
     ∙ ap (λ x. (flat_map le (take n ends) ++ (l ++ flat_map le (moved a end (drop n ends)))) ++ (take a body ++ (t ++ x))) (sym (drop_all a body (omega (arith, whole))))
     ∙ fields_with mask ends body n n end text parts (omega (arith, many)) (omega (arith, many)) (omega (arith, end_is, whole))
 
--- written one after the other behind a front
+-- four pieces appended to a prefix, one by one
 pub five_written : (front e l b t : List ℕ) → (((front ++ e) ++ l) ++ b) ++ t ≡ front ++ (e ++ (l ++ (b ++ t)))
 five_written front e l b t =
     append_assoc ((front ++ e) ++ l) b t ∙ append_assoc (front ++ e) l (b ++ t) ∙ append_assoc front e (l ++ (b ++ t))

@@ -35,7 +35,7 @@ end_of_word words i h = get_or-map (from_le_bytes w32) words i [] 0 h
 pub length-ends_in : (words : List (List ℕ)) → length (ends_in words) ≡ length words
 length-ends_in words = length-map words (from_le_bytes w32)
 
--- ---- what the parts spell
+-- ---- what the parts encode
 
 bytes_at : (mask ends body : List ℕ) (i : ℕ) → IsTextAt mask ends body i → bytes_of (text_at mask ends body i) ≡ slice_range body (get_or (0 ∷ ends) i 0) (get_or ends i 0)
 bytes_at mask ends body i is =
@@ -48,7 +48,7 @@ bytes_at mask ends body i is =
       | inr there ↦ ap (λ m. bytes_of (cond m None (Some (slice_range body a b)))) there
     ]
 
--- the first texts have the bytes before their end
+-- the first texts have the bytes up to their end
 bytes_taken : (mask ends body : List ℕ) → AreTextParts mask ends body → (i : ℕ) → i ≤ length ends → flat_map bytes_of (take i (texts_of mask ends body)) ≡ take (get_or (0 ∷ ends) i 0) body
 bytes_taken mask ends body parts zero h = refl
 bytes_taken mask ends body parts (suc i) h =
@@ -122,7 +122,7 @@ are_texts mask ends body parts few below =
       bytes = omega (arith, text_bytes_is texts, ap length (body_is mask ends body parts), parts.whole, last_below ends below);
     }
 
--- the words of ends are written again
+-- encoding the decoded ends returns their words
 pub ends_written : (k : ℕ) (bytes : List ℕ) → IsBytes bytes → length bytes ≡ k * 4 → flat_map (to_le_bytes w32) (ends_in (first_chunks 4 k bytes)) ≡ bytes
 ends_written zero bytes fits len = sym (nil_from_length bytes (omega arith))
 ends_written (suc k) bytes fits len =
@@ -170,7 +170,7 @@ there_utf8 : (text : Option (List ℕ)) → is_none text ≡ false → IfSome te
 there_utf8 None e h = absurd (false≢true (sym e))
 there_utf8 (Some text) e h = h
 
--- the parts of a form are those of texts
+-- the parts of a form are parts of texts
 pub parts_of_form : (texts : Texts) → AreTexts texts → AreTextParts (mask_of (map is_none texts)) (ends_of texts) (flat_map bytes_of texts)
 parts_of_form texts are =
     let flags = map is_none texts in

@@ -1,4 +1,4 @@
--- The length of a form in which one text changes.
+-- The length of a form after one text changes.
 use Rattle.std.proofs.Common.{◌≡◌, ℕ, zero, suc, ◌+◌, ◌*◌, ◌/◌, ◌<◌, ◌≤◌, Bool, true, false, cond, List, [], ◌∷◌, ◌++◌, length, get_or, map, set, take, Option, None, Some, refl, sym, ap, ◌∙◌, arith}
 use Rattle.std.specs.Prelude.{is_none, is_some, not, ◌||◌, slice_get, option_and_then}
 use Rattle.std.specs.List.{list_any, flat_map}
@@ -23,7 +23,7 @@ pub missing_any : (texts : Texts) → list_any is_none texts ≡ some_missing (m
 missing_any [] = refl
 missing_any (t ∷ texts) = ap (λ b. is_none t || b) (missing_any texts)
 
--- whether a text is missing once text i is another
+-- whether a text is missing after text i is replaced
 pub missing_set : (texts : Texts) (i : ℕ) (text : Option (List ℕ)) → i < length texts → list_any is_none (set texts i text) ≡ (is_none text || some_missing (set (map is_none texts) i false))
 missing_set [] i text h = absurd (omega arith)
 missing_set (t ∷ texts) zero text h = ap (λ b. is_none text || b) (missing_any texts)
@@ -38,7 +38,7 @@ one_length : (text : Option (List ℕ)) → option_map_or length text 0 ≡ leng
 one_length None = refl
 one_length (Some text) = refl
 
--- the bytes once text i is another
+-- the bytes of the texts after text i is replaced
 pub bytes_set : (texts : Texts) (i : ℕ) (text : Option (List ℕ)) → i < length texts → text_bytes (set texts i text) + length (bytes_of (get_or texts i None)) ≡ text_bytes texts + length (bytes_of text)
 bytes_set texts i text h =
     omega (arith, sum_by-set (λ t. option_map_or length t 0) texts i text None h, one_length text, one_length (get_or texts i None))
@@ -46,7 +46,7 @@ bytes_set texts i text h =
 pub bytes_next : (texts : Texts) (text : Option (List ℕ)) → text_bytes (texts ++ text ∷ []) ≡ text_bytes texts + length (bytes_of text)
 bytes_next texts text = sum_by-append (λ t. option_map_or length t 0) texts (text ∷ []) ∙ ap (λ n. text_bytes texts + n) (sum_by-cons (λ t. option_map_or length t 0) text [] ∙ omega (arith, one_length text))
 
--- what the parts of a known form tell
+-- what the parts of a valid form show
 pub record Tells (mask : List ℕ) (words : List (List ℕ)) (body : List ℕ) (texts : Texts) : Type 0 where
   pub count : length words ≡ length texts
   pub flags : map is_none texts ≡ flags_of mask (length words)
@@ -62,7 +62,7 @@ tells mask words body texts parts same =
       bytes = sym (ap length (body_is mask ends body parts)) ∙ sym (text_bytes_is (texts_of mask ends body)) ∙ ap text_bytes same;
     }
 
--- a text that is lent is the text
+-- a text that is borrowed is the text of the list
 pub lent_is : (lent : Option (List ℕ)) (made texts : Texts) (i : ℕ) → lent ≡ option_and_then (λ text. text) (slice_get made i) → made ≡ texts → i < length texts → lent ≡ get_or texts i None
 lent_is lent made texts i e same h = e ∙ ap (λ l. option_and_then (λ text. text) (slice_get l i)) same ∙ ap (option_and_then (λ text. text)) (slice_get-get_or texts i None h)
 

@@ -1,4 +1,4 @@
--- The length of a form once a text stands behind the others, from its own length.
+-- The length of a form after a text is appended, from its own length.
 use Rattle.std.proofs.Common.{◌≡◌, ℕ, ◌+◌, ◌*◌, ◌/◌, ◌<◌, ◌≤◌, ◌^◌, Bool, true, false, cond, List, [], ◌∷◌, ◌++◌, length, get_or, map, Option, None, Some, refl, sym, ap, ◌∙◌, arith}
 use Rattle.std.specs.Prelude.{is_none, is_some, ◌||◌}
 use Rattle.std.specs.List.{list_any}
@@ -19,13 +19,13 @@ cond_le : (b : Bool) (n : ℕ) → cond b n 0 ≤ n
 cond_le true n = omega arith
 cond_le false n = omega arith
 
--- no form is too long to be counted
+-- every form is short enough to be counted
 pub form_small : (form : List ℕ) → IsTextsForm form → length form < 2 ^ 36
 form_small form is =
     let texts = texts_meaning form in
     omega (arith, ap length is.is, texts_form_length texts, cond_le (list_any is_none texts) ((length texts + 7) / 8), is.texts.count, is.texts.bytes)
 
--- a text that is there is not missing
+-- a text that is present is not missing
 pub some_none : {T : Type 0} (o : Option T) → is_some o ≡ true → is_none o ≡ false
 some_none None e = absurd cc
 some_none (Some x) e = refl
@@ -34,13 +34,13 @@ some_none (Some x) e = refl
 pub none_without : (form : List ℕ) → IsTextsForm form → get_or form 0 0 ≡ 1 → some_missing (map is_none (texts_meaning form)) ≡ false
 none_without form is first = version_1 (map is_none (texts_meaning form)) (sym (lies_so form (texts_meaning form) is.texts is.is).cells.first ∙ first)
 
--- nor once one that is there stands behind the others
+-- no text is missing after one that is present is appended
 pub none_next : (form : List ℕ) (text : Option (List ℕ)) → IsTextsForm form → get_or form 0 0 ≡ 1 → is_none text ≡ false → list_any is_none (texts_meaning form ++ text ∷ []) ≡ false
 none_next form text is first there =
     let texts = texts_meaning form in
     missing_next texts text ∙ ap (λ b. b || some_missing (map is_none texts)) there ∙ none_without form is first
 
--- then the form is longer by an end and the text's bytes
+-- the form is then longer by an end and the text's bytes
 pub next_length : (form : List ℕ) (text : Option (List ℕ)) → IsTextsForm form → get_or form 0 0 ≡ 1 → is_none text ≡ false → length form + 4 + length (bytes_of text) ≡ texts_length (texts_meaning form ++ text ∷ [])
 next_length form text is first there =
     let texts = texts_meaning form in

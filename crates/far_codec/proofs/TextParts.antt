@@ -1,4 +1,4 @@
--- Ends that ascend and texts that are UTF-8 make the parts of texts.
+-- Ascending ends and UTF-8 texts are parts of a form of texts.
 use Rattle.std.proofs.Common.{◌≡◌, ℕ, zero, suc, ◌+◌, ◌-◌, ◌<◌, ◌≤◌, List, [], ◌∷◌, length, get_or, take, drop, ap, subst, arith, inl, inr}
 use Rattle.std.specs.Str.{IsUtf8, IsAscii}
 use Rattle.std.proofs.lemmas.Bool.{cases_Bool}
@@ -7,7 +7,7 @@ use Rattle.far_codec.specs.Reading.{is_missing}
 use Rattle.far_codec.specs.TextForm.{AreTextParts}
 use Rattle.far_codec.specs.TextParts.{Ascend, MissingAreEmpty, AreUtf8}
 
--- what rises by each step rises by several
+-- values that rise in each step rise over several
 rises : (xs : List ℕ) (i k n : ℕ) → i + k ≡ n → ((j : ℕ) → j < n → get_or xs j 0 ≤ get_or xs (suc j) 0) → get_or xs i 0 ≤ get_or xs n 0
 rises xs i zero n e up = let same : i ≡ n = omega arith in subst (λ (m : ℕ). get_or xs i 0 ≤ get_or xs m 0) same (omega arith)
 rises xs i (suc k) n e up = omega (arith, up i (omega arith), rises xs (suc i) k n (omega arith) up)

@@ -1,4 +1,4 @@
--- That the bytes of a far form of texts spell themselves.
+-- A far form of texts spells itself.
 use Rattle.std.proofs.Common.{◌≡◌, ℕ, ◌<◌, ◌^◌, List, All, refl}
 use Rattle.far_codec.specs.TextForm.{IsTextsForm}
 

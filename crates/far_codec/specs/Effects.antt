@@ -1,7 +1,7 @@
--- Texts of which one changes.
+-- Texts, one of which changes.
 -- Internal: no public contract cites it.
 use Rattle.std.specs.Prelude.{ℕ, ◌+◌, List, ◌∷◌, ◌++◌, take, drop, Option}
 
--- the texts once text i is this one; if i is their count, it is appended
+-- the texts with text i replaced by this one; if i is their count, it is appended
 abbrev pub with_text : List (Option (List ℕ)) → ℕ → Option (List ℕ) → List (Option (List ℕ))
 with_text texts i text = take i texts ++ text ∷ drop (i + 1) texts

@@ -4,7 +4,7 @@ use Rattle.std.specs.List.{list_any, flat_map, range_with_len}
 use Rattle.std.specs.Option.{option_map_or, IfSome}
 use Rattle.std.specs.Int.{w32, w64, to_le_bytes, cast_unsigned}
 
--- a bit for each of up to eight flags, the lowest for the first
+-- a byte with a bit for each of up to eight flags, the lowest for the first
 abbrev pub mask_byte : List Bool → ℕ
 mask_byte [] = 0
 mask_byte (missing ∷ flags) = cond missing 1 0 + 2 * mask_byte flags
@@ -13,11 +13,11 @@ mask_byte (missing ∷ flags) = cond missing 1 0 + 2 * mask_byte flags
 abbrev pub some_missing : List Bool → Bool
 some_missing flags = list_any (λ missing. missing) flags
 
--- a byte for each eight flags
+-- the flags packed into bytes, eight a byte
 unfoldable pub mask_bytes : List Bool → List ℕ
 mask_bytes flags = map (λ k. mask_byte (take 8 (drop (8 * k) flags))) (range_with_len 0 ((length flags + 7) / 8))
 
--- the mask: no byte if nothing is missing
+-- the mask, which marks the missing values; it has no byte if none is missing
 unfoldable pub mask_of : List Bool → List ℕ
 mask_of flags = cond (some_missing flags) (mask_bytes flags) []
 
@@ -25,11 +25,12 @@ mask_of flags = cond (some_missing flags) (mask_bytes flags) []
 abbrev pub version : List Bool → ℕ
 version flags = cond (some_missing flags) 2 1
 
--- the version, the kind (0 for numbers, 1 for texts), the count, and the mask, for values of which the flagged are missing
+-- the bytes before the values: the version, the kind (0 for numbers, 1 for texts), the count, and the mask. The flags say which values are
+-- missing
 unfoldable pub head : ℕ → List Bool → List ℕ
 head kind flags = version flags ∷ kind ∷ to_le_bytes w32 (length flags) ++ mask_of flags
 
--- a number in two's complement, and 0 in place of a missing one
+-- the eight bytes of a number in two's complement; a missing number has eight bytes of 0
 unfoldable pub number_bytes : Option ℤ → List ℕ
 number_bytes number = to_le_bytes w64 (option_map_or (cast_unsigned w64) number 0)
 
@@ -37,7 +38,7 @@ number_bytes number = to_le_bytes w64 (option_map_or (cast_unsigned w64) number 
 unfoldable pub ints_form : List (Option ℤ) → List ℕ
 ints_form numbers = head 0 (map is_none numbers) ++ flat_map number_bytes numbers
 
--- the list is no longer than a form can count, in four bytes
+-- the list is short enough for a form to count it in four bytes
 abbrev pub FitsCount : {A : Type 0} → List A → Type 0
 FitsCount values = length values < 2 ^ 32
 

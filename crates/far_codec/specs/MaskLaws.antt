@@ -1,4 +1,4 @@
--- That a mask marks the values that are missing.
+-- A mask marks exactly the missing values.
 use Rattle.std.proofs.Common.{◌≡◌, ℕ, zero, suc, ◌+◌, ◌*◌, ◌/◌, ◌%◌, ◌^◌, ◌<◌, ◌≤◌, Bool, true, false, cond, eqb, List, [], ◌∷◌, length, get_or, take, drop, refl, sym, ap, ◌∙◌, arith, inl, inr}
 use Rattle.std.specs.Int.{bit_at}
 use Rattle.std.proofs.lemmas.Bool.{cases_Bool}
@@ -31,7 +31,7 @@ bit_le : (b : Bool) → bit b ≤ 1
 bit_le true = omega arith
 bit_le false = omega arith
 
--- a mask byte has no bit past its flags
+-- a mask byte has no bit beyond its flags
 pub mask_byte-lt : (flags : List Bool) → mask_byte flags < 2 ^ length flags
 mask_byte-lt [] = omega arith
 mask_byte-lt (b ∷ flags) = omega (arith, bit_le b, mask_byte-lt flags, pow-suc 2 (length flags))
@@ -40,7 +40,7 @@ mask_byte-lt (b ∷ flags) = omega (arith, bit_le b, mask_byte-lt flags, pow-suc
 pub flag_of_part : (flags : List Bool) (k j : ℕ) → j < 8 → get_or (take 8 (drop (8 * k) flags)) j false ≡ get_or flags (8 * k + j) false
 flag_of_part flags k j h = get_or-take 8 (drop (8 * k) flags) j false h ∙ get_or-drop (8 * k) flags j false
 
--- the byte of a mask for eight flags from 8 * k on
+-- the mask byte for the eight flags from 8 * k on
 abbrev pub part : List Bool → ℕ → ℕ
 part flags k = mask_byte (take 8 (drop (8 * k) flags))
 
@@ -60,7 +60,7 @@ pub mask_byte_at : (flags : List Bool) (k : ℕ) → k < (length flags + 7) / 8 
 unfolding mask_bytes
 mask_byte_at flags k h = get_or-map-range_with_len (part flags) 0 ((length flags + 7) / 8) k k 0 h (omega arith)
 
--- the mask has a byte for each eight values
+-- byte k of the mask is the byte for the eight flags from 8 * k on
 pub mask_at : (flags : List Bool) (k : ℕ) → some_missing flags ≡ true → k < (length flags + 7) / 8 → get_or (mask_of flags) k 0 ≡ part flags k
 mask_at flags k any h = ap (λ m. get_or m k 0) (masked flags any) ∙ mask_byte_at flags k h
 
@@ -81,7 +81,7 @@ no_flag (false ∷ flags) (suc i) none = no_flag flags i none
 pub missing_in_none : (i : ℕ) → is_missing [] i ≡ false
 missing_in_none i = ap (λ b. eqb b 1) (bit_at-zero (i % 8))
 
--- the mask marks the values that are missing
+-- the mask marks exactly the missing values
 pub missing_by_mask : (flags : List Bool) (i : ℕ) → i < length flags → is_missing (mask_of flags) i ≡ get_or flags i false
 missing_by_mask flags i h =
     elim (cases_Bool (some_missing flags)) [

@@ -1,4 +1,4 @@
--- That numbers of which none is missing have one far form, and are read back from it.
+-- Numbers none of which is missing have one far form, and decoding it returns them.
 use Rattle.std.proofs.Common.{◌≡◌, ℕ, ◌+◌, ◌*◌, Bool, false, cond, ℤ, List, [], ◌∷◌, ◌++◌, length, map, Some, All, FitsSigned, refl, sym, ap, ◌∙◌, arith}
 use Rattle.std.specs.Prelude.{is_none}
 use Rattle.std.specs.Int.{w32, w64, to_le_bytes, cast_unsigned, cast_signed}

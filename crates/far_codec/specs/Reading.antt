@@ -1,4 +1,4 @@
--- What bytes mean, if they are a far form.
+-- What the bytes of a far form encode.
 use Rattle.std.specs.Prelude.{◌≡◌, ℕ, ◌+◌, ◌/◌, ◌%◌, Bool, ◌==◌, cond, ℤ, List, [], length, map, take, drop, Option, None, Some, slice_index, slice_index_or}
 use Rattle.std.specs.List.{range_with_len}
 use Rattle.std.specs.Int.{w32, w64, bit_at, from_le_bytes, cast_signed}
@@ -13,7 +13,7 @@ count_in bytes = from_le_bytes w32 (drop 2 bytes)
 abbrev pub mask_in : List ℕ → List ℕ
 mask_in bytes = cond (slice_index bytes 0 == 2) (take ((count_in bytes + 7) / 8) (drop 6 bytes)) []
 
--- what follows the mask
+-- the bytes after the mask
 abbrev pub fields_in : List ℕ → List ℕ
 fields_in bytes = drop (6 + length (mask_in bytes)) bytes
 
@@ -21,19 +21,19 @@ fields_in bytes = drop (6 + length (mask_in bytes)) bytes
 abbrev pub is_missing : List ℕ → ℕ → Bool
 is_missing mask i = bit_at (slice_index mask (i / 8)) (i % 8) == 1
 
--- for each of some values, whether a mask marks it as missing
+-- for each value, whether the mask marks it as missing
 abbrev pub flags_of : List ℕ → ℕ → List Bool
 flags_of mask count = map (is_missing mask) (range_with_len 0 count)
 
--- the number of eight bytes
+-- the number that eight bytes encode
 unfoldable pub number_of : List ℕ → ℤ
 number_of bytes = cast_signed w64 (from_le_bytes w64 bytes)
 
--- the numbers of a mask and of words of eight bytes
+-- the numbers that a mask and words of eight bytes encode
 abbrev pub numbers_of : List ℕ → List (List ℕ) → List (Option ℤ)
 numbers_of mask words = map (λ i. cond (is_missing mask i) None (Some (number_of (slice_index_or words i [])))) (range_with_len 0 (length words))
 
--- the numbers that bytes mean
+-- the numbers that bytes encode
 abbrev pub ints_meaning : List ℕ → List (Option ℤ)
 ints_meaning bytes = numbers_of (mask_in bytes) (first_chunks 8 (count_in bytes) (fields_in bytes))
 

@@ -1,4 +1,4 @@
--- What the head of a far form says, and that a form of numbers reads back.
+-- What the head of a far form says, and that decoding a form of numbers returns them.
 use Rattle.std.proofs.Common.{◌≡◌, ℕ, ◌+◌, ◌*◌, ◌/◌, ◌<◌, Bool, true, false, cond, eqb, ℤ, List, [], ◌∷◌, ◌++◌, length, get_or, map, take, drop, Option, None, Some, All, FitsSigned, refl, sym, ap, ◌∙◌, arith, inl, inr}
 use Rattle.std.specs.Prelude.{is_none, IfSome}
 use Rattle.std.specs.Int.{w64, cast_signed, cast_unsigned}
@@ -15,7 +15,7 @@ use Rattle.far_codec.specs.FarForm.{version, mask_of, some_missing, head, number
 use Rattle.far_codec.specs.Reading.{count_in, mask_in, fields_in, is_missing, number_of, numbers_of, ints_meaning}
 use Rattle.far_codec.specs.MaskLaws.{no_mask, length-mask, missing_by_mask}
 
--- what is written in chunks of one length is cut into these chunks
+-- cutting a list that was joined from chunks of one length returns the chunks
 pub chunks_again : {A : Type 0} (n : ℕ) (f : A → List ℕ) → ((x : A) → length (f x) ≡ n) → (xs : List A) → first_chunks n (length xs) (flat_map f xs) ≡ map f xs
 chunks_again n f len [] = refl
 chunks_again n f len (x ∷ xs) =
@@ -28,7 +28,7 @@ pub length-number_bytes : (number : Option ℤ) → length (number_bytes number)
 unfolding number_bytes
 length-number_bytes number = refl
 
--- what is read of bytes that begin with a head
+-- what is read from bytes that begin with a head
 pub record HeadRead (flags : List Bool) (bytes rest : List ℕ) : Type 0 where
   pub count : count_in bytes ≡ length flags
   pub mask_is : mask_in bytes ≡ mask_of flags
@@ -77,7 +77,7 @@ numbers_again numbers fits =
     ∙ ap (λ w. cond (is_missing m k) None (Some (number_of w))) (get_or-map number_bytes numbers k d [] in_list)
     ∙ number_again (get_or numbers k d) (is_missing m k) (missing_by_mask flags k (omega (arith, length-map numbers is_none)) ∙ get_or-map is_none numbers k d false in_list) (fits k d in_list))
 
--- a form of numbers reads back
+-- decoding a form of numbers returns them
 pub ints_read_back : (numbers : List (Option ℤ)) → AreInts numbers → ints_meaning (ints_form numbers) ≡ numbers
 unfolding ints_form
 ints_read_back numbers are =
@@ -136,7 +136,7 @@ same_form_heads : (one other : List (Option ℤ)) → ints_form one ≡ ints_for
 unfolding ints_form
 same_form_heads one other e = same_missing 0 0 (map is_none one) (map is_none other) (flat_map number_bytes one) (flat_map number_bytes other) e
 
--- no other list has the form of numbers that have one
+-- no other list has the same form
 pub one_ints_list : (one other : List (Option ℤ)) → All (λ number. IfSome number (FitsSigned w64)) one → All (λ number. IfSome number (FitsSigned w64)) other → FitsCount one → ints_form one ≡ ints_form other → one ≡ other
 one_ints_list one other range range_too few e =
     let m = length one in

@@ -1,4 +1,4 @@
--- That a form of texts reads back.
+-- Decoding a form of texts returns them.
 -- Internal: no public contract cites it.
 use Rattle.std.proofs.Common.{◌≡◌, ℕ, zero, suc, ◌+◌, ◌-◌, ◌*◌, ◌^◌, ◌<◌, ◌≤◌, Bool, false, cond, List, [], ◌∷◌, ◌++◌, length, get_or, map, take, drop, Option, None, Some, refl, sym, ap, ◌∙◌, arith, append_assoc}
 use Rattle.std.specs.Prelude.{is_none, slice_range}
@@ -19,7 +19,7 @@ use Rattle.far_codec.specs.MaskLaws.{missing_by_mask}
 use Rattle.far_codec.specs.ReadingLaws.{head_read}
 use Rattle.far_codec.specs.TextForm.{bytes_of, bytes_before, ends_of, texts_form, texts_of, ends_in, texts_meaning, AreTexts}
 
--- texts, each of which may be missing
+-- texts that may be missing
 abbrev pub Texts : Type 0
 Texts = List (Option (List ℕ))
 
@@ -29,19 +29,19 @@ length-ends_of texts = length-map-range_with_len (λ i. bytes_before texts (i + 
 pub end_at : (texts : Texts) (i : ℕ) → i < length texts → get_or (ends_of texts) i 0 ≡ bytes_before texts (i + 1)
 end_at texts i h = get_or-map-range_with_len (λ k. bytes_before texts (k + 1)) 0 (length texts) i i 0 h (omega arith)
 
--- the end before text i
+-- the end of the text before text i
 pub start_at : (texts : Texts) (i : ℕ) → i ≤ length texts → get_or (0 ∷ ends_of texts) i 0 ≡ bytes_before texts i
 start_at texts zero h = refl
 start_at texts (suc i) h = let next : i + 1 ≡ suc i = omega arith in end_at texts i (omega arith) ∙ ap (bytes_before texts) next
 
--- one text more
+-- the bytes of the first i + 1 texts, from the bytes of the first i
 pub before_more : (texts : Texts) (i : ℕ) → i < length texts → flat_map bytes_of (take (i + 1) texts) ≡ flat_map bytes_of (take i texts) ++ bytes_of (get_or texts i None)
 before_more texts i h =
     ap (flat_map bytes_of) (take_more texts i None h)
     ∙ flat_map-append bytes_of (take i texts) (get_or texts i None ∷ [])
     ∙ ap (λ l. flat_map bytes_of (take i texts) ++ l) (append-nil (bytes_of (get_or texts i None)))
 
--- what lies between two ends is the text
+-- the bytes between two ends are the text
 pub text_between : (texts : Texts) (i : ℕ) → i < length texts → slice_range (flat_map bytes_of texts) (bytes_before texts i) (bytes_before texts (i + 1)) ≡ bytes_of (get_or texts i None)
 text_between texts i h =
     let front = flat_map bytes_of (take i texts) in
@@ -73,7 +73,7 @@ pub text_bytes_is : (texts : Texts) → text_bytes texts ≡ length (flat_map by
 text_bytes_is [] = refl
 text_bytes_is (text ∷ texts) = omega (arith, sum_by-cons option_length text texts, one_length text, text_bytes_is texts, length-append (bytes_of text) (flat_map bytes_of texts))
 
--- chunks of one length are read from the beginning
+-- the first chunks of a list that was joined from chunks of one length
 pub chunks_before : {A : Type 0} (n : ℕ) (f : A → List ℕ) → ((x : A) → length (f x) ≡ n) → (xs : List A) (rest : List ℕ) → first_chunks n (length xs) (flat_map f xs ++ rest) ≡ map f xs
 chunks_before n f len [] rest = refl
 chunks_before n f len (x ∷ xs) rest =
@@ -89,7 +89,7 @@ ends_each [] below = refl
 ends_each (e ∷ ends) below =
     ap (λ x. x ∷ ends_in (map (to_le_bytes w32) ends)) (from_le_bytes-to_le_bytes_4 e below.0) ∙ ap (λ xs. e ∷ xs) (ends_each ends below.1)
 
--- the ends are read again
+-- decoding the ends returns them
 pub ends_again : (texts : Texts) → AreTexts texts → ends_in (map (to_le_bytes w32) (ends_of texts)) ≡ ends_of texts
 ends_again texts are =
     ends_each (ends_of texts) (recursion_from_All (λ e. e < 2 ^ 32) (ends_of texts) (λ k d h.
@@ -101,7 +101,7 @@ text_again : (missing : Bool) (text : Option (List ℕ)) (bytes : List ℕ) → 
 text_again missing None bytes e same = ap (λ b. cond b None (Some bytes)) e
 text_again missing (Some text) bytes e same = ap (λ b. cond b None (Some bytes)) e ∙ ap Some same
 
--- a text, by its index
+-- text i of these parts
 abbrev pub text_at : List ℕ → List ℕ → List ℕ → ℕ → Option (List ℕ)
 text_at mask ends body i = cond (is_missing mask i) None (Some (slice_range body (get_or (0 ∷ ends) i 0) (get_or ends i 0)))
 
@@ -111,7 +111,7 @@ length-texts_of mask ends body = length-map-range_with_len (text_at mask ends bo
 pub texts_of_at : (mask ends body : List ℕ) (i : ℕ) (d : Option (List ℕ)) → i < length ends → get_or (texts_of mask ends body) i d ≡ text_at mask ends body i
 texts_of_at mask ends body i d h = get_or-map-range_with_len (text_at mask ends body) 0 (length ends) i i d h (omega arith)
 
--- the parts of a form of texts make the texts again
+-- decoding the parts of a form of texts returns the texts
 pub texts_again : (texts : Texts) → texts_of (mask_of (map is_none texts)) (ends_of texts) (flat_map bytes_of texts) ≡ texts
 texts_again texts =
     let flags = map is_none texts in

@@ -1,4 +1,4 @@
-// Far forms of texts once one text changed: made in one pass from the form before.
+// Far forms of texts after one text changed: made in one pass over the old form.
 ghost use Rattle.std.specs.Prelude.{◌≡◌, ◌++◌, ◌∷◌, ◌+◌, ◌-◌, ◌<◌, ◌≤◌, ◌^◌, [], List, length, map, slice_set, is_none, false, All, OnOk, IfOk, IfErr, IfSome};
 ghost use Rattle.std.specs.List.{flat_map, list_any};
 ghost use Rattle.std.specs.Int.{w32, to_le_bytes};
@@ -15,7 +15,7 @@ use crate::texts::{TextParts, end_in, start_in};
 use far_types::{Refusal, Text};
 use std::alloc::{AllocError, Global};
 
-/// Appends ends that were counted from one byte, and counts them from another.
+/// Appends ends, counted from one byte in the old form and from another in the new one.
 fn push_moved(
     form: &mut Vec<u8>,
     ends: &[[u8; 4]],
@@ -32,7 +32,8 @@ fn push_moved(
     Ok(())
 }
 
-/// Appends the ends and the bytes of the texts once text `i` is this one. Copies the rest unchanged, but for the ends after it.
+/// Appends the ends and the bytes of the texts with text `i` replaced by this one. Copies the rest unchanged, except for the ends after
+/// text `i`.
 fn push_fields(
     form: &mut Vec<u8>,
     parts: TextParts<'_>,
@@ -64,7 +65,7 @@ fn push_fields(
     Ok(())
 }
 
-/// Clears a list that is needed no more, and makes space for `size` bytes. Allocates only if the list has not the space.
+/// Clears a list that is no longer needed, and reserves `size` bytes in it. Allocates only if the list has too little space.
 #[inline(always)]
 fn emptied(spare: Vec<u8>, size: usize) -> Result<Vec<u8>, Refusal>
     ensures items { IfOk result (λ list. list.items ≡ []) }
@@ -76,8 +77,8 @@ fn emptied(spare: Vec<u8>, size: usize) -> Result<Vec<u8>, Refusal>
     Ok(list)
 }
 
-/// Makes the far form of the texts once text `i` is this one. The form has `size` bytes. Reuses the memory of a list that is needed no
-/// more.
+/// Makes the far form of the texts with text `i` replaced by this one. The form has `size` bytes. Reuses the memory of a list that is no
+/// longer needed.
 fn form_around(
     spare: Vec<u8>,
     parts: TextParts<'_>,
@@ -107,8 +108,8 @@ fn form_around(
     Ok(form)
 }
 
-/// Makes the far form of texts once a text is appended, if none is missing. It has `size` bytes. Reuses the memory of a list that is
-/// needed no more. Copies each part unchanged; only the head is new.
+/// Makes the far form of texts with one more text appended, if none is missing. It has `size` bytes. Reuses the memory of a list that is
+/// no longer needed. Copies each part unchanged; only the head is new.
 fn form_behind(
     spare: Vec<u8>,
     parts: TextParts<'_>,
@@ -137,7 +138,8 @@ fn form_behind(
     Ok(form)
 }
 
-/// Makes the far form of texts once text `i` is this one: one pass over the old form, one allocation. Refused with `NoMemory` (1) alone.
+/// Makes the far form of the texts with text `i` replaced by this one, in one pass over the old form and one allocation. Refused only
+/// with `NoMemory` (1).
 pub fn form_with(
     alloc: Global,
     form: &[u8],
@@ -161,10 +163,10 @@ pub fn form_with(
     )
 }
 
-/// Makes the far form of texts once this text is appended: one pass over the old form.
+/// Makes the far form of the texts with this text appended, in one pass over the old form.
 ///
-/// Reuses the memory of `spare`, a list that is needed no more, and allocates only if that has not the space. Refused with `NoMemory` (1)
-/// alone.
+/// Reuses the memory of `spare`, a list that is no longer needed, and allocates only if that has too little space. Refused only with
+/// `NoMemory` (1).
 pub fn form_with_next(spare: Vec<u8>, form: &[u8], text: &Option<Text>) -> Result<Vec<u8>, Refusal>
     requires form { IsTextsForm form.now }
     requires space { texts_length (texts_meaning form.now ++ text.now ∷ []) < 2 ^ 32 }
@@ -175,7 +177,7 @@ pub fn form_with_next(spare: Vec<u8>, form: &[u8], text: &Option<Text>) -> Resul
 {
     let size = length_with_next(form, text);
     if form[0] == 1 && text.is_some() {
-        // Here a compiler knows that there is no mask.
+        // In this branch the compiler knows that there is no mask.
         let parts = form_parts(form);
         return form_behind(spare, parts, text, size);
     }
@@ -183,7 +185,7 @@ pub fn form_with_next(spare: Vec<u8>, form: &[u8], text: &Option<Text>) -> Resul
     form_around(spare, old, old.ends.len(), text, size)
 }
 
-/// Makes the far form of one text, in the memory of a list that is needed no more. Refused with `NoMemory` (1) alone.
+/// Makes the far form of one text, in the memory of a list that is no longer needed. Refused only with `NoMemory` (1).
 pub fn form_of(spare: Vec<u8>, text: &Option<Text>) -> Result<Vec<u8>, Refusal>
     requires { texts_length (text.now ∷ []) < 2 ^ 32 }
     ensures form { IfOk result (λ new. IsTextsForm new.items) }

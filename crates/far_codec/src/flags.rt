@@ -1,4 +1,4 @@
-// Which of some values are missing.
+// Flags that say which of some values are missing.
 ghost use Rattle.std.specs.Prelude.{◌≡◌, ◌<◌, length, slice_index_or, slice_set, is_none, false};
 ghost use Rattle.std.specs.List.{list_any};
 ghost use Rattle.far_codec.specs.FarForm.{some_missing};
@@ -27,7 +27,8 @@ pub(crate) trait Flags {
         ensures { result ≡ some_missing (flags self.now) };
 }
 
-/// Returns whether a value other than value `i` is missing. Without a mask none is, and no flag is read. Else the search ends at the first.
+/// Returns whether a value other than value `i` is missing. Without a mask none is, and no flag is read. Else the search stops at the
+/// first.
 pub(crate) fn other_missing(mask: &[u8], count: usize, i: usize) -> bool
     ensures { result ≡ some_missing (slice_set (flags_of mask.now count) i false) }
 {
@@ -68,7 +69,7 @@ impl<T> Flags for &[Option<T>] {
     }
 }
 
-/// The flags of a mask of `count` values, with another flag for value `i`.
+/// The flags of a mask of `count` values, except that value `i` has another flag.
 #[derive(Clone, Copy)]
 pub(crate) struct ChangedFlags<'a> {
     pub mask: &'a [u8],

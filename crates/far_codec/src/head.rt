@@ -4,7 +4,8 @@ ghost use Rattle.std.specs.List.{list_any};
 ghost use Rattle.far_codec.specs.FarForm.{head, mask_of, some_missing, FitsCount};
 ghost use Rattle.far_codec.specs.Reading.{is_missing, flags_of};
 
-/// The parts of a far form of a kind: how many values it counts, its mask, and what follows.
+/// The parts of a far form of one kind: the count of its values, its mask, and the bytes after the
+/// mask.
 #[derive(Clone, Copy)]
 pub(crate) struct Masked<'a> {
     pub count: usize,
@@ -29,7 +30,7 @@ pub(crate) fn has_bit(mask: &[u8]) -> bool
     mask.iter().any(|byte| *byte != 0)
 }
 
-/// Returns whether the bytes are the mask of their own flags, and one of them is set.
+/// Returns whether the bytes are a valid mask of `count` values, with at least one bit set.
 fn is_mask(mask: &[u8], count: usize) -> bool
     requires { length mask.now ≡ (count + 7) / 8 }
     ensures { IsTrue result ↔ ((mask.now ≡ mask_of (flags_of mask.now count)) × (some_missing (flags_of mask.now count) ≡ true)) }

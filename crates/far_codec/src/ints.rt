@@ -1,4 +1,4 @@
-// Numbers that may be missing: the parts of their far form, and how they are read.
+// Numbers that may be missing: the parts of their far form, and how they are decoded.
 ghost use Rattle.std.specs.Prelude.{◌≡◌, ◌==◌, ◌↔◌, is_none, ◌<◌, ◌^◌, ℕ, ℤ, List, [], Option, None, Some, cond, true, length, slice_index_or, FitsSigned, IfOk, IfErr, IfSome, IsSome, IsTrue};
 ghost use Rattle.std.specs.Int.{w64};
 ghost use Rattle.std.specs.List.{list_any, AllByRecursion};
@@ -40,7 +40,7 @@ fn missing_are_zero(mask: &[u8], words: &[[u8; 8]]) -> bool
     true
 }
 
-/// Splits a form of numbers into its parts. Returns `None` if the bytes are no such form.
+/// Splits a form of numbers into its parts. Returns `None` if the bytes are not a far form of numbers.
 pub(crate) fn split_ints(bytes: &[u8]) -> Option<IntParts<'_>>
     ensures found { IfSome result (λ parts. AreInts (numbers_of parts.mask.now parts.words.now) × (bytes.now ≡ ints_form (numbers_of parts.mask.now parts.words.now))) }
     ensures only { (numbers : List (Option ℤ)) → AreInts numbers → bytes.now ≡ ints_form numbers → IsSome result }
@@ -60,14 +60,14 @@ pub(crate) fn split_ints(bytes: &[u8]) -> Option<IntParts<'_>>
     Some(IntParts { mask, words })
 }
 
-/// Returns the number of a word, if it is not missing.
+/// Returns the number that a word encodes, or `None` if it is missing.
 pub(crate) fn option_in(missing: bool, word: &[u8; 8]) -> Option<i64>
     ensures { result ≡ cond missing None (Some (number_of word.now)) }
 {
     if missing { None } else { Some(number_in(word)) }
 }
 
-/// Reads the numbers of a form from its parts.
+/// Decodes the numbers of a form from its parts.
 pub(crate) fn read_ints(alloc: Global, parts: &IntParts<'_>) -> Result<Vec<Option<i64>>, AllocError>
     ensures { IfOk result (λ numbers. numbers.items ≡ numbers_of parts.now.mask.now parts.now.words.now) }
 {
@@ -90,7 +90,7 @@ pub fn ints_length(numbers: &[Option<i64>]) -> usize
     6 + mask_length(numbers) + 8 * numbers.len()
 }
 
-/// Encodes numbers: returns their one far form. Refused with `NoMemory` (1) alone.
+/// Encodes numbers: returns their one far form. Refused only with `NoMemory` (1).
 pub fn encode_ints(alloc: Global, numbers: &[Option<i64>]) -> Result<Vec<u8>, Refusal>
     requires { length numbers.now < 2 ^ 32 }
     ensures spelled { IfOk result (λ form. (form.items ≡ ints_form numbers.now) × AreInts numbers.now) }
@@ -117,7 +117,7 @@ fn tells_missing(bytes: &[u8]) -> bool
     !bytes.is_empty() && bytes[0] == 2
 }
 
-/// Returns whether the bytes are the far form of numbers of which one is missing. Stops at the first difference.
+/// Returns whether the bytes are the far form of numbers, some of them missing. Stops at the first difference.
 fn spells_masked(bytes: &[u8], numbers: &[Option<i64>]) -> bool
     ensures found { IsTrue result → (bytes.now ≡ ints_form numbers.now) × AllByRecursion (λ number. IfSome number (FitsSigned w64)) numbers.now }
     ensures only { bytes.now ≡ ints_form numbers.now → list_any is_none numbers.now ≡ true → IsTrue result }

@@ -1,4 +1,4 @@
-// The values of a known far form, read in place.
+// The values of a valid far form, read in place.
 ghost use Rattle.std.specs.Prelude.{◌≡◌, slice_get, IfSome, FitsSigned};
 ghost use Rattle.std.specs.Int.{w64};
 ghost use Rattle.std.specs.Option.{option_and_then, option_copied};
@@ -29,7 +29,7 @@ impl<'a> Model for LentInts<'a> {
 }
 
 impl<'a> LentInts<'a> {
-    /// Borrows the numbers of a far form of numbers. Allocates nothing, and reads the head alone.
+    /// Borrows the numbers of a far form of numbers. Allocates nothing, and reads only the head.
     fn new(form: &'a [u8]) -> LentInts<'a>
         requires { IsIntsForm form.now }
         ensures { result ≡ ints_meaning form.now }
@@ -71,7 +71,7 @@ impl<'a> Model for LentTexts<'a> {
 }
 
 impl<'a> LentTexts<'a> {
-    /// Borrows the texts of a far form of texts. Allocates nothing, and reads the head alone.
+    /// Borrows the texts of a far form of texts. Allocates nothing, and reads only the head.
     fn new(form: &'a [u8]) -> LentTexts<'a>
         requires { IsTextsForm form.now }
         ensures { result ≡ texts_meaning form.now }
@@ -96,7 +96,7 @@ pub enum LentValues<'a> {
     Texts(LentTexts<'a>),
 }
 
-/// Borrows the values of bytes that are known to be a far form. Allocates nothing, and reads the head alone.
+/// Borrows the values of a valid far form. Allocates nothing, and reads only the head.
 pub fn lend_values(form: &[u8]) -> LentValues<'_>
     requires { IsForm form.now }
     ensures { result ≡ lent_in form.now }

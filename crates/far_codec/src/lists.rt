@@ -33,7 +33,7 @@ impl IntList {
         self.numbers.as_slice()
     }
 
-    /// Returns the numbers that the list was made of. Allocates nothing.
+    /// Returns the numbers of the list, without a copy. Allocates nothing.
     pub fn into_vec(self) -> Vec<Option<i64>>
         ensures { result.items ≡ self }
     {
@@ -70,7 +70,7 @@ impl TextList {
         self.texts.as_slice()
     }
 
-    /// Returns the texts that the list was made of. Allocates nothing.
+    /// Returns the texts of the list, without a copy. Allocates nothing.
     pub fn into_vec(self) -> Vec<Option<Text>>
         ensures { result.items ≡ self }
     {

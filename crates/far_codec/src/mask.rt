@@ -1,4 +1,4 @@
-// The head and the mask of values, written and compared.
+// The head and the mask of values: writing and comparing them.
 ghost use Rattle.std.specs.Prelude.{◌≡◌, true, ◌++◌, ◌+◌, ◌*◌, ◌/◌, ◌<◌, ◌≤◌, ◌^◌, ℕ, List, length, map, take, drop, cond, is_none, OnOk, IfSome, IsSomeAnd};
 ghost use Rattle.std.specs.List.{list_any};
 ghost use Rattle.far_types.specs.FormLengths.{mask_length};
@@ -8,7 +8,7 @@ use crate::flags::Flags;
 use crate::head::has_bit;
 use std::alloc::AllocError;
 
-/// Returns how many bytes the mask of values has.
+/// Returns the length of the mask of values in bytes.
 pub(crate) fn mask_length<T>(values: &[Option<T>]) -> usize
     ensures { result ≡ mask_length values.now }
 {
@@ -40,7 +40,7 @@ fn byte_at<F: Flags>(flags: &F, k: usize) -> u8
     byte
 }
 
-/// Appends the mask of values of which one is missing.
+/// Appends the mask of values, some of them missing.
 fn push_mask<F: Flags>(form: &mut Vec<u8>, flags: &F) -> Result<(), AllocError>
     ensures { OnOk result (form.new.items ≡ form.old.items ++ mask_bytes (F.flags flags.now)) }
 {
@@ -70,7 +70,8 @@ pub(crate) fn push_head<F: Flags>(form: &mut Vec<u8>, kind: u8, flags: &F) -> Re
     Ok(())
 }
 
-/// Returns what follows the mask of values of which one is missing, if the bytes begin with that mask. Stops at the first difference.
+/// Returns the bytes after the mask of values, some of them missing, if the bytes begin with that mask. Stops at the first
+/// difference.
 fn strip_mask<'a, T>(bytes: &'a [u8], values: &[Option<T>]) -> Option<&'a [u8]>
     ensures found { IfSome result (λ rest. (bytes.now ≡ mask_bytes (map is_none values.now) ++ rest.now) × (list_any is_none values.now ≡ true)) }
     ensures only { (rest : List ℕ) → bytes.now ≡ mask_bytes (map is_none values.now) ++ rest → list_any is_none values.now ≡ true → IsSomeAnd result (λ r. r.now ≡ rest) }
@@ -91,7 +92,7 @@ fn strip_mask<'a, T>(bytes: &'a [u8], values: &[Option<T>]) -> Option<&'a [u8]>
     Some(rest)
 }
 
-/// Returns what follows the head and the mask of values of which one is missing, if the bytes begin with them. Stops at the first
+/// Returns the bytes after the head and the mask of values, some of them missing, if the bytes begin with these. Stops at the first
 /// difference.
 pub(crate) fn strip_head<'a, T>(bytes: &'a [u8], kind: u8, values: &[Option<T>]) -> Option<&'a [u8]>
     ensures found { IfSome result (λ rest. (bytes.now ≡ head kind (map is_none values.now) ++ rest.now) × (list_any is_none values.now ≡ true)) }

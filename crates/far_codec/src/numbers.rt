@@ -1,4 +1,4 @@
-// Numbers of which none is missing, as elements.
+// Numbers none of which is missing, as elements.
 ghost use Rattle.std.specs.Prelude.{◌≡◌, ◌↔◌, ◌++◌, ◌∷◌, ◌<◌, ◌^◌, ℤ, List, map, length, FitsSigned, OnOk, IfOk, IfSome, IsSomeAnd, IsTrue, Some};
 ghost use Rattle.std.specs.List.{flat_map, AllByRecursion};
 ghost use Rattle.std.specs.Int.{w32, w64, to_le_bytes};
@@ -12,7 +12,7 @@ use crate::words::{are_words, number_in, push_words};
 use far_types::Refusal;
 use std::alloc::{AllocError, Global};
 
-/// Reads the numbers of the words.
+/// Decodes the numbers of the words.
 fn read_numbers(alloc: Global, words: &[[u8; 8]]) -> Result<Vec<i64>, AllocError>
     ensures { IfOk result (λ numbers. numbers.items ≡ map number_of words.now) }
 {
@@ -41,7 +41,7 @@ pub(crate) fn plain_words(bytes: &[u8]) -> Option<&[[u8; 8]]>
     Some(words)
 }
 
-/// Appends the head of `count` numbers of which none is missing.
+/// Appends the head of `count` numbers none of which is missing.
 pub(crate) fn push_plain_head(form: &mut Vec<u8>, count: usize) -> Result<(), AllocError>
     requires { count < 2 ^ 32 }
     ensures { OnOk result (form.new.items ≡ form.old.items ++ 1 ∷ 0 ∷ to_le_bytes w32 count) }

@@ -1,4 +1,4 @@
-// Numbers of a list that may have missing ones: written and compared up to the first that is missing.
+// Numbers that may be missing: written and compared up to the first missing one.
 ghost use Rattle.std.specs.Prelude.{◌≡◌, ◌++◌, length, map, is_none, false, IfOk, IsTrue};
 ghost use Rattle.std.specs.List.{list_any, flat_map, AllByRecursion};
 ghost use Rattle.far_codec.specs.FarForm.{number_bytes, ints_form};
@@ -8,7 +8,8 @@ use crate::numbers::plain_words;
 use crate::words::EightBytes;
 use std::alloc::AllocError;
 
-/// Writes the words of a block into their places. Returns whether no number is missing. Stops at the first that is.
+/// Writes the words of a block into their places. Returns whether no number is missing. Stops at the first missing
+/// one.
 #[tactic(auto, unfolding(crate::specs::FarForm::number_bytes))]
 fn write_present(words: &mut [[u8; 8]], block: &[Option<i64>]) -> bool
     requires { length words.old ≡ length block.now }
@@ -24,7 +25,7 @@ fn write_present(words: &mut [[u8; 8]], block: &[Option<i64>]) -> bool
     true
 }
 
-/// Appends the words of a few numbers. Returns whether none is missing. Stops at the first that is.
+/// Appends the words of a few numbers. Returns whether none is missing. Stops at the first missing one.
 fn push_few(form: &mut Vec<u8>, numbers: &[Option<i64>]) -> Result<bool, AllocError>
     ensures written { IfOk result (λ all. IsTrue all → form.new.items ≡ form.old.items ++ flat_map number_bytes numbers.now) }
     ensures there { IfOk result (λ all. IsTrue all → AllByRecursion IsThere numbers.now) }
@@ -38,9 +39,9 @@ fn push_few(form: &mut Vec<u8>, numbers: &[Option<i64>]) -> Result<bool, AllocEr
     Ok(true)
 }
 
-/// Appends the words of numbers. Returns whether none is missing. Stops at the first that is.
+/// Appends the words of numbers. Returns whether none is missing. Stops at the first missing one.
 ///
-/// Writes them in blocks, without a test for each that the form has the space.
+/// Writes them in blocks, so that it need not test for each word whether the form has space.
 pub(crate) fn push_present(form: &mut Vec<u8>, numbers: &[Option<i64>]) -> Result<bool, AllocError>
     ensures written { IfOk result (λ all. IsTrue all → form.new.items ≡ form.old.items ++ flat_map number_bytes numbers.now) }
     ensures there { IfOk result (λ all. IsTrue all → AllByRecursion IsThere numbers.now) }
@@ -58,7 +59,7 @@ pub(crate) fn push_present(form: &mut Vec<u8>, numbers: &[Option<i64>]) -> Resul
     push_few(form, rest)
 }
 
-/// Returns whether the words are those of numbers of which none is missing. Stops at the first difference.
+/// Returns whether none of the numbers is missing and the words are theirs. Stops at the first difference.
 fn are_present(words: &[[u8; 8]], numbers: &[Option<i64>]) -> bool
     ensures found { IsTrue result → (words.now ≡ map number_bytes numbers.now) × AllByRecursion IsThere numbers.now }
     ensures only { words.now ≡ map number_bytes numbers.now → list_any is_none numbers.now ≡ false → IsTrue result }
@@ -74,7 +75,7 @@ fn are_present(words: &[[u8; 8]], numbers: &[Option<i64>]) -> bool
     true
 }
 
-/// Returns whether the bytes are the far form of numbers of which none is missing. Stops at the first difference.
+/// Returns whether none of the numbers is missing and the bytes are their far form. Stops at the first difference.
 pub(crate) fn spells_present(bytes: &[u8], numbers: &[Option<i64>]) -> bool
     ensures found { IsTrue result → (bytes.now ≡ ints_form numbers.now) × AllByRecursion IsThere numbers.now }
     ensures only { bytes.now ≡ ints_form numbers.now → list_any is_none numbers.now ≡ false → IsTrue result }

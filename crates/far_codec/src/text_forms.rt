@@ -1,4 +1,4 @@
-// Far forms of texts: how they are written, and how a text of one is borrowed.
+// Far forms of texts: writing them, and borrowing a text of one.
 ghost use Rattle.std.specs.Prelude.{◌≡◌, ◌++◌, ◌∷◌, ◌+◌, ◌/◌, ◌==◌, ◌<◌, ◌^◌, [], cond, ℕ, List, Option, Some, length, map, slice_get, option_and_then, OnOk, IfOk, IfErr, IfSome, All};
 ghost use Rattle.std.specs.Option.{option_copied};
 ghost use Rattle.std.specs.List.{flat_map};
@@ -12,7 +12,7 @@ use crate::texts::{TextParts, split_texts, text_in};
 use far_types::{Refusal, Text};
 use std::alloc::{AllocError, Global};
 
-/// Borrows the bytes of a text in place; a missing one has none.
+/// Borrows the bytes of a text in place: none if it is missing.
 pub(crate) fn bytes_in(text: &Option<Text>) -> &[u8]
     ensures bytes { result.now ≡ bytes_of text.now }
     ensures utf8 { IfSome text.now IsUtf8 }
@@ -23,7 +23,7 @@ pub(crate) fn bytes_in(text: &Option<Text>) -> &[u8]
     }
 }
 
-/// Returns how many bytes the texts have.
+/// Returns how many bytes the texts have in all.
 fn count_bytes(texts: &[Option<Text>]) -> usize
     requires { text_bytes texts.now < 2 ^ 62 }
     ensures { result ≡ text_bytes texts.now }
@@ -68,7 +68,7 @@ fn push_texts(form: &mut Vec<u8>, texts: &[Option<Text>]) -> Result<(), AllocErr
     Ok(())
 }
 
-/// Encodes texts: returns their one far form. Refused with `NoMemory` (1) alone.
+/// Encodes texts: returns their one far form. Refused only with `NoMemory` (1).
 pub fn encode_texts(alloc: Global, texts: &[Option<Text>]) -> Result<Vec<u8>, Refusal>
     requires count { length texts.now < 2 ^ 32 }
     requires bytes { text_bytes texts.now < 2 ^ 32 }
@@ -84,7 +84,7 @@ pub fn encode_texts(alloc: Global, texts: &[Option<Text>]) -> Result<Vec<u8>, Re
 }
 
 /// Borrows text `i` of a far form in place. Allocates nothing. Returns `None` if:
-/// - the bytes are no far form of texts;
+/// - the bytes are not a far form of texts;
 /// - text `i` is past the end;
 /// - text `i` is missing.
 pub fn text_at(bytes: &[u8], i: usize) -> Option<&str>
@@ -95,7 +95,7 @@ pub fn text_at(bytes: &[u8], i: usize) -> Option<&str>
     text_in(parts, i)
 }
 
-/// Returns how many bytes the mask of `count` values has, by the first byte of a form.
+/// Returns the length of the mask of `count` values in bytes, given the first byte of a form.
 pub(crate) fn mask_size(version: u8, count: usize) -> usize
     requires { count < 2 ^ 32 }
     ensures { result ≡ cond (version == 2) ((count + 7) / 8) 0 }
@@ -103,7 +103,7 @@ pub(crate) fn mask_size(version: u8, count: usize) -> usize
     if version == 2 { (count + 7) / 8 } else { 0 }
 }
 
-/// Splits bytes that are known to be a far form of texts into its parts.
+/// Splits a valid far form of texts into its parts.
 pub(crate) fn form_parts(form: &[u8]) -> TextParts<'_>
     requires { IsTextsForm form.now }
     ensures parts { AreTextParts result.mask.now (ends_in result.ends.now) result.body.now }
@@ -118,7 +118,7 @@ pub(crate) fn form_parts(form: &[u8]) -> TextParts<'_>
     TextParts { mask, ends, body }
 }
 
-/// Returns how many texts a far form of texts has. Allocates nothing, and reads the head alone.
+/// Returns how many texts a far form of texts has. Allocates nothing, and reads only the head.
 pub fn count_texts(form: &[u8]) -> usize
     requires { IsTextsForm form.now }
     ensures { result ≡ length (texts_meaning form.now) }
@@ -126,7 +126,7 @@ pub fn count_texts(form: &[u8]) -> usize
     form_parts(form).ends.len()
 }
 
-/// Borrows text `i` of a known far form of texts in place. Returns `None` if it is past the end or missing.
+/// Borrows text `i` of a valid far form of texts in place. Returns `None` if it is past the end or missing.
 ///
 /// Allocates nothing. Reads only the head, one bit of the mask and two ends.
 pub fn text_of(form: &[u8], i: usize) -> Option<&str>

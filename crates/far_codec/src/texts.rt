@@ -1,4 +1,4 @@
-// Texts that may be missing: the parts of their far form, and how they are read.
+// Texts that may be missing: the parts of their far form, and how they are decoded.
 ghost use Rattle.std.specs.Prelude.{◌≡◌, ◌↔◌, ◌≤◌, ℕ, List, ◌∷◌, Option, length, slice_get, slice_index, option_and_then, IfOk, IfErr, IfSome, IsSome, IsTrue};
 ghost use Rattle.std.specs.Option.{option_copied};
 ghost use Rattle.std.specs.Int.{w32, from_le_bytes};
@@ -18,14 +18,14 @@ pub(crate) struct TextParts<'a> {
     pub body: &'a [u8],
 }
 
-/// Returns the end that four bytes spell.
+/// Returns the end that four bytes encode.
 pub(crate) fn end_in(word: &[u8; 4]) -> usize
     ensures { result ≡ from_le_bytes w32 word.now }
 {
     u32::from_le_bytes(*word) as usize
 }
 
-/// Returns where text `i` begins: where the one before it ends.
+/// Returns where text `i` begins, which is where the text before it ends.
 pub(crate) fn start_in(ends: &[[u8; 4]], i: usize) -> usize
     requires { i ≤ length ends.now }
     ensures { result ≡ slice_index (0 ∷ ends_in ends.now) i }
@@ -63,14 +63,14 @@ fn missing_are_empty(mask: &[u8], ends: &[[u8; 4]]) -> bool
     true
 }
 
-/// Returns whether the bytes are UTF-8.
+/// Returns whether the bytes are valid UTF-8.
 fn is_utf8(bytes: &[u8]) -> bool
     ensures { IsTrue result ↔ IsUtf8 bytes.now }
 {
     str::from_utf8(bytes).is_ok()
 }
 
-/// Returns whether each text is UTF-8.
+/// Returns whether each text is valid UTF-8.
 fn are_utf8(ends: &[[u8; 4]], body: &[u8]) -> bool
     requires { Ascend (ends_in ends.now) (length body.now) }
     ensures { IsTrue result ↔ AreUtf8 (ends_in ends.now) body.now }
@@ -85,7 +85,8 @@ fn are_utf8(ends: &[[u8; 4]], body: &[u8]) -> bool
     true
 }
 
-/// Returns whether the parts are those of texts. If all text bytes are ASCII, no text is checked by itself.
+/// Returns whether these are the parts of a form of texts. If all text bytes are ASCII, the texts are not
+/// checked one by one.
 fn are_texts(mask: &[u8], ends: &[[u8; 4]], body: &[u8]) -> bool
     ensures { IsTrue result ↔ AreTextParts mask.now (ends_in ends.now) body.now }
 {
@@ -101,7 +102,7 @@ fn are_texts(mask: &[u8], ends: &[[u8; 4]], body: &[u8]) -> bool
     are_utf8(ends, body)
 }
 
-/// Splits a form of texts into its parts. Returns `None` if the bytes are no such form.
+/// Splits a form of texts into its parts. Returns `None` if the bytes are not a far form of texts.
 pub(crate) fn split_texts(bytes: &[u8]) -> Option<TextParts<'_>>
     ensures parts { IfSome result (λ p. AreTextParts p.mask.now (ends_in p.ends.now) p.body.now) }
     ensures found { IfSome result (λ p. AreTexts (texts_of p.mask.now (ends_in p.ends.now) p.body.now) × (bytes.now ≡ texts_form (texts_of p.mask.now (ends_in p.ends.now) p.body.now))) }
@@ -150,7 +151,7 @@ fn owned(alloc: Global, text: Option<&str>) -> Result<Option<Text>, Refusal>
     }
 }
 
-/// Reads the texts of a form from its parts.
+/// Decodes the texts of a form from its parts.
 pub(crate) fn read_texts(alloc: Global, parts: TextParts<'_>) -> Result<Vec<Option<Text>>, Refusal>
     requires { AreTextParts parts.mask.now (ends_in parts.ends.now) parts.body.now }
     ensures read { IfOk result (λ texts. texts.items ≡ texts_of parts.entry.mask.now (ends_in parts.entry.ends.now) parts.entry.body.now) }

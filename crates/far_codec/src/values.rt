@@ -10,18 +10,19 @@ use crate::texts::{read_texts, split_texts};
 use far_types::{Kind, Refusal};
 use std::alloc::Global;
 
-/// The values of a far form, in their order. Each may be missing.
+/// The values of a far form, in order. Each may be missing.
 #[derive(Drop, Debug)]
 pub enum Values {
     Ints(IntList),
     Texts(TextList),
 }
 
-/// Decodes a far form: returns its values, or `None` if the bytes are no far form. Refused with `NoMemory` (1) alone.
+/// Decodes a far form: returns its values, or `None` if the bytes are not a far form. Refused only with
+/// `NoMemory` (1).
 pub fn decode(alloc: Global, bytes: &[u8]) -> Result<Option<Values>, Refusal>
-    // What is read has these bytes as its form.
+    // Values that are returned have these bytes as their form.
     ensures found { IfOk result (λ read. IfSome read (λ values. HaveForm values × (bytes.now ≡ form_of values))) }
-    // What has these bytes as its form is read.
+    // Values with these bytes as their form are returned.
     ensures only { (values : Values) → HaveForm values → bytes.now ≡ form_of values → IfOk result (λ read. read ≡ Some values) }
     ensures memory { IfErr result (λ e. e ≡ Refusal.NoMemory) }
 {
@@ -34,7 +35,7 @@ pub fn decode(alloc: Global, bytes: &[u8]) -> Result<Option<Values>, Refusal>
     Ok(None)
 }
 
-/// Returns the kind of a far form's values, or `None` if the bytes are no far form. Allocates nothing.
+/// Returns the kind of a far form's values, or `None` if the bytes are not a far form. Allocates nothing.
 pub fn kind_of(bytes: &[u8]) -> Option<Kind>
     ensures ints { (result ≡ Some Kind.Int) ↔ IsIntsForm bytes.now }
     ensures texts { (result ≡ Some Kind.Text) ↔ IsTextsForm bytes.now }

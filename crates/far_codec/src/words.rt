@@ -1,4 +1,4 @@
-// Words of eight bytes: how numbers are written and compared.
+// Words of eight bytes: writing and comparing numbers.
 ghost use Rattle.std.specs.Prelude.{◌≡◌, ◌↔◌, ◌++◌, ℕ, List, length, map, FitsSigned, OnOk, IfSome, IsTrue, Some};
 ghost use Rattle.std.specs.List.{flat_map, AllByRecursion};
 ghost use Rattle.std.specs.Int.{w64};
@@ -12,7 +12,7 @@ pub(crate) trait EightBytes: Copy + Drop {
     /// The eight bytes.
     ghost written: { Self → List ℕ };
 
-    /// The element is a value of its type.
+    /// The element is in the range of its type.
     ghost in_range: { Self → Type 0 };
 
     fn word(&self) -> [u8; 8]
@@ -46,7 +46,7 @@ impl EightBytes for Option<i64> {
     }
 }
 
-/// Reads the number of eight bytes.
+/// Returns the number that eight bytes encode.
 #[tactic(auto, unfolding(crate::specs::Reading::number_of))]
 pub(crate) fn number_in(word: &[u8; 8]) -> i64
     ensures { result ≡ number_of word.now }
@@ -65,7 +65,8 @@ fn write_words<T: EightBytes>(words: &mut [[u8; 8]], block: &[T])
     }
 }
 
-/// Appends the words of a list. Writes them in blocks, so that a compiler makes wide moves of them.
+/// Appends the words of a list. Writes them in blocks, so that the compiler makes wide moves of
+/// them.
 pub(crate) fn push_words<T: EightBytes>(form: &mut Vec<u8>, list: &[T]) -> Result<(), AllocError>
     ensures written { OnOk result (form.new.items ≡ form.old.items ++ flat_map T.written list.now) }
     ensures range { OnOk result (AllByRecursion T.in_range list.now) }

@@ -11,12 +11,12 @@ use Rattle.far_vector.proofs.VectorLaws.{length-elements}
 use Rattle.far_vector.proofs.RefusingParts.{range-free}
 use Rattle.far_columns.specs.Numbers.{Numbers, number_lists, numbers_in, with_flags}
 
--- as many as pieces
+-- there are as many flagged pieces as pieces
 pub length-with_flags : (pieces : List Numbers) (flags : List Bool) → length (with_flags pieces flags) ≡ length pieces
 length-with_flags [] flags = refl
 length-with_flags (piece ∷ pieces) flags = ap suc (length-with_flags pieces (drop (length piece) flags))
 
--- the pieces are those that were given
+-- the numbers of the flagged pieces are those of the pieces
 pub values-with_flags : (pieces : List Numbers) (flags : List Bool) → map (λ (lent : Numbers × List Bool). lent.0) (with_flags pieces flags) ≡ pieces
 values-with_flags [] flags = refl
 values-with_flags (piece ∷ pieces) flags = ap (λ rest. piece ∷ rest) (values-with_flags pieces (drop (length piece) flags))
@@ -54,7 +54,7 @@ same_length-flags (piece ∷ pieces) flags same_length = All-cons (λ (lent : Nu
 pub length-range : {A : Type 0} (xs : List A) (from to : ℕ) → from ≤ to → to ≤ length xs → length (slice_range xs from to) ≡ to - from
 length-range xs from to low within = length-take-le (to - from) (drop from xs) (omega (arith, length-drop from xs, low, within))
 
--- there are as many flags as places of a part that is lent
+-- a part that is lent has as many flags as places
 pub flags-same_length : {K : Type 0} (content : K → List ℕ) (m : Movement (Option ℤ) K) (v : Vector (Option ℤ)) (shaped : IsShaped v) (is : IsVector (number_lists content m) v) (alive : List Bool) (from to : ℕ) → length alive ≡ v.len → None ≡ pieces_refusal m v from to
     → (flags : List Bool) (joined : Numbers) → flags ≡ slice_range alive from to → joined ≡ slice_range (numbers_in content m v) from to → length flags ≡ length joined
 flags-same_length content m v shaped is alive from to same_length free flags joined own other =

@@ -1,4 +1,4 @@
--- Columns of numbers that get a number each.
+-- A number is appended to each of several columns.
 use Rattle.std.proofs.Common.{◌≡◌, ◌≢◌, inl, inr, ℕ, suc, ℤ, ◌+◌, ◌*◌, ◌/◌, ◌<◌, Bool, true, false, not, cond, List, [], ◌∷◌, ◌++◌, length, Option, None, Some, refl, sym, ap, ◌∙◌, arith, mul-le-mul_right}
 use Rattle.std.specs.Prelude.{All, AllPairs, slice_get, nat_lt, is_some, ◌⊎◌}
 use Rattle.std.specs.List.{list_any}
@@ -29,7 +29,7 @@ pairs-head R x xs pairs k d below = pairs 0 (suc k) d (omega arith) (omega (arit
 pub pairs-tail : {X : Type 0} (R : X → X → Type 0) (x : X) (xs : List X) → AllPairs R (x ∷ xs) → AllPairs R xs
 pairs-tail R x xs pairs i j d below within = pairs (suc i) (suc j) d (omega (arith, below)) (omega (arith, within))
 
--- of two columns of one length and one size of row groups, both begin a row group or neither
+-- two columns of one length and one size of row groups both begin a row group, or neither does
 pub both-begin : (c d : Vector (Option ℤ)) → IsShaped c → IsShaped d → c.size ≡ d.size → c.len ≡ d.len → is_full c ≡ true → is_full d ≡ true
 both-begin c d has other size len begins =
     let full : c.len ≡ length c.objects * c.size = eqb-true c.len (length c.objects * c.size) begins in
@@ -46,7 +46,7 @@ both-begin c d has other size len begins =
       ]
     ]
 
--- a row group that is begun is not full, so a number is pushed if its object may be written
+-- a row group that has been begun is not full, so a number is pushed if its object may be written
 pub push-free : {K : Type 0} (m : Movement (Option ℤ) K) (v : Vector (Option ℤ)) → is_full v ≡ false → None ≡ write_refusal m (object_at v v.len) → push_refusal m v ≡ None
 push-free m v begun free = ap (λ (b : Bool). cond b (first_of (no_space m (length m.records) v.size ∷ [])) (write_refusal m (object_at v v.len))) begun ∙ sym free
 
@@ -69,42 +69,42 @@ write-other old new o p changes same disjoint =
 pub changes-same : {K : Type 0} (m : Movement (Option ℤ) K) (v : Vector (Option ℤ)) (x : Option ℤ) → (objects_after_push m v x).max_writes ≡ m.max_writes
 changes-same m v x = elim (cases_Bool (is_full v)) [ inl full ↦ rw full refl | inr begun ↦ rw begun refl ]
 
--- a number more in a row group that is begun makes no object
+-- one more number in a row group that has been begun makes no object
 pub count-same : {K : Type 0} (m : Movement (Option ℤ) K) (v : Vector (Option ℤ)) (x : Option ℤ) → is_full v ≡ false → length (objects_after_push m v x).records ≡ length m.records
 count-same m v x begun = rw begun (length-with m.records (object_at v v.len) (λ object_record. record object_record { version = object_record.version + 1 }))
 
--- disjoint either way
+-- disjoint in either order
 pub disjoint-turned : (v w : Vector (Option ℤ)) → AreDisjoint v w → AreDisjoint w v
 disjoint-turned v w disjoint k d within j e inside same = disjoint j e inside k d within (sym same)
 
--- the object of the next place is one of those that are there
+-- the object of the next place exists
 pub next-within : (v : Vector (Option ℤ)) → IsShaped v → is_full v ≡ false → v.len / v.size < length v.objects
 next-within v shaped begun =
     let short : v.len ≢ length v.objects * v.size = λ e. absurd (let full = sym (eq-eqb v.len (length v.objects * v.size) e) ∙ begun in cc) in
     div_below v.len v.size (length v.objects) shaped.some (omega (arith, shaped.enough, short))
 
--- two that are begun have different objects for their next places
+-- two columns with begun row groups have different objects for their next places
 pub next-disjoint : (v w : Vector (Option ℤ)) → IsShaped v → IsShaped w → is_full v ≡ false → is_full w ≡ false → AreDisjoint v w → object_at w w.len ≢ object_at v v.len
 next-disjoint v w shaped other begun begun_too disjoint same = disjoint (v.len / v.size) 0 (next-within v shaped begun) (w.len / w.size) 0 (next-within w other begun_too) (sym same)
 
--- if a number may be pushed and its row group is begun, no push is refused
+-- if a number may be pushed within a begun row group, no push is refused
 pub none-refused : (due : Option Refusal) (full : Bool) (e : Refusal) → due ≡ None → full ≡ false → (due ≡ Some e) ⊎ ((due ≡ None) × (full ≡ true) × (e ≡ refusal.NoMemory)) → ⊥
 none-refused due full e free begun (inl some) = absurd (let two = sym free ∙ some in cc)
 none-refused due full e free begun (inr rest) = absurd (let two = sym begun ∙ rest.1 in cc)
 
--- a column whose row group is begun, with a number more
+-- a column with a begun row group, after one more number
 pub begun-same : (c : Vector (Option ℤ)) (n o : ℕ) → is_full c ≡ false → after_push c n ≡ after_push c o
 begun-same c n o begun = rw begun refl
 
 pub begun-object : (c c' : Vector (Option ℤ)) (n : ℕ) → is_full c ≡ false → c' ≡ after_push c n → object_at c' c.len ≡ object_at c c.len
 begun-object c c' n begun is = rw (is, begun) refl
 
--- the columns with a number more each, the first and then the rest
+-- the columns with one more number each: the first, then the rest
 pub pushed-first : (n k : ℕ) (c c' : Vector (Option ℤ)) (rest rest' columns : NumberColumns) → columns ≡ c ∷ rest → c' ≡ after_push c n → rest' ≡ after_push_all k rest → k ≡ n + 1 → c' ∷ rest' ≡ after_push_all n columns
 pushed-first n k c c' rest rest' columns is first others step =
     ap (λ d. d ∷ rest') first ∙ ap (λ l. after_push c n ∷ l) (others ∙ ap (λ i. after_push_all i rest) step) ∙ ap (after_push_all n) (sym is)
 
--- columns of one table, which all begin row groups or none
+-- columns of one table, all of which begin row groups, or none
 module _ (lists : NumberLists) (columns : NumberColumns) (are : AreNumberColumns lists columns) (shaped : All IsShaped columns) where
   alike : (c d : Vector (Option ℤ)) → IsShaped c → IsShaped d → (c.size ≡ d.size) × (c.len ≡ d.len) → is_full c ≡ true → is_full d ≡ true
   alike c d one other same_length = both-begin c d one other same_length.0 same_length.1
@@ -112,7 +112,7 @@ module _ (lists : NumberLists) (columns : NumberColumns) (are : AreNumberColumns
   pub none-begin : all_begin columns ≡ false → All (λ (c : Vector (Option ℤ)). is_full c ≡ false) columns
   none-begin = none-pass is_full IsShaped (λ c d. (c.size ≡ d.size) × (c.len ≡ d.len)) (λ c d same_length. (sym same_length.0, sym same_length.1)) alike columns shaped are.same_length
 
--- with a number more each they are of one length and one size still
+-- with one more number each they still have one length and one size
 pub pushed-size : (c : Vector (Option ℤ)) (n : ℕ) → (after_push c n).size ≡ c.size
 pushed-size c n = elim (cases_Bool (is_full c)) [ inl full ↦ rw full refl | inr begun ↦ rw begun refl ]
 
@@ -134,13 +134,13 @@ same_length-pushed n (c ∷ rest) same_length =
     (same_length-all_disjoint c n (n + 1) rest (pairs-head (λ c d. (c.size ≡ d.size) × (c.len ≡ d.len)) c rest same_length))
     (same_length-pushed (n + 1) rest (pairs-tail (λ c d. (c.size ≡ d.size) × (c.len ≡ d.len)) c rest same_length))
 
--- the refusals if row groups are begun
+-- the refusals if row groups have been begun
 pub due-begun : {K : Type 0} (m : Movement (Option ℤ) K) (columns : NumberColumns) → all_begin columns ≡ false → push_numbers_refusal m columns ≡ option_or (first_of (absents m columns)) (first_of (some_written_out m columns ∷ []))
 due-begun m columns begun =
     ap (λ (b : Bool). first_of (cond b (no_space_for_groups m columns ∷ []) (absents m columns ++ some_written_out m columns ∷ []))) begun
     ∙ first-append (absents m columns) (some_written_out m columns ∷ [])
 
--- if no number is refused and the row groups are begun, no push is
+-- if no number is refused and the row groups have been begun, no push is
 or-none : (a b : Option Refusal) → option_or a b ≡ None → (None ≡ a) × (None ≡ b)
 or-none (Some e) b is = absurd cc
 or-none None b is = (refl, sym is)

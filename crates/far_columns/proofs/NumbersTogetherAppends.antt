@@ -1,4 +1,4 @@
--- One of several columns of numbers gets a number, and then the others do.
+-- A number is appended to one of several columns, and then to the others.
 use Rattle.std.proofs.Common.{◌≡◌, ℕ, ℤ, ◌<◌, false, List, [], ◌∷◌, ◌++◌, length, get_or, map, Option, None, refl, sym, ap, subst, ◌∙◌}
 use Rattle.std.specs.Prelude.{All}
 use Rattle.std.proofs.lemmas.List.Elements.{All-cons, All-head, All-tail}
@@ -19,7 +19,7 @@ first-has P x xs ys is all = All-head P x xs (subst (All P) is all)
 pub same-numbers : (lists : NumberLists) (columns : NumberColumns) → KeepsNumbers lists lists columns columns
 same-numbers lists columns = record { is = λ w is _. is; numbers = λ w is _. refl; disjoint = λ w is disjoint. disjoint }
 
--- the numbers with one more, of columns whose numbers are the same
+-- one more number, for columns with the same numbers
 pub numbers-with-same : (old new : NumberLists) (columns : NumberColumns) (numbers : Numbers) → All (λ c. elements new c ≡ elements old c) columns → all_numbers_with new columns numbers ≡ all_numbers_with old columns numbers
 numbers-with-same old new [] numbers same = refl
 numbers-with-same old new (c ∷ columns) [] same = refl
@@ -28,7 +28,7 @@ numbers-with-same old new (c ∷ columns) (x ∷ numbers) same =
     ∙ ap (λ l. (elements old c ++ x ∷ []) ∷ l) (numbers-with-same old new columns numbers (All-tail (λ d. elements new d ≡ elements old d) c columns same))
 
 module _ (old mid : NumberLists) (c c' : Vector (Option ℤ)) (rest : NumberColumns) (all_disjoint : AreVectors old (c ∷ rest)) (first : ChangesVector old mid c c') where
-  -- the others once the first is changed
+  -- the other columns after the first is changed
   module _ (k : ℕ) (d : Vector (Option ℤ)) (below : k < length rest) where
     rest-is : IsVector old (get_or rest k d)
     rest-is = All-tail (IsVector old) c rest all_disjoint.each k d below
@@ -68,7 +68,7 @@ module _ (old mid : NumberLists) (c c' : Vector (Option ℤ)) (rest : NumberColu
         ∙ ap (λ l. (elements old c ++ x ∷ []) ∷ l) (others ∙ numbers-with-same old mid rest numbers (λ k d below. (untouched k d below).elements))
 
 module _ {K : Type 0} (m mid : Movement (Option ℤ) K) (c : Vector (Option ℤ)) (x : Option ℤ) (rest : NumberColumns) (written : mid ≡ objects_after_push m c x) (others : ChangesObject m mid (object_at c c.len)) where
-  -- the others, whose places may be written, may be still
+  -- the others may still be written
   pub free-rest : (lists : NumberLists) → AreVectors lists (c ∷ rest) → All IsShaped (c ∷ rest) → All (λ d. is_full d ≡ false) (c ∷ rest) → All (λ d. push_refusal m d ≡ None) (c ∷ rest) → All (λ d. push_refusal mid d ≡ None) rest
   free-rest lists all_disjoint shaped begun free k d below =
       let w = get_or rest k d in

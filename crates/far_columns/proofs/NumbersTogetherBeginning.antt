@@ -1,4 +1,4 @@
--- Columns of numbers whose next places begin row groups: one gets an object, and then the others do.
+-- Columns of numbers whose next places begin row groups: one gets an object, then the others do.
 use Rattle.std.proofs.Common.{◌≡◌, ℕ, ℤ, ◌+◌, ◌-◌, ◌*◌, ◌<◌, ◌≤◌, Bool, true, false, cond, inl, inr, List, [], ◌∷◌, ◌++◌, length, get_or, set, map, take, Option, None, Some, refl, sym, ap, subst, ◌∙◌, arith}
 use Rattle.std.specs.Prelude.{All, slice_get, slice_set, slice_index, ◌⊎◌, not, is_some}
 use Rattle.std.specs.Option.{option_map_or}
@@ -19,7 +19,7 @@ use Rattle.far_vector.specs.Refusing.{push_refusal}
 use Rattle.far_columns.specs.NumbersTogether.{NumberColumns}
 
 module _ {K : Type 0} (m mid : Movement (Option ℤ) K) (c c' : Vector (Option ℤ)) (x : Option ℤ) (full : is_full c ≡ true) (is : c' ≡ after_push c (length m.records)) (written : mid ≡ objects_after_push m c x) where
-  -- there is an object more
+  -- there is one more object
   pub one-more : length mid.records ≡ length m.records + 1
   one-more =
       ap (λ w. length w.records) (written ∙ ap (λ (b : Bool). cond b (after_create m (next_name c) (next_group c x)) (after_write_range m c c.len (x ∷ []))) full)
@@ -28,7 +28,7 @@ module _ {K : Type 0} (m mid : Movement (Option ℤ) K) (c c' : Vector (Option �
   longer : c' ≡ record c { objects = c.objects ++ length m.records ∷ []; len = c.len + 1 }
   longer = is ∙ ap (λ (b : Bool). cond b (record c { objects = c.objects ++ length m.records ∷ []; len = c.len + 1 }) (record c { len = c.len + 1 })) full
 
-  -- the number is alone in its row group
+  -- the number is the only one of its row group
   pub alone : c'.len ≡ (length c'.objects - 1) * c'.size + 1
   alone =
       let places : c.len ≡ length c.objects * c.size = eqb-true c.len (length c.objects * c.size) full in
@@ -45,7 +45,7 @@ module _ {K : Type 0} (m mid : Movement (Option ℤ) K) (c c' : Vector (Option �
       ∙ slice_get-push_last c.objects (length m.records)
       ∙ ap Some number
 
--- the sizes of row groups, noted one after the other
+-- the sizes of row groups, recorded one after another
 module _ (columns : NumberColumns) (sizes : List ℕ) where
   pub sizes-more : (k : ℕ) (c : Vector (Option ℤ)) → k < length columns → k < length sizes → c ≡ get_or columns k c → take k sizes ≡ take k (map (λ c. c.size) columns) → take (k + 1) (set sizes k c.size) ≡ take (k + 1) (map (λ c. c.size) columns)
   sizes-more k c within inside is so =
@@ -58,7 +58,7 @@ module _ (columns : NumberColumns) (sizes : List ℕ) where
       let all : k ≡ length columns = omega (arith, past, within) in
       subst (λ n. All (λ size. 0 < size) (take n sizes)) all (subst (All (λ size. 0 < size)) (sym (so ∙ take_all k (map (λ c. c.size) columns) (omega (arith, past, length-map columns (λ c. c.size))))) (All-map (λ size. 0 < size) (λ c. c.size) columns (λ k d below. (shaped k d below).some)))
 
--- if the first list does not fit, they do not all
+-- if the first list does not fit, not all fit
 pub none-fits : (spaces : List ℕ) (n : ℕ) (ns : List ℕ) → is_some (lowest_for spaces n) ≡ false → fit_in_order spaces (n ∷ ns) ≡ false
 none-fits spaces n ns full = on-none (λ i. fit_in_order (slice_set spaces i (slice_index spaces i - n)) ns) (lowest_for spaces n) full
   where

@@ -1,5 +1,4 @@
--- Row groups that several columns of numbers begin together, the first column's first, and taking them back, the first
--- column's last.
+-- Row groups that several columns of numbers begin at once, the first column's first, and undoing them, the first column's last.
 use Rattle.std.proofs.Common.{◌≡◌, ℕ, zero, suc, ℤ, ◌+◌, ◌-◌, ◌*◌, ◌/◌, ◌<◌, true, List, [], ◌∷◌, length, get_or, map, take, Option, Some, refl, sym, ap, subst, ◌∙◌, arith}
 use Rattle.std.specs.Prelude.{All, AllPairs, is_some}
 use Rattle.std.specs.Option.{option_and_then, option_map_or}
@@ -19,7 +18,7 @@ use Rattle.far_columns.specs.NumbersUndo.{KeepsBelow, IsNewGroup, AreBegunFrom, 
 use Rattle.far_columns.proofs.NumbersTogether.{pairs-head, pairs-tail, disjoint-turned}
 use Rattle.far_columns.proofs.NumbersTogetherBeginning.{one-more, alone, last}
 
--- all but the first
+-- the columns after the first
 pub all_disjoint-tail : (lists : NumberLists) (c : Vector (Option ℤ)) (rest : NumberColumns) → AreVectors lists (c ∷ rest) → AreVectors lists rest
 all_disjoint-tail lists c rest all_disjoint = record { each = All-tail (IsVector lists) c rest all_disjoint.each; disjoint = pairs-tail AreDisjoint c rest all_disjoint.disjoint }
 
@@ -31,11 +30,11 @@ module _ (old mid new : NumberLists) (c c' : Vector (Option ℤ)) (rest rest' : 
   disjoint-first : All (λ r. AreDisjoint r c) rest
   disjoint-first k d below = disjoint-turned c (get_or rest k d) (pairs-head AreDisjoint c rest all_disjoint.disjoint k d below)
 
-  -- the first once the others are changed
+  -- the first column after the others changed
   pub first-stays : IsVector mid c
   first-stays = keeps.is c (All-head (IsVector old) c rest all_disjoint.each) disjoint-first
 
-  -- and once it is changed too
+  -- the first column after it changed too
   module _ (first : ChangesVector mid new c c') where
     other : (k : ℕ) (d : Vector (Option ℤ)) → k < length rest' → IsUntouched mid new c' (get_or rest' k d)
     other k d below = first.others (get_or rest' k d) (after.each k d below) (disjoint-turned (get_or rest' k d) c (keeps.disjoint c (All-head (IsVector old) c rest all_disjoint.each) disjoint-first k d below))
@@ -46,7 +45,7 @@ module _ (old mid new : NumberLists) (c c' : Vector (Option ℤ)) (rest rest' : 
       disjoint = AllPairs-cons AreDisjoint c' rest' (λ k d below. (other k d below).disjoint) after.disjoint;
     }
 
-    -- the numbers but the last of each
+    -- the numbers of each column except the last
     pub numbers-undone : elements new c' ≡ take (c.len - 1) (elements mid c) → map (elements mid) rest' ≡ map (λ d. take (d.len - 1) (elements old d)) rest → map (elements new) (c' ∷ rest') ≡ map (λ d. take (d.len - 1) (elements old d)) (c ∷ rest)
     numbers-undone here others =
         ap (λ l. l ∷ map (elements new) rest') (here ∙ ap (take (c.len - 1)) (keeps.numbers c (All-head (IsVector old) c rest all_disjoint.each) disjoint-first))
@@ -62,7 +61,7 @@ module _ (old mid new : NumberLists) (c c' : Vector (Option ℤ)) (rest rest' : 
         first-of : (w : Vector (Option ℤ)) → IsVector old w → All (λ r. AreDisjoint r w) (c ∷ rest) → IsUntouched mid new c' w
         first-of w is disjoint = first.others w (keeps.is w is (All-tail (λ r. AreDisjoint r w) c rest disjoint)) (All-head (λ r. AreDisjoint r w) c rest disjoint)
 
--- with a number less each they are of one length and one size still
+-- with one number less each they still have one length and one size
 pub same_length-undone : (columns : NumberColumns) → AllPairs (λ c d. (c.size ≡ d.size) × (c.len ≡ d.len)) columns → AllPairs (λ c d. (c.size ≡ d.size) × (c.len ≡ d.len)) (map after_unpush columns)
 same_length-undone [] same_length = same_length
 same_length-undone (c ∷ rest) same_length =
@@ -84,7 +83,7 @@ module _ {K : Type 0} where
     pins-unchanged : pins_of mid p ≡ pins_of m p
     pins-unchanged = ap (λ object_record. option_map_or (λ e. e.pins) object_record 0) (keeps.records p below)
 
-    -- a row group that is begun stays so, if its object keeps its word and its record
+    -- a row group that was just begun remains so if its object keeps its word and its record
     pub begun-unchanged : (c : Vector (Option ℤ)) → IsNewGroup m p c → IsNewGroup mid p c
     begun-unchanged c begun = record { alone = begun.alone; last = begun.last; local = local-unchanged ∙ begun.local; unpinned = pins-unchanged ∙ begun.unpinned }
 
@@ -92,18 +91,18 @@ module _ {K : Type 0} where
   begun-count m o [] is = omega (arith, is)
   begun-count m o (c ∷ columns) begun = omega (arith, begun-count m (o + 1) columns begun.1)
 
-  -- those that are begun from some object on have the last objects
+  -- those begun from some object on have the last objects
   pub begun-last : (m : Movement (Option ℤ) K) (o : ℕ) (columns : NumberColumns) → AreBegunFrom m o columns → AreBegunLast m columns
   begun-last m o columns begun =
       let first : o ≡ length m.records - length columns = omega (arith, begun-count m o columns begun) in
       subst (λ n. AreBegunFrom m n columns) first begun
 
   module _ (m : Movement (Option ℤ) K) (c : Vector (Option ℤ)) (rest : NumberColumns) (begun : AreBegunLast m (c ∷ rest)) where
-    -- all but the first are begun last too
+    -- the row groups after the first are the last ones begun
     pub rest-last : AreBegunLast m rest
     rest-last = begun-last m (length m.records - length (c ∷ rest) + 1) rest begun.1
 
-    -- and once they are taken back the first is
+    -- after they are undone the first is the last one begun
     pub first-last : (mid : Movement (Option ℤ) K) → mid ≡ after_uncreate_all (length rest) m → KeepsBelow (length mid.records) m mid → IsNewGroup mid (length mid.records - 1) c
     first-last mid is keeps =
         let all = begun-count m (length m.records - length (c ∷ rest)) (c ∷ rest) begun in
@@ -111,7 +110,7 @@ module _ {K : Type 0} where
         let number : length m.records - length (c ∷ rest) ≡ length mid.records - 1 = omega (arith, all, left) in
         begun-unchanged (length mid.records) m mid keeps (length mid.records - 1) (omega (arith, all, left)) c (subst (λ o. IsNewGroup m o c) number begun.0)
 
--- the object of a row group that is begun
+-- the object of a row group that was just begun
 pub object-begun : (c : Vector (Option ℤ)) (n : ℕ) → IsShaped c → is_full c ≡ true → object_at (after_push c n) c.len ≡ n
 object-begun c n shaped full =
     let places : c.len ≡ length c.objects * c.size + 0 = omega (arith, eqb-true c.len (length c.objects * c.size) full) in
@@ -125,21 +124,21 @@ module _ {K : Type 0} (m mid new : Movement (Option ℤ) K) (c c' : Vector (Opti
   object : object_at c' c.len ≡ length m.records
   object = ap (λ v. object_at v c.len) is ∙ object-begun c (length m.records) shaped full
 
-  -- the objects that were there stay as they are
+  -- the objects that existed before do not change
   pub below-all : KeepsBelow (length m.records) m new
   below-all = record {
     words = λ p below. keeps.words p (omega (arith, below, more)) ∙ others.words p (λ e. omega (arith, e, object, below));
     records = λ p below. keeps.records p (omega (arith, below, more)) ∙ others.records p (λ e. omega (arith, e, object, below));
   }
 
-  -- the row group of the first is begun, and then those of the others
+  -- the row group of the first is begun, then those of the others
   pub begun-all : (rest' : NumberColumns) → is_local mid (length m.records) ≡ true → pins_of mid (length m.records) ≡ 0 → AreBegunFrom new (length mid.records) rest' → AreBegunFrom new (length m.records) (c' ∷ rest')
   begun-all rest' local unpinned begun =
       let number : length mid.records - 1 ≡ length m.records = omega (arith, more) in
       let first : IsNewGroup mid (length m.records) c' = record { alone = alone m mid c c' x full is written; last = last m mid c c' x full is written ∙ ap Some number; local = local; unpinned = unpinned } in
       (begun-unchanged (length mid.records) mid new keeps (length m.records) (omega (arith, more)) c' first, subst (λ o. AreBegunFrom new o rest') more begun)
 
-  -- taking all back gives what was there
+  -- undoing all restores what was there
   pub undone-all : (rest rest' : NumberColumns) → (after_unpush c' ≡ c) × (after_uncreate mid ≡ m) → (map after_unpush rest' ≡ rest) × (after_uncreate_all (length rest) new ≡ mid) → (map after_unpush (c' ∷ rest') ≡ c ∷ rest) × (after_uncreate_all (length (c ∷ rest)) new ≡ m)
   undone-all rest rest' first others = (
     ap (λ d. d ∷ map after_unpush rest') first.0 ∙ ap (λ l. c ∷ l) others.0,

@@ -1,4 +1,4 @@
--- Columns of numbers that began row groups together, and how that is undone.
+-- Columns of numbers that began row groups at once, and how that is undone.
 use Rattle.std.specs.Prelude.{◌≡◌, ℕ, zero, suc, ℤ, ◌+◌, ◌-◌, ◌*◌, ◌<◌, true, [], ◌∷◌, length, Option, Some, slice_get}
 use Rattle.far_scopes.specs.Movement.{Movement, is_local, pins_of}
 use Rattle.far_scopes.specs.Effects.{after_uncreate}
@@ -11,19 +11,19 @@ module _ {K : Type 0} where
     pub words : (p : ℕ) → p < n → slice_get new.memory.words p ≡ slice_get old.memory.words p
     pub records : (p : ℕ) → p < n → slice_get new.records p ≡ slice_get old.records p
 
-  -- the last row group of a column has one number alone, and this is its object, which is local and has no pin
+  -- the last row group of a column has only one number, and object o, which is local and has no pin
   pub record IsNewGroup (m : Movement (Option ℤ) K) (o : ℕ) (c : Vector (Option ℤ)) : Type 0 where
     pub alone : c.len ≡ (length c.objects - 1) * c.size + 1
     pub last : slice_get c.objects (length c.objects - 1) ≡ Some o
     pub local : is_local m o ≡ true
     pub unpinned : pins_of m o ≡ 0
 
-  -- the last row group of each column is begun (`IsNewGroup`); the objects are this one and those after it, to the last of all
+  -- each column's last row group has just been begun (`IsNewGroup`); their objects are o and the ones after it, up to the last
   abbrev pub AreBegunFrom : Movement (Option ℤ) K → ℕ → NumberColumns → Type 0
   AreBegunFrom m o [] = o ≡ length m.records
   AreBegunFrom m o (c ∷ columns) = IsNewGroup m o c × AreBegunFrom m (o + 1) columns
 
-  -- the last row group of each column is begun (`IsNewGroup`), and the last objects of all are theirs, in the order of the columns
+  -- each column's last row group has just been begun (`IsNewGroup`), and its objects are the last ones, in the order of the columns
   abbrev pub AreBegunLast : Movement (Option ℤ) K → NumberColumns → Type 0
   AreBegunLast m columns = AreBegunFrom m (length m.records - length columns) columns
 

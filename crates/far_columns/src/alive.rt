@@ -5,7 +5,7 @@ use far_types::Refusal;
 use std::alloc::Global;
 use std::marker::Model;
 
-/// The alive flags of a table's places, by place. Contracts see their list.
+/// The alive flags of a table's places, by place number. Contracts see their list.
 #[derive(Drop)]
 pub struct Alive {
     flags: Vec<bool>,
@@ -20,7 +20,7 @@ impl Model for Alive {
 }
 
 impl Alive {
-    /// Returns the flags of no place. Allocates nothing.
+    /// Makes the flags of a table without places. Allocates nothing.
     pub fn new(alloc: Global) -> Alive
         ensures { result ≡ [] }
     {
@@ -43,7 +43,8 @@ impl Alive {
         self.flags.get(place).copied()
     }
 
-    /// Adds a place, which is alive. Refused with `NoMemory` (1) alone. A refused call changes nothing.
+    /// Appends a place, which is alive. Refused only with `NoMemory` (1). A refused call changes
+    /// nothing.
     pub fn push(&mut self) -> Result<(), Refusal>
         ensures ok { OnOk result (self.new ≡ self.old ++ true ∷ []) }
         ensures memory { IfErr result (λ e. e ≡ Refusal.NoMemory) }
@@ -69,14 +70,14 @@ impl Alive {
         self.flags[place] = false;
     }
 
-    /// Returns the flags of all places, borrowed.
+    /// Borrows the flags of all places.
     pub fn all(&self) -> &[bool]
         ensures { result.now ≡ self.now }
     {
         &self.flags
     }
 
-    /// Returns the flags of the places `from` up to `to`, borrowed.
+    /// Borrows the flags of the places `from` up to `to`.
     pub fn flags(&self, from: usize, to: usize) -> &[bool]
         requires ordered { from ≤ to }
         requires within { to ≤ length self.now }

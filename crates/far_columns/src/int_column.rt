@@ -24,10 +24,10 @@ use std::alloc::Global;
 use std::marker::Model;
 pub use together::{fill_numbers, may_push_numbers, push_numbers, unpush_numbers};
 
-/// A column of numbers, each of which may be missing. The numbers of a row group are the list of one object of the
-/// `Objects<Option<i64>, S>` that each call names. Places that are not yet used hold 0.
+/// A column of numbers that may be missing. The numbers of a row group are the list of one object of the `Objects<Option<i64>,
+/// S>` that each call takes. Unused places have 0.
 ///
-/// Contracts see the column as a vector, whose default value is 0, and its numbers by the lists of its objects.
+/// Contracts see the column as a vector with the default value 0, and its numbers in the lists of its objects.
 #[derive(Drop)]
 pub struct IntColumn {
     vector: FarVector<Option<i64>>,
@@ -48,8 +48,8 @@ impl Model for IntColumn {
 impl IntColumn {
     ghost use Rattle.std.specs.Prelude.{ℤ};
 
-    /// Returns a column without a number. Its number names its objects, and `size` is how many places a row group has.
-    /// Allocates all memory outside the objects. Refused with `NoMemory` (1) alone.
+    /// Makes a column without numbers. `column` names its objects, and `size` is how many places a row group has. Allocates all
+    /// memory outside the objects. Refused only with `NoMemory` (1).
     pub fn new(alloc: Global, column: u32, size: u32) -> Result<IntColumn, Refusal>
         requires { 0 < size }
         ensures empty { IfOk result (λ c. c ≡ record { column = column; size = size; objects = []; len = 0; default_value = Some (pos 0) }) }
@@ -70,14 +70,14 @@ impl IntColumn {
         self.vector.len()
     }
 
-    /// Returns the object of a row group; `None` exactly if no place of it is used. Allocates nothing.
+    /// Returns the object of a row group, or `None` exactly if no place of it is used. Allocates nothing.
     pub fn object(&self, group: u32) -> Option<u32>
         ensures { result ≡ slice_get self.now.objects group }
     {
         self.vector.object(group)
     }
 
-    /// Returns the number of a place; `None` if it is missing. Allocates nothing.
+    /// Returns the number at a place, or `None` if it is missing. Allocates nothing.
     ///
     /// Refused with the first of these that applies:
     ///
@@ -95,7 +95,7 @@ impl IntColumn {
         self.vector.get(objects, place)
     }
 
-    /// Borrows the number of a place, which is not read. Allocates nothing.
+    /// Borrows the number at a place, without reading it. Allocates nothing.
     ///
     /// Refused as `get` is.
     pub fn get_ref<'a, S: FarTickets>(
@@ -110,8 +110,8 @@ impl IntColumn {
         self.vector.get_ref(objects, place)
     }
 
-    /// Adds a number at the end. If the last row group is full, it makes the object of a new one. `unpush` undoes a push that
-    /// made an object (`undone`).
+    /// Appends a number. If the last row group is full, makes the object of a new one. `unpush` undoes a push that made an
+    /// object (`undone`).
     ///
     /// If the number begins a row group, refused with the first of these that applies:
     ///
@@ -121,7 +121,7 @@ impl IntColumn {
     /// Otherwise it allocates nothing, and is refused with the first of these that applies:
     ///
     /// - `Absent` (16): the last row group's object is away.
-    /// - `EditsUsedUp` (24): that object was written as often as objects may be.
+    /// - `EditsUsedUp` (24): that object was written as often as the limits allow.
     ///
     /// A refused call changes nothing.
     pub fn push<S: FarTickets>(
@@ -150,7 +150,7 @@ impl IntColumn {
         self.vector.push(objects, number)
     }
 
-    /// Undoes a push that made an object: removes its number, the only one of its row group, and the object. Allocates nothing.
+    /// Undoes a push that made an object: removes the row group's only number, and the object. Allocates nothing.
     pub fn unpush<S: FarTickets>(&mut self, objects: &mut Objects<Option<i64>, S>)
         requires is { IsVector (number_lists S.content objects.old) self.old }
         requires alone { self.old.len ≡ (length self.old.objects - 1) * self.old.size + 1 }
@@ -170,13 +170,13 @@ impl IntColumn {
         self.vector.unpush(objects);
     }
 
-    /// Writes the number of a place; its row group's object counts as written. Allocates nothing.
+    /// Writes the number at a place. Its row group's object counts as written. Allocates nothing.
     ///
     /// Refused with the first of these that applies:
     ///
     /// - `OutOfRange` (14): the place is past the end.
     /// - `Absent` (16): the object of the place's row group is away.
-    /// - `EditsUsedUp` (24): that object was written as often as objects may be.
+    /// - `EditsUsedUp` (24): that object was written as often as the limits allow.
     ///
     /// A refused call changes nothing.
     pub fn set<S: FarTickets>(
@@ -201,8 +201,8 @@ impl IntColumn {
         self.vector.set(objects, place, number)
     }
 
-    /// Writes the number of a place that may be written, as `set` does. The caller passes its row group, so it repeats no check
-    /// and no division. Allocates nothing.
+    /// Writes the number at a place that may be written, as `set` does. The caller passes the row group, which saves every
+    /// check and the division. Allocates nothing.
     pub fn set_in_group<S: FarTickets>(
         &self,
         objects: &mut Objects<Option<i64>, S>,
@@ -225,7 +225,7 @@ impl IntColumn {
         self.vector.set_in_group(objects, group, place, number);
     }
 
-    /// Checks that the number of a place may be written. Allocates nothing, and is refused exactly as `set` is.
+    /// Checks that the number at a place may be written. Allocates nothing, and is refused exactly as `set` is.
     pub fn may_set<S: FarTickets>(
         &self,
         objects: &Objects<Option<i64>, S>,
@@ -237,13 +237,13 @@ impl IntColumn {
         self.vector.may_set(objects, place)
     }
 
-    /// Returns the numbers of the places `from` up to `to` with their alive flags, borrowed. There is a piece for each row
-    /// group that has some of them. Allocates nothing.
+    /// Borrows the numbers of the places `from` up to `to` with their alive flags, as a piece for each row group that has some
+    /// of them. Allocates nothing.
     ///
     /// Refused with the first of these that applies:
     ///
     /// - `OutOfRange` (14): `from` is above `to`, or `to` is past the end.
-    /// - `Absent` (16): the object of a row group with some of them is away. It names the first such.
+    /// - `Absent` (16): the object of a row group with some of them is away. The refusal names the first such object.
     pub fn lent<'a, S: FarTickets>(
         &'a self,
         objects: &'a Objects<Option<i64>, S>,
@@ -260,7 +260,7 @@ impl IntColumn {
         ensures same_length { IfOk result (λ lents. All (λ lent. length lent.1 ≡ length lent.0) lents) }
         ensures refused { refusal_in result ≡ pieces_refusal objects.now self.now from to }
     {
-        // For the proof: gives how many numbers there are.
+        // For the proof: shows how many numbers there are.
         let _len = self.vector.len();
         let pieces = self.vector.pieces(objects, from, to)?;
         Ok(Lents::new(pieces, alive.flags(from, to)))
@@ -280,7 +280,7 @@ impl IntColumn {
         self.vector.begins_group()
     }
 
-    // Checks that the object of the next place is local. Its row group must be begun.
+    // Checks that the object of the next place is local. Its row group must have been begun.
     fn next_is_here<S: FarTickets>(&self, objects: &Objects<Option<i64>, S>) -> Result<(), Refusal>
         requires is { IsVector (number_lists S.content objects.now) self.now }
         requires begun { is_full self.now ≡ false }
@@ -289,7 +289,7 @@ impl IntColumn {
         self.vector.next_is_here(objects)
     }
 
-    // Checks that it may be written.
+    // Checks that the object of the next place may be written.
     fn next_is_writable<S: FarTickets>(
         &self,
         objects: &Objects<Option<i64>, S>,

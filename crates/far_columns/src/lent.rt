@@ -1,4 +1,4 @@
-// Parts of a column of numbers, borrowed, with their alive flags.
+// Borrowed parts of a column of numbers, with their alive flags.
 ghost use Rattle.std.specs.Prelude.{◌≡◌, [], ◌∷◌, length, IfSome, IfNone};
 ghost use Rattle.std.specs.List.{flat_map};
 ghost use Rattle.far_columns.specs.Numbers.{with_flags};
@@ -7,20 +7,20 @@ use far_store::FarTickets;
 use far_vector::Pieces;
 use std::marker::Model;
 
-/// The numbers of adjacent places of one row group, each of which may be missing, and the alive flag of each place. Both are
-/// borrowed.
+/// The numbers of adjacent places of one row group, each of which may be missing, and the alive flag of each place. Both
+/// slices are borrowed.
 #[derive(Drop)]
 pub struct Lent<'a> {
     pub values: &'a [Option<i64>],
     pub alive: &'a [bool],
 }
 
-/// A part of a column, piece by piece: one for each row group that has some of it, with the flags of its places. No piece is
-/// empty.
+/// An iterator over a part of a column. It returns one piece for each row group that has some of the part, with the flags of
+/// its places. No piece is empty.
 #[derive(Drop)]
 pub struct Lents<'a, S: FarTickets> {
     pieces: Pieces<'a, Option<i64>, S>,
-    // The flags of the places that are left.
+    // The flags of the remaining places.
     alive: &'a [bool],
 }
 
@@ -37,7 +37,7 @@ impl<'a, S: FarTickets> Model for Lents<'a, S> {
 }
 
 impl<'a, S: FarTickets> Lents<'a, S> {
-    /// Returns pieces with the flags of their places, one piece after the other.
+    /// Makes the iterator over these pieces, each with the flags of its places.
     pub(crate) fn new(pieces: Pieces<'a, Option<i64>, S>, alive: &'a [bool]) -> Lents<'a, S>
         requires { length alive.now ≡ length (flat_map (λ piece. piece) pieces) }
         ensures { result ≡ with_flags pieces.entry alive.now }
@@ -45,7 +45,7 @@ impl<'a, S: FarTickets> Lents<'a, S> {
         Lents { pieces, alive }
     }
 
-    /// Returns the next piece with its flags, and `None` if there is none left. Allocates nothing.
+    /// Returns the next piece with its flags, or `None` at the end. Allocates nothing.
     pub fn next(&mut self) -> Option<Lent<'a>>
         ensures first { IfSome result (λ lent. self.old ≡ (lent.values.now, lent.alive.now) ∷ self.new) }
         ensures none { IfNone result ((self.old ≡ []) × (self.new ≡ [])) }
@@ -56,7 +56,7 @@ impl<'a, S: FarTickets> Lents<'a, S> {
         Some(Lent { values, alive })
     }
 
-    /// Returns how many pieces are left. Allocates nothing.
+    /// Returns how many pieces remain. Allocates nothing.
     pub fn len(&self) -> usize
         ensures { result ≡ length self.now }
     {

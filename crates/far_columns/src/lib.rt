@@ -1,5 +1,5 @@
 #![tactic(auto)]
-//! Which places of a table are alive, and columns of numbers that lie in objects that may be away.
+//! Which places of a table are alive, and columns of numbers, whose row groups may be away.
 
 mod alive;
 mod int_column;

@@ -1,4 +1,4 @@
--- What the far copies of objects are.
+-- The far copies of objects.
 use Rattle.std.proofs.Common.{◌≡◌, ℕ, ◌<◌, true, false, inl, inr, List, length, Option, Some, None, refl, sym, ap, subst, ◌∙◌}
 use Rattle.std.specs.Prelude.{IfSome, IsSomeAnd, option_map, slice_get}
 use Rattle.std.specs.Option.{option_and_then, option_or}
@@ -13,14 +13,14 @@ use Rattle.far_scopes.proofs.MovementDepartures.{word-there}
 use Rattle.far_scopes.proofs.MovementArrivals.{not-within}
 use Rattle.far_evacuator.specs.Acceptance.{IsFarForm}
 
--- a word that is not dirty says that there is a far copy
+-- a word that is not dirty has the far bit
 pub copy-clean : (word : Pointer) → HasWord word → is_dirty word ≡ false → has_copy word ≡ true
 copy-clean (Local at d h true) has clean = refl
 copy-clean (Local at true h false) has clean = cc
 copy-clean (Local at false h false) has clean = let none : false ≡ true = has.2 in cc
 copy-clean Remote has clean = refl
 
--- what an option is that is another's image
+-- an option that is the image of another
 pub mapped : {A B : Type 0} (f : A → B) (o : Option A) (y : B) → option_map f o ≡ Some y → (x : A) × (o ≡ Some x) × (f x ≡ y)
 mapped f None y is = cc
 mapped f (Some x) y is = let same : Some (f x) ≡ Some y = is in (x, refl, cc)
@@ -47,11 +47,11 @@ module _ {X K : Type 0} (meaning : List ℕ → List X) (content : K → List �
   of-object_record : IsTracked meaning content spelled m.max_writes m.leavings word-was.0 (list_in m.memory o) object_record
   of-object_record = tracked.each o word-was.0 object_record word-was.1 was
 
-  -- what a ticket means is spelled by its content
+  -- the content of a ticket spells what the ticket means
   pub far-spelled : (ticket : K) → ticket_of m o ≡ Some ticket → spelled (meaning (content ticket)) (content ticket)
   far-spelled ticket is = subst (λ (t : Option K). IfSome t (λ k. spelled (meaning (content k)) (content k))) (sym ticket-was ∙ is) of-object_record.far
 
-  -- so is the list of a clean object by its ticket's
+  -- the content of a clean object's ticket spells its list
   pub clean-spelled : AreClean meaning content m → dirty m o ≡ false → (list : List X) → list_in m.memory o ≡ Some list → (bytes : List ℕ) → option_map content (ticket_of m o) ≡ Some bytes → spelled list bytes
   clean-spelled clean is_clean list lent bytes under =
       let (ticket, is, same) = mapped content (ticket_of m o) bytes under in
@@ -73,10 +73,10 @@ module _ {X K : Type 0} (meaning : List ℕ → List X) (content : K → List �
     away-long : length (meaning bytes) ≡ object_record.len
     away-long = subst (λ b. length (meaning b) ≡ object_record.len) its.2 (subst (λ (t : Option K). IsSomeAnd t (λ k. length (meaning (content k)) ≡ object_record.len)) (sym ticket-was ∙ its.1) ((tracked.each o Remote object_record away was).away refl).1)
 
-    -- its length is the one that was recorded
+    -- the length of that list is the recorded one
     pub away-length : (len : ℕ) → option_map (λ (e : ObjectRecord K). e.len) (record_of m o) ≡ Some len → length (meaning bytes) ≡ len
     away-length len is = let same : Some object_record.len ≡ Some len = sym (ap (λ e. option_map (λ (x : ObjectRecord K). x.len) e) was) ∙ is in away-long ∙ cc
 
-    -- the bytes are a far form of its kind and length
+    -- the content is a far form of the object's element type and length
     pub away-form : IsFarForm spelled m o bytes
     away-form = rw was (meaning bytes, away-long, away-spelled)

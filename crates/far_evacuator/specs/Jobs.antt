@@ -1,9 +1,9 @@
--- Jobs: what they rest on and what they hold.
+-- Jobs: what they assume and what they own.
 use Rattle.std.specs.Prelude.{◌≡◌, ℕ, List, Option, None, Some}
 use Rattle.far_evacuator.specs.declared.evacuation.EvacForm.{EvacForm}
 use Rattle.far_evacuator.specs.declared.evacuation.EvacForm.TheVariants.{Dirty, Clean}
 
--- an evacuation as it was begun: the frame's number, the object, how often that had been written and away, and its far form or ticket
+-- an evacuation that was begun: the frame's number, the object, its counts of writes and leavings at that time, and its far form or ticket
 pub record Evacuation (K : Type 0) : Type 0 where
   pub number : ℕ
   pub object : ℕ
@@ -16,44 +16,44 @@ pub record CarriedEvacuation (K : Type 0) : Type 0 where
   pub job : Evacuation K
   pub ticket : K
 
--- a fetch as it was begun: the frame's number, the object, how often that had been away, and its ticket
+-- a fetch that was begun: the frame's number, the object, its count of leavings at that time, and its ticket
 pub record Fetch (K : Type 0) : Type 0 where
   pub number : ℕ
   pub object : ℕ
   pub leavings : ℕ
   pub ticket : K
 
--- a fetch that was carried, and the bytes that were read
+-- a fetch that was carried, and the bytes that it read
 pub record CarriedFetch (K : Type 0) : Type 0 where
   pub job : Fetch K
   pub bytes : List ℕ
 
--- if the form is to be put, its bytes spell some list
+-- the bytes that are to be put, if any are, spell some list
 abbrev pub IsSpelledForm : {X K : Type 0} → (List X → List ℕ → Type 0) → EvacForm K → Type 0
 IsSpelledForm {X} spelled (Dirty bytes) = (list : List X) × spelled list bytes
 IsSpelledForm spelled (Clean ticket) = Unit {0}
 
 module _ {K : Type 0} where
-  -- the form is to be put
+  -- the job puts a form: its object was dirty
   abbrev pub IsDirtyForm : EvacForm K → Type 0
   IsDirtyForm (Dirty bytes) = Unit {0}
   IsDirtyForm (Clean ticket) = ⊥
 
-  -- this ticket if the form is to be put
+  -- this ticket, if the job puts a form
   abbrev pub if_put : EvacForm K → K → Option K
   if_put (Dirty bytes) ticket = Some ticket
   if_put (Clean own) ticket = None
 
-  -- the ticket of what a carried evacuation put: none if its object was clean
+  -- the ticket that a carried evacuation's put returned; none if its object was clean
   abbrev pub put_ticket : CarriedEvacuation K → Option K
   put_ticket carried = if_put carried.job.form carried.ticket
 
-  -- the far store has the form under this ticket: its content is the bytes that were put, or the object had it
+  -- the far store has the job's form under this ticket: its content is the bytes that were put, or it is the clean object's own ticket
   abbrev pub IsFormTicket : (K → List ℕ) → EvacForm K → K → Type 0
   IsFormTicket content (Dirty bytes) ticket = content ticket ≡ bytes
   IsFormTicket content (Clean own) ticket = ticket ≡ own
 
-  -- the ticket that the object had is of the store with this id
+  -- the clean object's ticket is of the store with this id
   abbrev pub IsFormOf : (K → List ℕ → Type 0) → List ℕ → EvacForm K → Type 0
   IsFormOf is_of id (Dirty bytes) = Unit {0}
   IsFormOf is_of id (Clean own) = is_of own id

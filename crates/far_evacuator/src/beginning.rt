@@ -1,4 +1,4 @@
-// How jobs begin.
+// The beginnings of jobs.
 ghost use Rattle.std.specs.Prelude.{◌≡◌, ◌<◌, ◌⊎◌, length, None, Some, OnOk, IfOk, IfErr, IfSome, IsSomeAnd};
 ghost use Rattle.far_codec.specs.Spelling.{IsSpelled};
 ghost use Rattle.far_scopes.specs.Memory.{list_in};
@@ -29,12 +29,12 @@ pub enum Want {
     Coldest,
 }
 
-/// Begins to evict an object: encodes it if it is dirty, and copies its ticket if it is clean. The object stays as it is.
+/// Begins to evict an object: encodes it if it is dirty, and copies its ticket if it is clean. Changes no object.
 ///
 /// Refused with:
-/// - `StaleJob` (20) exactly if the coldest object is wanted and there is none;
-/// - `Absent` (16), which names the object, exactly if an object is named and is away;
-/// - else `NoMemory` (1) alone.
+/// - `StaleJob` (20) exactly if `want` is `Coldest` and no object can be evicted;
+/// - `Absent` (16), which names the object, exactly if `want` names an object that is away;
+/// - else only `NoMemory` (1).
 pub fn begin_evac<T: Elem, S: FarTickets>(
     alloc: Global,
     objects: &Objects<T, S>,
@@ -69,7 +69,7 @@ pub fn begin_evac<T: Elem, S: FarTickets>(
     })
 }
 
-// Returns the number of the object that is wanted.
+// Returns the number of the object to evict.
 fn chosen<T: Elem, S: FarTickets>(objects: &Objects<T, S>, want: Want) -> Result<u32, Refusal>
     requires within { IsWanted objects.now want }
     requires tracked { AreTracked T.meaning S.content (IsSpelled T.in_range T.has_spelling T.spelling) objects.now }

@@ -1,4 +1,4 @@
-// Evacuations that end.
+// The ends of evacuations.
 ghost use Rattle.std.specs.Prelude.{◌≡◌, ◌≢◌, ℕ, ◌<◌, ◌↔◌, ◌⊎◌, length, IsTrue, OnOk, OnErr, IfErr, IsErrOf, IsSomeAnd};
 ghost use Rattle.far_codec.specs.Spelling.{IsSpelled};
 ghost use Rattle.far_scopes.specs.Memory.{list_in};
@@ -13,18 +13,18 @@ use far_scopes::Objects;
 use far_store::FarTickets;
 use far_types::Refusal;
 
-/// Ends an evacuation: sends an object away whose far form was carried. The caller keeps the carried evacuation, but no second commit of it
-/// is accepted. Allocates nothing.
+/// Ends an evacuation whose far form was carried: sends the object away. The caller keeps the carried evacuation, but a second commit of it
+/// is refused. Allocates nothing.
 ///
-/// If it is refused, nothing is changed. Refused with:
-/// - `StaleJob` (20) exactly if what it rests on does not hold any more (`IsCommittable`);
+/// A refused commit changes nothing. Refused with:
+/// - `StaleJob` (20) exactly if the job's assumptions no longer hold (`IsCommittable`);
 /// - else `Pinned` (19) exactly if the object has a pin.
 ///
-/// It is stale if it was begun on other objects, or if the object:
+/// The job is stale if it was begun on other objects, or if the object:
 /// - is away;
-/// - was written or away since;
+/// - was written or sent away since;
 /// - has used up its leavings;
-/// - is no longer what was carried.
+/// - differs from what was carried.
 pub fn commit<T: Elem, S: FarTickets>(
     objects: &mut Objects<T, S>,
     store: &S,
@@ -53,7 +53,7 @@ pub fn commit<T: Elem, S: FarTickets>(
     Ok(())
 }
 
-// Returns whether what a carried evacuation rests on still holds. Allocates nothing.
+// Returns whether the assumptions of a carried evacuation still hold. Allocates nothing.
 fn is_committable<T: Elem, S: FarTickets>(
     objects: &Objects<T, S>,
     store: &S,
@@ -80,7 +80,7 @@ fn is_committable<T: Elem, S: FarTickets>(
         && is_still(objects, store, carried, list)
 }
 
-// Returns whether an object with this list is still what was carried. Allocates nothing.
+// Returns whether an object with this list is still what the job carried. Allocates nothing.
 fn is_still<T: Elem, S: FarTickets>(
     objects: &Objects<T, S>,
     store: &S,

@@ -1,4 +1,4 @@
-// Evacuations: jobs that send objects away.
+// Evacuations: the jobs that evict objects.
 ghost use Rattle.std.specs.Prelude.{◌≡◌, ◌+◌, ◌<◌, ◌^◌, [], ◌∷◌, IfOk, IfErr, IsErr, option_map};
 ghost use Rattle.far_store.specs.Faults.{faults_in, outcome, RefusedBy};
 ghost use Rattle.far_codec.specs.Spelling.{IsSpelled};
@@ -11,21 +11,21 @@ use far_types::Refusal;
 use std::alloc::Global;
 use std::marker::{Model, PhantomData};
 
-/// The far form that an evacuation was begun with.
+/// What an evacuation sends to the far store.
 #[derive(Drop)]
 pub enum EvacForm<K> {
-    /// The far form of an object that was dirty, to be put into the far store.
+    /// The far form of a dirty object, to be put into the far store.
     Dirty(FarForm),
-    /// The ticket of an object that was clean: the far store has its far form already.
+    /// The ticket of a clean object, whose far form the far store already has.
     Clean(K),
 }
 
-/// An evacuation that was begun: the frame and the object, how often the object had been written and away, and its far form. It borrows
-/// nothing, so any thread can carry it.
+/// An evacuation that was begun: the frame's number, the object, its counts of writes and leavings at that time, and its far form. It
+/// borrows nothing, so any thread can carry it.
 ///
-/// A carry that is refused hands the job back, so that it can be carried again.
+/// A refused carry returns the job, so that it can be carried again.
 ///
-/// That an object with a good far copy is not written again is AIFM's (OSDI 2020, section 5). The phases are this project's own.
+/// Not writing an object again that has a good far copy is AIFM's idea (OSDI 2020, section 5). The phases are this project's own.
 #[derive(Drop)]
 pub struct EvacJob<T: Elem, S: FarTickets> {
     pub(crate) number: u32,
@@ -65,11 +65,10 @@ impl<T: Elem, S: FarTickets> Model for Carried<T, S> {
 }
 
 impl<T: Elem, S: FarStore> EvacJob<T, S> {
-    /// Puts the far form that the job holds into the store. A job that was begun on a clean object asks the store for
-    /// nothing, and is not refused.
+    /// Puts the job's far form into the store. A job on a clean object does not call the store, and is never refused.
     ///
-    /// If it is refused, it returns the whole job too. Refused with:
-    /// - `FarFault` (21) if the store fails in this call. Exactly then the meter rises, by one;
+    /// A refused carry returns the whole job too. Refused with:
+    /// - `FarFault` (21) if the store fails in this call. Only then does the meter rise, by one;
     /// - `FarFull` (22);
     /// - `NoMemory` (1).
     pub fn carry(
@@ -94,7 +93,7 @@ impl<T: Elem, S: FarStore> EvacJob<T, S> {
         }
     }
 
-    // Returns the ticket of the form. Puts the form if the store does not have it.
+    // Returns the ticket of the form. Puts the form if it is a dirty object's.
     fn put(&self, alloc: Global, store: &S, meter: &mut Meter) -> Result<S::Ticket, Refusal>
         requires few { meter.old < 2 ^ 63 }
         requires here { IsFormOf S.is_of (S.store_id store.now) self.now.form }
@@ -112,8 +111,8 @@ impl<T: Elem, S: FarStore> EvacJob<T, S> {
 }
 
 impl<T: Elem, S: FarTickets> Carried<T, S> {
-    /// Returns the number of the ticket under which the job put its far form, and borrows the bytes of that. `None` exactly if the job was
-    /// begun on a clean object: the store had its far form already. Allocates nothing.
+    /// Returns the number of the ticket that the job's far form got, and borrows the bytes of the form. `None` exactly if the job was
+    /// begun on a clean object, whose far form the store already had. Allocates nothing.
     pub fn outgoing(&self, store: &S) -> Option<(u64, &[u8])>
         requires here { S.is_of self.now.ticket (S.store_id store.now) }
         ensures number { option_map (λ out. out.0) result ≡ option_map S.number_of (put_ticket self.now) }

@@ -1,4 +1,4 @@
-// Fetches: jobs that bring objects back.
+// Fetches: the jobs that bring objects back.
 ghost use Rattle.std.specs.Prelude.{◌≡◌, ◌+◌, ◌<◌, ◌^◌, [], ◌∷◌, IfOk, IfErr};
 ghost use Rattle.far_store.specs.Faults.{faults_in, outcome, RefusedBy};
 
@@ -7,8 +7,8 @@ use far_types::Refusal;
 use std::alloc::Global;
 use std::marker::Model;
 
-/// A fetch that was begun: the frame and the object, how often the object had been away, and its ticket. It borrows nothing, so any thread
-/// can carry it.
+/// A fetch that was begun: the frame's number, the object, its count of leavings at that time, and its ticket. It borrows nothing, so any
+/// thread can carry it.
 #[derive(Drop)]
 pub struct FetchJob<S: FarTickets> {
     pub(crate) number: u32,
@@ -44,7 +44,7 @@ impl<S: FarTickets> Model for Fetched<S> {
 }
 
 impl<S: FarTickets> FetchJob<S> {
-    /// Returns the ticket of the content that the job reads. Allocates nothing.
+    /// Returns the ticket of the content that the job will read. Allocates nothing.
     pub fn ticket(&self) -> &S::Ticket
         ensures { result.now ≡ self.now.ticket }
     {
@@ -64,8 +64,8 @@ impl<S: FarTickets> Fetched<S> {
 impl<S: FarRead> FetchJob<S> {
     /// Reads the content of the job's ticket.
     ///
-    /// If it is refused, it returns the whole job too. Refused with:
-    /// - `FarFault` (21) if the store fails in this call. Exactly then the meter rises, by one;
+    /// A refused carry returns the whole job too. Refused with:
+    /// - `FarFault` (21) if the store fails in this call. Only then does the meter rise, by one;
     /// - `NoMemory` (1).
     pub fn carry(
         self,

@@ -1,4 +1,4 @@
-// Fetches that end.
+// The ends of fetches.
 ghost use Rattle.std.specs.Prelude.{◌≡◌, ℕ, List, ◌<◌, ◌↔◌, ◌⊎◌, length, false, Some, IsTrue, OnOk, OnErr, IfOk, IfErr, IsErrOf, IsSomeAnd, option_map};
 ghost use Rattle.far_log.specs.RegionState.{fits_in};
 ghost use Rattle.far_codec.specs.Spelling.{IsSpelled};
@@ -15,15 +15,15 @@ use far_store::FarTickets;
 use far_types::Refusal;
 use std::alloc::Global;
 
-/// Ends a fetch: brings an object back whose far form was read. The caller keeps the fetched bytes, but no second install of them is
-/// accepted.
+/// Ends a fetch whose far form was read: brings the object back. The caller keeps the fetched bytes, but a second install of them is
+/// refused.
 ///
-/// If it is refused, nothing is changed. Refused with:
-/// - `StaleJob` (20) exactly if what the fetch rests on does not hold any more (`IsInstallable`);
+/// A refused install changes nothing. Refused with:
+/// - `StaleJob` (20) exactly if the job's assumptions no longer hold (`IsInstallable`);
 /// - else `RegionFull` (17) exactly if no segment has the space;
-/// - else `NoMemory` (1) alone.
+/// - else only `NoMemory` (1).
 ///
-/// It is stale if it was begun on other objects, or if the object is local or has been away again since.
+/// The job is stale if it was begun on other objects, or if the object is local or was sent away again since.
 pub fn install<T: Elem, S: FarTickets>(
     alloc: Global,
     objects: &mut Objects<T, S>,
@@ -52,11 +52,11 @@ pub fn install<T: Elem, S: FarTickets>(
     objects.arrive(o, &list)
 }
 
-// Decodes the list of `len` elements whose far form these bytes are. Refused with `StaleJob` (20) if they are the form of none, else with
-// `NoMemory` (1) alone.
+// Decodes the list of `len` elements whose far form these bytes are. Refused with `StaleJob` (20) if they are no such form, else only with
+// `NoMemory` (1).
 //
-// The content of an object's ticket is its form, so `install` meets no other bytes. A store whose contents change would break that. So this
-// requires nothing of the bytes, and refuses those that are no such form.
+// `install` meets no other bytes, since the content of an object's ticket is its form. Only a store whose contents change could break that.
+// So this function requires nothing of the bytes, and refuses those that are no such form.
 fn read_form<T: Elem>(alloc: Global, bytes: &[u8], len: usize) -> Result<Vec<T>, Refusal>
     ensures list { IfOk result (λ list. (length list.items ≡ len) × IsSpelled T.in_range T.has_spelling T.spelling list.items bytes.now) }
     ensures only { (list : List T) → length list ≡ len → IsSpelled T.in_range T.has_spelling T.spelling list bytes.now → IfOk result (λ found. found.items ≡ list) }
@@ -69,7 +69,7 @@ fn read_form<T: Elem>(alloc: Global, bytes: &[u8], len: usize) -> Result<Vec<T>,
     }
 }
 
-// Returns whether what a fetch rests on still holds. Allocates nothing.
+// Returns whether the assumptions of a fetch still hold. Allocates nothing.
 fn is_installable<T: Elem, S: FarTickets>(
     objects: &Objects<T, S>,
     store: &S,

@@ -1,6 +1,6 @@
 #![tactic(auto)]
-//! Movement in phases: an object is evicted to the far store, or fetched from it, by a job. A job is begun, carried, and then accepted or
-//! found stale. Only the carrying takes long. It reads no object, so others use the objects meanwhile.
+//! Eviction and fetching in three phases: a job is begun, carried, and then accepted or found stale. Only the carry takes long. It reads
+//! no object, so others use the objects meanwhile.
 
 mod beginning;
 mod committing;

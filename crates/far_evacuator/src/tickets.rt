@@ -8,7 +8,8 @@ use far_codec::Elem;
 use far_scopes::Objects;
 use far_store::FarTickets;
 
-/// Returns whether the ticket of an object's newest far copy has the number of this one. Allocates nothing.
+/// Returns whether an object's newest far copy has the same ticket number as this ticket. Allocates
+/// nothing.
 pub(crate) fn is_under<T: Elem, S: FarTickets>(
     objects: &Objects<T, S>,
     store: &S,
@@ -27,7 +28,7 @@ pub(crate) fn is_under<T: Elem, S: FarTickets>(
     }
 }
 
-/// Copies the ticket of an object that has one. Allocates nothing.
+/// Copies the ticket of an object that has a far copy. Allocates nothing.
 pub(crate) fn again_of<T: Elem, S: FarTickets>(
     objects: &Objects<T, S>,
     store: &S,

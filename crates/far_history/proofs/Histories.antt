@@ -1,4 +1,4 @@
--- Histories with one entry more.
+-- Histories with one more entry.
 use Rattle.std.proofs.Common.{◌≡◌, ◌≢◌, ℕ, ◌+◌, ◌<◌, ◌≤◌, List, [], ◌∷◌, ◌++◌, None, Bool, true, false, cond, nat_eq, refl, ap, ◌∙◌, arith}
 use Rattle.far_types.specs.declared.edit.Edit.{Edit}
 use Rattle.far_types.specs.Edits.{after_edit, edit_refusal}
@@ -40,7 +40,7 @@ by_session-other s (x ∷ log) e ne = go (by_session-other s log e ne) (nat_eq x
     go ih true = ap (λ l. x ∷ l) ih
     go ih false = ih
 
--- a session that is not out yet has no entries
+-- a session that was not created yet has no entries
 pub by_session-new : (n s : ℕ) (log : List Entry) → AllBelow n log → n ≤ s → by_session s log ≡ []
 by_session-new n s [] all le = refl
 by_session-new n s (x ∷ log) all le = cond_ne x.by s (x ∷ by_session s log) (by_session s log) (λ e. omega (arith, all.0, le, e)) ∙ by_session-new n s log all.1 le

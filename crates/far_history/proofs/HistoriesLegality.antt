@@ -1,4 +1,4 @@
--- What a legal history leaves of a table.
+-- What a legal history does to a table.
 use Rattle.std.proofs.Common.{◌≡◌, ◌+◌, ◌≤◌, List, [], ◌∷◌, ◌++◌, length, None, Bool, true, false, refl, ap, ◌∙◌, arith}
 use Rattle.std.proofs.lemmas.Bool.Decides.{nat_tests}
 use Rattle.std.specs.Prelude.{◌==◌}
@@ -19,19 +19,19 @@ pub limits_stay : (table : Table) (log : List Entry) → (replay_on table log).l
 limits_stay table [] = refl
 limits_stay table (e ∷ log) = limits_stay (after_edit e.edit table) log
 
--- each edit counts
+-- replaying adds the history's length to the count of edits
 pub edits_count : (table : Table) (log : List Entry) → (replay_on table log).edits ≡ table.edits + length log
 edits_count table [] = omega arith
 edits_count table (e ∷ log) = omega (arith, edits_count (after_edit e.edit table) log)
 
--- the last test refuses nothing
+-- if no case refuses, the last test is false
 last_free : (cases : List (Bool × Refusal)) (b : Bool) (r : Refusal) → first_of (cases ++ (b, r) ∷ []) ≡ None → b ≡ false
 last_free [] true r free = absurd cc
 last_free [] false r free = refl
 last_free ((true, e) ∷ cases) b r free = absurd cc
 last_free ((false, e) ∷ cases) b r free = last_free cases b r free
 
--- an edit that is accepted is one of those that the limits allow
+-- an accepted edit finds the limit of edits not reached
 pub edits_left : (table : Table) (e : Edit) → edit_refusal table e ≡ None → (table.edits == table.limits.edits) ≡ false
 edits_left table e may =
     last_free (edit_faults table.schema table.limits table.places e ++ (overfills table.schema table.limits e table.places, refusal.ChunkFull) ∷ [])

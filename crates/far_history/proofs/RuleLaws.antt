@@ -1,4 +1,4 @@
--- Each step keeps the rule.
+-- Each step preserves the rule.
 use Rattle.std.proofs.Common.{◌≡◌, ◌≢◌, ℕ, ◌+◌, List, [], ◌∷◌, ◌++◌, length, set, None, true, false, cond, nat_eq, true≢false, refl, sym, ap, ◌∙◌, subst, arith}
 use mathlib.Core.List.{IsPrefix}
 use Rattle.crossbeam_utils.specs.Register.{Turns, Forks, Merges}
@@ -79,7 +79,7 @@ adds p by v e new keeps has_session reads may words views h at =
       refl,
     )
 
--- the session of a pass gets a pass of its own
+-- splitting a session off its pass preserves the rule
 pub splits : (p : Planned) (by : ℕ) (v : PassView) → Forks (HoldsHistory p) by v (keeper_part v) (session_part v)
 splits p by v words views h at =
     let mine = h.each by v at in
@@ -102,7 +102,7 @@ splits p by v words views h at =
           (record { keeps = off; has_session = λ q. let t = mine.has_session q in (length_set views by left ∙ sym (cond_eq (h.owner v.by) by n (h.owner v.by) (sym t.0)), t.1, t.2, t.3) });
     }
 
--- a pass takes the session of another
+-- joining a session to a pass preserves the rule
 pub joins : (p : Planned) (by : ℕ) (v : PassView) (other : ℕ) (w : PassView) → Merges (HoldsHistory p) by v other w (with_session_of v w) no_part
 joins p by v other w words views h at distinct there =
     let mine = h.each by v at in
@@ -125,7 +125,7 @@ joins p by v other w words views h at distinct there =
           (record { keeps = off; has_session = off });
     }
 
--- the keeper gives a new session out
+-- creating a session preserves the rule
 pub gives : (p : Planned) (by : ℕ) (v : PassView) → v.keeps ≡ true → Forks (HoldsHistory p) by v (after_give v) (new_session v)
 gives p by v keeps words views h at =
     let mine = h.each by v at in

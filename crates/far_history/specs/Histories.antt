@@ -1,4 +1,4 @@
--- Histories of edits, and the table that one leaves.
+-- Histories of edits, and the table after one.
 use Rattle.std.specs.Prelude.{◌≡◌, ℕ, ◌<◌, nat_eq, ℤ, cond, List, [], ◌∷◌, map, length, None}
 use Rattle.far_types.specs.declared.cell.Kind.{Kind}
 use Rattle.far_types.specs.declared.limits.Limits.{Limits}
@@ -18,29 +18,29 @@ pub record Planned : Type 0 where
   pub gauge : Spec
   pub sessions : ℕ
 
--- the table once the edits of a history are made in this one
+-- this table after the edits of a history
 abbrev pub replay_on : Table → List Entry → Table
 replay_on table [] = table
 replay_on table (entry ∷ log) = replay_on (after_edit entry.edit table) log
 
--- the table after a history
+-- the table of the plan after a history, which begins with the empty table
 abbrev pub replay : Planned → List Entry → Table
 replay p log = replay_on (empty_table p.schema p.limits) log
 
--- the plain table accepts each edit of the history, one after the other
+-- the plain table accepts each edit of the history in turn
 abbrev pub IsLegalOn : Table → List Entry → Type 0
 IsLegalOn table [] = Unit {0}
 IsLegalOn table (entry ∷ log) = (edit_refusal table entry.edit ≡ None) × IsLegalOn (after_edit entry.edit table) log
 
--- the empty table of a plan accepts each edit of the history, one after the other
+-- the empty table of the plan accepts each edit of the history in turn
 abbrev pub IsLegal : Planned → List Entry → Type 0
 IsLegal p log = IsLegalOn (empty_table p.schema p.limits) log
 
--- how many rows an aggregate folds, and the sum of their values
+-- the count of an aggregate's rows, and the sum of their values
 abbrev pub folded : Spec → List Place → ℕ × ℤ
 folded spec places = count_sum (map (λ (pair : Pair). pair.1) (pairs_of spec (rows_of places)))
 
--- the reading after a history: how many edits it has, and the count and the sum of the gauge over the rows of its table
+-- the reading after a history: its number of edits, and the count and the sum of the gauge over the rows of its table
 abbrev pub gauge_of : Planned → List Entry → Reading
 gauge_of p log = record { edits = length log; count = (folded p.gauge (replay p log).places).0; sum = (folded p.gauge (replay p log).places).1 }
 
@@ -49,12 +49,12 @@ abbrev pub by_session : ℕ → List Entry → List Entry
 by_session s [] = []
 by_session s (entry ∷ log) = cond (nat_eq entry.by s) (entry ∷ by_session s log) (by_session s log)
 
--- each entry is of a session below n
+-- the session of each entry has a number below n
 abbrev pub AllBelow : ℕ → List Entry → Type 0
 AllBelow n [] = Unit {0}
 AllBelow n (entry ∷ log) = (entry.by < n) × AllBelow n log
 
--- some plan, if none is named
+-- an arbitrary plan, for where none is named
 abbrev pub no_plan : Planned
 no_plan = record {
   schema = [];

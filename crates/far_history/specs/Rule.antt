@@ -1,4 +1,4 @@
--- The rule of a history's cell, and what its steps do.
+-- The rule of a history's cell, and the effects of its steps.
 use Rattle.std.specs.Prelude.{◌≡◌, ℕ, ◌<◌, true, List, [], ◌∷◌, ◌++◌}
 use mathlib.Core.Option.{some}
 use mathlib.Core.List.{IsPrefix}
@@ -13,16 +13,16 @@ use Rattle.far_history.specs.declared.view.PassView.{PassView}
 abbrev pub entry : ℕ → Edit → Entry
 entry by edit = record { by = by; edit = edit }
 
--- the words are the reading after a history
+-- the words encode the reading after this history
 abbrev pub IsReadingAfter : Planned → List ℕ → List Entry → Type 0
 IsReadingAfter p words log = reading_in words ≡ gauge_of p log
 
--- what the rule says of one pass: `keeper_at` is the pass that keeps the history, and `owner` gives the pass of each session
+-- the rule for one pass: `keeper_at` is the pass that owns the history, and `owner` maps each session to its pass
 pub record FitsPass (keeper_at : ℕ) (owner : ℕ → ℕ) (given : ℕ) (log : List Entry) (at : ℕ) (v : PassView) : Type 0 where
   pub keeps : v.keeps ≡ true → (at ≡ keeper_at) × (v.all ≡ log) × (v.given ≡ given)
   pub has_session : v.has_session ≡ true → (at ≡ owner v.by) × (v.by < given) × IsPrefix v.seen log × (by_session v.by log ≡ v.mine)
 
--- there is one legal history, and the words are the reading after it. One pass keeps it. Each session has seen a prefix of it, and knows
+-- there is one legal history, and the words encode the reading after it. One pass owns it. Each session has seen a prefix of it, and knows
 -- which entries are its own
 pub record HoldsHistory (p : Planned) (words : List ℕ) (views : List PassView) : Type 0 where
   pub keeper_at : ℕ
@@ -34,16 +34,16 @@ pub record HoldsHistory (p : Planned) (words : List ℕ) (views : List PassView)
   pub below : AllBelow given log
   pub each : (at : ℕ) (v : PassView) → get_elem? views at ≡ some v → FitsPass keeper_at owner given log at v
 
--- a session sees the history so far, whose reading is the words
+-- a read: afterwards the session has seen the whole history so far, and the words read are its reading
 abbrev pub Looks : Planned → PassView → List ℕ → List ℕ → PassView → Type 0
 Looks p v before after w =
     (w ≡ record v { seen = w.seen }) × IsPrefix v.seen w.seen × (v.keeps ≡ true → w.seen ≡ v.all)
     × IsLegal p w.seen × IsReadingAfter p before w.seen × (by_session v.by w.seen ≡ v.mine) × (v.keeps ≡ true → AllBelow v.given w.seen)
 
--- a pass that keeps the history and has a session, once that session adds an edit
+-- a pass that owns the history and has a session, after that session added an edit
 abbrev pub with_edit : PassView → Edit → PassView
 with_edit v e = record { keeps = v.keeps; all = v.all ++ entry v.by e ∷ []; given = v.given; has_session = v.has_session; by = v.by; seen = v.all ++ entry v.by e ∷ []; mine = v.mine ++ entry v.by e ∷ [] }
 
--- an edit is added to the history
+-- an edit was added to the history
 abbrev pub Adds : Edit → PassView → List ℕ → List ℕ → PassView → Type 0
 Adds e v before after w = w ≡ with_edit v e

@@ -5,13 +5,13 @@ use Rattle.far_history.specs.Views.{keeper, session}
 use Rattle.far_history.specs.declared.view.Entry.{Entry}
 use Rattle.far_history.specs.declared.view.PassView.{PassView}
 
--- its number, the prefix of the history that it has seen, and its own entries in it
+-- the session's number, the prefix of the history that it has seen, and its own entries in it
 pub record SessionState : Type 0 where
   pub by : ℕ
   pub seen : List Entry
   pub mine : List Entry
 
--- the session's state in a view
+-- the state of the session in a pass
 abbrev pub session_state : PassView → SessionState
 session_state v = record { by = v.by; seen = v.seen; mine = v.mine }
 
@@ -23,10 +23,10 @@ newcomer n = record { by = n; seen = []; mine = [] }
 abbrev pub IsSession : PassView → Type 0
 IsSession v = (v ≡ session v.by v.seen v.mine) × (by_session v.by v.seen ≡ v.mine)
 
--- a pass that keeps a history, and has no session
+-- a pass that owns a history, and has no session
 abbrev pub IsKeeper : PassView → Type 0
 IsKeeper v = v ≡ keeper v.all v.given
 
--- a pass that keeps the empty history, and has no session
+-- a pass that owns the empty history, and has no session
 abbrev pub IsGiver : PassView → Type 0
 IsGiver v = v ≡ keeper [] v.given

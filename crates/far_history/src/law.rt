@@ -6,8 +6,8 @@ use crossbeam_utils::atomic::seq_cell::RuledSeqCell;
 use crossbeam_utils::rule::{Outcome, Protocol};
 use std::marker::{Brand, PhantomData};
 
-/// Names the plan of a shared table: its schema, its limits, its gauge and how many sessions it has. A proof knows a lock's value by its
-/// type alone, so the plan is a type parameter of all that lies under a lock.
+/// The plan of a shared table, as a type: its schema, its limits, its gauge and its number of sessions. A proof knows a lock's value by
+/// its type alone, so the plan is a type parameter of everything under a lock.
 pub trait PlanTag {
     ghost use Rattle.far_history.specs.Histories.{Planned};
 
@@ -20,7 +20,7 @@ impl PlanTag for Brand {
     ghost plan = { no_plan };
 }
 
-/// Names an edit that is about to be added to a history.
+/// An edit that is about to be added to a history, as a type.
 pub trait EditTag {
     ghost use Rattle.far_types.specs.declared.edit.Edit.{Edit};
 
@@ -34,8 +34,8 @@ impl EditTag for Brand {
 }
 
 /// The rule of a cell:
-/// - There is one legal history, and the words are the reading after it.
-/// - One pass keeps it.
+/// - There is one legal history, and the words encode the reading after it.
+/// - One pass owns it.
 /// - Each session has seen a prefix of it, and knows which entries are its own.
 pub struct Law<N> {
     of: PhantomData<N>,
@@ -51,7 +51,7 @@ impl<N: PlanTag> Protocol<[u64; 4], PassView> for Law<N> {
     ghost first = { keeper [] 0 };
 }
 
-/// A step that reads: the session has then seen the history so far.
+/// A step that reads the cell: afterwards the session has seen the history so far.
 pub struct Look<N> {
     of: PhantomData<N>,
 }
@@ -62,7 +62,7 @@ impl<N: PlanTag> Outcome<[u64; 4], PassView> for Look<N> {
     ghost then = { Looks N.plan };
 }
 
-/// A step that adds an edit.
+/// A step that adds an edit to the history.
 pub struct Add<E> {
     of: PhantomData<E>,
 }
@@ -73,7 +73,7 @@ impl<E: EditTag> Outcome<[u64; 4], PassView> for Add<E> {
     ghost then = { Adds E.edit };
 }
 
-/// A step that gives out a new session.
+/// A step that creates a new session.
 pub struct Give;
 
 impl Split<PassView> for Give {
@@ -84,7 +84,7 @@ impl Split<PassView> for Give {
     ghost right = { new_session };
 }
 
-/// A step that splits the session off its pass.
+/// A step that moves the session of a pass into a pass of its own.
 pub struct SplitSession;
 
 impl Split<PassView> for SplitSession {
@@ -95,7 +95,7 @@ impl Split<PassView> for SplitSession {
     ghost right = { session_part };
 }
 
-/// A step that joins the session of one pass to the keeper's.
+/// A step that joins the session of one pass to the pass that owns the history.
 pub struct JoinSession;
 
 impl Join<PassView> for JoinSession {
@@ -109,5 +109,5 @@ impl Join<PassView> for JoinSession {
 /// The cell of a history: four words that are read and written in one step.
 pub type HistoryCell<N> = RuledSeqCell<[u64; 4], PassView, Law<N>, 4>;
 
-/// A pass of such a cell. It takes no bytes.
+/// A pass of a history's cell. It takes no bytes.
 pub type Pass = seq_cell::Pass<[u64; 4], PassView>;

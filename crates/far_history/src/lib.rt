@@ -2,9 +2,9 @@
 //! Histories of edits that threads share:
 //! - a cell outside the table's lock;
 //! - the rule that ties it to what each session knows;
-//! - the steps that keep the rule.
+//! - the steps that preserve the rule.
 //!
-//! A history exists in proofs alone. At run time threads share one cell of four words: the number of edits, and the count and the sum of
+//! A history exists only in proofs. At run time threads share one cell of four words: the number of edits, and the count and the sum of
 //! the table's gauge.
 
 pub mod law;

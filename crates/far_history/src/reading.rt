@@ -1,13 +1,13 @@
-// The reading of a cell, and its encoding in words.
+// The reading of a cell, and its encoding in four words.
 ghost use Rattle.std.specs.Prelude.{◌≡◌};
 ghost use Rattle.far_history.specs.Readings.{reading_in};
 
-/// What a table's history so far leaves: the reading of its gauge.
+/// The reading of a table's gauge after the history so far.
 #[derive(Clone, Copy, Debug, PartialEq, Eq)]
 pub struct Reading {
     /// How many edits were accepted.
     pub edits: u64,
-    /// How many rows the gauge folds.
+    /// How many rows the gauge folds over.
     pub count: u64,
     /// The sum of their values.
     pub sum: i128,

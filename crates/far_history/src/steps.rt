@@ -1,4 +1,4 @@
-// The steps that keep a cell's rule.
+// The steps that preserve a cell's rule.
 ghost use Rattle.std.specs.Prelude.{◌≡◌, [], true, None, IfOk};
 ghost use Rattle.crossbeam_utils.specs.Seq.{cell_view, IsSamePass};
 ghost use Rattle.far_types.specs.Edits.{edit_refusal};
@@ -13,14 +13,14 @@ use std::marker::Brand;
 use std::snapshot::Snapshot;
 use std::sync::Wait;
 
-/// Makes the cell of an empty history, and the pass that keeps it. Fails only if out of memory.
+/// Makes the cell of an empty history, and the pass that owns it. Fails only if out of memory.
 pub fn begin<N: PlanTag>(alloc: Global) -> Result<(HistoryCell<N>, Pass), AllocError>
     ensures { IfOk result (λ made. (made.1.table_id ≡ made.0.table.shared.table_id) × (cell_view made.1 ≡ keeper [] 0)) }
 {
     HistoryCell::<N>::ruled(alloc, [0, 0, 0, 0])
 }
 
-/// Reads the four words in one step. The session of the pass has then seen the history so far.
+/// Reads the four words in one step. Afterwards the session of the pass has seen the history so far.
 pub fn look<N: PlanTag, R: Wait>(rt: &R, cell: &HistoryCell<N>, pass: &mut Pass) -> [u64; 4]
     requires cell { pass.old.table_id ≡ cell.now.table.shared.table_id }
     requires has_session { (cell_view pass.old).has_session ≡ true }
@@ -48,7 +48,7 @@ fn add_named<N: PlanTag, E: EditTag, R: Wait>(
     cell.swap_as::<Add<E>, R>(rt, pass, words);
 }
 
-/// Adds an edit to the history, by the session that is joined to the keeper's pass. Writes the four words in one step.
+/// Adds an edit to the history, for the session in the pass that owns it. Writes the four words in one step.
 pub fn add<N: PlanTag, R: Wait>(
     rt: &R,
     cell: &HistoryCell<N>,
@@ -66,7 +66,7 @@ pub fn add<N: PlanTag, R: Wait>(
     add_named::<N, Brand, R>(rt, cell, pass, words, edit);
 }
 
-/// Splits the session of a pass off, into a pass of its own.
+/// Moves the session of a pass into a pass of its own, and returns that.
 pub fn split_session<N: PlanTag>(cell: &HistoryCell<N>, pass: &mut Pass) -> Pass
     requires { pass.old.table_id ≡ cell.now.table.shared.table_id }
     ensures same { IsSamePass pass.old pass.new }
@@ -76,7 +76,7 @@ pub fn split_session<N: PlanTag>(cell: &HistoryCell<N>, pass: &mut Pass) -> Pass
     cell.split_pass::<SplitSession>(pass)
 }
 
-/// Joins a session to a pass.
+/// Moves the session of another pass into this one.
 pub fn join_session<N: PlanTag>(cell: &HistoryCell<N>, pass: &mut Pass, other: Pass)
     requires cell { pass.old.table_id ≡ cell.now.table.shared.table_id }
     requires other { (other.table_id ≡ cell.now.table.shared.table_id) × (other.me.1 ≡ []) }
@@ -86,7 +86,7 @@ pub fn join_session<N: PlanTag>(cell: &HistoryCell<N>, pass: &mut Pass, other: P
     cell.join_pass::<JoinSession>(pass, other)
 }
 
-/// Gives out a new session, by the pass that keeps the history.
+/// Creates a new session, and returns its pass. The first pass owns the history.
 pub fn give<N: PlanTag>(cell: &HistoryCell<N>, pass: &mut Pass) -> Pass
     requires cell { pass.old.table_id ≡ cell.now.table.shared.table_id }
     requires keeps { (cell_view pass.old).keeps ≡ true }

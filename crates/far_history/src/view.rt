@@ -1,20 +1,20 @@
-// What a pass knows of a history. These types exist for proofs alone: no value of them is made.
+// What a pass knows of a history. These types exist only for proofs: no value of them is made.
 use far_types::Edit;
 use std::collections::LinkedList;
 
-/// An edit of a history, with the number of the session that made it.
+/// An edit of a history, and the number of the session that made it.
 pub struct Entry {
     pub by: u64,
     pub edit: Edit,
 }
 
-/// What one pass knows: a pass may keep the history, have a session, or both.
+/// What one pass knows: a pass may own the history, have a session, or both.
 pub struct PassView {
-    /// Whether the pass keeps the history.
+    /// Whether the pass owns the history.
     pub keeps: bool,
-    /// The history, if the pass keeps it.
+    /// The history, if the pass owns it.
     pub all: LinkedList<Entry>,
-    /// How many sessions were given out, if the pass keeps the history.
+    /// How many sessions were created, if the pass owns the history.
     pub given: u64,
     /// Whether the pass has a session.
     pub has_session: bool,

@@ -1,7 +1,8 @@
--- The digest that a store notes of a content: its SHA-256 if it is short, and else the SHA-256 of the digests of its four parts.
--- Contents of one length that differ and have one digest show two messages that differ and have one SHA-256. If they are short, these
--- are the contents. Else they are the two lists of digests, if the lists differ. If the lists are the same, so are the digests of the
--- parts, each of 32 bytes, and the bytes after the parts: so the contents differ in a part, and that part of each is the message.
+-- The digest that a store notes of a content: the SHA-256 of a short content, and otherwise the SHA-256 of the digests of its four parts.
+-- Two different contents of one length with the same digest yield two different messages with the same SHA-256. For short contents these
+-- are the contents. For others they are the two lists of digests, if those differ. If they do not, the contents have the same digests of
+-- their parts, each of 32 bytes, and the same bytes after the parts. Then the contents differ in a part, and the messages are that part of
+-- each.
 use Rattle.std.specs.Prelude.{ℕ, ◌*◌, ◌/◌, ltb, cond, List, ◌++◌, length, take, drop}
 use Rattle.sha2.specs.Sha256.{sha256}
 
@@ -9,7 +10,7 @@ use Rattle.sha2.specs.Sha256.{sha256}
 abbrev pub part_len : List ℕ → ℕ
 part_len content = length content / 256 * 64
 
--- part j, counted from 0
+-- part j of a content, counted from 0
 abbrev pub part : List ℕ → ℕ → List ℕ
 part content j = take (part_len content) (drop (j * part_len content) content)
 
@@ -22,6 +23,6 @@ abbrev pub part_digests : List ℕ → List ℕ
 part_digests content =
     sha256 (part content 0) ++ (sha256 (part content 1) ++ (sha256 (part content 2) ++ (sha256 (part content 3) ++ rest content)))
 
--- the digest of a content: from 1,024 bytes on it is made of parts
+-- the digest of a content; from 1,024 bytes on it is made from the parts
 abbrev pub content_digest : List ℕ → List ℕ
 content_digest content = cond (ltb (length content) 1024) (sha256 content) (sha256 (part_digests content))

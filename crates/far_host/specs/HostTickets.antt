@@ -1,9 +1,9 @@
--- What contracts see of a ticket of a host store, and when bytes are taken for its content.
+-- What contracts see of a ticket of a host store, and when bytes are accepted for its content.
 use Rattle.std.specs.Prelude.{◌≡◌, ℕ, List, length}
 use Rattle.far_host.specs.ContentDigest.{content_digest}
 use Rattle.far_host.specs.Spots.{group_of, LiesAt}
 
--- its number, the bytes that were put, and the slot in which the group of its note lies
+-- the ticket's number, the bytes that were put, and the slot of the group of its note
 pub record TicketState : Type 0 where
   pub number : ℕ
   pub content : List ℕ
@@ -13,7 +13,7 @@ pub record TicketState : Type 0 where
 abbrev pub IsOf : TicketState → List ℕ → Type 0
 IsOf ticket id = LiesAt id (group_of ticket.number) ticket.group
 
--- bytes have the length and the digest of a content
+-- the bytes have the length and the digest of a content
 abbrev pub HasDigestOf : List ℕ → List ℕ → Type 0
 HasDigestOf content bytes = (length bytes ≡ length content) × (content_digest bytes ≡ content_digest content)
 

@@ -1,4 +1,4 @@
--- Four parts of a content side by side: each word is a vector, with one lane for each part.
+-- Four parts of a content side by side: each word is a vector with one lane for each part.
 -- Internal: no public contract cites it.
 use Rattle.std.specs.Prelude.{◌≡◌, ℕ, ◌*◌, ◌<◌, List, [], ◌∷◌, length, map, slice_index, slice_index_or}
 use Rattle.sha2.specs.Sha256.{word_at}
@@ -17,7 +17,7 @@ hash_lane j v =
 abbrev pub word_lane : ℕ → List (List ℕ) → List ℕ
 word_lane j w = map (λ vector. slice_index vector j) w
 
--- these are the sixteen words of a block
+-- the sixteen words are those of a block
 abbrev pub HasWordsOf : List ℕ → List ℕ → Type 0
 HasWordsOf block words = (length words ≡ 16)
     × ((k : ℕ) → k < 16 → slice_index words k ≡ word_at block (4 * k))

@@ -1,9 +1,9 @@
-// Contents that were delivered.
+// Delivered contents.
 ghost use Rattle.std.specs.Prelude.{◌≡◌};
 
 use crate::ticket::HostTicket;
 
-/// The content of a ticket.
+/// The delivered content of a ticket.
 #[derive(Drop)]
 pub(crate) struct Contents {
     pub(crate) ticket: HostTicket,

@@ -8,10 +8,11 @@ use sha2::{Digest, Sha256};
 #[cfg(test)]
 mod tests;
 
-// A shorter content is hashed as it is: the last hash, over four digests, takes most of what four lanes save.
+// A shorter content is hashed directly: the last hash, over four digests, takes most of what four lanes save.
 const LONG: usize = 1024;
 
-/// Returns the digest of a content: of 1,024 bytes on, from four parts that are hashed side by side.
+/// Returns the digest of a content. From 1,024 bytes on, it is made from four parts that are hashed side by
+/// side.
 pub(crate) fn digest_of(content: &[u8]) -> [u8; 32]
     ensures { result ≡ content_digest content.now }
 {

@@ -1,4 +1,4 @@
-// What the store notes of a content.
+// The store's note of a content.
 ghost use Rattle.std.specs.Prelude.{◌≡◌, ◌↔◌, length, IsTrue};
 ghost use Rattle.far_host.specs.ContentDigest.{content_digest};
 ghost use Rattle.far_host.specs.HostTickets.{HasDigestOf};
@@ -6,7 +6,7 @@ ghost use Rattle.far_host.specs.HostTickets.{HasDigestOf};
 use crate::digest::digest_of;
 use boxcar::tag::{Names, Tag};
 
-/// The length and the digest of a content. The content itself is there for clauses alone.
+/// The length and the digest of a content. Clauses also see the content itself, which is not kept.
 #[derive(Drop)]
 pub(crate) struct Note {
     len: usize,

@@ -10,7 +10,7 @@ use boxcar::tag::Tag;
 use std::alloc::{AllocError, Global};
 use std::marker::Model;
 
-/// The rule of slots that take whatever is written.
+/// The rule of slots that accept any value.
 pub(crate) struct Anything;
 
 impl<T> SlotRule<T> for Anything {
@@ -26,13 +26,13 @@ pub(crate) type Chunk = Row<Note>;
 
 pub(crate) type Group = Row<Chunk>;
 
-// What a number costs.
+// The cost of a number, in bytes.
 const _: () = prove!(size_of::<OnceSlot<Note, Anything>>() == 56);
 
 /// The notes of a store. A note is written once and stays. Contracts see the ids of the groups' slots, which no other store has.
 ///
-/// Chunks are made as their numbers are drawn, and groups double. So a store costs next to nothing before it is used, whatever its
-/// capacity is. Later at most one chunk is not full, and the groups take less than a byte a number.
+/// Chunks are made as their numbers are drawn, and each group has twice the chunks of the one before it. So an unused store costs almost
+/// nothing, whatever its capacity. Later at most one chunk is not full, and the groups take less than a byte a number.
 #[derive(Drop)]
 pub(crate) struct Notes {
     groups: Row<Group>,
@@ -54,7 +54,8 @@ impl Notes {
         })
     }
 
-    /// Makes the chunk of a number, unless it is there. Returns nothing if there is no memory for it, or another thread is just making it.
+    /// Makes the chunk of a number, unless it exists. Returns `None` if there is no memory for it, or another thread is making it right
+    /// now.
     pub(crate) fn reserve(&self, alloc: Global, number: u64) -> Option<()> {
         let spot = Spot::of(number);
         let slot = self.groups.get(spot.group)?;
@@ -63,7 +64,7 @@ impl Notes {
         Some(())
     }
 
-    /// Writes the note of a number. Returns nothing if there is no memory for its chunk, or another thread is just making it.
+    /// Writes the note of a number. Returns `None` if there is no memory for its chunk, or another thread is making it right now.
     pub(crate) fn write(&self, alloc: Global, number: u64, note: Note) -> Option<HostTicket>
         ensures here { IfSome result (λ ticket. IsOf ticket self.now) }
         ensures number { IfSome result (λ ticket. ticket.number ≡ number) }
@@ -96,8 +97,8 @@ impl Notes {
     }
 }
 
-// Makes slots as many as asked for in this slot, unless they are there. Of two threads that make them, one has made its own in vain, and
-// takes the other's. If those are still being written, nothing is returned, since no call here waits.
+// Makes `length` slots in this slot, unless they exist. If two threads make them at once, one discards its own and uses the other's. If
+// the other's are still being written, returns `None`, since no call here waits.
 fn made<T: Drop>(
     alloc: Global,
     slot: &OnceSlot<Row<T>, Anything>,
@@ -114,7 +115,7 @@ fn made<T: Drop>(
     }
 }
 
-// Slots as many as asked for, with nothing in them.
+// Returns `length` empty slots.
 fn row_of<T: Drop>(alloc: Global, length: usize) -> Result<Row<T>, AllocError> {
     let mut slots = Vec::with_capacity(alloc, length)?;
     slots.resize_with(length, || OnceSlot::new(&Tag::empty()))?;

@@ -1,4 +1,4 @@
-// Where the note of a number lies.
+// The location of a number's note.
 ghost use Rattle.std.specs.Prelude.{◌≡◌};
 ghost use Rattle.far_host.specs.Spots.{group_of, chunk_of, place_of};
 
@@ -8,8 +8,8 @@ pub(crate) const CHUNK: usize = 256;
 /// How many groups there are: enough for every number of 64 bits.
 pub(crate) const GROUPS: usize = 57;
 
-/// The spot of a number's note: its group, its chunk in the group, and its place in the chunk. Group `g` has `2 ^ g` chunks, which are
-/// `chunks` here.
+/// The location of a number's note: its group, its chunk in the group, and its index in the chunk. Group `g` has `2 ^ g` chunks, which
+/// are `chunks` here.
 #[derive(Drop)]
 pub(crate) struct Spot {
     pub(crate) group: usize,

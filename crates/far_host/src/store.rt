@@ -1,4 +1,4 @@
-// The store.
+// The far store of a host.
 ghost use Rattle.std.specs.Prelude.{◌≡◌, ◌<◌, ◌≤◌, [], ◌∷◌, IfOk, IfErr, IfSome};
 ghost use Rattle.far_store.specs.Faults.{RefusedBy};
 ghost use Rattle.far_host.specs.HostTickets.{IsOf};
@@ -14,19 +14,20 @@ use std::collections::BTreeMap;
 use std::marker::Model;
 use std::sync::atomic::{AtomicU64, Ordering};
 
-/// A far store whose contents the calling program keeps: in a file, a server, wherever it likes. Contracts see its id and its capacity.
+/// A far store whose contents the calling program keeps: in files, on a server, wherever it likes. Contracts see its id and its
+/// capacity.
 ///
-/// - A put draws a number, and notes the length and the digest of the bytes. It keeps no byte: whoever put them hands them to the
+/// - A put draws a number, and notes the length and the digest of the bytes. It keeps no byte: the caller of the put gives them to the
 ///   program, with the ticket's number.
-/// - A get reads what the program delivered for the ticket. If nothing was delivered, the get is a fault.
-/// - [`FarDelivery::deliver`] takes bytes that the program kept. If their length or their digest is another than what was noted, it is
-///   a fault, and nothing changes.
+/// - A get reads what the program delivered for the ticket. If nothing was delivered, the get fails with a fault.
+/// - [`FarDelivery::deliver`] takes bytes that the program kept. If their length or their digest differs from the note, the call fails
+///   with a fault, and nothing changes.
 ///
-/// A content is hashed once on its way out and once on its way in. A note takes 56 bytes, and is never let go. Notes are made in chunks
-/// of 256 as numbers are drawn, so an unused store takes some 2 KB, whatever its capacity is.
+/// A content is hashed once on its way out and once on its way in. A note takes 56 bytes, and is never freed before the store. Notes
+/// are made in chunks of 256 as numbers are drawn, so an unused store takes some 2 KB, whatever its capacity.
 ///
-/// No call waits. If two threads put at the same moment and both make one chunk, a put may be refused with `NoMemory` (1), and then be
-/// made again.
+/// No call waits. If two threads put at the same moment and both make one chunk, a put may be refused with `NoMemory` (1), and can then
+/// be repeated.
 ///
 /// Bytes are put. Later the same bytes are delivered and read:
 ///
@@ -64,14 +65,14 @@ impl Model for HostStore {
 
     ghost view = { λ s. record { id = s.notes; capacity = s.capacity } };
 
-    // What was delivered under a number is of a ticket with that number.
+    // The content that is stored under a number was delivered for a ticket with that number.
     ghost invariant = { λ s. (n : ℕ) →
         IfSome (get nat_cmp s.delivered n) (λ contents.
         (contents.ticket.number ≡ n) × IsOf contents.ticket s.notes) };
 }
 
 impl HostStore {
-    /// Makes an empty store that gives out the numbers below `capacity`. Refused with `NoMemory` (1) alone.
+    /// Makes an empty store that gives out the numbers below `capacity`. Refused only with `NoMemory` (1).
     pub fn new(alloc: Global, capacity: u64) -> Result<HostStore, Refusal>
         ensures capacity { IfOk result (λ s. s.capacity ≡ capacity) }
         ensures memory { IfErr result (λ e. e ≡ Refusal.NoMemory) }
@@ -91,7 +92,7 @@ impl HostStore {
         self.drawn.load(Ordering::SeqCst).min(self.capacity)
     }
 
-    // The bytes that were delivered for a ticket.
+    // Returns the bytes that were delivered for a ticket.
     fn delivered(&self, ticket: &HostTicket) -> Option<&[u8]>
         requires { IsOf ticket.now self.now.id }
         ensures { IfSome result (λ bytes. bytes.now ≡ ticket.now.content) }
@@ -163,7 +164,7 @@ impl FarStore for HostStore {
         if next >= self.capacity {
             return Err(Refusal::FarFull);
         }
-        // The chunk comes first, so that a put that finds no memory for it uses up no number.
+        // The chunk comes first, so that a put without memory for it uses up no number.
         if self.notes.reserve(alloc, next).is_none() {
             return Err(Refusal::NoMemory);
         }

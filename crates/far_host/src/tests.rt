@@ -1,4 +1,5 @@
-// What no clause says: that contents are put, taken and read, and where notes lie. Other bytes than those that were put are refused.
+// Tests of what no clause says: that contents are put, delivered and read, and where notes are stored. Bytes that differ from those
+// that were put are refused.
 ghost use Rattle.std.specs.Prelude.{◌≡◌, IfOk, length};
 ghost use Rattle.far_host.specs.ContentDigest.{content_digest};
 ghost use Rattle.far_host.specs.HostTickets.{IsOf, HasNoCollision};
@@ -12,7 +13,7 @@ use std::process::Abort;
 
 const LOAVES: &[u8] = b"bread 2 rye 3";
 
-// Each call is made a second time if memory runs out in the first.
+// Makes each call a second time if memory runs out in the first.
 
 fn made(alloc: Global, capacity: u64) -> Result<HostStore, Refusal> {
     match HostStore::new(alloc, capacity) {
@@ -51,7 +52,7 @@ fn get(store: &HostStore, alloc: Global, ticket: &HostTicket) -> Result<Vec<u8>,
     Ok(bytes)
 }
 
-// Returns whether the store misses the ticket's content, as a fault that is counted.
+// Returns whether the store has no content for the ticket, and counts that as a fault.
 fn misses(store: &HostStore, alloc: Global, ticket: &HostTicket) -> bool
     requires { IsOf ticket.now store.now.id }
 {
@@ -61,7 +62,7 @@ fn misses(store: &HostStore, alloc: Global, ticket: &HostTicket) -> bool
     matches!(answer, Err(Refusal::FarFault)) && meter.faults() == 1 && bytes.is_empty()
 }
 
-// Returns whether the store refuses the bytes, as a fault that is counted.
+// Returns whether the store refuses the bytes, and counts that as a fault.
 fn refuses(store: &mut HostStore, alloc: Global, ticket: &HostTicket, bytes: &[u8]) -> bool
     requires here { IsOf ticket.now store.old.id }
     requires no_collision { HasNoCollision ticket.now bytes.now }
@@ -89,7 +90,7 @@ fn deliver(
     }
 }
 
-// Returns whether the store misses a content, takes it, reads it, and misses it again when it was let go.
+// Returns whether the store lacks a content, takes it, reads it, and lacks it again after it is forgotten.
 fn takes(
     store: &mut HostStore,
     alloc: Global,
@@ -183,7 +184,7 @@ fn tells_two_numbers(
     Ok(refused && takes(&mut store, alloc, &first, old)? && takes(&mut store, alloc, &second, new)?)
 }
 
-// Returns whether two contents that were delivered are read side by side, and each is let go by itself.
+// Returns whether two delivered contents are read side by side, and each is forgotten by itself.
 fn holds_two(alloc: Global, one: &[u8], other: &[u8]) -> Result<bool, Refusal> {
     let mut store = made(alloc, 2)?;
     let first = put(&store, alloc, one)?;
@@ -211,7 +212,7 @@ fn each_number_has_its_content(rt: HostRuntime) {
     assert!(rt; matches!(holds_two(alloc, LOAVES, LOAVES), Ok(true)));
 }
 
-// Returns whether a store of a capacity is full after so many contents, and takes the first and the last of them.
+// Returns whether a store of a capacity is full after that many contents, and takes the first and the last of them.
 fn fills(alloc: Global, capacity: u64) -> Result<bool, Refusal> {
     let mut store = made(alloc, capacity)?;
     let first = put(&store, alloc, LOAVES)?;
@@ -229,7 +230,7 @@ fn fills(alloc: Global, capacity: u64) -> Result<bool, Refusal> {
     )
 }
 
-// A chunk has 256 notes, and the groups one chunk, two chunks and four.
+// The capacities are chosen at the bounds of chunks and groups: a chunk has 256 notes, and the groups have one chunk, two and four.
 #[test]
 fn contents_are_kept_up_to_the_capacity(rt: HostRuntime) {
     let alloc = rt.alloc();
@@ -238,7 +239,8 @@ fn contents_are_kept_up_to_the_capacity(rt: HostRuntime) {
     }
 }
 
-// Puts bytes into a store, delivers and reads them. Returns their number, under which a program keeps them, and what was read.
+// Puts bytes into a store, delivers and reads them. Returns their number, under which a program keeps them, and the bytes that were
+// read.
 fn comes_back(alloc: Global, capacity: u64, bytes: &[u8]) -> Result<(u64, Vec<u8>), Refusal> {
     let mut store = HostStore::new(alloc, capacity)?;
     let mut meter = Meter::new();

@@ -6,7 +6,7 @@ use crate::notes::{Chunk, Group};
 use boxcar::slot::Written;
 use std::marker::Model;
 
-/// A ticket of a [`HostStore`](crate::HostStore): 8 bytes, its number. What shows the note of its content is there for clauses alone.
+/// A ticket of a [`HostStore`](crate::HostStore): 8 bytes, its number. The token of its content's note exists only in clauses.
 #[derive(Drop)]
 pub struct HostTicket {
     pub(crate) number: u64,
@@ -29,7 +29,7 @@ impl Model for HostTicket {
       group = t.group.of;
     } };
 
-    // The chunk lies in the group, and the note in the chunk, where the number says.
+    // The note is in the chunk and the chunk in the group that the number says.
     ghost invariant = { λ t.
         LiesAt (ids t.group.value.items) (chunk_of t.number) t.chunk.of
         × LiesAt (ids t.chunk.value.items) (place_of t.number) t.note.of };
@@ -47,7 +47,7 @@ impl HostTicket {
         }
     }
 
-    // For the proof: gives that one number has one content. At run time nothing happens here.
+    // For the proof: shows that one number has one content. At run time nothing happens here.
     pub(crate) fn agrees(&self, other: &HostTicket)
         requires group { self.now.group ≡ other.now.group }
         requires number { self.now.number ≡ other.now.number }

@@ -1,17 +1,17 @@
 #![tactic(auto)]
-//! A pass of a ruled cell, wrapped so that it may lie under a lock which many threads read at once.
+//! A pass of a ruled cell, wrapped so that many threads may read the lock that contains it.
 //!
-//! A pass is a value without bytes. A thread carries in it what it knows of a cell. A pass may go from thread to thread, but is not known
-//! to be safe through a shared reference. A [`Kept`] is safe there: through a reference nothing can be done with it.
+//! A pass is a value without bytes: what a thread knows of a cell. A pass may be sent from thread to thread, but is not known to be safe
+//! through a shared reference. A [`Kept`] is: its shared reference gives no access to the pass.
 
 ghost use Rattle.std.specs.Prelude.{◌≡◌};
 
 use atomic_table::Seat;
 use std::marker::Model;
 
-/// A pass that is put away. It takes no bytes.
+/// A stored pass. It takes no bytes.
 ///
-/// Only its owner gets the pass out again. `&Kept` gives no access to the pass, so it is `Sync`.
+/// Only its owner can take the pass out again. `&Kept` gives no access to the pass, so it is `Sync`.
 pub struct Kept<S, V> {
     pass: Seat<S, V>,
 }
@@ -28,14 +28,14 @@ unsafe impl<S: Send, V> Send for Kept<S, V> {}
 unsafe impl<S: Send, V> Sync for Kept<S, V> {}
 
 impl<S, V> Kept<S, V> {
-    /// Puts a pass away.
+    /// Stores a pass.
     pub fn new(pass: Seat<S, V>) -> Kept<S, V>
         ensures { result.pass ≡ pass }
     {
         Kept { pass }
     }
 
-    /// Returns the pass that was put away.
+    /// Returns the stored pass.
     pub fn into_pass(self) -> Seat<S, V>
         ensures { result ≡ self.pass }
     {

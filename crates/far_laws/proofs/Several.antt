@@ -1,4 +1,4 @@
--- Several things of which each two are disjoint, once one of them changes.
+-- Lists of pairwise disjoint things, after one of them changes.
 use Rattle.std.proofs.Common.{◌≡◌, ◌≢◌, ℕ, ◌<◌, inl, inr, List, length, Some, sym, ap, subst, ◌∙◌, arith}
 use Rattle.std.specs.Prelude.{All, AllPairs, slice_get, slice_set, slice_index_or}
 use Rattle.std.proofs.lemmas.List.{get_or-set_other, get_or-set_same, length-set}
@@ -6,7 +6,7 @@ use Rattle.std.proofs.lemmas.Bool.{cases_eq, cases_lt}
 use Rattle.std.proofs.lemmas.Option.{slice_get_within, get_or_from_slice_get}
 
 module _ {X : Type 0} (Disjoint : X → X → Type 0) (turned : (x y : X) → Disjoint x y → Disjoint y x) where
-  -- two of them, in either order
+  -- two things of the list are disjoint, in either order
   any-disjoint : (xs : List X) → AllPairs Disjoint xs → (j k : ℕ) (d : X) → j ≢ k → j < length xs → k < length xs → Disjoint (slice_index_or xs j d) (slice_index_or xs k d)
   any-disjoint xs disjoint j k d ne inside within = elim (cases_lt j k) [
     | inl below ↦ disjoint j k d below within

@@ -1,2 +1,2 @@
 #![tactic(auto)]
-//! Laws of the standard library's lists that several crates cite. It has no code.
+//! Laws about the standard library's lists that several crates cite. It has no code.

@@ -1,4 +1,4 @@
--- Where the elements of chunks lie.
+-- Where the elements of chunks are.
 use Rattle.std.proofs.Common.{◌≡◌, ℕ, zero, suc, ◌+◌, ◌-◌, ◌*◌, ◌<◌, ◌≤◌, ◌^◌, List, [], ◌∷◌, ◌++◌, Some, length, take, drop, refl, sym, ap, ◌∙◌, arith, length-append, pow_mono, pow-suc, lt_of_not-le}
 use Rattle.std.proofs.Common.{◌⊎◌, inl, inr, length-take, append-nil}
 use Rattle.std.proofs.lemmas.List.{append_assoc, take_all, take-append-le}
@@ -7,7 +7,7 @@ use Rattle.std.specs.Prelude.{vec_capacity, slice_get, slice_set}
 use Rattle.std.specs.declared.vec.Vec.{Vec}
 use Rattle.far_log.specs.Chunking.{capacity_at, start_at, items_of, AreChunks, IsPlaceOf}
 
--- a chunk has as much space as all those in front of it, and the first
+-- a chunk has as much space as the chunks before it and one more first chunk
 pub start-size : (size number : ℕ) → start_at size number + size ≡ capacity_at size number
 start-size size zero = omega arith
 start-size size (suc number) = let later = start-size (size + size) number in omega arith
@@ -33,7 +33,7 @@ size-is level (suc number) =
     let more : suc level + number ≡ level + suc number = omega arith in
     ap (λ size. capacity_at size number) twice ∙ size-is (suc level) number ∙ ap (λ n. 2 ^ n) more
 
--- the space of a chunk, if the first takes 64
+-- the capacity of a chunk, if the first chunk's is 64
 pub size-64 : (number : ℕ) → capacity_at 64 number ≡ 2 ^ (6 + number)
 size-64 number = size-is 6 number
 
@@ -55,7 +55,7 @@ module _ (n top : ℕ) (low : 2 ^ top ≤ n) (high : n < 2 * 2 ^ top) where
         within = omega (arith, size, low, high);
       }
 
--- a chunk lies behind all those with lower numbers
+-- a chunk comes after those with lower numbers
 pub start-later : (size number later : ℕ) → number < later → start_at size number + capacity_at size number ≤ start_at size later
 start-later size number zero lt = absurd (omega arith)
 start-later size zero (suc later) lt = omega arith
@@ -114,7 +114,7 @@ module _ {X : Type 0} where
   take-front (x ∷ xs) ys (suc n) zero long le = absurd (omega arith)
   take-front (x ∷ xs) ys (suc n) (suc len) long le = ap (λ zs. x ∷ zs) (take-front xs ys n len (omega (arith, long)) (omega arith))
 
-  -- the front of a list that is cut behind it, or in it
+  -- the prefix of a list that is cut after a chunk, or within it
   cut-front : (size len : ℕ) (xs ys : List X) → length xs ≤ size → (len ≤ length xs) ⊎ ((length xs ≡ size) × (length xs ≤ len)) → take len xs ≡ take size (take len (xs ++ ys))
   cut-front size len xs ys fits (inl short) =
       rw (take-append-le len xs ys short) (sym (take_all size (take len xs) (omega (arith, length-take len xs, fits))))
@@ -122,7 +122,7 @@ module _ {X : Type 0} where
       take_all len xs full.1 ∙ sym (take-front xs ys size len full.0 (omega (arith, full.0, full.1)))
 
 module _ {X Z : Type 0} where
-  -- the chunk in which an element lies is there
+  -- the chunk of an element exists
   pub chunk-there : (size : ℕ) (cs : List (Vec X Z)) (number : ℕ) → AreChunks size cs → start_at size number < length (items_of cs) → number < length cs
   chunk-there size [] number h lt = absurd (omega arith)
   chunk-there size (c ∷ cs) zero h lt = omega arith
@@ -131,7 +131,7 @@ module _ {X Z : Type 0} where
       let later = chunk-there (size + size) (d ∷ cs) number h.1 (omega (arith, h.0, length-append c.items (items_of (d ∷ cs)))) in
       omega (arith, later)
 
-  -- and the element lies in it
+  -- the element is in that chunk
   pub in-chunk : (size : ℕ) (cs : List (Vec X Z)) (number at : ℕ) (c : Vec X Z) → AreChunks size cs → slice_get cs number ≡ Some c → at < capacity_at size number
       → start_at size number + at < length (items_of cs) → at < length c.items
   in-chunk size [] number at c h e small lt = absurd (cc)
@@ -141,7 +141,7 @@ module _ {X Z : Type 0} where
   in-chunk size (b ∷ (d ∷ cs)) (suc number) at c h e small lt =
       in-chunk (size + size) (d ∷ cs) number at c h.1 e small (omega (arith, h.0, length-append b.items (items_of (d ∷ cs))))
 
-  -- no chunk ends behind all elements
+  -- no chunk ends past the last element
   pub ends-within : (size : ℕ) (cs : List (Vec X Z)) (number : ℕ) (c : Vec X Z) → AreChunks size cs → slice_get cs number ≡ Some c → start_at size number + length c.items ≤ length (items_of cs)
   ends-within size [] number c h e = absurd (cc)
   ends-within size (b ∷ cs) zero c h e = let same : b ≡ c = cc in omega (arith, ap (λ (u : Vec X Z). length u.items) same, length-append b.items (items_of cs))
@@ -150,7 +150,7 @@ module _ {X Z : Type 0} where
       let later = ends-within (size + size) (a ∷ cs) number c h.1 e in
       omega (arith, later, h.0, length-append b.items (items_of (a ∷ cs)))
 
-  -- what is read there
+  -- what a read there returns
   pub read-chunk : (size : ℕ) (cs : List (Vec X Z)) (number at : ℕ) (c : Vec X Z) → AreChunks size cs → slice_get cs number ≡ Some c → at < length c.items
       → slice_get (items_of cs) (start_at size number + at) ≡ slice_get c.items at
   read-chunk size [] number at c h e lt = absurd (cc)
@@ -160,7 +160,7 @@ module _ {X Z : Type 0} where
       let disjoint : size + start_at (size + size) number + at ≡ size + (start_at (size + size) number + at) = omega arith in
       rw disjoint (get-back b.items (items_of (d ∷ cs)) size (start_at (size + size) number + at) h.0 ∙ read-chunk (size + size) (d ∷ cs) number at c h.1 e lt)
 
-  -- what a write there does
+  -- what a write there changes
   pub write-chunk : (size : ℕ) (cs : List (Vec X Z)) (number at : ℕ) (c d : Vec X Z) (x : X) → AreChunks size cs → slice_get cs number ≡ Some c → at < length c.items
       → d.items ≡ slice_set c.items at x → items_of (slice_set cs number d) ≡ slice_set (items_of cs) (start_at size number + at) x
   write-chunk size [] number at c d x h e lt is = absurd (cc)
@@ -170,7 +170,7 @@ module _ {X Z : Type 0} where
       let disjoint : size + start_at (size + size) number + at ≡ size + (start_at (size + size) number + at) = omega arith in
       rw disjoint (ap (λ zs. b.items ++ zs) (write-chunk (size + size) (a ∷ cs) number at c d x h.1 e lt is) ∙ set-back b.items (items_of (a ∷ cs)) size (start_at (size + size) number + at) x h.0)
 
-  -- the chunks once one is written
+  -- the chunks after one is written
   pub chunks-set : (size : ℕ) (cs : List (Vec X Z)) (number : ℕ) (c d : Vec X Z) → AreChunks size cs → slice_get cs number ≡ Some c → length d.items ≡ length c.items → vec_capacity d ≡ vec_capacity c
       → AreChunks size (slice_set cs number d)
   chunks-set size [] number c d h e long capacity = absurd (cc)
@@ -184,7 +184,7 @@ module _ {X Z : Type 0} where
   chunks-set size (b ∷ (a ∷ cs)) (suc zero) c d h e long capacity = (h.0, chunks-set (size + size) (a ∷ cs) zero c d h.1 e long capacity)
   chunks-set size (b ∷ (a ∷ cs)) (suc (suc number)) c d h e long capacity = (h.0, chunks-set (size + size) (a ∷ cs) (suc number) c d h.1 e long capacity)
 
-  -- no more elements than space
+  -- the chunks have no more elements than capacity
   pub within-size : (size : ℕ) (cs : List (Vec X Z)) → AreChunks size cs → length (items_of cs) ≤ start_at size (length cs)
   within-size size [] h = omega arith
   within-size size (c ∷ []) h = omega (arith, h.0, length-append c.items [])
@@ -203,7 +203,7 @@ module _ {X Z : Type 0} where
       let later = last-chunk (size + size) (a ∷ cs) number c h.1 e less in
       (omega (arith, later.0, h.0, length-append b.items (items_of (a ∷ cs))), later.1)
 
-  -- an element comes into the last chunk
+  -- an element is appended to the last chunk
   pub push-chunk : (size : ℕ) (cs : List (Vec X Z)) (number : ℕ) (c d : Vec X Z) (x : X) → AreChunks size cs → slice_get cs number ≡ Some c → length c.items < capacity_at size number
       → d.items ≡ c.items ++ x ∷ [] → vec_capacity d ≡ vec_capacity c → AreChunks size (slice_set cs number d) × (items_of (slice_set cs number d) ≡ items_of cs ++ x ∷ [])
   push-chunk size [] number c d x h e less is capacity = absurd (cc)
@@ -219,7 +219,7 @@ module _ {X Z : Type 0} where
       let later = push-chunk (size + size) (a ∷ cs) (suc number) c d x h.1 e less is capacity in
       ((h.0, later.0), ap (λ xs. b.items ++ xs) later.1 ∙ sym (append_assoc b.items (items_of (a ∷ cs)) (x ∷ [])))
 
-  -- an empty chunk comes behind full ones
+  -- an empty chunk is appended to full ones
   pub add-chunk : (size : ℕ) (cs : List (Vec X Z)) (c : Vec X Z) → AreChunks size cs → length (items_of cs) ≡ start_at size (length cs) → c.items ≡ [] → capacity_at size (length cs) ≤ vec_capacity c
       → AreChunks size (cs ++ c ∷ [])
   add-chunk size [] c h full none reserved = (omega (arith, ap length none), reserved)
@@ -231,7 +231,7 @@ module _ {X Z : Type 0} where
   joined-add [] c none = rw none refl
   joined-add (b ∷ cs) c none = ap (λ xs. b.items ++ xs) (joined-add cs c none)
 
-  -- the chunk in which the next element lies is there, or would be the next
+  -- the chunk for the next element exists, or would be the next one
   pub next-chunk : (cs : List (Vec X Z)) (len number at : ℕ) → AreChunks 64 cs → len ≤ length (items_of cs) → IsPlaceOf len number at → number ≤ length cs
   next-chunk cs len number at h within place = elim (cases_lt (length cs) number) [
     | inl past ↦ absurd (omega (arith, start-later 64 (length cs) number past, start-size 64 (length cs), within-size 64 cs h, within, place.index_is))
@@ -241,7 +241,7 @@ module _ {X Z : Type 0} where
   pub all-full : (cs : List (Vec X Z)) (len number at : ℕ) → AreChunks 64 cs → len ≤ length (items_of cs) → IsPlaceOf len number at → number ≡ length cs → length (items_of cs) ≡ start_at 64 (length cs)
   all-full cs len number at h within place is = omega (arith, within-size 64 cs h, within, place.index_is, ap (start_at 64) is)
 
-  -- the elements of the list that lie in one chunk
+  -- the elements of one chunk, as a range of the list
   pub cut-chunk : (size len : ℕ) (cs : List (Vec X Z)) (number : ℕ) (c : Vec X Z) → AreChunks size cs → slice_get cs number ≡ Some c → len ≤ length (items_of cs) → start_at size number ≤ len
       → take (len - start_at size number) c.items ≡ take (capacity_at size number) (drop (start_at size number) (take len (items_of cs)))
   cut-chunk size len [] number c h e within le = absurd (cc)

@@ -1,4 +1,4 @@
--- What a list in chunks shows when it is read, written and longer by one.
+-- A list in chunks: reading it, writing to it, and appending to it.
 use Rattle.std.proofs.Common.{◌≡◌, ℕ, ◌+◌, ◌<◌, ◌≤◌, ◌^◌, List, [], ◌∷◌, ◌++◌, Some, length, get_or, take, sym, ap, ◌∙◌, arith, length-append, length-set, length-take}
 use Rattle.std.proofs.lemmas.List.{take_all, take_more_set}
 use Rattle.std.proofs.Math.Seq.{take-set-lt}
@@ -42,7 +42,7 @@ module _ {X Z : Type 0} (cs : List (Vec X Z)) (len : ℕ) where
     pub shown-after_write : (c d : Vec X Z) (x : X) → IsChunked cs len → index < len → slice_get cs number ≡ Some c → d.items ≡ slice_set c.items at x → take len (items_of (slice_set cs number d)) ≡ slice_set (take len (items_of cs)) index x
     shown-after_write c d x h lt here is = ap (take len) (written c d x h.chunks here (holds c h lt here) is) ∙ take-set-lt len (items_of cs) index x lt
 
-    -- an element comes to a place that was used before
+    -- appending an element at a place that was used before
     module _ (c d : Vec X Z) (x : X) (h : AreChunks 64 cs) (next : index ≡ len) (few : len < 2 ^ 32) (here : slice_get cs number ≡ Some c) (lt : at < length c.items) (is : d.items ≡ slice_set c.items at x) (capacity : vec_capacity d ≡ vec_capacity c) where
       more : len < length (items_of cs)
       more = omega (arith, ends-within 64 cs number c h here, place.index_is, next, lt)
@@ -57,7 +57,7 @@ module _ {X Z : Type 0} (cs : List (Vec X Z)) (len : ℕ) where
       pub shown-reused : take (len + 1) (items_of (slice_set cs number d)) ≡ take len (items_of cs) ++ x ∷ []
       shown-reused = ap (take (len + 1)) (written c d x h here lt is) ∙ ap (λ i. take (len + 1) (slice_set (items_of cs) i x)) next ∙ take_more_set (items_of cs) len x more
 
-    -- an element comes to a new place, behind all
+    -- appending an element at a new place, after all others
     module _ (c d : Vec X Z) (x : X) (h : AreChunks 64 cs) (next : index ≡ len) (within : len ≤ length (items_of cs)) (few : len < 2 ^ 32) (here : slice_get cs number ≡ Some c) (behind : length c.items ≤ at) where
       pub all-used : len ≡ length (items_of cs)
       all-used = let last = last-chunk 64 cs number c h here (omega (arith, place.within, behind)) in omega (arith, last.0, place.index_is, next, behind, within)

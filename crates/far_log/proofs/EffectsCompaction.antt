@@ -1,4 +1,4 @@
--- The region once the parts of one segment lie in another.
+-- The region after the parts of one segment were moved to another.
 use Rattle.std.proofs.Common.{◌≡◌, ◌≢◌, ℕ, zero, suc, ◌+◌, ◌<◌, ◌≤◌, List, [], ◌∷◌, ◌++◌, length, get_or, map, Some, IsSome, refl, sym, ap, subst, ◌∙◌, inl, inr, arith}
 use Rattle.std.specs.Prelude.{slice_set, sum_by, Contains}
 use Rattle.far_log.specs.RegionState.{Part, SegmentState, RegionState, segment_of, space_in, fill_from, list_at, IsLayoutFrom, IsRegion}
@@ -15,7 +15,7 @@ use Rattle.far_log.specs.declared.skip.Skip.{Skip}
 use Rattle.far_log.specs.Skipping.{IsSkip, IsSpaced}
 use Rattle.far_log.proofs.SkippingLaws.{skip-set, skip-less}
 
--- lists that have elements, placed one behind the other
+-- lists that are not empty, placed one after another
 module _ {X : Type 0} (pick : ℕ → List X) where
   abbrev layout-at : ℕ → List ℕ → List (Part X)
   layout-at from order = layout_from from (map pick order)
@@ -44,7 +44,7 @@ module _ {X : Type 0} (pick : ℕ → List X) where
       let later = begins-at-least (from + length (pick o)) os k (omega arith) in
       rw (ne_eqb from (get_or (map (λ p. p.offset) (layout-at (from + length (pick o)) os)) k 0) (λ e. omega arith)) (picked-at (from + length (pick o)) os k (rest-non_empty o os h) (omega arith))
 
--- where a list lies, a part begins
+-- a part begins at the location of each list
 some-offset : {X : Type 0} (ps : List (Part X)) (offset : ℕ) → IsSome (list_at ps offset) → Contains (map (λ p. p.offset) ps) offset
 some-offset [] offset some = absurd (cc)
 some-offset (p ∷ ps) offset some =
@@ -81,7 +81,7 @@ module _ {X : Type 0} (old : RegionState X) (from to : ℕ) (order : List ℕ) (
       (ap (λ s. s.size) (sym (stays from (λ e. target.other (sym e)))))
       (omega arith)
 
-  -- what is skipped, if the segment that is empty now is recorded
+  -- the skip, after the emptied segment is recorded
   pub compacted-skip : (known new : Skip) → IsSkip old known → IsSpaced known new from (segment_of old 0).size → IsSkip (compacted old from to order) new
   compacted-skip known new skip spaced =
       let filled_one : SegmentState X = record (segment_of old to) { parts = gathered (segment_of old from).parts order } in
@@ -113,7 +113,7 @@ module _ {X : Type 0} (old : RegionState X) (from to : ℕ) (order : List ℕ) (
     others = λ number disjoint other. get_or-set_other filled_state from number _ _ disjoint ∙ stays number other;
   })
 
--- a slice that goes back into its Vec is all that is left
+-- a slice that is returned to its Vec is the Vec's whole list
 pub whole-back : {X : Type 0} (n : ℕ) (old new : List X) → n ≡ length new → take n (new ++ drop (length new) old) ≡ new
 whole-back n old new e = take_at new _ n (sym e)
 
@@ -122,14 +122,14 @@ length-compacted old from to order =
     length-set (with_segment old to (record (segment_of old to) { parts = gathered (segment_of old from).parts order })) from (record (segment_of old from) { parts = [] })
     ∙ length-set old to (record (segment_of old to) { parts = gathered (segment_of old from).parts order })
 
--- a segment without parts, once its parts are taken away
+-- removing the parts of a segment without parts changes nothing
 pub emptied-unchanged : {X : Type 0} (state : RegionState X) (to : ℕ) → (segment_of state to).parts ≡ [] → with_segment state to (record (segment_of state to) { parts = [] }) ≡ state
 emptied-unchanged {X} state to none =
     let s : SegmentState X = segment_of state to in
     let same : (let r : SegmentState X = record { parts = []; size = s.size } in r) ≡ s = ap (λ ps. let r : SegmentState X = record { parts = ps; size = s.size } in r) (sym none) in
     ap (slice_set state to) same ∙ set-get_or state to record { parts = []; size = 0 }
 
--- and once they are, whatever came into it
+-- adding parts to an empty segment and removing them again changes nothing
 pub emptied-again : {X : Type 0} (state : RegionState X) (to : ℕ) (s : SegmentState X) → to < length state → (segment_of state to).parts ≡ [] → s.size ≡ (segment_of state to).size
     → with_segment (with_segment state to s) to (record (segment_of (with_segment state to s) to) { parts = [] }) ≡ state
 emptied-again {X} state to s within none same =

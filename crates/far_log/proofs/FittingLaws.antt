@@ -1,4 +1,4 @@
--- Lists that fit segment by segment are those that fit one after the other.
+-- Placing lists segment by segment takes the same lists as placing them one by one.
 use Rattle.std.proofs.Common.{◌≡◌, ℕ, suc, ◌+◌, ◌-◌, ◌<◌, Bool, true, false, List, [], ◌∷◌, length, Option, Some, None, eqb, refl, sym, ap, ◌∙◌, inl, inr, arith}
 use Rattle.std.specs.Prelude.{slice_set, slice_index, nat_le, All}
 use Rattle.std.specs.List.{list_all, position_or_len}
@@ -7,7 +7,7 @@ use Rattle.std.proofs.lemmas.Bool.{ne_eqb, eq-eqb, le-leb, lt-leb, lt-ltb, le-lt
 use Rattle.far_log.specs.RegionState.{lowest_for, fit_in_order}
 use Rattle.far_log.specs.Fitting.{after_fill, waiting_fit}
 
--- the lowest segment, the first or one behind it
+-- the lowest segment, the first or one after it
 pub lowest-first : (f : ℕ) (fs : List ℕ) (n : ℕ) → nat_le n f ≡ true → lowest_for (f ∷ fs) n ≡ Some 0
 lowest-first f fs n takes = rw takes (rw (lt-ltb 0 (suc (length fs)) (omega arith)) refl)
 
@@ -20,7 +20,7 @@ lowest-later f fs n refuses =
       | inr le ↦ rw (le-ltb (1 + first) (suc (length fs)) (omega arith), le-ltb first (length fs) le) refl
     ])
 
--- what the first segment takes, the others need not
+-- the other segments need no space for the lists that the first takes
 abbrev placed : List ℕ → ℕ → List ℕ → ℕ → Bool
 placed spaces n ns i = waiting_fit (slice_set spaces i (slice_index spaces i - n)) ns
 
@@ -52,7 +52,7 @@ after_fill-first f fs (n ∷ ns) =
     later f fs n ns None h = refl
     later f fs n ns (Some i) h = h i
 
--- if no segment is left, nothing may wait
+-- without a segment, no length may wait
 pub none-left : (ws : List ℕ) → waiting_fit [] ws ≡ list_all (λ len. eqb len 0) ws
 none-left [] = refl
 none-left (n ∷ ns) = elim (cases_eq n 0) [
@@ -60,7 +60,7 @@ none-left (n ∷ ns) = elim (cases_eq n 0) [
   | inr some ↦ rw (ne_eqb n 0 some) refl
 ]
 
--- if nothing waits, all is placed
+-- if no length waits, every list is placed
 pub none-waiting : (spaces ws : List ℕ) → list_all (λ len. eqb len 0) ws ≡ true → waiting_fit spaces ws ≡ true
 none-waiting spaces [] h = refl
 none-waiting spaces (n ∷ ns) h = elim (cases_eq n 0) [
@@ -68,7 +68,7 @@ none-waiting spaces (n ∷ ns) h = elim (cases_eq n 0) [
   | inr some ↦ let refuses = ne_eqb n 0 some in absurd (let false-true = rw refuses at h in cc)
 ]
 
--- lengths of lists that are not empty all wait
+-- the lengths of lists that are not empty all wait
 pub all-waiting : (spaces ns : List ℕ) → All (λ n. 0 < n) ns → waiting_fit spaces ns ≡ fit_in_order spaces ns
 all-waiting spaces [] h = refl
 all-waiting spaces (n ∷ ns) h =

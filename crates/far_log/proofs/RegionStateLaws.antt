@@ -1,4 +1,4 @@
--- What a change of one segment is for the region.
+-- What a change of one segment changes in the region.
 use Rattle.std.proofs.Common.{◌≡◌, ◌≢◌, ℕ, ◌+◌, ◌-◌, ◌*◌, ◌<◌, ◌≤◌, List, [], ◌∷◌, ◌++◌, length, get_or, take, drop, map, Option, Some, None, IsSome, refl, sym, ap, subst, ◌∙◌, inl, inr, arith, get_or-set_same, get_or-set_other, length-set}
 use Rattle.std.specs.Prelude.{All, slice_set, slice_index, nat_le, IsSomeAnd}
 use Rattle.std.proofs.lemmas.Bool.{cases_eq, cases_lt, leb-true}
@@ -21,7 +21,7 @@ same-at q at e f =
     is q.segment q.offset e f
 
 module _ {X : Type 0} (state : RegionState X) where
-  -- the parts of a region change as those of the segment
+  -- the parts of the region change as the segment's parts do
   pub changes-segment : (at : At) (s : SegmentState X) (now : Option (List X)) → at.segment < length state → ChangesList (segment_of state at.segment) s at.offset now → ChangesOnly state (with_segment state at.segment s) at now
   changes-segment at s now lt h = record {
     here = ap (λ t. list_at t.parts at.offset) (get_or-set_same state at.segment s _ lt) ∙ h.here;
@@ -35,11 +35,11 @@ module _ {X : Type 0} (state : RegionState X) where
     ];
   }
 
-  -- each segment is for as many elements as the first
+  -- each segment has the capacity of the first
   pub same_length-sizes : (k : ℕ) → IsRegion state → k < length state → (segment_of state k).size ≡ (segment_of state 0).size
   same_length-sizes k h lt = All-get_or (λ s. s.size ≡ (segment_of state 0).size) state k _ lt h.same_length
 
-  -- the first segment's size stays if a segment is exchanged for one of the same size
+  -- replacing a segment by one of the same size keeps the first segment's size
   first-size : (number : ℕ) (s : SegmentState X) → number < length state → s.size ≡ (segment_of state number).size → (segment_of (with_segment state number s) 0).size ≡ (segment_of state 0).size
   first-size number s lt same = elim (cases_eq 0 number) [
     | inl first ↦ ap (λ k. (segment_of (with_segment state number s) k).size) first ∙ ap (λ t. t.size) (get_or-set_same state number s _ lt) ∙ same ∙ ap (λ k. (segment_of state k).size) (sym first)
@@ -55,14 +55,14 @@ module _ {X : Type 0} (state : RegionState X) where
         layout = All-set IsLayout state number s layout h.layout;
       }
 
-  -- the segment that a read by number gives
+  -- the segment that a read by number returns
   pub segment-read : (number : ℕ) (s : SegmentState X) → number < length state → s ≡ get_or state number s → s ≡ segment_of state number
   segment-read number s lt e = e ∙ get_or_default state number s _ lt
 
   pub layout-segment : (number : ℕ) → IsRegion state → number < length state → IsLayout (segment_of state number)
   layout-segment number h lt = All-get_or IsLayout state number _ lt h.layout
 
-  -- what lies at a location lies in a segment
+  -- a list at a location is in a segment
   pub part-there : (at : At) → IsSome (part_of state at) → at.segment < length state
   part-there at some = elim (cases_lt at.segment (length state)) [
     | inl lt ↦ lt
@@ -77,13 +77,13 @@ module _ {X : Type 0} (state : RegionState X) where
       let at : get_or (map space_in state) i 0 ≡ space_in (segment_of state i) = get_or-map space_in state i _ 0 lt in
       (lt, leb-true n (space_in (segment_of state i)) (rw at at found.1))
 
-  -- how much is left in each segment after a placement
+  -- the space of each segment after a placement
   pub spaces-placed : (i : ℕ) (list : List X) → i < length state → spaces_of (with_segment state i (with_part (segment_of state i) list)) ≡ slice_set (spaces_of state) i (slice_index (spaces_of state) i - length list)
   spaces-placed i list lt =
       let at : get_or (map space_in state) i 0 ≡ space_in (segment_of state i) = get_or-map space_in state i _ 0 lt in
       map-set space_in state i (with_part (segment_of state i) list) ∙ ap (slice_set (map space_in state) i) (space-with_part (segment_of state i) list ∙ ap (λ n. n - length list) (sym at))
 
-  -- a list is placed in the segment that is picked for it
+  -- a list is placed in the segment that was chosen for it
   pub record Places (at : At) (list : List X) : Type 0 where
     pub within : at.segment < length state
     pub fits : length list ≤ space_in (segment_of state at.segment)
@@ -152,7 +152,7 @@ region-new {X} (suc n) size le =
       layout = All-replicate IsLayout (suc n) empty (omega arith);
     }
 
--- the sizes of segments, each for as many elements
+-- the total size of segments of equal size
 pub sizes-sum : {X : Type 0} (n : ℕ) (state : RegionState X) → All (λ s. s.size ≡ n) state → capacity_of state ≡ length state * n
 sizes-sum n [] h = omega arith
 sizes-sum n (s ∷ state) h =
@@ -160,7 +160,7 @@ sizes-sum n (s ∷ state) h =
     let rest = sizes-sum n state (All-tail (λ t. t.size ≡ n) s state h) in
     sum_by-cons (λ t. t.size) s state ∙ omega (arith, first, rest, suc-mul (length state) n)
 
--- parts begin within their segment, and all segments are as long as the first
+-- parts begin within their segment, and each segment has the size of the first
 pub below-size : {X : Type 0} (state : RegionState X) (number offset : ℕ) → IsRegion state → IsSome (list_at (segment_of state number).parts offset) → offset < (segment_of state 0).size
 below-size state number offset h some =
     let lt = part-there state record { segment = number; offset = offset } some in

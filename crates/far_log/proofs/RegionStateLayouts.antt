@@ -1,4 +1,4 @@
--- Parts that lie one behind the other still do after each change, and what lies where.
+-- Parts do not overlap after each change, and which list is at which offset.
 use Rattle.std.proofs.Common.{◌≡◌, ◌≢◌, ℕ, ◌+◌, ◌-◌, ◌<◌, ◌≤◌, Bool, true, false, List, [], ◌∷◌, ◌++◌, length, take, drop, map, Option, Some, None, IsSome, cond, eqb, refl, sym, ap, ◌∙◌, inl, inr, arith, length-take, length-drop, length-append}
 use Rattle.std.specs.Prelude.{filter, not, slice_range, IsSomeAnd}
 use Rattle.std.proofs.lemmas.Bool.{eq-eqb, ne_eqb, cases_eq, cases_lt}
@@ -8,7 +8,7 @@ use Rattle.far_log.specs.RegionState.{Part, SegmentState, end_of, fill_from, fil
 use Rattle.far_log.specs.Effects.{with_part, without_part, with_list, after_write, written_over, after_overwrite, replaced}
 
 module _ {X : Type 0} where
-  -- parts that are placed from some place on are placed from any place before it
+  -- a layout from an offset on is a layout from any lower offset on
   pub layout-before : (f from size : ℕ) (ps : List (Part X)) → f ≤ from → IsLayoutFrom from ps size → IsLayoutFrom f ps size
   layout-before f from size [] le h = omega arith
   layout-before f from size (p ∷ ps) le h = (omega (arith, h.0), h.1, h.2)
@@ -22,7 +22,7 @@ module _ {X : Type 0} where
   fill-le-size from size [] h = h
   fill-le-size from size (p ∷ ps) h = fill-le-size (end_of p) size ps h.2
 
-  -- with a part more
+  -- with one more part
   pub fill-push : (from : ℕ) (ps : List (Part X)) (q : Part X) → fill_from from (ps ++ q ∷ []) ≡ end_of q
   fill-push from [] q = refl
   fill-push from (p ∷ ps) q = fill-push (end_of p) ps q
@@ -75,7 +75,7 @@ module _ {X : Type 0} where
   pub layout-after_write : (s : SegmentState X) (at : ℕ) (ws : List X) → IsLayout s → IsLayout (after_write s at ws)
   layout-after_write s at ws h = layout-after_overwrite 0 s.size at ws s.parts h
 
-  -- what lies at an offset
+  -- the list at an offset
   pub no-list-before : (from size : ℕ) (ps : List (Part X)) (offset : ℕ) → IsLayoutFrom from ps size → offset < from → list_at ps offset ≡ None
   no-list-before from size [] offset h lt = refl
   no-list-before from size (p ∷ ps) offset h lt =
@@ -131,7 +131,7 @@ module _ {X : Type 0} where
         | inr other ↦ let no = ne_eqb p.offset offset other in rw (no, no) (list-replaced-same ps offset list (rw no at some))
       ]
 
--- the parts of a segment are as before, but that `now` lies at an offset
+-- the parts of a segment are unchanged, except that the list at an offset is `now`
 pub record ChangesList {X : Type 0} (old new : SegmentState X) (offset : ℕ) (now : Option (List X)) : Type 0 where
   pub here : list_at new.parts offset ≡ now
   pub others : (q : ℕ) → q ≢ offset → list_at new.parts q ≡ list_at old.parts q
@@ -150,7 +150,7 @@ module _ {X : Type 0} (s : SegmentState X) where
   changes-replaced offset list some = record { here = list-replaced-same s.parts offset list some; others = λ q ne. list-replaced-other s.parts offset q list ne }
 
 module _ {X : Type 0} where
-  -- a write that does not reach a part leaves it
+  -- a write that does not reach a part does not change it
   pub written-before : (xs ws : List X) (i : ℕ) → length xs ≤ i → written_over xs i ws ≡ xs
   written-before xs ws i le = ap (λ ys. take (length xs) (ys ++ (ws ++ drop (i + length ws) xs))) (take_all i xs le) ∙ take_at xs (ws ++ drop (i + length ws) xs) (length xs) refl
 
@@ -165,7 +165,7 @@ module _ {X : Type 0} where
       let later = later-same (end_of p) size o i ws list ps h.2 (omega (arith, h.0)) (omega (arith, h.0)) in
       rw (same, no, later) refl
 
-  -- a write within a part changes that part alone
+  -- a write within a part changes only that part
   parts-after_write-one : (f size o i : ℕ) (ws xs : List X) (ps : List (Part X)) → IsLayoutFrom f ps size → list_at ps o ≡ Some xs → i + length ws ≤ length xs
       → map (after_overwrite (o + i) ws) ps ≡ map (replaced o (written_over xs i ws)) ps
   parts-after_write-one f size o i ws xs [] h e le = absurd (cc)
@@ -202,7 +202,7 @@ module _ {X : Type 0} where
       let is : lent ≡ slice_range xs 0 (length xs) = rw e at h in
       e ∙ ap Some (sym (is ∙ take_all (length xs - 0) xs (omega arith)))
 
-  -- no part begins behind the segment
+  -- no part begins past the segment's end
   pub no-list-behind : (from size : ℕ) (ps : List (Part X)) (offset : ℕ) → IsLayoutFrom from ps size → size ≤ offset → list_at ps offset ≡ None
   no-list-behind from size [] offset h le = refl
   no-list-behind from size (p ∷ ps) offset h le =

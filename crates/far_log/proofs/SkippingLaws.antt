@@ -1,4 +1,4 @@
--- Searches for space that skip segments of which it is known that they have none.
+-- Searches for space that skip segments known to lack it.
 use Rattle.std.proofs.Common.{◌≡◌, ◌⊎◌, ℕ, zero, suc, ◌+◌, ◌-◌, ◌<◌, ◌≤◌, true, false, List, [], ◌∷◌, length, map, drop, Some, None, refl, sym, ap, subst, ◌∙◌, inl, inr, arith, get_or-set_same, get_or-set_other}
 use Rattle.std.specs.Prelude.{nat_le}
 use Rattle.std.specs.List.{list_all}
@@ -13,7 +13,7 @@ use Rattle.far_log.specs.Skipping.{IsSkip, IsSpaced}
 use Rattle.far_log.proofs.FittingLaws.{lowest-first, lowest-later, after_fill-first}
 use Rattle.far_log.proofs.RegionStateLayouts.{space-after_write}
 
--- lengths of lists that wait, or that were placed and are 0
+-- the lengths of waiting lists, and 0 for each list that was placed
 abbrev pub AreLong : ℕ → List ℕ → Type 0
 AreLong len [] = Unit {0}
 AreLong len (w ∷ ws) = ((w ≡ 0) ⊎ (len ≤ w)) × AreLong len ws
@@ -29,7 +29,7 @@ pub long-any : (ws : List ℕ) → AreLong 0 ws
 long-any [] = tt
 long-any (w ∷ ws) = (inr (omega arith), long-any ws)
 
--- they stay so, whatever a segment takes
+-- they remain so when a segment takes some
 pub long-after_fill : (f len : ℕ) (ws : List ℕ) → AreLong len ws → AreLong len (after_fill f ws)
 long-after_fill f len [] h = tt
 long-after_fill f len (w ∷ ws) h = elim (cases_lt f w) [
@@ -37,7 +37,7 @@ long-after_fill f len (w ∷ ws) h = elim (cases_lt f w) [
   | inr fits ↦ let takes : nat_le w f ≡ true = le-leb w f fits in rw takes (inl refl, long-after_fill (f - w) len ws h.1)
 ]
 
--- lists that a segment does not take all wait on
+-- lists that do not fit a segment keep waiting
 unfilled : (f len : ℕ) (ws : List ℕ) → f < len → AreLong len ws → after_fill f ws ≡ ws
 unfilled f len [] lt h = refl
 unfilled f len (w ∷ ws) lt h = elim h.0 [
@@ -51,11 +51,11 @@ unfilled f len (w ∷ ws) lt h = elim h.0 [
 ]
 
 module _ {X : Type 0} where
-  -- no segment below this one has the space for so many elements
+  -- no segment below this one has the space for n elements
   abbrev pub HasNoSpace : RegionState X → ℕ → ℕ → Type 0
   HasNoSpace state below len = (k : ℕ) → k < below → space_in (segment_of state k) < len
 
-  -- what is found first is the lowest
+  -- the first segment that is found is the lowest
   pub lowest-is : (state : RegionState X) (n len : ℕ) → HasNoSpace state n len → n < length state → len ≤ space_in (segment_of state n) → target_of state len ≡ Some n
   lowest-is [] n len none lt takes = absurd (omega (arith, lt))
   lowest-is (s ∷ state) zero len none lt takes = lowest-first (space_in s) (map space_in state) len (le-leb len (space_in s) takes)
@@ -64,7 +64,7 @@ module _ {X : Type 0} where
       lowest-later (space_in s) (map space_in state) len (lt-leb len (space_in s) first)
       ∙ ap (λ o. option_map_or (λ i. Some (suc i)) o None) (lowest-is state n len (λ k less. none (suc k) (omega (arith, less))) (omega (arith, lt)) takes)
 
-  -- if nothing is found there is none
+  -- if none is found there is none
   pub none-takes : (state : RegionState X) (n len : ℕ) → HasNoSpace state n len → length state ≤ n → target_of state len ≡ None
   none-takes [] n len none le = refl
   none-takes (s ∷ state) zero len none le = absurd (omega (arith, le))
@@ -73,7 +73,7 @@ module _ {X : Type 0} where
       lowest-later (space_in s) (map space_in state) len (lt-leb len (space_in s) first)
       ∙ ap (λ o. option_map_or (λ i. Some (suc i)) o None) (none-takes state n len (λ k less. none (suc k) (omega (arith, less))) (omega (arith, le)))
 
-  -- several lists of which none is shorter, once the search goes on behind segments without the space
+  -- several lists, none of them shorter, searched for from the first segment that may have the space
   pub skipped-fit : (state : RegionState X) (from to len : ℕ) (ws : List ℕ) → ((k : ℕ) → from ≤ k → k < to → space_in (segment_of state k) < len) → from ≤ to → AreLong len ws
       → waiting_fit (map space_in (drop from state)) ws ≡ waiting_fit (map space_in (drop to state)) ws
   skipped-fit [] from to len ws none le long = ap (λ l. waiting_fit (map space_in l) ws) (drop_all from [] (omega arith) ∙ sym (drop_all to [] (omega arith)))
@@ -94,11 +94,11 @@ module _ {X : Type 0} where
   skip-nothing state = record { ordered = omega arith; full = λ k lt ne. absurd (omega (arith, lt)) }
 
   module _ (state : RegionState X) (known : Skip) (skip : IsSkip state known) where
-    -- those in front of the first that is looked at
+    -- the segments before the first that is tried
     pub before-first : HasNoSpace state known.first known.len
     before-first k lt = skip.full k (omega (arith, lt, skip.ordered)) (λ e. omega (arith, lt, e))
 
-    -- those that were passed once one more was looked at, which has no space
+    -- the segments that were passed, with one more that lacks the space
     pub passed-more : (number more after : ℕ) → known.first ≤ number → known.len ≤ more → HasNoSpace state number more → (after ≤ number + 1) ⊎ (after ≤ known.next) → (to : ℕ) → more ≤ to → space_in (segment_of state number) < to → HasNoSpace state after to
     passed-more number more after first less none reach to le space k lt = elim (cases_lt k number) [
       | inl before ↦ let h = none k before in omega (arith, h, le)
@@ -111,7 +111,7 @@ module _ {X : Type 0} where
       ]
     ]
 
-    -- what is found
+    -- the segment that is found
     pub skip-found : (number more next : ℕ) → known.first ≤ number → known.len ≤ more → HasNoSpace state number more → number ≤ next → (next ≤ number) ⊎ (next ≤ known.next) → IsSkip state record { first = number; next = next; len = more }
     skip-found number more next first less none ordered reach = record {
       ordered = ordered;
@@ -134,7 +134,7 @@ module _ {X : Type 0} where
       ];
     }
 
-    -- one that has no more space than before
+    -- a segment that has no more space than before
     pub skip-less : (number : ℕ) (s : SegmentState X) → number < length state → space_in s ≤ space_in (segment_of state number) → IsSkip (with_segment state number s) known
     skip-less number s within less = record {
       ordered = skip.ordered;
@@ -144,17 +144,17 @@ module _ {X : Type 0} where
       ];
     }
 
-    -- one that is written
+    -- a segment that was written to
     pub skip-after_write : (number at : ℕ) (ws : List X) → number < length state → IsSkip (with_segment state number (after_write (segment_of state number) at ws)) known
     skip-after_write number at ws within = skip-less number (after_write (segment_of state number) at ws) within (omega (arith, space-after_write (segment_of state number) at ws))
 
-  -- what is skipped is one of two
+  -- the skip is one of two
   pub skip-either : (state : RegionState X) (one other skip : Skip) → IsSkip state one → IsSkip state other → (skip ≡ one) ⊎ (skip ≡ other) → IsSkip state skip
   skip-either state one other skip h h' is = elim is [
     | inl same ↦ subst (IsSkip state) (sym same) h
     | inr same ↦ subst (IsSkip state) (sym same) h'
   ]
 
-  -- what a search goes by
+  -- what a search may skip
   pub skip-known : (items state : RegionState X) → items ≡ state → (known skip : Skip) → IsSkip items known → (skip ≡ known) ⊎ (skip ≡ record { first = 0; next = 0; len = 0 }) → IsSkip state skip
   skip-known items state same known skip h is = skip-either state known record { first = 0; next = 0; len = 0 } skip (subst (λ r. IsSkip r known) same h) (skip-nothing state) is

@@ -1,4 +1,4 @@
--- Stacks that share one block: which list is whose, and what a write to the block does to them.
+-- Stacks that share one block: the list of each, and what a write to the block changes.
 use Rattle.std.proofs.Common.{◌≡◌, ◌⊎◌, ℕ, zero, suc, ◌+◌, ◌-◌, ◌*◌, ◌<◌, ◌≤◌, List, [], ◌∷◌, ◌++◌, length, get_or, take, drop, replicate, refl, sym, ap, ◌∙◌, inl, inr, arith, length-take, length-drop, length-append, suc-mul, mul-le-mul_right}
 use Rattle.std.specs.Prelude.{slice_set, sum_by, true}
 use Rattle.std.proofs.lemmas.Bool.{cases_lt}
@@ -24,7 +24,7 @@ module _ {X : Type 0} (size : ℕ) (block : List X) where
       let there : from + size + k * size ≡ from + suc k * size = omega (arith, suc-mul k size) in
       stack-at (from + size) ns k (omega arith) ∙ ap (λ m. take (get_or ns k 0) (drop m block)) there
 
-  -- and how long it is
+  -- the length of that list
   pub length-stack : (from : ℕ) (ns : List ℕ) (k : ℕ) → AreWithin size (length block) from ns → k < length ns → length (get_or (stacks_from size block from ns) k []) ≡ get_or ns k 0
   length-stack from [] k h lt = absurd (omega arith)
   length-stack from (n ∷ ns) zero h lt = omega (arith, h.1, length-take n (drop from block), length-drop from block)
@@ -71,7 +71,7 @@ pub within-none : (size from n : ℕ) → AreWithin size 0 from (replicate n 0)
 within-none size from zero = tt
 within-none size from (suc n) = (omega arith, omega arith, within-none size (from + size) n)
 
--- a list is written behind a stack's last element
+-- a list is written after a stack's last element
 module _ {X : Type 0} (size : ℕ) (old new xs : List X) (at : ℕ) (put : IsPut old new at xs) where
   put-behind : (from : ℕ) (ns : List ℕ) → at + length xs ≤ from → AreWithin size (length old) from ns → stacks_from size new from ns ≡ stacks_from size old from ns
   put-behind from [] le h = refl
@@ -132,7 +132,7 @@ module _ {X : Type 0} (block : List X) (at : ℕ) (ws : List X) (there : at ≤ 
         let later = stacks-over (from + size) ns k j (omega arith) h.2 (omega (arith, here, suc-mul k size)) fits in
         (λ i. one i ∷ later i)
 
--- what is left behind the end of a list is not written over it
+-- elements past the end of the list are not written
 pub over-cut : {X : Type 0} (xs : List X) (j most : ℕ) (ws : List X) → length xs ≤ j + most → written_over xs j (take most ws) ≡ written_over xs j ws
 over-cut xs j most ws le = elim (cases_lt most (length ws)) [
   | inr short ↦ ap (written_over xs j) (take_all most ws short)
@@ -148,7 +148,7 @@ over-cut xs j most ws le = elim (cases_lt most (length ws)) [
       ∙ ap (take (length xs)) all
 ]
 
--- a stack: how many elements it has, and where in the block they are
+-- the length of a stack, and its range of the block
 pub record IsStack {X : Type 0} (s : Stacked X) (block : List X) (capacity size : ℕ) (lens : List ℕ) (number : ℕ) : Type 0 where
   pub there : number < length lens
   pub list : stack_of s number ≡ take (get_or lens number 0) (drop (number * size) block)

@@ -1,4 +1,4 @@
--- What is written at a place of a block, within it or behind its end.
+-- A write at an index of a block, within it or past its end.
 use Rattle.std.proofs.Common.{◌≡◌, ℕ, ◌+◌, ◌-◌, ◌<◌, ◌≤◌, List, [], ◌++◌, length, get_or, take, drop, replicate, refl, sym, ap, subst, ◌∙◌, inl, inr, arith, length-take, length-drop, length-append, get_or-take, get_or-drop}
 use Rattle.std.proofs.lemmas.Bool.{cases_lt}
 use Rattle.std.proofs.lemmas.List.{same_lists, get_or_append_left, get_or-append_right, append-nil, append_assoc, drop-append-le, take-append-le, take_at, drop-drop, drop_all, length-replicate}
@@ -6,7 +6,7 @@ use Rattle.far_log.specs.Stacking.{IsPut}
 use Rattle.far_log.proofs.StorageWrites.{block_over}
 
 module _ {X : Type 0} (old gap xs : List X) (at : ℕ) (filled : length gap ≡ at - length old) where
-  -- the block: what is in front, what fills the gap, the list, and what is behind
+  -- the block: the elements before, the filled gap, the list, and the elements after
   abbrev front : List X
   front = take at old ++ gap
 
@@ -19,7 +19,7 @@ module _ {X : Type 0} (old gap xs : List X) (at : ℕ) (filled : length gap ≡ 
   length-put : length put_at ≡ at + (length xs + (length old - (at + length xs)))
   length-put = omega (arith, length-front, length-append front (xs ++ drop (at + length xs) old), length-append xs (drop (at + length xs) old), length-drop (at + length xs) old)
 
-  -- elements in front of the list, of it, and behind it
+  -- the elements before the list, of the list, and after it
   at-front : (k : ℕ) (d : X) → k < at → k < length old → get_or put_at k d ≡ get_or old k d
   at-front k d lt there =
       get_or_append_left front (xs ++ drop (at + length xs) old) d k (omega (arith, lt, length-front))
@@ -37,7 +37,7 @@ module _ {X : Type 0} (old gap xs : List X) (at : ℕ) (filled : length gap ≡ 
       ∙ get_or-append_right xs (drop (at + length xs) old) (length xs) (k - at) d refl (omega (arith, le))
       ∙ get_or-drop (at + length xs) old (k - at - length xs) d ∙ ap (λ i. get_or old i d) same
 
-  -- elements of a list that lies in the block
+  -- elements of a list that is in the block
   in-list : (ys : List X) (from n k : ℕ) (d : X) → k < n → get_or (take n (drop from ys)) k d ≡ get_or ys (from + k) d
   in-list ys from n k d lt = get_or-take n (drop from ys) k d lt ∙ get_or-drop from ys k d
 
@@ -84,7 +84,7 @@ module _ {X : Type 0} (old xs : List X) (at : ℕ) where
       ∙ sym (take_at over (drop (length over) old) (length old) long) in
       subst (λ new. IsPut old new at xs) same (put-is old [] xs at nothing)
 
-  -- over the block's end, or behind it
+  -- a write that extends past the block's end, or begins there
   pub put-behind : (filler : X) → length old < at + length xs → IsPut old ((take at old ++ replicate (at - length old) filler) ++ xs) at xs
   put-behind filler le =
       let gap = replicate (at - length old) filler in
@@ -93,7 +93,7 @@ module _ {X : Type 0} (old xs : List X) (at : ℕ) where
       let same : put_at old gap xs at long ≡ (take at old ++ gap) ++ xs = ap (λ ys. (take at old ++ gap) ++ (xs ++ ys)) none ∙ ap (λ ys. (take at old ++ gap) ++ ys) (append-nil xs) in
       subst (λ new. IsPut old new at xs) same (put-is old gap xs at long)
 
-  -- in a block that was made longer
+  -- a write into a block that was extended
   pub same-grown : (more : List X) (from n : ℕ) → n ≤ length old - from → take n (drop from (old ++ more)) ≡ take n (drop from old)
   same-grown more from n le = elim (cases_lt (length old) from) [
     | inl past ↦ let none : n ≡ 0 = omega (arith, le, past) in ap (λ m. take m (drop from (old ++ more))) none ∙ ap (λ m. take m (drop from old)) (sym none)

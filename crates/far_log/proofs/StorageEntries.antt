@@ -18,7 +18,7 @@ module _ (es : List PartEntry) where
   pub link-is : (i : ℕ) (e : PartEntry) → slice_get es i ≡ Some e → slice_get (links_of es) i ≡ Some e.link
   link-is i e h = slice_get-map (λ (u : PartEntry). u.link) es i ∙ ap (option_map (λ (u : PartEntry). u.link)) h
 
--- where an extent begins tells on which side of another it stands
+-- comparing the offsets of two extents says which comes first
 module _ (es : List PartEntry) (m k o : ℕ) (s : Extent) (d : PartEntry) (sorted : IsSorted (extents_of es)) (there : m < length es) where
   pub entry-behind : (get_or es m d).extent.offset ≤ o → slice_get (extents_of es) k ≡ Some s → s.offset ≡ o → m ≤ k
   entry-behind le e at = at-or-behind (extents_of es) m k o s (get_or es m d).extent sorted (extent-is es m (get_or es m d) (slice_get-get_or es m d there)) le e at
@@ -26,7 +26,7 @@ module _ (es : List PartEntry) (m k o : ℕ) (s : Extent) (d : PartEntry) (sorte
   pub entry-before : o < (get_or es m d).extent.offset → slice_get (extents_of es) k ≡ Some s → s.offset ≡ o → k < m
   entry-before lt e at = before (extents_of es) m k o s (get_or es m d).extent sorted (extent-is es m (get_or es m d) (slice_get-get_or es m d there)) lt e at
 
--- an extent keeps its place, and its link is another
+-- an extent with another link
 pub extents-relinked : (es : List PartEntry) (i : ℕ) (e : PartEntry) (l : Link) → slice_get es i ≡ Some e → extents_of (slice_set es i record { extent = e.extent; link = l }) ≡ extents_of es
 extents-relinked [] i e l h = refl
 extents-relinked (d ∷ es) zero e l h = let same : d ≡ e = cc in rw same refl
@@ -42,7 +42,7 @@ links-before [] i before e h = refl
 links-before (d ∷ es) zero before e h = let same : d ≡ e = cc in rw same refl
 links-before (d ∷ es) (suc i) before e h = ap (λ ls. d.link ∷ ls) (links-before es i before e h)
 
--- an extent has a part no more, and those behind some are taken off
+-- an extent loses its part, and the extents past the last part are cut off
 pub extents-emptied : (es : List PartEntry) (i n : ℕ) (e : PartEntry) → slice_get es i ≡ Some e → extents_of (take n (slice_set es i record { extent = record (e.extent) { live = false }; link = e.link })) ≡ take n (emptied_at (extents_of es) i)
 extents-emptied es i n e h =
     sym (take-map (λ (u : PartEntry). u.extent) n _) ∙ ap (take n) (map-set (λ (u : PartEntry). u.extent) es i _ ∙ emptied-is (extents_of es) i e.extent (extent-is es i e h))
@@ -84,7 +84,7 @@ module _ (es : List PartEntry) (from state : ℕ) where
   pub part-sorted : IsSorted (extents_of es) → IsSorted (extents_of chunk)
   part-sorted h = λ j k s t e f lt. h (from + j) (from + k) s t (in-table j s e) (in-table k t f) (omega (arith, lt))
 
-  -- the first extent of a chunk tells in which chunk, or in front of it, another lies
+  -- the offset of a chunk's first extent says whether another extent is before that chunk
   module _ (d : PartEntry) (sorted : IsSorted (extents_of es)) (there : from < length es) (some : 0 < state) where
     first-is : get_or chunk 0 d ≡ get_or es from d
     first-is =

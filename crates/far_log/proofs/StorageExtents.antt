@@ -1,4 +1,4 @@
--- The extent in which the part lies that begins at an offset.
+-- The extent of the part that begins at an offset.
 use Rattle.std.proofs.Common.{◌≡◌, ℕ, zero, suc, ◌+◌, ◌<◌, ◌≤◌, Bool, true, false, List, [], ◌∷◌, length, take, drop, map, Option, None, Some, IsSome, cond, eqb, refl, ap, ◌∙◌, arith}
 use Rattle.std.specs.Prelude.{filter, slice_get, IsSomeAnd}
 use Rattle.std.proofs.lemmas.Bool.{eqb-true, eq-eqb}
@@ -9,7 +9,7 @@ use Rattle.far_log.specs.Storage.{AreAdjacent, extents_end, part_in, parts_in}
 use Rattle.far_log.proofs.StorageParts.{begin-le-end}
 
 module _ {X : Type 0} where
-  -- the extent with number i holds the part that begins at an offset
+  -- extent i has the part that begins at an offset
   pub record IsExtentOf (items : List X) (ss : List Extent) (offset i : ℕ) (s : Extent) : Type 0 where
     pub here : slice_get ss i ≡ Some s
     pub live : s.live ≡ true
@@ -50,7 +50,7 @@ module _ {X : Type 0} (items : List X) where
       let found = some-extent ss offset h in
       omega (arith, only found.0 found.1.0 found.1.1.here found.1.1.begins, slice_get_within ss found.0 found.1.0 found.1.1.here)
 
-  -- there is an extent, if there is a part
+  -- a table with a part has an extent
   pub extent-in-some : (ss : List Extent) (offset : ℕ) → IsSome (list_at (parts_in items ss) offset) → 0 < length ss
   extent-in-some [] offset h = absurd (cc)
   extent-in-some (s ∷ ss) offset h = omega arith
@@ -61,7 +61,7 @@ module _ {X : Type 0} (items : List X) where
       let found = some-extent ss offset h in
       rw (only found.0 found.1.0 found.1.1.here found.1.1.begins, found.1.1.here) found.1.1.live
 
-  -- what is found at the offset of a part
+  -- the extent that is found at the offset of a part
   pub extent-found : (ss : List Extent) (offset : ℕ) (r : Option Extent) (s : Extent) → r ≡ Some s → IsSome (list_at (parts_in items ss) offset)
       → ((k : ℕ) (t : Extent) → slice_get ss k ≡ Some t → t.offset ≡ offset → r ≡ Some t) → (i : ℕ) × IsExtentOf items ss offset i s
   extent-found ss offset r s is h found =
@@ -77,7 +77,7 @@ module _ {X : Type 0} (items : List X) where
       let here : r ≡ Some some.1.0 = found some.0 some.1.0 some.1.1.here some.1.1.begins in
       cc
 
-  -- an extent with a part shows it
+  -- a live extent has the part at its offset
   live-step : (s : Extent) (ss : List Extent) (offset : ℕ) (live here : Bool) → s.live ≡ live → eqb s.offset offset ≡ here → IsSome (list_at (parts_in items ss) offset) → IsSome (list_at (parts_in items (s ∷ ss)) offset)
   live-step s ss offset true true l e h = rw l (rw e refl)
   live-step s ss offset true false l e h = rw l (rw e h)

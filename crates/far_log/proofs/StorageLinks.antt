@@ -1,4 +1,4 @@
--- How the links of a table's live extents change.
+-- Changes of the links between a table's live extents.
 use Rattle.std.proofs.Common.{◌≡◌, ℕ, zero, suc, ◌+◌, ◌-◌, ◌<◌, ◌≤◌, ◌⊎◌, inl, inr, Bool, true, false, List, [], ◌∷◌, ◌++◌, length, take, Option, None, Some, cond, refl, sym, subst, ap, ◌∙◌, arith, length-take}
 use Rattle.std.specs.Prelude.{filter, if◌then◌else◌, slice_get, slice_set, IsSomeAnd}
 use Rattle.std.proofs.lemmas.Option.{slice_get_within}
@@ -23,7 +23,7 @@ as-many i b n [] (l ∷ ls) h = absurd h
 as-many i b n (s ∷ ss) [] h = absurd h
 as-many i b n (s ∷ ss) (l ∷ ls) h = ap suc (as-many _ _ _ ss ls h.1)
 
--- the front of a table
+-- the prefix of a table
 pub linked-take : (m i b n : ℕ) (ss : List Extent) (ls : List Link) → AreLinked i b n ss ls → AreLinked i b n (take m ss) (take m ls)
 linked-take zero i b n ss ls h = tt
 linked-take (suc m) i b n [] [] h = tt
@@ -43,7 +43,7 @@ dead-more : (s : Extent) (ss : List Extent) → s.live ≡ false → EndsLive (s
 dead-more s [] dead h = absurd (cc)
 dead-more s (t ∷ ss) dead h = omega arith
 
--- a live extent is named by the one before it
+-- the live extent before a live one has its number
 behind-there : (i b n : ℕ) (ss : List Extent) (ls : List Link) → AreLinked i (suc b) n ss ls → EndsLive ss → 0 < length ss → (i ≤ n) × (n < i + length ss)
 behind-there i b n [] ls h ends some = absurd (omega arith)
 behind-there i b n (s ∷ ss) [] h ends some = absurd h
@@ -56,7 +56,7 @@ behind-there i b n (s ∷ ss) (l ∷ ls) h ends some = head s.live refl (λ rest
         let there = later (rw e at h.1) more in
         (omega (arith, there.0), omega (arith, there.1))
 
--- where the live one behind a live extent stands
+-- the number of the live extent after a live one
 pub behind-later : (i b n k : ℕ) (ss : List Extent) (ls : List Link) (s : Extent) (l : Link) → AreLinked i b n ss ls → EndsLive ss
     → slice_get ss k ≡ Some s → s.live ≡ true → slice_get ls k ≡ Some l → suc k < length ss → (i + k < l.behind) × (l.behind < i + length ss)
 behind-later i b n k [] ls s l h ends here live there more = absurd (omega arith)
@@ -71,7 +71,7 @@ behind-later i b n (suc k) (t ∷ ss) (m ∷ ls) s l h ends here live there more
     let later = behind-later _ _ _ k ss ls s l h.1 (ends-tail t ss (omega arith) ends) here live there (omega arith) in
     (omega (arith, later.0), omega (arith, later.1))
 
--- the first live extent names another before it
+-- replacing the link that the first live extent has to the one before it
 relinked : (i k b n : ℕ) (ss : List Extent) (ls : List Link) → AreLinked i (suc k) n ss ls → EndsLive ss → 0 < length ss → AreLinked i b n ss (with_before ls (n - i) b)
 relinked i k b n [] ls h ends some = absurd (omega arith)
 relinked i k b n (s ∷ ss) [] h ends some = absurd h
@@ -90,7 +90,7 @@ relinked i k b n (s ∷ ss) (l ∷ ls) h ends some = head s.live refl (λ rest m
         let next : n - i ≡ suc (n - suc i) = omega (arith, there.0) in
         rw next (rw e (λ live. absurd (cc), later rest more))
 
--- an extent that is not the last is taken out: either the live extent before it is in front of these, or among them
+-- an extent other than the last is taken out: the live extent before it is before these, or among them
 abbrev Unlinked : ℕ → ℕ → ℕ → ℕ → List Extent → List Link → Link → Type 0
 Unlinked i b n k ss ls l =
     ((l.before ≡ b) × AreLinked i b l.behind (emptied_at ss k) (with_before ls (l.behind - i) l.before))
@@ -128,7 +128,7 @@ unlinked i b n (suc k) (t ∷ ss) (m ∷ ls) s l h ends here live there more far
         let more : l.before - suc i ≡ suc (l.before - suc (suc i)) = omega (arith, r.0) in
         inr (omega (arith, r.0), rw (more, next) (h.0, r.1))
 
--- the last extent is taken out: what is left up to the live one before it
+-- the last extent is taken out: the extents up to the live one before it remain
 abbrev LeftOf : ℕ → ℕ → ℕ → List Extent → Link → Type 0
 LeftOf i b k ss l =
     ((l.before ≡ b) × (filter (λ u. u.live) (emptied_at ss k) ≡ []))
@@ -161,13 +161,13 @@ left-of i b n (suc k) (t ∷ ss) (m ∷ ls) s l h here live there long =
         let some : 0 < length (take (l.before - suc i) (emptied_at ss k)) = omega (arith, r.0, r.1, length-take (l.before - suc i) (emptied_at ss k), length-emptied ss k, long) in
         inr (omega (arith, r.0), omega (arith, r.1), rw more (ap (λ ts. cond t.live (t ∷ ts) ts) r.2), rw more (ends-cons t _ some r.3))
 
--- a link of the front
+-- a link of the prefix
 behind-append : (ls ms : List Link) (i n : ℕ) → i < length ls → with_behind (ls ++ ms) i n ≡ with_behind ls i n ++ ms
 behind-append [] ms i n lt = absurd (omega arith)
 behind-append (l ∷ ls) ms zero n lt = refl
 behind-append (l ∷ ls) ms (suc i) n lt = ap (λ ks. l ∷ ks) (behind-append ls ms i n (omega arith))
 
--- an extent comes behind the last
+-- an extent is appended
 linked-behind : (i b n k : ℕ) (s t : Extent) (ss : List Extent) (l : Link) (ls : List Link) → AreLinked i b n (s ∷ ss) (l ∷ ls) → EndsLive (s ∷ ss) → length ls ≡ k
     → AreLinked i b n ((s ∷ ss) ++ t ∷ []) (with_behind (l ∷ ls) k (i + suc k) ++ record { before = i + suc k; behind = 0 } ∷ [])
 linked-behind i b n zero s t [] l [] h ends long =
@@ -181,7 +181,7 @@ linked-behind i b n (suc k) s t (u ∷ ss) l (m ∷ ls) h ends long =
     let further : i + suc (suc k) ≡ suc i + suc k = omega arith in
     rw further (h.0, linked-behind (suc i) _ _ k u t ss m ls h.1 ends (omega arith))
 
--- an extent is emptied in front of which others stay
+-- an extent is emptied, and the extents before it stay
 pub take-emptied : (m k : ℕ) (ss : List Extent) → m ≤ k → take m (emptied_at ss k) ≡ take m ss
 take-emptied zero k ss le = refl
 take-emptied (suc m) k [] le = refl
@@ -199,7 +199,7 @@ length-behind [] i n = refl
 length-behind (l ∷ ls) zero n = refl
 length-behind (l ∷ ls) (suc i) n = ap suc (length-behind ls i n)
 
--- the live extent before one stands in front of it
+-- the live extent before another has a lower number
 pub before-le : (i b n k : ℕ) (ss : List Extent) (ls : List Link) (s : Extent) (l : Link) → AreLinked i b n ss ls → b ≤ i
     → slice_get ss k ≡ Some s → s.live ≡ true → slice_get ls k ≡ Some l → l.before ≤ i + k
 before-le i b n k [] ls s l h le here live there = absurd (cc)
@@ -215,7 +215,7 @@ before-le i b n (suc k) (t ∷ ss) (m ∷ ls) s l h le here live there =
     at-most true = omega arith
     at-most false = omega arith
 
--- if no extent in front is live, none names another
+-- if no extent before is live, the number of the live one before does not matter
 named-by-none : (i n m : ℕ) (ss : List Extent) (ls : List Link) → AreLinked i 0 n ss ls → AreLinked i 0 m ss ls
 named-by-none i n m [] [] h = tt
 named-by-none i n m [] (l ∷ ls) h = absurd h
@@ -259,7 +259,7 @@ module _ (ss : List Extent) (ls : List Link) (k : ℕ) (link : Link) (linked : A
   pub last-linked : AreLinked 0 0 0 (take link.before (emptied_at ss k)) (take link.before ls)
   last-linked = rw (take-emptied link.before k ss before-within) (linked-take link.before 0 0 0 ss ls linked)
 
-  -- what the links are once both neighbours name one another
+  -- the links after both neighbours are linked to each other
   pub rest-linked : (now : List Link) → EndsLive ss → suc k < length ss → (0 < link.before → now ≡ with_behind ls (link.before - 1) link.behind) → (link.before ≡ 0 → now ≡ ls)
       → AreLinked 0 0 0 (emptied_at ss k) (with_before now link.behind link.before)
   rest-linked now ends more some none =
@@ -271,7 +271,7 @@ module _ (ss : List Extent) (ls : List Link) (k : ℕ) (link : Link) (linked : A
         | inr r ↦ rw (some r.0) (rw whole at r.1)
       ]
 
--- a live extent comes behind the last, which names it
+-- a live extent is appended, and the last live one is linked to it
 pub last-named : (ss : List Extent) (t : Extent) (ls : List Link) → AreLinked 0 0 0 ss ls → EndsLive ss → 0 < length ls
     → AreLinked 0 0 0 (ss ++ t ∷ []) (with_behind (ls ++ record { before = length ls; behind = 0 } ∷ []) (length ls - 1) (length ls))
 last-named [] t [] h ends some = absurd (omega arith)

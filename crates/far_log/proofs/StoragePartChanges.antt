@@ -1,4 +1,4 @@
--- What a change of a segment's table and elements does to the parts that they show.
+-- What a change of a segment's table and elements changes in its parts.
 use Rattle.std.proofs.Common.{◌≡◌, ℕ, zero, suc, ◌+◌, ◌-◌, ◌<◌, ◌≤◌, true, false, List, [], ◌∷◌, ◌++◌, length, take, drop, map, cond, refl, sym, ap, ◌∙◌, arith}
 use Rattle.std.proofs.Common.{length-drop, length-take, length-append}
 use Rattle.std.proofs.lemmas.List.{map-append, drop-append-le, take-append-le, take-append-drop, drop_at, take_all}
@@ -12,7 +12,7 @@ use Rattle.far_log.specs.Effects.{with_part}
 use Rattle.far_log.proofs.StorageParts.{head-within, begin-le-end, length-part, stored-fill}
 
 module _ {X : Type 0} where
-  -- elements that come behind the extents change no part
+  -- elements that come after the extents change no part
   pub parts-append : (items xs : List X) (from : ℕ) (ss : List Extent) → AreAdjacent from ss → extents_end from ss ≤ length items → parts_in (items ++ xs) ss ≡ parts_in items ss
   parts-append items xs from [] h le = refl
   parts-append items xs from (s ∷ ss) h le =
@@ -25,12 +25,12 @@ module _ {X : Type 0} where
         | false ↦ later
       ]
 
-  -- elements behind the extents do not count
+  -- elements after the extents do not count
   pub parts-take : (items : List X) (n : ℕ) (from : ℕ) (ss : List Extent) → AreAdjacent from ss → extents_end from ss ≤ n → n ≤ length items → parts_in (take n items) ss ≡ parts_in items ss
   parts-take items n from ss h le within =
       sym (parts-append (take n items) (drop n items) from ss h (omega (arith, length-take n items))) ∙ ap (λ xs. parts_in xs ss) (take-append-drop n items)
 
-  -- a list is placed behind the extents
+  -- a list is placed after the extents
   pub parts-push : (items xs : List X) (ss : List Extent) (t : Extent) → AreAdjacent 0 ss → extents_end 0 ss ≡ length items → t.offset ≡ length items → t.len ≡ length xs → t.live ≡ true
       → parts_in (items ++ xs) (ss ++ t ∷ []) ≡ parts_in items ss ++ record { offset = length items; list = xs } ∷ []
   parts-push items xs ss t h end at long live =
@@ -40,7 +40,7 @@ module _ {X : Type 0} where
       ∙ map-append (part_in (items ++ xs)) (filter (λ u. u.live) ss) (filter (λ u. u.live) (t ∷ []))
       ∙ rw (live, behind, whole, at) (ap (λ ps. ps ++ record { offset = length items; list = xs } ∷ []) (parts-append items xs 0 ss h (omega arith)))
 
--- a table with one extent more
+-- a table with one more extent
 pub adjacent-push : (from : ℕ) (ss : List Extent) (t : Extent) → AreAdjacent from ss → t.offset ≡ extents_end from ss → 0 < t.len → AreAdjacent from (ss ++ t ∷ [])
 adjacent-push from [] t h at some = (at, some, tt)
 adjacent-push from (s ∷ ss) t h at some = (h.0, h.1, adjacent-push (from + s.len) ss t h.2 at some)
@@ -54,7 +54,7 @@ live-push [] t live = live
 live-push (s ∷ []) t live = live
 live-push (s ∷ (u ∷ ss)) t live = live-push (u ∷ ss) t live
 
--- the front of a table
+-- the prefix of a table
 pub adjacent-take : (n from : ℕ) (ss : List Extent) → AreAdjacent from ss → AreAdjacent from (take n ss)
 adjacent-take zero from ss h = tt
 adjacent-take (suc n) from [] h = tt
@@ -66,7 +66,7 @@ end-take-le (suc n) from [] h = omega arith
 end-take-le (suc n) from (s ∷ ss) h = end-take-le n (from + s.len) ss h.2
 
 module _ {X : Type 0} where
-  -- the parts are no longer than the extents
+  -- the total length of the parts is at most that of the extents
   pub used-le-end : (items : List X) (from : ℕ) (ss : List Extent) → AreAdjacent from ss → extents_end from ss ≤ length items → from + sum_by (λ p. length p.list) (parts_in items ss) ≤ extents_end from ss
   used-le-end items from [] h le = omega arith
   used-le-end items from (s ∷ ss) h le =
@@ -77,7 +77,7 @@ module _ {X : Type 0} where
         | false ↦ omega arith
       ]
 
-  -- a list is placed behind the last part
+  -- a list is placed after the last part
   pub stored-push : (items xs : List X) (ss : List Extent) (t : Extent) (used size : ℕ) → IsStored items ss used size → 0 < length xs → length xs ≤ size - length items
       → t ≡ record { offset = length items; len = length xs; live = true } → IsStored (items ++ xs) (ss ++ t ∷ []) (used + length xs) size
   stored-push items xs ss t used size h some fits is =
@@ -95,12 +95,12 @@ module _ {X : Type 0} where
         small = h.small;
       }
 
-  -- how much is left behind the last part
+  -- the space after the last part
   pub space-is : (items : List X) (ss : List Extent) (used size : ℕ) (s : SegmentState X) → IsStored items ss used size → record { parts = parts_in items ss; size = size } ≡ s → space_in s ≡ size - length items
   space-is items ss used size s h e = ap space_in (sym e) ∙ ap (λ n. size - n) (stored-fill items ss used size h)
 
 module _ {X : Type 0} where
-  -- what a segment shows
+  -- the state of a segment
   abbrev pub shown : List X → List Extent → ℕ → SegmentState X
   shown items ss size = record { parts = parts_in items ss; size = size }
 

@@ -1,4 +1,4 @@
--- What taking a part away does to a segment.
+-- What dropping a part changes in a segment.
 use Rattle.std.proofs.Common.{sym, ◌≡◌, ℕ, zero, suc, ◌+◌, ◌-◌, ◌<◌, ◌≤◌, true, false, List, [], ◌∷◌, length, take, map, Some, cond, eqb, refl, ap, ◌∙◌, arith, length-take}
 use Rattle.std.specs.Prelude.{filter, slice_get, slice_set, sum_by, not}
 use Rattle.std.proofs.lemmas.Bool.{eq-eqb, ne_eqb}
@@ -30,7 +30,7 @@ module _ {X : Type 0} (items : List X) where
   abbrev others : ℕ → List (Part X) → List (Part X)
   others offset ps = filter (λ p. not (eqb p.offset offset)) ps
 
-  -- parts that begin later
+  -- the parts with higher offsets
   others-later : (offset from : ℕ) (ss : List Extent) → AreAdjacent from ss → offset < from → others offset (parts_in items ss) ≡ parts_in items ss
   others-later offset from [] h lt = refl
   others-later offset from (s ∷ ss) h lt =
@@ -41,7 +41,7 @@ module _ {X : Type 0} (items : List X) where
         | false ↦ later
       ]
 
-  -- the parts once an extent is emptied
+  -- the parts after an extent is emptied
   pub parts-emptied : (offset from : ℕ) (ss : List Extent) (i : ℕ) (s : Extent) → AreAdjacent from ss → slice_get ss i ≡ Some s → s.live ≡ true → s.offset ≡ offset
       → parts_in items (slice_set ss i (emptied s)) ≡ others offset (parts_in items ss)
   parts-emptied offset from [] i s h e live at = absurd (cc)
@@ -59,7 +59,7 @@ module _ {X : Type 0} (items : List X) where
         | false ↦ later
       ]
 
-  -- the lengths of the parts together
+  -- the total length of the parts
   pub used-emptied : (from : ℕ) (ss : List Extent) (i : ℕ) (s : Extent) → AreAdjacent from ss → extents_end from ss ≤ length items → slice_get ss i ≡ Some s → s.live ≡ true
       → sum_by (λ p. length p.list) (parts_in items (slice_set ss i (emptied s))) + s.len ≡ sum_by (λ p. length p.list) (parts_in items ss)
   used-emptied from [] i s h le e live = absurd (cc)
@@ -75,7 +75,7 @@ module _ {X : Type 0} (items : List X) where
         | false ↦ later
       ]
 
--- a part is taken away, and extents without a part at the table's end with it
+-- a part is dropped, and with it the dead extents at the table's end
 pub record IsDropped {X : Type 0} (items : List X) (ss : List Extent) (offset : ℕ) (s : Extent) (left : List Extent) : Type 0 where
   pub adjacent : AreAdjacent 0 left
   pub within : extents_end 0 left ≤ length items

@@ -1,4 +1,4 @@
--- What the table of a segment shows: where its parts end, and that they do not overlap.
+-- The table of a segment: where its parts end, and that they do not overlap.
 use Rattle.std.proofs.Common.{◌≡◌, ℕ, zero, suc, ◌+◌, ◌<◌, ◌≤◌, Bool, true, false, List, [], ◌∷◌, length, get_or, take, drop, map, Some, cond, refl, subst, ap, ◌∙◌, arith, length-take, length-drop}
 use Rattle.std.specs.Prelude.{filter, slice_get}
 use Rattle.std.proofs.Common.{inl, inr}
@@ -12,7 +12,7 @@ pub begin-le-end : (from : ℕ) (ss : List Extent) → AreAdjacent from ss → f
 begin-le-end from [] h = omega arith
 begin-le-end from (s ∷ ss) h = let later = begin-le-end (from + s.len) ss h.2 in omega arith
 
--- no more extents than elements
+-- a table has no more extents than elements
 pub count-le-end : (from : ℕ) (ss : List Extent) → AreAdjacent from ss → from + length ss ≤ extents_end from ss
 count-le-end from [] h = omega arith
 count-le-end from (s ∷ ss) h = let later = count-le-end (from + s.len) ss h.2 in omega (arith, h.1)
@@ -22,7 +22,7 @@ module _ {X : Type 0} (items : List X) where
   pub length-part : (s : Extent) → s.offset + s.len ≤ length items → length (part_in items s).list ≡ s.len
   length-part s h = omega (arith, length-take s.len (drop s.offset items), length-drop s.offset items)
 
-  -- an extent that has another behind it ends within the elements
+  -- an extent other than the last ends within the elements
   pub head-within : (from : ℕ) (s : Extent) (ss : List Extent) → AreAdjacent from (s ∷ ss) → extents_end from (s ∷ ss) ≤ length items → s.offset + s.len ≤ length items
   head-within from s ss h le = let later = begin-le-end (from + s.len) ss h.2 in omega (arith, h.0)
 
@@ -36,7 +36,7 @@ module _ {X : Type 0} (items : List X) where
         | false ↦ fill-parts f (from + s.len) t ss h.2 le live
       ]
 
-  -- the parts lie one behind the other
+  -- the parts are one after another
   pub layout-parts : (f from size : ℕ) (ss : List Extent) → f ≤ from → AreAdjacent from ss → extents_end from ss ≤ length items → length items ≤ size → IsLayoutFrom f (parts_in items ss) size
   layout-parts f from size [] le h end state = omega arith
   layout-parts f from size (s ∷ ss) le h end state =
@@ -46,7 +46,7 @@ module _ {X : Type 0} (items : List X) where
         | false ↦ layout-parts f (from + s.len) size ss (omega arith) h.2 end state
       ]
 
-  -- so much for a whole segment
+  -- the same for a whole segment
   pub stored-fill : (ss : List Extent) (used size : ℕ) → IsStored items ss used size → fill_from 0 (parts_in items ss) ≡ length items
   stored-fill [] used size h = h.end
   stored-fill (s ∷ ss) used size h = fill-parts 0 0 s ss h.adjacent (omega (arith, h.end)) h.live ∙ h.end
@@ -87,7 +87,7 @@ begins-later from (u ∷ ss) (suc j) (suc k) s t h e f lt = begins-later (from +
 pub adjacent-sorted : (from : ℕ) (ss : List Extent) → AreAdjacent from ss → IsSorted ss
 adjacent-sorted from ss h = λ j k s t e f lt. begins-later from ss j k s t h e f lt
 
--- where an extent begins tells on which side of another it stands
+-- comparing the offsets of two extents says which comes first
 pub at-or-behind : (ss : List Extent) (m k o : ℕ) (s t : Extent) → IsSorted ss → slice_get ss m ≡ Some t → t.offset ≤ o → slice_get ss k ≡ Some s → s.offset ≡ o → m ≤ k
 at-or-behind ss m k o s t h e le f at = elim (cases_lt k m) [
   | inl under ↦ absurd (omega (arith, h k m s t f e under, at))
@@ -107,7 +107,7 @@ before ss m k o s t h e lt f at = elim (cases_lt k m) [
   ]
 ]
 
--- extents of which the last is live
+-- extents, the last of them live
 pub ends-live : (ss : List Extent) (n : ℕ) (d : Extent) → n ≤ length ss → ((k : ℕ) → n ≡ suc k → (get_or ss k d).live ≡ true) → EndsLive (take n ss)
 ends-live ss zero d le h = tt
 ends-live [] (suc n) d le h = tt

@@ -1,4 +1,4 @@
--- Segments that are kept in stacks and tables: what each shows, and what a change of one is for all.
+-- Segments that are stored in stacks and tables: the state of each, and what a change of one changes in the region.
 use Rattle.std.proofs.Common.{◌≡◌, ℕ, zero, suc, ◌+◌, ◌<◌, ◌≤◌, ◌^◌, List, [], ◌∷◌, length, get_or, take, drop, replicate, Option, Some, None, IsSome, refl, sym, ap, subst, ◌∙◌, arith, length-take, length-drop}
 use Rattle.std.specs.Prelude.{slice_set, sum_by, IsSomeAnd, All}
 use Rattle.std.proofs.lemmas.List.{get_or_default, nil_from_length, length-map}
@@ -46,7 +46,7 @@ module _ {X : Type 0} (size : ℕ) where
   state-at (xs ∷ xss) (t ∷ ts) zero h lt = refl
   state-at (xs ∷ xss) (t ∷ ts) (suc k) h lt = state-at xss ts k h.1 (omega arith)
 
-  -- another segment under a number
+  -- another segment at a number
   pub states-set : (xss : List (List X)) (ts : List Table) (k : ℕ) (xs : List X) (t : Table) → segment_states size (slice_set xss k xs) (slice_set ts k t) ≡ slice_set (segment_states size xss ts) k (shown xs (extents_of t.entries) size)
   states-set [] ts k xs t = refl
   states-set (ys ∷ xss) [] zero xs t = refl
@@ -61,7 +61,7 @@ module _ {X : Type 0} (size : ℕ) where
   kept-set (ys ∷ xss) (u ∷ ts) zero xs t h one = (one, h.1)
   kept-set (ys ∷ xss) (u ∷ ts) (suc k) xs t h one = (h.0, kept-set xss ts k xs t h.1 one)
 
-  -- the tables stay
+  -- the tables do not change
   pub states-set_stack : (xss : List (List X)) (ts : List Table) (k : ℕ) (xs : List X) → segment_states size (slice_set xss k xs) ts ≡ slice_set (segment_states size xss ts) k (shown xs (extents_of (get_or ts k default_value).entries) size)
   states-set_stack [] ts k xs = refl
   states-set_stack (ys ∷ xss) [] zero xs = refl
@@ -119,7 +119,7 @@ module _ {X : Type 0} (size : ℕ) where
       let there : number < length ts = omega (arith, lt, ap length e, count-states xss ts h) in
       segment-from state number (get_or xss number []) (get_or ts number default_value) (kept-at xss ts number h there) (ap (λ r. segment_of r number) (sym e) ∙ state-at xss ts number h there)
 
-  -- the same, if the table was read
+  -- the same, given the table
   pub segment-with : (xss : List (List X)) (ts : List Table) (state : RegionState X) (number : ℕ) (t : Table) → AreSegmentsStored size xss ts → segment_states size xss ts ≡ state → number < length state → t ≡ get_or ts number t → IsSegment state number (get_or xss number []) t
   segment-with xss ts state number t h e lt read =
       let there : number < length ts = omega (arith, lt, ap length e, count-states xss ts h) in
@@ -134,18 +134,18 @@ pub some-element : {X : Type 0} (xs : List X) (ss : List Extent) (offset : ℕ) 
 some-element xs [] offset adjacent end some = absurd (cc)
 some-element xs (s ∷ ss) offset adjacent end some = omega (arith, end, adjacent.1, begin-le-end (0 + s.len) ss adjacent.2)
 
--- and so has the part
+-- the part has an element
 pub part-some : {X : Type 0} (xs : List X) (ss : List Extent) (offset : ℕ) (list : List X) → AreAdjacent 0 ss → extents_end 0 ss ≡ length xs → list_at (parts_in xs ss) offset ≡ Some list → 0 < length list
 part-some {X} xs ss offset list adjacent end is =
     let layout = layout-parts xs 0 0 (length xs) ss (omega arith) adjacent (omega (arith, end)) (omega arith) in
     let some = some-list 0 (length xs) (parts_in xs ss) offset layout (rw is refl) in
     omega (arith, some, ap (λ (ys : List X). length ys) (list-is (parts_in xs ss) offset list is))
 
--- no part, no element
+-- a segment without parts has no elements
 pub none-left : {X : Type 0} (xs : List X) (ss : List Extent) → AreAdjacent 0 ss → extents_end 0 ss ≡ length xs → length xs ≡ 0 → parts_in xs ss ≡ []
 none-left xs ss adjacent end none = let no : ss ≡ [] = nil_from_length ss (omega (arith, count-le-end 0 ss adjacent, end, none)) in ap (parts_in xs) no
 
--- a part, as long as it is known to be
+-- a part of known length
 pub record Long {X : Type 0} (xs : List X) (ss : List Extent) (offset len : ℕ) : Type 0 where
   pub within : offset + len ≤ length xs
   pub some : 0 < length xs
@@ -170,7 +170,7 @@ module _ {X : Type 0} (xs : List X) (ss : List Extent) (offset len : ℕ) (adjac
       some-from P (Some x) h = refl
       some-from P None h = absurd h
 
--- spaces and fills together are sizes
+-- the spaces and fills add up to the sizes
 pub space-rest : {X : Type 0} (state : RegionState X) → All IsLayout state → sum_by space_in state + sum_by fill_of state ≡ capacity_of state
 space-rest [] h = refl
 space-rest {X} (s ∷ state) h =

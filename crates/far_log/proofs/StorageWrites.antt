@@ -1,4 +1,4 @@
--- What a write to a range of a segment's elements does to its parts.
+-- What a write to a range of a segment's elements changes in its parts.
 use Rattle.std.proofs.Common.{◌≡◌, ℕ, ◌+◌, ◌-◌, ◌<◌, ◌≤◌, true, false, List, [], ◌∷◌, ◌++◌, length, get_or, take, drop, map, cond, refl, sym, ap, ◌∙◌, inl, inr, arith, length-take, length-drop, length-append, get_or-take, get_or-drop}
 use Rattle.std.specs.Prelude.{filter, sum_by, slice_range, IsSome, IsSomeAnd, Option, Some, None}
 use Rattle.std.proofs.lemmas.Bool.{cases_lt}
@@ -13,7 +13,7 @@ use Rattle.far_log.proofs.StoragePartChanges.{shown}
 use Rattle.far_log.proofs.StorageExtents.{some-extent, extent-within}
 
 module _ {X : Type 0} where
-  -- elements of a list whose front is followed by another list
+  -- the elements of a prefix followed by another list
   at-first : (xs ys : List X) (i k : ℕ) (d : X) → k < i → k < length xs → get_or (take i xs ++ ys) k d ≡ get_or xs k d
   at-first xs ys i k d lt within = get_or_append_left (take i xs) ys d k (omega (arith, length-take i xs)) ∙ get_or-take i xs k d lt
 
@@ -27,7 +27,7 @@ module _ {X : Type 0} where
       get_or-append_right (take i xs) (ws ++ rest) i k d (omega (arith, length-take i xs)) (omega arith)
       ∙ get_or-append_right ws rest (length ws) (k - i) d refl (omega arith) ∙ ap (λ n. get_or rest n d) same
 
-  -- a block once ws is written over its elements from a place on
+  -- a block after ws is written over its elements from an index on
   abbrev over : List X → ℕ → List X → List X
   over items from ws = take from items ++ (ws ++ drop (length ws) (drop from items))
 
@@ -151,14 +151,14 @@ module _ {X : Type 0} where
       some-from P (Some x) h = refl
       some-from P None h = absurd h
 
-  -- lists as long as before, under a write
+  -- a write keeps the lengths of lists
   sum-after_overwrite : (at : ℕ) (ws : List X) (ps : List (Part X)) → sum_by (λ p. length p.list) (map (after_overwrite at ws) ps) ≡ sum_by (λ p. length p.list) ps
   sum-after_overwrite at ws [] = refl
   sum-after_overwrite at ws (p ∷ ps) =
       let same : length (after_overwrite at ws p).list ≡ length p.list = length-written_over p.list (at - p.offset) (drop (p.offset - at) ws) in
       omega (arith, same, sum-after_overwrite at ws ps, sum_by-cons (λ (q : Part X). length q.list) (after_overwrite at ws p) (map (after_overwrite at ws) ps), sum_by-cons (λ (q : Part X). length q.list) p ps)
 
-  -- a stack of which a range was lent
+  -- a stack after a range of it was borrowed
   pub stored-after_write : (items : List X) (ss : List Extent) (used size at : ℕ) (ws : List X) → IsStored items ss used size → at ≤ length items → IsStored (written_over items at ws) ss used size
   stored-after_write items ss used size at ws h le =
       let long = length-written_over items at ws in

@@ -3,17 +3,17 @@
 use Rattle.std.specs.Prelude.{◌≡◌, ℕ, zero, suc, ◌+◌, ◌≤◌, ◌<◌, ◌^◌, List, [], ◌∷◌, ◌++◌, length, vec_capacity}
 use Rattle.std.specs.declared.vec.Vec.{Vec}
 
--- the capacity of the chunk with this number, if that of the first is `size`
+-- the capacity of the chunk with this number, if the first chunk's capacity is `size`
 abbrev pub capacity_at : ℕ → ℕ → ℕ
 capacity_at size zero = size
 capacity_at size (suc number) = capacity_at (size + size) number
 
--- how many elements lie before that chunk
+-- how many elements come before that chunk
 abbrev pub start_at : ℕ → ℕ → ℕ
 start_at size zero = 0
 start_at size (suc number) = size + start_at (size + size) number
 
--- the element with this index lies in this chunk, at this index of it; the capacity of the first chunk is 64
+-- the element with this index is in this chunk, at this index of it; the capacity of the first chunk is 64
 pub record IsPlaceOf (index chunk at : ℕ) : Type 0 where
   pub index_is : start_at 64 chunk + at ≡ index
   pub within : at < capacity_at 64 chunk
@@ -30,7 +30,7 @@ module _ {X Z : Type 0} where
   AreChunks size (c ∷ []) = (length c.items ≤ size) × (size ≤ vec_capacity c)
   AreChunks size (c ∷ (d ∷ cs)) = (length c.items ≡ size) × AreChunks (size + size) (d ∷ cs)
 
-  -- the first `len` elements of the chunks are the list; those after them were cut off
+  -- the first `len` elements of the chunks are the list; the elements after them were cut off
   pub record IsChunked (cs : List (Vec X Z)) (len : ℕ) : Type 0 where
     pub chunks : AreChunks 64 cs
     pub within : len ≤ length (items_of cs)

@@ -1,4 +1,4 @@
--- The state of stacks, segments and a region once a mutable borrow of a list ends.
+-- The state of stacks, segments and a region after a mutable borrow of a list ends.
 use Rattle.std.specs.Prelude.{ℕ, List, ◌++◌, length, take, drop}
 use Rattle.std.specs.Borrow.{Lends, Fml, RattleType, MutBor, Array}
 use Rattle.std.specs.Vec.{with_items}
@@ -17,24 +17,24 @@ abbrev pub with_list_from : {X : Type 0} → Block X → ℕ → List X → Bloc
 with_list_from b from ws = record b { items = with_items b.items (take from b.items.items ++ (ws ++ drop (length ws) (drop from b.items.items))) }
 
 module _ (T : RattleType) (s : MutBor (Block T.Denot)) where
-  -- internal: what the borrow r leaves is written over the block's elements from an index on
+  -- internal: what the borrow r ends with is written over the block's elements from an index on
   abbrev pub lends_block : ℕ → MutBor (List T.Denot) → Fml
   lends_block from r = Lends (block.the_row T) (Array T 0) s r (with_list_from s.now from)
 
-  -- internal: the first `most` elements of what r leaves are
+  -- internal: the first `most` elements of what the borrow r ends with are written over them
   abbrev pub lends_bounded : ℕ → ℕ → MutBor (List T.Denot) → Fml
   lends_bounded from most r = Lends (block.the_row T) (Array T 0) s r (λ ws. with_list_from s.now from (take most ws))
 
 module _ (T : RattleType) (s : MutBor (Stacked T.Denot)) where
-  -- internal: what the borrow r leaves is written over the elements of a stack from `from` on
+  -- internal: what the borrow r ends with is written over the elements of a stack from `from` on
   abbrev pub lends_stack : ℕ → ℕ → MutBor (List T.Denot) → Fml
   lends_stack number from r = Lends (stacks.the_row T) (Array T 0) s r (λ ws. with_stack s.now number (written_over (stack_of s.now number) from ws))
 
 module _ (T : RattleType) (s : MutBor (RegionState T.Denot)) where
-  -- internal: what the borrow r leaves is written over the elements from the i-th after a location on
+  -- internal: what the borrow r ends with is written over the elements from the i-th after a location on
   abbrev pub lends_range : At → ℕ → MutBor (List T.Denot) → Fml
   lends_range at i r = Lends (segments.the_row T) (Array T 0) s r (after_write_at s.now at i)
 
-  -- what the borrow r leaves is written over the elements from the i-th after a location on
+  -- what the borrow r ends with is written over the elements from the i-th after a location on
   abbrev pub lends_part : At → ℕ → MutBor (List T.Denot) → Fml
   lends_part at i r = Lends (region.the_row T) (Array T 0) s r (after_write_at s.now at i)

@@ -1,9 +1,9 @@
--- What contracts see of a local region: which parts lie where, and how much space is after them.
+-- What contracts see of a local region: its parts, where each is, and how much space remains.
 use Rattle.std.specs.Prelude.{◌≡◌, ℕ, ◌+◌, ◌-◌, ◌≤◌, ◌<◌, ◌==◌, nat_le, if◌then◌else◌, Bool, true, false, List, [], ◌∷◌, length, map, sum_by, position, All, is_some, Option, Some, None, slice_index_or, slice_index, slice_set}
 use Rattle.std.specs.Option.{option_map_or}
 use Rattle.far_pointer.specs.declared.pointer.At.{At}
 
--- a part: where in its segment it begins, and its elements
+-- a part: its offset in its segment, and its elements
 pub record Part (X : Type 0) : Type 0 where
   pub offset : ℕ
   pub list : List X
@@ -18,11 +18,11 @@ abbrev pub RegionState : Type 0 → Type 0
 RegionState X = List (SegmentState X)
 
 module _ {X : Type 0} where
-  -- the offset after a part
+  -- the offset at which a part ends
   abbrev pub end_of : Part X → ℕ
   end_of p = p.offset + length p.list
 
-  -- where the last of some parts ends, or `from` if there is none
+  -- the offset at which the last of some parts ends, or `from` if there is none
   abbrev pub fill_from : ℕ → List (Part X) → ℕ
   fill_from from [] = from
   fill_from from (p ∷ ps) = fill_from (end_of p) ps
@@ -35,20 +35,20 @@ module _ {X : Type 0} where
   abbrev pub space_in : SegmentState X → ℕ
   space_in s = s.size - fill_of s
 
-  -- the lengths of a segment's parts, added up
+  -- the total length of a segment's parts
   abbrev pub used_in : SegmentState X → ℕ
   used_in s = sum_by (λ p. length p.list) s.parts
 
-  -- each part has an element and begins where the one before it ends or later, and the last ends within the size
+  -- each part is not empty and begins where the part before it ends or later; the last ends within the size
   abbrev pub IsLayoutFrom : ℕ → List (Part X) → ℕ → Type 0
   IsLayoutFrom from [] size = from ≤ size
   IsLayoutFrom from (p ∷ ps) size = (from ≤ p.offset) × (0 < length p.list) × IsLayoutFrom (end_of p) ps size
 
-  -- the parts of a segment do not overlap, and lie within it
+  -- the parts of a segment do not overlap, and are within it
   abbrev pub IsLayout : SegmentState X → Type 0
   IsLayout s = IsLayoutFrom 0 s.parts s.size
 
-  -- the list that begins at an offset
+  -- the list of the part that begins at an offset
   abbrev pub list_at : List (Part X) → ℕ → Option (List X)
   list_at [] offset = None
   list_at (p ∷ ps) offset = if p.offset == offset then Some p.list else list_at ps offset
@@ -57,11 +57,11 @@ module _ {X : Type 0} where
   abbrev pub segment_of : RegionState X → ℕ → SegmentState X
   segment_of state number = slice_index_or state number record { parts = []; size = 0 }
 
-  -- the list that lies at a location
+  -- the list of the part at a location
   abbrev pub part_of : RegionState X → At → Option (List X)
   part_of state at = list_at (segment_of state at.segment).parts at.offset
 
-  -- the lengths of all parts, added up
+  -- the total length of all parts
   abbrev pub used_of : RegionState X → ℕ
   used_of state = sum_by used_in state
 
@@ -69,26 +69,26 @@ module _ {X : Type 0} where
   abbrev pub spaces_of : RegionState X → List ℕ
   spaces_of state = map space_in state
 
-  -- the spaces of all segments, added up
+  -- the total space of all segments
   abbrev pub space_of : RegionState X → ℕ
   space_of state = sum_by space_in state
 
-  -- the sizes of all segments, added up
+  -- the total size of all segments
   abbrev pub capacity_of : RegionState X → ℕ
   capacity_of state = sum_by (λ s. s.size) state
 
--- the lowest segment with space for n elements, by the space of each
+-- the lowest segment with space for n elements, given the space of each
 abbrev pub lowest_for : List ℕ → ℕ → Option ℕ
 lowest_for spaces n = position (λ space. nat_le n space) spaces
 
--- whether lists of these lengths can be placed one after the other, each in the lowest segment that has the space
+-- whether lists of these lengths can be placed one after another, each in the lowest segment that has the space
 abbrev pub fit_in_order : List ℕ → List ℕ → Bool
 fit_in_order spaces [] = true
 fit_in_order spaces (n ∷ ns) =
     option_map_or (λ i. fit_in_order (slice_set spaces i (slice_index spaces i - n)) ns) (lowest_for spaces n) false
 
 module _ {X : Type 0} where
-  -- the segment where a list of n elements goes: the lowest that has the space
+  -- the segment in which a list of n elements is placed: the lowest that has the space
   abbrev pub target_of : RegionState X → ℕ → Option ℕ
   target_of state n = lowest_for (spaces_of state) n
 
@@ -96,7 +96,7 @@ module _ {X : Type 0} where
   abbrev pub fits_in : RegionState X → ℕ → Bool
   fits_in state n = is_some (target_of state n)
 
-  -- at most 65,536 segments, all with the capacity of the first, and no two parts of one overlap
+  -- at most 65,536 segments, all with the capacity of the first, and without overlapping parts
   pub record IsRegion (state : RegionState X) : Type 0 where
     pub few : length state ≤ 65536
     pub same_length : All (λ s. s.size ≡ (segment_of state 0).size) state

@@ -10,12 +10,12 @@ module _ {X : Type 0} where
     pub ordered : skip.first ≤ skip.next
     pub full : (k : ℕ) → k < skip.next → k ≢ skip.first → space_in (segment_of state k) < skip.len
 
-  -- the segments are those of a region, and this is what a search skips of them
+  -- the state is a region, and a search of it may use this skip
   pub record IsSearched (state : RegionState X) (skip : Skip) : Type 0 where
     pub region : IsRegion state
     pub skipped : IsSkip state skip
 
--- what is skipped once the segment with this number has this space: what was skipped before, or this segment if it has not the space
+-- the skip after the segment with this number got this space: as before, or with this segment if it lacks the space
 pub record IsSpaced (old new : Skip) (number space : ℕ) : Type 0 where
   pub len : new.len ≡ old.len
   pub ordered : new.first ≤ new.next

@@ -1,4 +1,4 @@
--- How segments keep their parts: the elements of a segment in a stack, and a table of extents.
+-- How segments store their parts: the elements of a segment in a stack, and a table of extents.
 -- Internal: no public contract cites it.
 use Rattle.std.specs.Prelude.{◌≡◌, ℕ, zero, suc, ◌+◌, ◌≤◌, ◌<◌, ◌^◌, if◌then◌else◌, true, false, List, [], ◌∷◌, length, take, drop, map, filter, sum_by, slice_get, Some}
 use Rattle.far_log.specs.declared.extents.Extent.{Extent}
@@ -7,11 +7,11 @@ use Rattle.far_log.specs.declared.part_entry.PartEntry.{PartEntry}
 use Rattle.far_log.specs.declared.table.Table.{Table}
 use Rattle.far_log.specs.RegionState.{Part, RegionState}
 
--- the extents of a table
+-- the extents in a table
 abbrev pub extents_of : List PartEntry → List Extent
 extents_of table = map (λ e. e.extent) table
 
--- the links of a table
+-- the links in a table
 abbrev pub links_of : List PartEntry → List Link
 links_of table = map (λ e. e.link) table
 
@@ -24,7 +24,7 @@ AreAdjacent from (s ∷ ss) = (s.offset ≡ from) × (0 < s.len) × AreAdjacent 
 abbrev pub IsSorted : List Extent → Type 0
 IsSorted extents = (j k : ℕ) (s t : Extent) → slice_get extents j ≡ Some s → slice_get extents k ≡ Some t → j < k → s.offset < t.offset
 
--- where the last extent ends
+-- the offset at which the last extent ends
 abbrev pub extents_end : ℕ → List Extent → ℕ
 extents_end from [] = from
 extents_end from (s ∷ ss) = extents_end (from + s.len) ss
@@ -35,14 +35,14 @@ EndsLive [] = Unit {0}
 EndsLive (s ∷ []) = s.live ≡ true
 EndsLive (s ∷ (t ∷ ss)) = EndsLive (t ∷ ss)
 
--- a table in which this extent no longer has a part
+-- the table after this extent lost its part
 abbrev pub emptied_at : List Extent → ℕ → List Extent
 emptied_at [] number = []
 emptied_at (s ∷ ss) zero = record s { live = false } ∷ ss
 emptied_at (s ∷ ss) (suc number) = s ∷ emptied_at ss number
 
--- the live extents of a table, from this number on, are linked. Each has the count of extents up to the live one before it, and that one
--- has its number. `before` and `behind` are the two for the extents before it
+-- the live extents of a table, from this number on, are linked: each has the count of extents up to and including the live one before it,
+-- and that one has its number. `before` and `behind` are the values for the extents before it
 abbrev pub AreLinked : ℕ → ℕ → ℕ → List Extent → List Link → Type 0
 AreLinked number before behind [] [] = Unit {0}
 AreLinked number before behind [] (l ∷ ls) = ⊥
@@ -51,24 +51,24 @@ AreLinked number before behind (s ∷ ss) (l ∷ ls) =
     (s.live ≡ true → (l.before ≡ before) × (0 < before → behind ≡ number))
     × AreLinked (suc number) (if s.live then suc number else before) (if s.live then l.behind else behind) ss ls
 
--- links in which one has another extent after it
+-- the links, with another next extent in link i
 abbrev pub with_behind : List Link → ℕ → ℕ → List Link
 with_behind [] i behind = []
 with_behind (l ∷ ls) zero behind = record l { behind = behind } ∷ ls
 with_behind (l ∷ ls) (suc i) behind = l ∷ with_behind ls i behind
 
--- links in which one has another extent before it
+-- the links, with another previous extent in link i
 abbrev pub with_before : List Link → ℕ → ℕ → List Link
 with_before [] i before = []
 with_before (l ∷ ls) zero before = record l { before = before } ∷ ls
 with_before (l ∷ ls) (suc i) before = l ∷ with_before ls i before
 
 module _ {X : Type 0} where
-  -- the part in an extent
+  -- the part of an extent
   abbrev pub part_in : List X → Extent → Part X
   part_in items s = record { offset = s.offset; list = take s.len (drop s.offset items) }
 
-  -- the parts in the extents that have one
+  -- the parts of the live extents
   abbrev pub parts_in : List X → List Extent → List (Part X)
   parts_in items extents = map (part_in items) (filter (λ s. s.live) extents)
 
@@ -81,18 +81,18 @@ module _ {X : Type 0} where
     pub enough : length items ≤ size
     pub small : size < 2 ^ 32
 
-  -- so it is kept, and the extents of the parts are linked
+  -- the table stores the segment's parts, and its live extents are linked
   pub record IsSegmentStored (items : List X) (table : Table) (size : ℕ) : Type 0 where
     pub stored : IsStored items (extents_of table.entries) table.used size
     pub linked : AreLinked 0 0 0 (extents_of table.entries) (links_of table.entries)
 
-  -- the state of segments of this size
+  -- the states of segments of this size
   abbrev pub segment_states : ℕ → List (List X) → List Table → RegionState X
   segment_states size [] ts = []
   segment_states size (xs ∷ xss) [] = []
   segment_states size (xs ∷ xss) (t ∷ ts) = record { parts = parts_in xs (extents_of t.entries); size = size } ∷ segment_states size xss ts
 
-  -- each segment is kept so
+  -- each table stores its segment's parts
   abbrev pub AreSegmentsStored : ℕ → List (List X) → List Table → Type 0
   AreSegmentsStored size [] [] = Unit {0}
   AreSegmentsStored size [] (t ∷ ts) = ⊥

@@ -1,9 +1,9 @@
-// One block of memory for elements.
+// A block of memory for elements.
 ghost use Rattle.std.specs.Prelude.{◌≡◌, ◌+◌, ◌-◌, ◌<◌, ◌≤◌, ◌++◌, length, take, drop, replicate, slice_range, vec_len, vec_capacity};
 ghost use Rattle.std.specs.Borrow.{sem};
 ghost use Rattle.far_log.specs.Stacking.{IsPut};
 
-/// A block of memory that is reserved once. Its list is what was written of it, up to the highest index.
+/// A block of memory that is reserved once. Its list is the part that was written so far, up to the highest index.
 #[derive(Drop)]
 pub struct Block<T> {
     pub items: Vec<T>,
@@ -32,7 +32,7 @@ impl<T: Copy + Drop> Block<T> {
         };
     }
 
-    // Extends a shorter list to `len` elements by copies of `filler`.
+    // Extends a shorter list to `len` elements with copies of `filler`.
     fn lengthen(&mut self, len: usize, filler: T)
         requires { len ≤ vec_capacity self.old.items }
         ensures grown { self.new.items.items ≡ self.old.items.items ++ replicate (len - vec_len self.old.items) filler }
@@ -82,10 +82,10 @@ impl<T> Block<T> {
         self.items.slice_mut(begin..end)
     }
 
-    /// Mutably borrows a range of the block. What the borrow leaves counts as no more than `most` elements, the space of the range.
+    /// Mutably borrows a range of the block. Afterwards the range counts as at most `most` elements, which is its space.
     ///
-    /// A slice keeps its length, so this does what `slice_mut` does. But a contract on a borrow speaks of longer lists too. By the contract
-    /// of `slice_mut` they would lie over what comes after the space.
+    /// A slice keeps its length, so this does the same as `slice_mut`. But a contract on a borrow covers longer lists too. By the contract
+    /// of `slice_mut` those would overwrite what comes after the space.
     pub fn lend(&mut self, begin: usize, end: usize, most: usize) -> &mut [T]
         requires ordered { begin ≤ end }
         requires within { end ≤ vec_len self.old.items }

@@ -1,4 +1,4 @@
-// A list in chunks whose sizes double.
+// A vector in chunks whose sizes double.
 ghost use Rattle.std.specs.Prelude.{◌≡◌, ℕ, ◌+◌, ◌<◌, ◌≤◌, ◌^◌, List, [], ◌∷◌, ◌++◌, length, take, drop, vec_len, slice_get, slice_set, Some, OnOk, OnErr, IfErr};
 ghost use Rattle.far_log.specs.Chunking.{capacity_at, start_at, items_of, AreChunks, IsPlaceOf};
 
@@ -11,7 +11,7 @@ const FIRST: usize = 64;
 
 const FIRST_LEVEL: usize = 6;
 
-// Where an element lies: the number of its chunk, and its index there.
+// The chunk of an element, and its index in the chunk.
 #[derive(Clone, Copy)]
 struct Place {
     chunk: usize,
@@ -28,14 +28,14 @@ fn chunk_capacity(chunk: usize) -> usize
     FIRST << chunk
 }
 
-// Returns where the element with an index lies.
+// Returns the chunk of the element with an index, and its index in the chunk.
 fn place_of(index: usize) -> Place
     requires { index < 2 ^ 32 }
     ensures place { IsPlaceOf index result.chunk result.at }
     ensures few { result.chunk ≤ 26 }
 {
-    // Before chunk k lie 64 * 2^k - 64 elements, so the highest bit of the sum gives the chunk. The index is a number of 32 bits, so a
-    // compiler knows that the sum is not 0, and need not ask.
+    // Chunk k comes after 64 * 2^k - 64 elements, so the highest bit of the sum is the chunk. The index is a number of 32 bits, so the
+    // compiler knows that the sum is not 0, and makes no test.
     let sum = index as u32 as usize + FIRST;
     let chunk = sum.ilog2() as usize - FIRST_LEVEL;
     Place {
@@ -44,14 +44,14 @@ fn place_of(index: usize) -> Place
     }
 }
 
-/// Returns the number of the chunk in which the element with an index lies.
+/// Returns the number of the chunk that has the element with an index.
 pub fn chunk_of(index: usize) -> usize
     requires { index < 2 ^ 32 }
     ensures from { start_at 64 result ≤ index }
     ensures to { index < start_at 64 result + capacity_at 64 result }
     ensures few { result ≤ 26 }
 {
-    // A short list has one chunk: this branch saves it the logarithm.
+    // A short list has one chunk: this branch saves the logarithm.
     if index < FIRST {
         0
     } else {
@@ -68,7 +68,7 @@ pub fn start_of(chunk: usize) -> usize
     chunk_capacity(chunk) - FIRST
 }
 
-// Makes a chunk, unless it is there. If it is refused, the chunks are as before.
+// Makes a chunk, unless it exists. If it is refused, the chunks are as before.
 #[inline(always)]
 fn make_chunk<T: Drop>(chunks: &mut Vec<Vec<T>>, chunk: usize) -> Result<(), Refusal>
     requires few { chunk ≤ 26 }
@@ -87,12 +87,12 @@ fn make_chunk<T: Drop>(chunks: &mut Vec<Vec<T>>, chunk: usize) -> Result<(), Ref
     Ok(())
 }
 
-/// A list of plain values that grows without moving what it holds (a segmented array).
+/// A list of plain values that grows without moving them (a segmented array).
 ///
-/// It lies in chunks. The first has space for 64 values, and each other has twice the space of the one before it. A chunk is allocated when
-/// it is first needed. Only the list of the chunks moves, which are at most 27.
+/// The values are in chunks. The first has space for 64 values, and each other has twice the space of the one before it. A chunk is
+/// allocated when it is first needed. Only the list of the chunks moves, which are at most 27.
 ///
-/// `truncate` keeps the chunks for later values, as `Vec` keeps its memory. They are freed when the list is dropped.
+/// `truncate` keeps the chunks for later values, as `Vec` keeps its memory. Dropping the list frees them.
 #[derive(Drop)]
 pub struct ChunkedVec<T> {
     chunks: Vec<Vec<T>>,
@@ -121,7 +121,7 @@ impl<T: Copy + Drop> ChunkedVec<T> {
         }
     }
 
-    /// Returns how many values the vector has.
+    /// Returns how many values the list has.
     pub fn len(&self) -> usize
         ensures len { result ≡ length self.now }
         ensures few { result ≤ 2 ^ 32 }
@@ -163,7 +163,7 @@ impl<T: Copy + Drop> ChunkedVec<T> {
         chunks[chunk][at] = value;
     }
 
-    /// Appends a value, and moves none. Refused with `NoMemory` (1) alone, if a chunk cannot be allocated. Then the list is as before.
+    /// Appends a value, and moves none. Refused only with `NoMemory` (1), if a chunk cannot be allocated. Then the list is as before.
     #[inline(always)]
     pub fn push(&mut self, value: T) -> Result<(), Refusal>
         requires few { length self.old < 2 ^ 32 }
@@ -183,7 +183,7 @@ impl<T: Copy + Drop> ChunkedVec<T> {
         Ok(())
     }
 
-    /// Cuts the list to its first `len` values; a shorter one stays as it is. Costs the same however much it cuts off, and frees no memory.
+    /// Cuts the list to its first `len` values; a shorter one stays as it is. Takes constant time, and frees no memory.
     pub fn truncate(&mut self, len: usize)
         ensures { self.new ≡ take len self.old }
     {

@@ -8,18 +8,18 @@ use far_pointer::At;
 use far_types::Refusal;
 use std::alloc::Global;
 
-/// Where the parts of a compacted segment are.
+/// Where the parts of a compacted segment are now.
 #[derive(Debug, Drop)]
 pub struct Moved {
-    /// The number of the segment in which they lie now.
+    /// The segment to which they were moved.
     pub segment: u16,
-    /// Where each part begins there, in the order in which the call listed them.
+    /// Where each part begins in it, in the order in which the call listed them.
     pub offsets: Vec<u32>,
 }
 
 impl<T: Copy + Drop> Segments<T> {
-    // Places copies of the parts of segment `from` in segment `to`, which has none, in the given order. Returns where each begins. Copies
-    // each element once. Refused with `NoMemory` (1) alone. Then some of the parts may lie there.
+    // Copies the parts of segment `from` into segment `to`, which is empty, in the given order. Returns where each begins. Copies each
+    // element once. Refused only with `NoMemory` (1). Then segment `to` may have some of the parts.
     fn gather(
         &mut self,
         alloc: Global,
@@ -51,7 +51,7 @@ impl<T: Copy + Drop> Segments<T> {
         Ok(offsets)
     }
 
-    /// Moves the parts of segment `from` into segment `to`, which has none. Refused with `NoMemory` (1) alone. Then the segments are as
+    /// Moves the parts of segment `from` into segment `to`, which is empty. Refused only with `NoMemory` (1). Then the segments are as
     /// before.
     pub fn compact(
         &mut self,

@@ -1,4 +1,4 @@
-// The table of a segment: where its parts lie, and where dropped parts lay.
+// The table of a segment: the extents of its parts, and of dropped parts.
 ghost use Rattle.std.specs.Prelude.{◌≡◌, ℕ, ◌+◌, ◌<◌, ◌≤◌, ◌^◌, length, slice_get, Some, IfSome};
 ghost use Rattle.far_log.specs.Chunking.{capacity_at, start_at};
 ghost use Rattle.far_log.specs.Storage.{AreAdjacent, IsSorted, extents_end, extents_of};
@@ -6,18 +6,18 @@ ghost use Rattle.far_log.specs.Storage.{AreAdjacent, IsSorted, extents_end, exte
 use super::chunked_vec::{ChunkedVec, chunk_of, start_of};
 use super::part_entry::PartEntry;
 
-/// A range of a segment that has a part, or had one.
+/// A range of a segment that has a part, or had one before it was dropped.
 #[derive(Clone, Copy)]
 pub struct Extent {
     /// Where it begins in the segment.
     pub offset: u32,
     /// How many elements it has.
     pub len: u32,
-    /// Whether a part lies there.
+    /// Whether it has a part now.
     pub live: bool,
 }
 
-// Returns the index of the extent that begins at an offset; some index if none does.
+// Returns the index of the extent that begins at an offset; an arbitrary index if none does.
 fn extent_among(entries: &[PartEntry], offset: u32) -> usize
     requires some { 0 < length entries.now }
     requires sorted { IsSorted (extents_of entries.now) }
@@ -29,7 +29,7 @@ fn extent_among(entries: &[PartEntry], offset: u32) -> usize
     while size > 1 {
         let half = size / 2;
         let middle = low + half;
-        // One choice, so that a compiler needs no branch.
+        // This chooses between two values, so that the compiler needs no branch.
         low = if entries[middle].extent.offset <= offset {
             middle
         } else {
@@ -40,7 +40,7 @@ fn extent_among(entries: &[PartEntry], offset: u32) -> usize
     low
 }
 
-// Returns the number of the chunk with the extent that begins at an offset; the number of some chunk if none does.
+// Returns the number of the chunk that has the extent that begins at an offset; an arbitrary chunk if none does.
 fn chunk_at(table: &ChunkedVec<PartEntry>, offset: u32) -> usize
     requires some { 0 < length table.now }
     requires adjacent { AreAdjacent 0 (extents_of table.now) }
@@ -59,8 +59,8 @@ fn chunk_at(table: &ChunkedVec<PartEntry>, offset: u32) -> usize
     0
 }
 
-// Searches for the number of the extent that begins at an offset; some number if none does. It is not inlined, so that `number_at` stays
-// short.
+// Searches for the number of the extent that begins at an offset; an arbitrary number if none does. It is not inlined, so that
+// `number_at` stays short.
 #[inline(never)]
 fn number_among(table: &ChunkedVec<PartEntry>, offset: u32) -> usize
     requires some { 0 < length table.now }
@@ -71,15 +71,15 @@ fn number_among(table: &ChunkedVec<PartEntry>, offset: u32) -> usize
     start_of(chunk) + extent_among(table.chunk(chunk), offset)
 }
 
-/// Returns the number of the extent that begins at an offset; some number if none does.
+/// Returns the number of the extent that begins at an offset; an arbitrary number if none does.
 #[inline(always)]
 pub fn number_at(table: &ChunkedVec<PartEntry>, offset: u32) -> usize
     requires some { 0 < length table.now }
     requires adjacent { AreAdjacent 0 (extents_of table.now) }
     ensures { (k : ℕ) (s : Extent) → slice_get (extents_of table.now) k ≡ Some s → s.offset ≡ offset → result ≡ k }
 {
-    // An object that gets another list loses its part once the new one lies after it. So the last extent but one is tried first. If the
-    // new part lies in another segment, the old one may be the last.
+    // An object whose list is replaced drops its old part after the new one is placed. So the last extent but one is tried first. If the
+    // new part is in another segment, the old one may be the last.
     let last = table.len() - 1;
     let number = last.saturating_sub(1);
     if table.get(number).extent.offset == offset {
@@ -91,7 +91,7 @@ pub fn number_at(table: &ChunkedVec<PartEntry>, offset: u32) -> usize
     number_among(table, offset)
 }
 
-/// Returns the extent that begins at an offset. If none does, returns some extent, or `None` if the table has no extent.
+/// Returns the extent that begins at an offset. If none does, returns an arbitrary extent, or `None` if the table has no extent.
 pub fn extent_at(table: &ChunkedVec<PartEntry>, offset: u32) -> Option<Extent>
     requires { AreAdjacent 0 (extents_of table.now) }
     ensures there { IfSome result (λ s. (k : ℕ) × (slice_get (extents_of table.now) k ≡ Some s)) }

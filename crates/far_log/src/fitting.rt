@@ -1,9 +1,10 @@
-// Whether several lists fit, one after the other.
+// Whether several lists fit when they are placed in order.
 ghost use Rattle.std.specs.Prelude.{◌≡◌, ◌==◌};
 ghost use Rattle.std.specs.List.{list_all};
 ghost use Rattle.far_log.specs.Fitting.{after_fill};
 
-/// Gives the space of a segment to the waiting lengths, in their order. Each length that fits is then 0.
+/// Fills the space of a segment with the waiting lengths, in their order. Sets each length that fits to
+/// 0.
 pub fn fill(space: usize, waiting: &mut [usize])
     ensures { waiting.new ≡ after_fill space waiting.old }
 {
@@ -16,7 +17,7 @@ pub fn fill(space: usize, waiting: &mut [usize])
     }
 }
 
-/// Returns whether no length is left to be placed.
+/// Returns whether every length has been placed.
 pub fn none_waits(waiting: &[usize]) -> bool
     ensures { result ≡ list_all (λ len. len == 0) waiting.now }
 {

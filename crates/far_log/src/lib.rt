@@ -1,13 +1,13 @@
 #![tactic(auto)]
-//! The local region: parts of elements in segments. Each part lies after the one before it, as in a log.
+//! The local region: lists of elements, called parts, in segments. Each part is appended after the one before it, as in a log.
 //!
 //! A `Region` allocates all its memory for elements when it is made:
-//! - `place` puts a list after the last part of the lowest segment that has the space.
+//! - `place` appends a list to the lowest segment that has the space, after its last part.
 //! - `part`, `part_mut` and `range_mut` borrow a part in place.
-//! - `drop_at` drops a part. The space between parts is not used again until `compact` moves a segment's parts into an empty one.
+//! - `drop_at` drops a part. The space between parts is not reused until `compact` moves a segment's parts into an empty one.
 //!
-//! Contracts see a region as the list of its segments. Of each they see its parts (where a part begins, and its elements) and its size:
-//! `specs/RegionState.antt`. How it changes is in `specs/Effects.antt`.
+//! Contracts see a region as the list of its segments, and of each segment its parts (where a part begins, and its elements) and its
+//! size: `specs/RegionState.antt`. Its changes are defined in `specs/Effects.antt`.
 
 mod block;
 mod chunked_vec;

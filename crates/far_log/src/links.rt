@@ -1,4 +1,4 @@
-// Links between the live extents of a table. When the last part is dropped, they give the part before it at once.
+// Links between the live extents of a table. When the last part is dropped, they lead to the part before it in one step.
 ghost use Rattle.std.specs.Prelude.{◌≡◌, ◌+◌, ◌<◌, ◌≤◌, ◌^◌, ◌++◌, [], ◌∷◌, true, List, length, take, filter, slice_get, IsSomeAnd, OnOk, OnErr, IfErr};
 ghost use Rattle.far_log.specs.Storage.{AreLinked, EndsLive, emptied_at, with_behind, with_before, extents_of, links_of};
 
@@ -7,12 +7,12 @@ use super::extents::Extent;
 use super::part_entry::PartEntry;
 use far_types::Refusal;
 
-/// The nearest live extents of a live one. The link of a dead extent means nothing.
+/// The nearest live extents before and after a live extent. The link of a dead extent has no meaning.
 #[derive(Clone, Copy)]
 pub struct Link {
-    /// How many extents there are up to the live one before it; 0 if there is none.
+    /// How many extents there are up to and including the live one before it; 0 if there is none.
     pub before: u32,
-    /// The number of the live one after it, if there is one.
+    /// The number of the live extent after it, if there is one.
     pub behind: u32,
 }
 
@@ -30,7 +30,7 @@ fn set_behind(table: &mut ChunkedVec<PartEntry>, number: usize, behind: u32)
     table.set(number, PartEntry { link, ..entry });
 }
 
-// Sets how many extents there are up to the live one before an extent.
+// Sets how many extents there are up to and including the live one before an extent.
 fn set_before(table: &mut ChunkedVec<PartEntry>, number: usize, before: u32)
     requires { number < length table.old }
     ensures extents { extents_of table.new ≡ extents_of table.old }
@@ -44,7 +44,7 @@ fn set_before(table: &mut ChunkedVec<PartEntry>, number: usize, before: u32)
     table.set(number, PartEntry { link, ..entry });
 }
 
-/// Appends a live extent and links it with the last one, which is live if there is one. Refused with `NoMemory` (1) alone. Then the table
+/// Appends a live extent and links it with the last one, which is live if there is one. Refused only with `NoMemory` (1). Then the table
 /// is as before.
 #[inline(always)]
 pub fn push_linked(table: &mut ChunkedVec<PartEntry>, extent: Extent) -> Result<(), Refusal>
@@ -69,7 +69,7 @@ pub fn push_linked(table: &mut ChunkedVec<PartEntry>, extent: Extent) -> Result<
     Ok(())
 }
 
-/// Takes a live extent out of the links. Returns how many extents are left once those after the last part are cut off. Reads only the
+/// Takes a live extent out of the links. Returns how many extents remain after those past the last part are cut off. Reads only the
 /// extent's neighbours.
 pub fn unlink(table: &mut ChunkedVec<PartEntry>, number: usize) -> usize
     requires linked { AreLinked 0 0 0 (extents_of table.old) (links_of table.old) }

@@ -2,7 +2,7 @@
 use super::extents::Extent;
 use super::links::Link;
 
-/// An extent, and its link to the live extents around it.
+/// An extent, and its link to the nearest live extents.
 #[derive(Clone, Copy)]
 pub struct PartEntry {
     pub extent: Extent,

@@ -14,11 +14,12 @@ use far_types::Refusal;
 use std::alloc::Global;
 use std::marker::Model;
 
-/// Parts of elements in segments, after the log-structured local memory of AIFM (Ruan et al., OSDI 2020).
+/// The local memory of all objects of one element type: lists of elements in segments, after the log-structured local memory of AIFM (Ruan
+/// et al., OSDI 2020).
 ///
-/// - A part is a list of elements that is not empty. It lies in one segment, in one piece.
-/// - A segment's fill is where its last part ends, 0 if it has none. It falls when the last part is dropped.
-/// - A location is a segment and where in it the part begins, counted in elements.
+/// - A part is a list of elements that is not empty. It is in one segment, in one piece.
+/// - A segment's fill is where its last part ends, 0 if it has no part. It falls when the last part is dropped.
+/// - A location is a segment and the offset in it at which a part begins, counted in elements.
 #[derive(Drop)]
 pub struct Region<T> {
     segments: Segments<T>,
@@ -40,8 +41,8 @@ impl<T> Model for Region<T> {
 impl<T: Copy + Drop> Region<T> {
     /// Makes a region of `segments` segments, each for `size` elements, without parts.
     ///
-    /// It allocates all memory for elements, as one block, and writes none of it. A later `place` writes its own list, and the gap in front
-    /// of it as far as nothing was written there yet. Refused with `NoMemory` (1) alone.
+    /// It allocates all memory for elements, as one block, and writes none of it. A later `place` writes its own list, and the gap before
+    /// it if nothing was written there yet. Refused only with `NoMemory` (1).
     pub fn new(alloc: Global, segments: u32, size: u32) -> Result<Region<T>, Refusal>
         requires { segments ≤ 65536 }
         ensures empty { IfOk result (λ region. region ≡ replicate segments record { parts = []; size = size }) }
@@ -55,7 +56,7 @@ impl<T: Copy + Drop> Region<T> {
     }
 
     // Searches for the lowest segment that has the space for a list of `len` elements. It is `first` of the result, which also records all
-    // segments that the search passed.
+    // segments that the search passed over.
     fn search(&self, len: usize) -> Option<Skip>
         ensures lowest { option_map (λ found. found.first) result ≡ target_of self.now len }
         ensures passed { IfSome result (IsSkip self.now) }
@@ -87,11 +88,11 @@ impl<T: Copy + Drop> Region<T> {
         self.search(len).is_some()
     }
 
-    /// Returns whether at most 16 lists of these lengths, none of them empty, can be placed one after the other. Allocates nothing and
-    /// places nothing.
+    /// Returns whether at most 16 lists of these lengths, none of them empty, can be placed one after another. Allocates nothing and places
+    /// nothing.
     ///
-    /// Each list goes to the lowest segment that has the space. So a segment alone decides which lists go to it. One pass over the segments
-    /// is enough, without those that a search for each list would skip.
+    /// Each list goes to the lowest segment that has the space. So which lists go to a segment depends only on that segment. One pass over
+    /// the segments is enough, without those that a search for each list would skip.
     pub fn fits_in_order(&self, lens: &[usize]) -> bool
         requires few { length lens.now ≤ 16 }
         requires some { All (λ len. 0 < len) lens.now }
@@ -112,23 +113,23 @@ impl<T: Copy + Drop> Region<T> {
         none_waits(waiting)
     }
 
-    /// Returns the lengths of all parts together, in elements. Allocates nothing.
+    /// Returns the total length of all parts, in elements. Allocates nothing.
     pub fn used(&self) -> u64
         ensures { result ≡ used_of self.now }
     {
         self.segments.used()
     }
 
-    /// Returns how many elements the segments have space for after their fills, all together. Allocates nothing.
+    /// Returns the total space of the segments after their fills, in elements. Allocates nothing.
     ///
-    /// A list needs its space in one segment. So a list that is no longer than this may still not fit.
+    /// A list needs its space in one segment. So a list may not fit although it is no longer than this.
     pub fn space(&self) -> usize
         ensures { result ≡ space_of self.now }
     {
         self.capacity() - self.segments.filled()
     }
 
-    /// Returns the capacity of all segments together, in elements. Allocates nothing.
+    /// Returns the total capacity of the segments, in elements. Allocates nothing.
     pub fn capacity(&self) -> usize
         ensures { result ≡ capacity_of self.now }
     {
@@ -161,8 +162,8 @@ impl<T: Copy + Drop> Region<T> {
         self.segments.part(at)
     }
 
-    /// Borrows the part at a location, which has `len` elements, in place. Allocates nothing, and reads no segment's table: the length
-    /// gives where the part ends.
+    /// Borrows the part at a location, which has `len` elements, in place. Allocates nothing, and reads no segment's table: the length says
+    /// where the part ends.
     pub fn part_long(&self, at: At, len: usize) -> &[T]
         requires { IsSomeAnd (part_of self.now at) (λ list. length list ≡ len) }
         ensures { part_of self.now at ≡ Some result.now }
@@ -184,13 +185,13 @@ impl<T: Copy + Drop> Region<T> {
         self.skip = self.skip.with_space(number, space);
     }
 
-    /// Places a list as a new part in the lowest segment that has the space, at its fill. Returns where it lies.
+    /// Places a list as a new part in the lowest segment that has the space, at its fill. Returns the part's location.
     ///
-    /// It allocates nothing for elements. If it is refused, nothing is changed. Refused with:
+    /// It allocates nothing for elements. A refused call changes nothing. Refused with:
     /// - `RegionFull` (17) exactly if `fits` is false;
-    /// - else `NoMemory` (1) alone, if the table of parts cannot grow.
+    /// - else only `NoMemory` (1), if the table of parts cannot grow.
     ///
-    /// It is inlined, since a location that is returned through memory costs more than the search for it.
+    /// It is inlined, since returning a location through memory costs more than the search for it.
     #[inline(always)]
     pub fn place(&mut self, items: &[T]) -> Result<At, Refusal>
         requires some { 0 < length items.now }
@@ -233,7 +234,7 @@ impl<T: Copy + Drop> Region<T> {
     ///
     /// Refused with:
     /// - `OutOfRange` (14) exactly if there is no segment `from`;
-    /// - `RegionFull` (17) exactly if there is one and no other is without parts.
+    /// - `RegionFull` (17) exactly if segment `from` exists and every other segment has a part.
     pub fn may_compact(&self, from: u32) -> Result<(), Refusal>
         ensures missing { IsErrOf result Refusal.OutOfRange ↔ (length self.now ≤ from) }
         ensures full { IsErrOf result Refusal.RegionFull ↔ ((from < length self.now) × HasNoEmptyOther self.now from) }
@@ -249,13 +250,13 @@ impl<T: Copy + Drop> Region<T> {
         Ok(())
     }
 
-    /// Moves the parts of segment `from` into the lowest other segment without parts. `order` lists where the parts begin, and they are
-    /// moved in its order. Returns where they lie now. Segment `from` is left without parts.
+    /// Moves the parts of segment `from` into the lowest other segment without parts. `order` lists the offsets of the parts, which are
+    /// moved in this order. Returns their new locations. Afterwards segment `from` has no parts.
     ///
-    /// Copies each element once, within the block. If it is refused, nothing is changed. Refused with:
+    /// Copies each element once, within the block. A refused call changes nothing. Refused with:
     /// - `OutOfRange` (14) exactly if there is no segment `from`;
-    /// - `RegionFull` (17) exactly if there is one and no other is without parts;
-    /// - else `NoMemory` (1) alone, if the tables cannot grow.
+    /// - `RegionFull` (17) exactly if segment `from` exists and every other segment has a part;
+    /// - else only `NoMemory` (1), if the tables cannot grow.
     pub fn compact(&mut self, alloc: Global, from: u32, order: &[u32]) -> Result<Moved, Refusal>
         requires { IsOrder (segment_of self.old from).parts order.now }
         ensures compacted { IfOk result (λ moved. Compacts self.old self.new from moved.segment order.now moved.offsets.items) }
@@ -287,7 +288,7 @@ impl<T: Copy + Drop> Region<T> {
 
     /// Mutably borrows the part at a location, in place. Allocates nothing.
     ///
-    /// What the borrow leaves is the part's list, and no other part changes (`alone`).
+    /// The borrow changes this part's list, and no other part (`alone`).
     pub fn part_mut(&mut self, at: At) -> &mut [T]
         requires { IsSome (part_of self.old at) }
         ensures* writes_back { sem 𝓛 (lends_part T.row self.entry at 0 result) }
@@ -300,7 +301,7 @@ impl<T: Copy + Drop> Region<T> {
 
     /// Mutably borrows the part at a location, which has `len` elements, in place. Allocates nothing, and reads no segment's table.
     ///
-    /// What the borrow leaves is the part's list, and no other part changes (`alone`).
+    /// The borrow changes this part's list, and no other part (`alone`).
     pub fn part_long_mut(&mut self, at: At, len: usize) -> &mut [T]
         requires { IsSomeAnd (part_of self.old at) (λ list. length list ≡ len) }
         ensures* writes_back { sem 𝓛 (lends_part T.row self.entry at 0 result) }

@@ -13,7 +13,7 @@ use far_types::Refusal;
 use std::alloc::Global;
 use std::marker::Model;
 
-/// Segments of one size: a stack of elements for each, in one block, and a table of the parts in each.
+/// Segments of one size: a stack of elements for each, all in one block, and a table of the parts in each.
 #[derive(Drop)]
 pub struct Segments<T> {
     stacks: Stacks<T>,
@@ -33,8 +33,8 @@ impl<T> Model for Segments<T> {
 }
 
 impl<T: Copy + Drop> Segments<T> {
-    /// Makes `count` segments, each for `size` elements, without parts. Reserves their memory and does not write it. Refused with
-    /// `NoMemory` (1) alone.
+    /// Makes `count` segments, each for `size` elements, without parts. Reserves their memory and does not write it. Refused only with
+    /// `NoMemory` (1).
     pub fn new(alloc: Global, count: u32, size: u32) -> Result<Segments<T>, Refusal>
         requires { count ≤ 65536 }
         ensures empty { IfOk result (λ state. state ≡ replicate count record { parts = []; size = size }) }
@@ -79,14 +79,14 @@ impl<T: Copy + Drop> Segments<T> {
         self.stacks.len(number) == 0
     }
 
-    /// Returns the fills of all segments together.
+    /// Returns the total of the segments' fills.
     pub fn filled(&self) -> usize
         ensures { result ≡ sum_by fill_of self.now }
     {
         self.stacks.filled()
     }
 
-    /// Returns the lengths of all parts together.
+    /// Returns the total length of all parts.
     pub fn used(&self) -> u64
         requires { length self.now ≤ 65536 }
         ensures { result ≡ used_of self.now }
@@ -129,7 +129,7 @@ impl<T: Copy + Drop> Segments<T> {
             .slice(at.segment as usize, at.offset as usize, len)
     }
 
-    /// Places a list after the last part of a segment. Returns where it begins. Refused with `NoMemory` (1) alone, if the table of parts
+    /// Places a list after the last part of a segment. Returns where it begins. Refused only with `NoMemory` (1), if the table of parts
     /// cannot grow. It allocates nothing for elements.
     #[inline(always)]
     pub fn place(&mut self, number: usize, items: &[T]) -> Result<u32, Refusal>
@@ -148,8 +148,8 @@ impl<T: Copy + Drop> Segments<T> {
         Ok(offset)
     }
 
-    /// Places a copy of the part at a location after the last part of a segment. Returns where it begins. Refused with `NoMemory` (1)
-    /// alone, if the table of parts cannot grow. It allocates nothing for elements.
+    /// Places a copy of the part at a location after the last part of a segment. Returns where it begins. Refused only with `NoMemory`
+    /// (1), if the table of parts cannot grow. It allocates nothing for elements.
     pub fn place_copy(&mut self, from: At, number: usize) -> Result<u32, Refusal>
         requires there { number < length self.old }
         requires part { IsSome (part_of self.old from) }

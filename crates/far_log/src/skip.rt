@@ -1,9 +1,9 @@
-// Where a search for space looks.
+// The segments that a search for space skips.
 ghost use Rattle.std.specs.Prelude.{◌≡◌, ◌≤◌, ◌⊎◌, nat_le, true};
 ghost use Rattle.std.specs.List.{list_all};
 ghost use Rattle.far_log.specs.Skipping.{IsSpaced};
 
-// How many segments each search may go through again, so that shorter lists still skip those before.
+// How many segments a search may revisit, so that searches for shorter lists still skip the earlier ones.
 const NEAR: usize = 64;
 
 /// The segments that a search for space skips: no segment below `next`, except `first`, has the space for `len` elements. So a search for a
@@ -11,15 +11,15 @@ const NEAR: usize = 64;
 ///
 /// One segment number would not do:
 /// - A full segment mostly has the space for some short list, so `len` says for which lists it counts as full.
-/// - A list that is replaced leaves space in its segment, which may be far before the others that have some. That segment is `first`.
-///   When it is full again, the search goes on where it was.
+/// - A replaced list frees space in its segment, which may be far before the others that have space. That segment is `first`. When it is
+///   full again, the search continues where it was.
 #[derive(Clone, Copy)]
 pub struct Skip {
     /// The number of the segment that is tried first.
     pub first: usize,
-    /// The number of the segment that is tried after it.
+    /// The number of the segment that is tried next.
     pub next: usize,
-    /// The least length of a list whose search skips the others.
+    /// The length from which on the search for a list skips the others.
     pub len: usize,
 }
 
@@ -35,7 +35,7 @@ impl Skip {
         }
     }
 
-    /// Returns what a search for a list of `len` elements skips.
+    /// Returns which segments a search for a list of `len` elements skips.
     pub fn for_list(self, len: usize) -> Skip
         ensures long { result.len ≤ len }
         ensures known { (result ≡ self) ⊎ (result ≡ record { first = 0; next = 0; len = 0 }) }
@@ -43,7 +43,7 @@ impl Skip {
         if self.len <= len { self } else { Skip::none() }
     }
 
-    /// Returns what a search for several lists skips.
+    /// Returns which segments a search for several lists skips.
     pub fn for_lists(self, lens: &[usize]) -> Skip
         ensures { (result ≡ record { first = 0; next = 0; len = 0 }) ⊎ ((result ≡ self) × (list_all (λ n. nat_le self.len n) lens.now ≡ true)) }
     {
@@ -54,14 +54,14 @@ impl Skip {
         }
     }
 
-    /// Returns what is skipped once a search for a list of `len` elements ended with `found`.
+    /// Returns which segments are skipped after a search for a list of `len` elements ended with `found`.
     ///
-    /// After a search through many segments this is `found`, so that the next search skips them. After a short search it is `found` only if
-    /// no list loses by it, or if nothing was skipped yet.
+    /// After a search through many segments the result is `found`, so that the next search skips them. After a short search it is `found`
+    /// only if no list loses by that, or if nothing was skipped yet.
     pub fn after_search(self, found: Skip, len: usize) -> Skip
         ensures { (result ≡ self) ⊎ (result ≡ found) }
     {
-        // Mostly the first segment that was tried has the space. Then `found` is what was skipped before.
+        // Mostly the first segment that was tried has the space. Then `found` equals what was skipped before.
         if found.first == self.first && self.len <= len {
             return self;
         }
@@ -78,12 +78,12 @@ impl Skip {
         }
     }
 
-    /// Returns what is skipped once a segment has this space, more or less than before.
+    /// Returns which segments are skipped after the space of a segment changed to `space`, more or less than before.
     pub fn with_space(self, number: usize, space: usize) -> Skip
         requires { self.first ≤ self.next }
         ensures { IsSpaced self result number space }
     {
-        // Mostly it is the segment that is tried first, and has space left.
+        // Mostly this is the segment that is tried first, and it still has space.
         if number == self.first && space >= self.len {
             return self;
         }
@@ -105,7 +105,7 @@ impl Skip {
     }
 }
 
-// Returns whether no length is below this one.
+// Returns whether every length is at least this one.
 fn none_shorter(lens: &[usize], len: usize) -> bool
     ensures { result ≡ list_all (λ n. nat_le len n) lens.now }
 {

@@ -10,7 +10,7 @@ use std::marker::Model;
 
 /// Stacks of at most `size` elements each, in one block of memory that is reserved once.
 ///
-/// Stack number k begins at `k * size`. Behind its last element lie old elements, which mean nothing.
+/// Stack number k begins at `k * size`. After its last element come old elements, which have no meaning.
 #[derive(Drop)]
 pub struct Stacks<T> {
     block: Block<T>,
@@ -39,7 +39,7 @@ fn begin_of(number: usize, size: u32) -> usize
 }
 
 impl<T: Copy + Drop> Stacks<T> {
-    /// Makes empty stacks. Reserves all memory for their elements, and does not write it. Refused with `NoMemory` (1) alone.
+    /// Makes empty stacks. Reserves all memory for their elements, and does not write it. Refused only with `NoMemory` (1).
     pub fn new(alloc: Global, count: u32, size: u32) -> Result<Stacks<T>, Refusal>
         requires { count ≤ 65536 }
         ensures empty { IfOk result (λ s. s ≡ record { stacks = replicate count []; size = size }) }
@@ -70,7 +70,7 @@ impl<T: Copy + Drop> Stacks<T> {
         self.lens[number] as usize
     }
 
-    /// Returns how many elements all stacks have together.
+    /// Returns the total number of elements in the stacks.
     pub fn filled(&self) -> usize
         ensures { result ≡ sum_by (λ xs. length xs) self.now.stacks }
     {

@@ -9,7 +9,7 @@ use super::part_entry::PartEntry;
 use far_types::Refusal;
 use std::alloc::Global;
 
-/// Returns the lengths of all parts in some tables together.
+/// Returns the total length of all parts in some tables.
 pub fn used_by(tables: &[Table]) -> u64
     requires { length tables.now ≤ 65536 }
     ensures { result ≡ sum_by (λ t. t.used) tables.now }
@@ -17,7 +17,7 @@ pub fn used_by(tables: &[Table]) -> u64
     tables.iter().map(|table| table.used as u64).sum()
 }
 
-/// The table of a segment's parts: where they lie, and how long they are together.
+/// The table of a segment's parts: where each is, and their total length.
 #[derive(Drop)]
 pub struct Table {
     pub entries: ChunkedVec<PartEntry>,
@@ -35,7 +35,7 @@ impl Table {
         }
     }
 
-    /// Adds a part of `len` elements after the last. Returns where it begins. Refused with `NoMemory` (1) alone, if the table cannot grow.
+    /// Adds a part of `len` elements after the last. Returns where it begins. Refused only with `NoMemory` (1), if the table cannot grow.
     /// Then it is as before.
     #[inline(always)]
     pub fn push(&mut self, offset: usize, len: usize) -> Result<u32, Refusal>

@@ -1,4 +1,4 @@
--- What columns at hand give is what their places give: an aggregate looks at the columns alone that it needs.
+-- Available columns contribute what their places contribute: an aggregate reads only the columns that it needs.
 use Rattle.std.proofs.Common.{◌≡◌, ℕ, suc, ◌+◌, Bool, true, false, ◌||◌, cond, List, [], ◌∷◌, map, Option, None, Some, refl, ap, ◌∙◌, arith}
 use Rattle.std.specs.Prelude.{◌==◌, option_map, slice_get}
 use Rattle.std.specs.Cmp.Lexicographic.{pointwise}
@@ -17,7 +17,7 @@ use Rattle.far_offload.specs.AtHand.{AreAtHand}
 use Rattle.far_offload.specs.Columns.{Columns, cells_at}
 use Rattle.far_offload.specs.Partials.{pair_at, pairs_over}
 
--- a test looks at its own column
+-- a test reads only its own column
 passes-same : (t : Test) (f g : Cells) → f (column_of t) ≡ g (column_of t) → passes t f ≡ passes t g
 passes-same (test.Int column op value) f g h = ap (number_passes (λ number. compares op number value)) h
 passes-same (test.TextIs column constant) f g h = ap (text_passes (λ text. pointwise ◌==◌ text constant)) h

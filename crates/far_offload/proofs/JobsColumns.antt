@@ -1,4 +1,4 @@
--- The columns under the first tickets, with one ticket more.
+-- The columns of the first tickets, with one more ticket.
 use Rattle.std.proofs.Common.{◌≡◌, ℕ, ◌+◌, ◌<◌, List, [], ◌∷◌, ◌++◌, length, get_or, take, ap, ◌∙◌}
 use Rattle.std.proofs.lemmas.List.{take_more, map-append}
 use Rattle.far_offload.specs.Columns.{cells_meant}

@@ -1,4 +1,4 @@
--- The cell at a place, by the value that stands there.
+-- The cell at a place, given the value there.
 use Rattle.std.proofs.Common.{◌≡◌, ℕ, zero, suc, ℤ, List, [], ◌∷◌, map, get_or, Option, refl}
 use Rattle.std.specs.Prelude.{slice_get}
 use Rattle.std.specs.Option.{option_and_then}

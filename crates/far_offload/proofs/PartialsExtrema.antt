@@ -1,4 +1,4 @@
--- The extrema under one key, with one place more.
+-- The extrema of one key, with one more place.
 use Rattle.std.proofs.Common.{◌≡◌, ℕ, ◌+◌, ◌<◌, Bool, true, false, cond, List, [], ◌++◌, length, get_or, map, take, Option, None, Some, refl, sym, ap, ◌∙◌}
 use Rattle.std.specs.Prelude.{ℤ, option_map}
 use Rattle.std.specs.FinMap as fin
@@ -25,7 +25,7 @@ use Rattle.far_offload.specs.Columns.{Columns, column_of, cell_of, cells_at, Are
 use Rattle.far_offload.specs.Partials.{pairs_over, value_at, IsWithin}
 use Rattle.far_offload.proofs.PartialsLaws.{extrema-more, within-unchanged, pair-is, pairs-next, pairs-valueless}
 
--- a pair under another key leaves what stands under this one
+-- a pair with another key does not change this key's extrema
 elsewhere : (m : Extrema) (pair : Pair) (key : Option Key) → (pair.0 ≡ key → ⊥) → fin.get (with_observed m pair) key ≡ fin.get m key
 elsewhere m pair key h =
     fin.get-insert line_total m pair.0 (min_max_with pair.1 (fin.get m pair.0)) key
@@ -49,11 +49,11 @@ module _ (spec : Spec) (columns : Columns) (flags : List Bool) (i : ℕ) (flag :
   next : pairs_over spec columns (take (i + 1) flags) ≡ pairs ++ cons_option there []
   next = pairs-next spec columns flags i flag there within is (pair-is spec columns (i, flag))
 
-  -- a place that stands under another key, or under none
+  -- a place with another key, or without one
   pub min_max-elsewhere : (key_under spec.key (cells_at columns i) ≡ Some key → ⊥) → fin.get (extrema (pairs_over spec columns (take (i + 1) flags))) key ≡ fin.get (extrema pairs) key
   min_max-elsewhere h = ap (λ l. fin.get (extrema l) key) next ∙ not-under pairs key (key_under spec.key (cells_at columns i)) (value_at spec columns (i, flag)) h
 
-  -- a place that stands under the key and has a value
+  -- a place with the key and a value
   pub min_max-there : (value : ℤ) → key_under spec.key (cells_at columns i) ≡ Some key → Some value ≡ value_at spec columns (i, flag) → fin.get (extrema (pairs_over spec columns (take (i + 1) flags))) key ≡ Some (min_max_with value (fin.get (extrema pairs) key))
   min_max-there value under has =
       ap (λ l. fin.get (extrema l) key) next
@@ -62,14 +62,14 @@ module _ (spec : Spec) (columns : Columns) (flags : List Bool) (i : ℕ) (flag :
       ∙ ap (λ m. fin.get m key) (extrema-more pairs (key, value))
       ∙ get_inserted (extrema pairs) key (min_max_with value (fin.get (extrema pairs) key))
 
-  -- or one whose value is within what stands there
+  -- or a place whose value is within the extrema
   pub min_max-within : (min_max : Option (ℤ × ℤ)) → min_max ≡ fin.get (extrema pairs) key → key_under spec.key (cells_at columns i) ≡ Some key → IsWithin min_max (value_at spec columns (i, flag)) → fin.get (extrema (pairs_over spec columns (take (i + 1) flags))) key ≡ fin.get (extrema pairs) key
   min_max-within min_max before under = elim (value_at spec columns (i, flag)) as (λ (o : Option ℤ). o ≡ value_at spec columns (i, flag) → IsWithin min_max o → fin.get (extrema (pairs_over spec columns (take (i + 1) flags))) key ≡ fin.get (extrema pairs) key) [
     | None ↦ λ e h. ap (λ l. fin.get (extrema l) key) (pairs-valueless spec columns flags i flag within is e)
     | Some value ↦ λ e h. min_max-there value under e ∙ within-unchanged value min_max (fin.get (extrema pairs) key) before h
   ] refl
 
--- a cell that gives a number as its key is that number
+-- a cell whose key is a number is that number
 number_key : (c : Cell) (n : ℤ) → option_map {U = Option Key} Some (key_in (Some c)) ≡ Some (Some (keys.Int n)) → c ≡ cell.Int n
 number_key (cell.Int m) n h = cc
 number_key (cell.Text t) n h = cc
@@ -79,7 +79,7 @@ under_column : (key : Option ℕ) (columns : Columns) (place : ℕ) (column : �
 under_column None columns place column h = cc
 under_column (Some k) columns place column h = ap (λ (o : Option (ℕ × List Cell)). option_map Some (key_in (option_map (cell_of place) o))) h
 
--- a place stands under a number if the key column has it there
+-- a place has a number as its key if the key column has it there
 pub number_under : (spec : Spec) (columns : Columns) (numbers : List (Option ℤ)) (place : ℕ) (n : ℤ) → AreKeys columns spec.key numbers → (get_or (map int_cell numbers) place Missing ≡ cell.Int n → key_under spec.key (cells_at columns place) ≡ Some (Some (keys.Int n))) × (key_under spec.key (cells_at columns place) ≡ Some (Some (keys.Int n)) → get_or (map int_cell numbers) place Missing ≡ cell.Int n)
 number_under spec columns numbers place n are =
     let column = are.0 in

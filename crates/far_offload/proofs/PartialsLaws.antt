@@ -1,4 +1,4 @@
--- How what the first places come to changes with one place more.
+-- How the aggregate of the first places changes with one more place.
 use Rattle.std.proofs.Common.{◌≡◌, ℕ, zero, suc, ◌+◌, ◌<◌, ◌≤◌, ◌^◌, Bool, true, false, cond, List, [], ◌∷◌, ◌++◌, length, get_or, map, take, Option, None, Some, refl, sym, ap, ◌∙◌, arith}
 use Rattle.std.specs.Prelude.{ℤ, ◌+ℤ◌, option_map, is_some, FitsSigned}
 use Rattle.std.specs.Int.{w64}
@@ -31,7 +31,7 @@ enumerate-more n (flag ∷ flags) (suc i) h =
     ap (λ l. (n, flag) ∷ l) (enumerate-more (n + 1) flags i (omega arith)
     ∙ ap (λ k. enumerate_from (n + 1) (take i flags) ++ (k, get_or flags i false) ∷ []) (omega arith))
 
--- what places give, with one place more
+-- the pairs of places, with one more place
 pub over-more : {Y : Type 0} (h : ℕ × Bool → Option Y) (flags : List Bool) (i : ℕ) (flag : Bool) → i < length flags → get_or flags i false ≡ flag → filter_map h (enumerate_from 0 (take (i + 1) flags)) ≡ filter_map h (enumerate_from 0 (take i flags)) ++ cons_option (h (i, flag)) []
 over-more h flags i flag within is =
     ap (λ l. filter_map h (enumerate_from 0 l)) (take_more flags i false within)
@@ -65,7 +65,7 @@ totals-more pairs pair = totals-among pairs pair [] ∙ ap (λ l. totals (pair �
 pub extrema-more : (pairs : List Pair) (pair : Pair) → extrema (pairs ++ pair ∷ []) ≡ with_observed (extrema pairs) pair
 extrema-more pairs pair = extrema-among pairs pair [] ∙ ap (λ l. extrema (pair ∷ l)) (append-nil pairs) ∙ extrema-cons pair pairs
 
--- a pair more can be counted under a key
+-- one more pair can be counted for a key
 pub few-under : (pairs : List Pair) (key : Option Key) → length pairs < 2 ^ 26 → count_in (fin.get (totals pairs) key) < 2 ^ 26
 few-under pairs key few = let h = counted pairs key in omega (arith, h)
 
@@ -81,7 +81,7 @@ values-same spec columns flags i flag within is none =
     ∙ ap (λ (o : Option ℤ). values_over spec columns (take i flags) ++ cons_option o []) (sym none)
     ∙ append-nil (values_over spec columns (take i flags))
 
--- a value that is within what there is leaves it as it is
+-- a value within the least and the greatest does not change them
 pub within-unchanged : (value : ℤ) (min_max there : Option (ℤ × ℤ)) → min_max ≡ there → IsWithin min_max (Some value) → Some (min_max_with value there) ≡ there
 within-unchanged value None there before h = absurd h
 within-unchanged value (Some s) there before h = ap (λ o. Some (min_max_with value o)) (sym before) ∙ ap Some (widened_within value s h.0 h.1) ∙ before
@@ -92,7 +92,7 @@ values-within spec columns flags i flag observed within is before = elim (value_
   | Some value ↦ λ e h. ap min_max_in (values-with spec columns flags i flag value within is e) ∙ min_max-more (values_over spec columns (take i flags)) value ∙ within-unchanged value observed (min_max_in (values_over spec columns (take i flags))) before h
 ] refl
 
--- a place with a value gives a pair if it has a key
+-- a place with a value contributes a pair if it has a key
 paired-is : (under : Option (Option Key)) (number : Option ℤ) → paired under number ≡ option_and_then (λ value. option_map (λ key. (key, value)) under) number
 paired-is None None = refl
 paired-is None (Some value) = refl
@@ -154,7 +154,7 @@ pairs-keyless spec columns flags i column flag value key keyed within is there k
     pairs-next spec columns flags i flag None within is (keyed-pair spec columns i column flag value key keyed there key_is ∙ no-key key value none)
     ∙ append-nil (pairs_over spec columns (take i flags))
 
--- without key column each value stands under no key
+-- without a key column each value has no key
 plain-pair : (spec : Spec) (columns : Columns) (place : ℕ × Bool) → spec.key ≡ None → pair_at spec columns place ≡ option_map (λ value. (None, value)) (value_at spec columns place)
 plain-pair spec columns place plain =
     pair-is spec columns place
@@ -176,7 +176,7 @@ plain-pairs spec columns (place ∷ places) plain =
     each None values = refl
     each (Some value) values = refl
 
--- the totals of values that all stand under no key
+-- the totals of values that all have no key
 plain-totals : (values : List ℤ) → (length values ≡ 0 → ⊥) → totals (map (λ value. (None, value)) values) ≡ fin.insert fin.empty None (count_sum values)
 plain-totals [] some = absurd (some refl)
 plain-totals (value ∷ values) some = grouped-one count_sum None value values
@@ -196,6 +196,6 @@ pub no-extrema : (values : List ℤ) → None ≡ min_max_in values → extrema 
 no-extrema [] h = refl
 no-extrema (value ∷ values) h = absurd cc
 
--- what `add_rows` makes of them, if nothing is in yet
+-- the result of `add_rows`, if no row was added yet
 pub added-totals : (values : List ℤ) → (length values ≡ 0 → ⊥) → joined_totals fin.empty (fin.insert fin.empty None (count_sum values)) ≡ totals (map (λ value. (None, value)) values)
 added-totals values some = ap (joined_totals fin.empty) (sym (plain-totals values some)) ∙ sym (totals-append [] (map (λ value. (None, value)) values))

@@ -1,4 +1,4 @@
--- What extrema come to with the rows of one row group more.
+-- Extrema with the rows of one more row group.
 use Rattle.std.proofs.Common.{◌≡◌, true, false, cond, List, [], ◌∷◌, ◌++◌, map, Option, None, Some, refl, sym, ap, ◌∙◌, arith}
 use Rattle.std.specs.Prelude.{ℤ}
 use Rattle.std.specs.Int.{int_min, int_max}
@@ -16,7 +16,7 @@ use Rattle.far_types.proofs.EffectsLaws.{extrema-append}
 use Rattle.far_offload.specs.Partials.{min_max_in}
 use Rattle.far_offload.proofs.PartialsLaws.{extrema-more, plain-extrema, no-extrema}
 
--- a value widens what two are joined to as it widens the second
+-- widening the second of two that are joined widens the result
 join-widened : (v : ℤ) (one other : Option (ℤ × ℤ)) → Some (min_max_with v (merge_two join_min_maxes one other)) ≡ merge_two join_min_maxes one (Some (min_max_with v other))
 join-widened v None None = refl
 join-widened v None (Some y) = refl
@@ -43,19 +43,19 @@ observed-joined m n p = same _ _ (λ q.
     ∙ ap (merge_two join_min_maxes (fin.get m q)) (sym (fin.get-insert line_total n p.0 (min_max_with p.1 (fin.get n p.0)) q))
     ∙ sym (get-joined join_min_maxes m (with_observed n p) q))
 
--- no row more
+-- no more rows
 pub observed-nothing : (m : Extrema) → m ≡ joined_extrema m (extrema [])
 observed-nothing m = sym (joined-empty join_min_maxes m)
 
--- one row more
+-- one more row
 pub observed-more : (m : Extrema) (pairs : List Pair) (pair : Pair) → with_observed (joined_extrema m (extrema pairs)) pair ≡ joined_extrema m (extrema (pairs ++ pair ∷ []))
 observed-more m pairs pair = observed-joined m (extrema pairs) pair ∙ ap (joined_extrema m) (sym (extrema-more pairs pair))
 
--- rows that all stand under no key, by their least and their greatest value
+-- rows that all have no key, given their least and greatest value
 pub observed-plain : (m : Extrema) (values : List ℤ) (least greatest : ℤ) → Some (least, greatest) ≡ min_max_in values → joined_extrema m (fin.insert fin.empty None (least, greatest)) ≡ joined_extrema m (extrema (map (λ value. (None, value)) values))
 observed-plain m values least greatest h = ap (joined_extrema m) (sym (plain-extrema values least greatest h))
 
--- or none of them
+-- or no such rows
 pub observed-none : (m : Extrema) (values : List ℤ) → None ≡ min_max_in values → m ≡ joined_extrema m (extrema (map (λ value. (None, value)) values))
 observed-none m values h = sym (joined-empty join_min_maxes m) ∙ ap (joined_extrema m) (sym (no-extrema values h))
 

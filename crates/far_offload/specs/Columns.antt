@@ -1,4 +1,4 @@
--- The columns that a job has: the cells that their far forms mean, and what a place has in them.
+-- The columns of a job: the cells that their far forms encode, and the cells of a place.
 use Rattle.std.specs.Prelude.{◌≡◌, ℕ, ℤ, Bool, ◌==◌, List, map, Option, Some, option_map, slice_index_or}
 use Rattle.std.specs.List.{find}
 use Rattle.std.specs.Option.{option_and_then}
@@ -15,7 +15,7 @@ abbrev pub cells_in : LentValues → List Cell
 cells_in (lent.Ints numbers) = map int_cell numbers
 cells_in (lent.Texts texts) = map text_cell texts
 
--- the cells that a far form means
+-- the cells that a far form encodes
 abbrev pub cells_meant : List ℕ → List Cell
 cells_meant form = cells_in (lent_in form)
 
@@ -23,26 +23,26 @@ cells_meant form = cells_in (lent_in form)
 abbrev pub Columns : Type 0
 Columns = List (ℕ × List Cell)
 
--- whether this is the column of that number
+-- whether a column has this number
 abbrev pub is_number : ℕ → ℕ × List Cell → Bool
 is_number number column = column.0 == number
 
--- the column of a number
+-- the column with this number
 abbrev pub column_of : Columns → ℕ → Option (ℕ × List Cell)
 column_of columns number = find (is_number number) columns
 
--- the cell of a column at a place; past its end there is no value
+-- the cell of a column at a place; past the end it has no value
 abbrev pub cell_of : ℕ → ℕ × List Cell → Cell
 cell_of place column = slice_index_or column.1 place cell.Missing
 
--- what a place has, by the number of the column: nothing in a column that is not available
+-- the cells of a place, by column number; a column that is not available has no value
 abbrev pub cells_at : Columns → ℕ → Cells
 cells_at columns place number = option_map (cell_of place) (column_of columns number)
 
--- the numbers are those of the key column, of which the number is given if there is one
+-- the numbers are those of the key column, if the aggregate has one
 abbrev pub AreKeys : Columns → Option ℕ → List (Option ℤ) → Type 0
 AreKeys columns key numbers = (column : ℕ × List Cell) × (option_and_then (column_of columns) key ≡ Some column) × (column.1 ≡ map int_cell numbers)
 
--- the numbers are those of the column of this number
+-- the numbers are those of the column with this number
 abbrev pub AreValues : Columns → ℕ → List (Option ℤ) → Type 0
 AreValues columns number numbers = (column : ℕ × List Cell) × (column_of columns number ≡ Some column) × (column.1 ≡ map int_cell numbers)

@@ -1,4 +1,4 @@
--- What the live places of a row group come to.
+-- The aggregate of a row group's live places.
 use Rattle.std.specs.Prelude.{ℕ, ℤ, ◌≤ℤ◌, Bool, cond, List, [], ◌∷◌, Option, None, Some, IfSome, FitsSigned}
 use Rattle.std.specs.Int.{w64}
 use Rattle.std.specs.List.{filter_map, enumerate_from}
@@ -13,39 +13,38 @@ use Rattle.far_offload.specs.declared.partial.PartialDone.{PartialDone}
 use Rattle.far_offload.specs.declared.partial.PartialDone.TheVariants.{Totals, Extrema}
 use Rattle.far_offload.specs.Columns.{Columns, cells_at}
 
--- what a place gives: the pair of its row, if it is alive, kept and folded
+-- the pair of a place's row, if the place is alive, passes the filter, and has a value and, with a key column, a key
 abbrev pub pair_at : Spec → Columns → ℕ × Bool → Option Pair
 pair_at spec columns place = cond place.1 (pair_of spec (cells_at columns place.0)) None
 
--- the pairs of the first places, one for each flag, in order
+-- the pairs of the first places, one place for each flag, in order
 abbrev pub pairs_over : Spec → Columns → List Bool → List Pair
 pairs_over spec columns flags = filter_map (pair_at spec columns) (enumerate_from 0 flags)
 
--- the value of a place that is alive and kept, if it has one
+-- the value of a place that is alive and passes the filter, if it has one
 abbrev pub value_at : Spec → Columns → ℕ × Bool → Option ℤ
 value_at spec columns place = cond place.1 (cond (keeps spec.filter (cells_at columns place.0)) (number_in (cells_at columns place.0 spec.value)) None) None
 
--- the values of the first places that are alive and kept, in order
+-- the values of the first places that are alive and pass the filter, in order
 abbrev pub values_over : Spec → Columns → List Bool → List ℤ
 values_over spec columns flags = filter_map (value_at spec columns) (enumerate_from 0 flags)
 
--- the least and the greatest of some values, if there is one
+-- the least and the greatest of some values; nothing if there are none
 abbrev pub min_max_in : List ℤ → Option (ℤ × ℤ)
 min_max_in [] = None
 min_max_in (value ∷ values) = Some (min_max (value ∷ values))
 
--- they are numbers of 64 bits
+-- the least and the greatest value fit 64 bits
 abbrev pub MinMaxFits : Option (ℤ × ℤ) → Type 0
 MinMaxFits min_max = IfSome min_max (λ s. FitsSigned w64 s.0 × FitsSigned w64 s.1)
 
--- a value is within the least and the greatest, so that they stay the same. A missing value is within. If there is no least, no other
--- is
+-- observing a value leaves the least and the greatest as they are: it is between them, or missing
 abbrev pub IsWithin : Option (ℤ × ℤ) → Option ℤ → Type 0
 IsWithin min_max None = Unit {0}
 IsWithin None (Some value) = ⊥
 IsWithin (Some min_max) (Some value) = (min_max.0 ≤ℤ value) × (value ≤ℤ min_max.1)
 
--- what pairs come to; no row group is left to a partial
+-- the partial aggregate of these pairs; no row group is pending in it
 abbrev pub partial_of : Fold → List Pair → PartialDone
 partial_of fold.Totals pairs = Totals (record { left = 0; totals = totals pairs })
 partial_of fold.Extrema pairs = Extrema (extrema pairs)

@@ -1,4 +1,4 @@
-// Columns whose values are available.
+// Columns whose values can be read in place.
 ghost use Rattle.std.specs.Prelude.{◌≡◌, [], map, slice_index_or, None, Some, IfSome};
 ghost use Rattle.std.specs.Option.{option_copied};
 ghost use Rattle.far_types.specs.declared.cell.Cell.TheVariants.{Missing};
@@ -12,20 +12,20 @@ use far_codec::{LentInts, LentTexts, LentValues, kind_of, lend_values};
 use far_types::{CellRef, Kind};
 use std::marker::Model;
 
-/// Where the values of a column lie.
+/// The values of a column, in one of several forms.
 #[derive(Drop)]
 pub(crate) enum ColumnValues<'a> {
-    /// In a list of numbers.
+    /// A list of numbers.
     Numbers(&'a [Option<i64>]),
-    /// In a far form of numbers.
+    /// A far form of numbers.
     Ints(LentInts<'a>),
-    /// In a far form of texts.
+    /// A far form of texts.
     Texts(LentTexts<'a>),
-    /// Nowhere: the bytes are no far form.
+    /// No values: the bytes are not a far form.
     Nowhere,
 }
 
-/// A column: its number, and its values where they lie. Contracts see the number and the cells.
+/// A column: its number, and its values, read in place. Contracts see the number and the cells.
 #[derive(Drop)]
 pub struct Column<'a> {
     number: u32,
@@ -43,7 +43,7 @@ impl<'a> Model for Column<'a> {
 }
 
 impl<'a> Column<'a> {
-    /// Returns the column of this number with these numbers, read in place. Allocates nothing.
+    /// Makes the column of this number over a list of numbers. Allocates nothing.
     pub fn of_numbers(number: u32, values: &'a [Option<i64>]) -> Column<'a>
         ensures { result ≡ (number, map int_cell values.now) }
     {
@@ -53,8 +53,8 @@ impl<'a> Column<'a> {
         }
     }
 
-    /// Returns the column of this number with the values of a far form, read in place. The form must be one of the caller's
-    /// own: it is not checked. Allocates nothing, and reads the head alone.
+    /// Makes the column of this number over a far form. The form must be one of the caller's own: it is not checked.
+    /// Allocates nothing, and reads only the head.
     pub fn of_form(number: u32, form: &'a [u8]) -> Column<'a>
         requires { IsForm form.now }
         ensures { result ≡ (number, cells_meant form.now) }
@@ -65,10 +65,10 @@ impl<'a> Column<'a> {
         }
     }
 
-    /// Returns the column of this number with the values of a content, read in place. Allocates nothing.
+    /// Makes the column of this number over a content of the far store. Allocates nothing.
     ///
-    /// The bytes came from a store. So they are checked, once and in one pass, before a value is read. Bytes that are no far
-    /// form are a column without values. Only a store that breaks its contract gives such bytes.
+    /// The bytes came from a store. So they are checked, once and in one pass, before a value is read. Bytes that are not a
+    /// far form make a column without values. Only a store that breaks its contract returns such bytes.
     pub fn of_content(number: u32, bytes: &'a [u8]) -> Column<'a>
         ensures form { IsForm bytes.now → result ≡ (number, cells_meant bytes.now) }
         ensures other { (¬ IsForm bytes.now) → result ≡ (number, []) }
@@ -92,7 +92,7 @@ impl<'a> Column<'a> {
         self.number
     }
 
-    /// Returns whether the values are numbers. Only the time that a fold takes depends on it.
+    /// Returns whether the values are numbers. Only the running time of a fold depends on it.
     pub(crate) fn has_numbers(&self) -> bool {
         matches!(
             &self.values,
@@ -100,7 +100,7 @@ impl<'a> Column<'a> {
         )
     }
 
-    /// Returns the list of the numbers, if the values lie in one.
+    /// Returns the list of the numbers, if the values are a list.
     pub(crate) fn numbers(&self) -> Option<&'a [Option<i64>]>
         ensures { IfSome result (λ numbers. self.now.1 ≡ map int_cell numbers.now) }
     {
@@ -110,7 +110,7 @@ impl<'a> Column<'a> {
         }
     }
 
-    /// Returns the numbers of a far form, if the values are such.
+    /// Returns the far form of the numbers, if the values are one.
     pub(crate) fn ints(&self) -> Option<&LentInts<'a>>
         ensures { IfSome result (λ ints. self.now.1 ≡ map int_cell ints.now) }
     {
@@ -120,7 +120,7 @@ impl<'a> Column<'a> {
         }
     }
 
-    /// Returns the cell of a place. Past the end there is no value.
+    /// Returns the cell at a place. Past the end there is no value.
     #[inline(always)]
     pub(crate) fn cell(&self, place: usize) -> CellRef<'_>
         ensures cell { lent_cell result ≡ cell_of place self.now }
@@ -144,7 +144,7 @@ impl<'a> Column<'a> {
     }
 }
 
-/// Returns the values of a form, as a column has them.
+/// Returns the values of a form, as a column stores them.
 fn values_in(values: LentValues<'_>) -> ColumnValues<'_>
     ensures { cells_lent result ≡ cells_in values.entry }
 {
@@ -154,7 +154,7 @@ fn values_in(values: LentValues<'_>) -> ColumnValues<'_>
     }
 }
 
-/// Returns the values of bytes that are a far form; `None` if they are none.
+/// Returns the values of bytes that are a far form, or `None` if they are not.
 fn tested(bytes: &[u8]) -> Option<LentValues<'_>>
     ensures form { IsForm bytes.now → result ≡ Some (lent_in bytes.now) }
     ensures other { (¬ IsForm bytes.now) → result ≡ None }
@@ -166,7 +166,7 @@ fn tested(bytes: &[u8]) -> Option<LentValues<'_>>
     }
 }
 
-/// Returns the column of a number, if it is available.
+/// Returns the column with this number, if it is available.
 pub(crate) fn find<'a, 'b>(columns: &'a [Column<'b>], number: u32) -> Option<&'a Column<'b>>
     ensures { option_copied result ≡ column_of columns.now number }
 {

@@ -32,7 +32,7 @@ impl Model for Content {
 }
 
 impl Content {
-    /// Returns the column of this number, read where its form lies.
+    /// Returns the column over this content, read in place.
     fn lend(&self) -> Column<'_>
         ensures { result ≡ self.now }
     {
@@ -40,7 +40,7 @@ impl Content {
     }
 }
 
-/// Reads the content under a ticket of a column.
+/// Reads the content of a column's ticket.
 fn content_under<S: FarRead>(
     alloc: Global,
     store: &S,
@@ -60,7 +60,7 @@ fn content_under<S: FarRead>(
     Ok(Content { number, form })
 }
 
-/// Reads the contents under some tickets, one buffer for each.
+/// Reads the contents of some tickets, each into a buffer of its own.
 pub(crate) fn contents_under<S: FarRead>(
     alloc: Global,
     store: &S,
@@ -81,7 +81,7 @@ pub(crate) fn contents_under<S: FarRead>(
     Ok(contents)
 }
 
-/// Returns the columns of some contents, read in place.
+/// Returns the columns over some contents, read in place.
 pub(crate) fn lend_all(alloc: Global, contents: &[Content]) -> Result<Vec<Column<'_>>, AllocError>
     ensures { IfOk result (λ columns. columns.items ≡ contents.now) }
 {

@@ -1,4 +1,4 @@
-// The fold of a row group, by any aggregate.
+// The fold of a row group, for any aggregate.
 ghost use Rattle.std.specs.Prelude.{◌≡◌, ◌≤◌, ◌^◌, Some, None, length, IfOk, IfErr};
 ghost use Rattle.far_types.specs.declared.spec.Fold.TheVariants as folds;
 ghost use Rattle.far_types.specs.Answers.{totals, extrema};
@@ -15,7 +15,7 @@ use far_groups::LiveTotals;
 use far_types::{Fold, Refusal, Spec};
 use std::alloc::Global;
 
-/// Folds totals without key column.
+/// Folds totals without a key column.
 fn plain_totals(
     alloc: Global,
     spec: &Spec,
@@ -96,9 +96,9 @@ fn extrema_of(
 }
 
 /// Folds the live places of available columns. There is a place for each flag, at most 2^26. A column that is not available, and a
-/// place past the end of a column, have no value. Of columns with one number the first counts.
+/// place past the end of a column, have no value. If several columns have one number, the first counts.
 ///
-/// Refused with `NoMemory` (1) alone.
+/// Refused only with `NoMemory` (1).
 pub fn fold(
     alloc: Global,
     spec: &Spec,

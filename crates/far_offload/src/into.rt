@@ -1,4 +1,4 @@
-// A row group that is folded into totals.
+// Folds a row group into existing totals.
 ghost use Rattle.std.specs.Prelude.{◌≡◌, ◌≢◌, ◌-◌, ◌≤◌, ◌^◌, length, OnOk, OnErr, IfErr};
 ghost use Rattle.far_types.specs.declared.spec.Fold.TheVariants as folds;
 ghost use Rattle.far_types.specs.Answers.{totals};
@@ -15,12 +15,12 @@ use far_types::{Refusal, Spec};
 use std::alloc::Global;
 
 /// Adds the live places of a row group to totals in which a row group is pending. There is a place for each flag, at most 2^26.
-/// Each place gives what it gives in `fold`.
+/// Each place contributes what it contributes in `fold`.
 ///
-/// A key that is a number costs no memory. So a partial aggregate of the row group is made only if the keys are texts or there
-/// are none.
+/// A key that is a number allocates nothing. So a partial aggregate of the row group is made only if the keys are texts or
+/// there are none.
 ///
-/// Refused with `NoMemory` (1) alone. A refused call changes no totals.
+/// Refused only with `NoMemory` (1). A refused call changes no totals.
 pub fn fold_into(
     alloc: Global,
     live: &mut LiveTotals,
@@ -48,7 +48,7 @@ pub fn fold_into(
     }
 }
 
-/// Returns whether a column has numbers. Only the time that a fold takes depends on it.
+/// Returns whether a column has numbers. Only the running time of a fold depends on it.
 fn have_numbers(columns: &[Column<'_>], number: u32) -> bool {
     match find(columns, number) {
         Some(column) => column.has_numbers(),

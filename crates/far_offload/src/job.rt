@@ -12,11 +12,11 @@ use far_types::{Refusal, Spec};
 use std::alloc::Global;
 use std::marker::Model;
 
-/// What a remote agent is to compute: an aggregate over the live places of one row group, whose columns lie in a far store. A
-/// job borrows nothing, so any thread can carry it.
+/// A remote agent's job: an aggregate over the live places of one row group, whose columns are in a far store. A job borrows
+/// nothing, so any thread can carry it.
 ///
-/// Contracts see the aggregate, the tickets of the columns by number, and the alive flags. The remote agent works on far data
-/// where it lies, and only the result travels. That is AIFM's offloading (OSDI 2020, section 4.4).
+/// Contracts see the aggregate, the tickets of the columns by number, and the alive flags. The remote agent reads the far
+/// data where it is, and only the result travels. That is AIFM's offloading (OSDI 2020, section 4.4).
 #[derive(Drop)]
 pub struct OffloadJob<S: FarTickets> {
     spec: Spec,
@@ -37,7 +37,7 @@ impl<S: FarTickets> Model for OffloadJob<S> {
 }
 
 impl<S: FarTickets> OffloadJob<S> {
-    /// Returns a job over these columns: for each column that the aggregate needs, its number and a ticket whose content is a
+    /// Makes a job over these columns: for each column that the aggregate needs, its number and a ticket whose content is a
     /// far form. There is a place for each flag, at most 2^26. A column without a ticket, and a place past the end of a
     /// content, have no value. Allocates nothing.
     pub fn new(spec: Spec, tickets: Vec<(u32, S::Ticket)>, alive: Vec<bool>) -> OffloadJob<S>
@@ -75,12 +75,12 @@ impl<S: FarTickets> OffloadJob<S> {
 }
 
 impl<S: FarRead> OffloadJob<S> {
-    /// Computes the aggregate over the live rows that the contents mean, in the words of the plain table. Nothing enters the
+    /// Computes the aggregate over the live rows that the contents encode, as the plain table defines it. Nothing enters the
     /// local region: the contents are read into buffers of their own, which are dropped.
     ///
-    /// Refused with one of these; the job then comes back whole:
+    /// A refused call returns the whole job. Refused with one of these:
     ///
-    /// - `FarFault` (21): the store fails in this call, exactly if the meter rises, by one.
+    /// - `FarFault` (21): the store fails in this call. Only then does the meter rise, by one.
     /// - `NoMemory` (1): an allocation fails.
     pub fn carry(
         self,
@@ -101,7 +101,7 @@ impl<S: FarRead> OffloadJob<S> {
         }
     }
 
-    /// Returns what `carry` does, and keeps the job. Refused as `carry` is, with `FarFault` (21) and `NoMemory` (1).
+    /// Computes what `carry` does, and keeps the job. Refused as `carry` is, with `FarFault` (21) and `NoMemory` (1).
     pub fn partial(
         &self,
         alloc: Global,

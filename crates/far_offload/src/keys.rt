@@ -1,4 +1,4 @@
-// The keys of places.
+// Keys of places.
 ghost use Rattle.std.specs.Prelude.{◌≡◌, IfOk, IfErr, option_map};
 ghost use Rattle.std.specs.Option.{option_copied};
 ghost use Rattle.far_types.specs.Cells.{key_in};
@@ -8,7 +8,7 @@ use crate::column::Column;
 use far_types::{Key, Refusal};
 use std::alloc::Global;
 
-/// Returns the key of a column at a place, if there is one. The memory of an earlier key is used again.
+/// Returns the key of a column at a place, if there is one. Reuses the memory of an earlier key.
 #[inline(always)]
 pub(crate) fn key_at(
     alloc: Global,

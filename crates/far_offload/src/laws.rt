@@ -1,4 +1,4 @@
-// A law of the fold, over the definitions alone.
+// A law of the fold, stated over the definitions alone.
 ghost use Rattle.std.specs.Prelude.{◌≡◌, ℕ, List, map};
 ghost use Rattle.std.specs.List.{filter_map};
 ghost use Rattle.far_types.specs.declared.spec.Spec.{Spec};
@@ -7,8 +7,9 @@ ghost use Rattle.far_offload.specs.AtHand.{AreAtHand};
 ghost use Rattle.far_offload.specs.Columns.{Columns};
 ghost use Rattle.far_offload.specs.Partials.{pairs_over};
 
-/// What available columns give to an aggregate is what the places of a row group of the plain table give, in order. For that, the
-/// columns that the aggregate needs have the cells of those places first, and the flags are those of the places.
+/// A law: the pairs that available columns contribute to an aggregate are those of the places of a row group of the plain table,
+/// in order. For that, each column that the aggregate needs begins with the cells of those places, and the flags are those of the
+/// places.
 pub fn columns_at_hand_give_the_pairs_of_their_places()
     ensures { (spec : Spec) → (columns : Columns) → (size g : ℕ) → (places : List Place) → AreAtHand spec columns (in_group size g places) → pairs_over spec columns (map (λ place. place.alive) (in_group size g places)) ≡ filter_map (place_pair spec) (in_group size g places) }
 {}

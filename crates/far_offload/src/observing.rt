@@ -1,4 +1,4 @@
-// A row group whose rows are observed in extrema.
+// Observes the rows of a row group in existing extrema.
 ghost use Rattle.std.specs.Prelude.{◌≡◌, None, Some, OnOk, IfErr};
 ghost use Rattle.far_types.specs.Answers.{extrema};
 ghost use Rattle.far_types.specs.Effects.{joined_extrema};
@@ -12,7 +12,7 @@ use far_extrema::GroupExtrema;
 use far_types::{Refusal, Spec};
 use std::alloc::Global;
 
-/// Observes rows without key column.
+/// Observes rows without a key column.
 fn observe_plain(
     observed: &mut GroupExtrema,
     spec: &Spec,
@@ -57,9 +57,9 @@ fn observe_keyed(
 }
 
 /// Observes the live places of a row group in extrema, which may have rows of other row groups. There is a place for each flag.
-/// Each place gives what it gives in `fold`.
+/// Each place contributes what it contributes in `fold`.
 ///
-/// Refused with `NoMemory` (1) alone. A refused call may have observed some of the places.
+/// Refused only with `NoMemory` (1). A refused call may have observed some of the places.
 pub fn observe_into(
     alloc: Global,
     observed: &mut GroupExtrema,

@@ -1,4 +1,4 @@
-// The pairs of a row group, by an aggregate with a key column.
+// The pairs of a row group, for an aggregate with a key column.
 ghost use Rattle.std.specs.Prelude.{◌≡◌, Some, IfOk, IfErr};
 ghost use Rattle.far_types.specs.Pairs.{PairsFit};
 ghost use Rattle.far_offload.specs.Partials.{pairs_over};
@@ -10,7 +10,7 @@ use far_groups::Pair;
 use far_types::{Refusal, Spec};
 use std::alloc::Global;
 
-/// Returns the pairs that the live places give, in their order.
+/// Returns the pairs of the live places, in order.
 pub(crate) fn keyed_pairs(
     alloc: Global,
     spec: &Spec,

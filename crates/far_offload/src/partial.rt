@@ -3,7 +3,7 @@
 use far_extrema::GroupExtrema;
 use far_groups::LiveTotals;
 
-/// What the live places of one row group come to, to be merged into an aggregate.
+/// The aggregate of the live places of one row group, to be merged into a whole aggregate.
 #[derive(Drop)]
 pub enum PartialDone {
     /// Counts and sums by key. No row group is pending in these totals.

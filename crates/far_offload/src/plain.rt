@@ -1,4 +1,4 @@
-// The fold of a row group without key column: all values belong to one key.
+// The fold of a row group without a key column: all values have one key.
 ghost use Rattle.std.specs.Prelude.{◌≡◌, ◌≤◌, ◌^◌, ◌<◌, ◌+◌, ◌+ℤ◌, Some, length, IfSome, FitsSigned};
 ghost use Rattle.std.specs.Int.{w64};
 ghost use Rattle.far_types.specs.Answers.{count_sum};
@@ -12,7 +12,7 @@ use far_extrema::MinMax;
 use far_groups::{CountSum, NO_VALUES};
 use far_types::Spec;
 
-/// Returns a count and a sum with one more value.
+/// Returns a count and a sum, with one more value.
 #[inline(always)]
 fn added(count_sum: CountSum, value: i64) -> CountSum
     requires few { count_sum.0 < 2 ^ 26 }
@@ -27,7 +27,7 @@ fn added(count_sum: CountSum, value: i64) -> CountSum
     }
 }
 
-/// Returns how many values the live and kept places have, and their sum.
+/// Returns the count and the sum of the values of the places that are alive and pass the filter.
 pub(crate) fn count_sum_of(spec: &Spec, columns: &[Column<'_>], alive: &[bool]) -> CountSum
     requires { length alive.now ≤ 2 ^ 26 }
     ensures count_sum { result ≡ count_sum (values_over spec.now columns.now alive.now) }
@@ -44,7 +44,7 @@ pub(crate) fn count_sum_of(spec: &Spec, columns: &[Column<'_>], alive: &[bool]) 
     count_sum
 }
 
-/// Returns the least and the greatest of some values with one more.
+/// Returns the least and the greatest value, with one more value.
 #[inline(always)]
 pub(crate) fn widened(min_max: Option<MinMax>, value: i64) -> MinMax
     requires { MinMaxFits min_max }
@@ -57,7 +57,8 @@ pub(crate) fn widened(min_max: Option<MinMax>, value: i64) -> MinMax
     }
 }
 
-/// Returns the least and the greatest of the values that the live and kept places have, if they have one.
+/// Returns the least and the greatest of the values of the places that are alive and pass the filter, if
+/// there is a value.
 pub(crate) fn min_max_of(spec: &Spec, columns: &[Column<'_>], alive: &[bool]) -> Option<MinMax>
     ensures min_max { result ≡ min_max_in (values_over spec.now columns.now alive.now) }
     ensures fits { MinMaxFits result }

@@ -1,4 +1,4 @@
-// The least and the greatest value under one key.
+// The least and the greatest value of one key.
 ghost use Rattle.std.specs.Prelude.{◌≡◌, ◌↔◌, [], None, Some, IsTrue, IfSome, FitsSigned, map, option_map, slice_index_or};
 ghost use Rattle.std.specs.Int.{w64};
 ghost use Rattle.std.specs.FinMap as fin;
@@ -20,14 +20,14 @@ use far_codec::LentInts;
 use far_extrema::MinMax;
 use far_types::{Key, Spec};
 
-/// Returns the column of the keys, if there is one and it is available.
+/// Returns the key column, if there is one and it is available.
 fn key_column<'a, 'b>(columns: &'a [Column<'b>], key: Option<u32>) -> Option<&'a Column<'b>>
     ensures { option_copied result ≡ option_and_then (column_of columns.now) key }
 {
     find(columns, key?)
 }
 
-/// Returns whether the key that a column gives at a place is this one.
+/// Returns whether a column's key at a place is this one.
 #[inline(always)]
 fn gives(column: Option<&Column<'_>>, place: usize, key: &Key) -> bool
     ensures { IsTrue result ↔ (key_in (option_map (cell_of place) (option_copied column.entry)) ≡ Some key.now) }
@@ -38,7 +38,7 @@ fn gives(column: Option<&Column<'_>>, place: usize, key: &Key) -> bool
     }
 }
 
-/// Returns whether a place belongs to a key. The column of the keys is looked up once for all places.
+/// Returns whether a place has this key. The caller looks up the key column once for all places.
 #[inline(always)]
 fn stands_under(
     spec: &Spec,
@@ -93,8 +93,8 @@ impl<'a> NumberKeys for &'a [Option<i64>] {
     }
 }
 
-/// Returns what `min_max_under` does, if the key is a number and the key column has numbers. What the key and the column are is
-/// decided once for all places.
+/// Returns what `min_max_under` returns, for a key that is a number and a key column that has numbers. The form of the column
+/// is tested once for all places.
 fn min_max_under_number<N: NumberKeys>(
     spec: &Spec,
     columns: &[Column<'_>],
@@ -118,7 +118,7 @@ fn min_max_under_number<N: NumberKeys>(
     min_max
 }
 
-/// Returns what `min_max_under` does of any key.
+/// Returns what `min_max_under` returns, for any key.
 fn min_max_under_key(
     spec: &Spec,
     columns: &[Column<'_>],
@@ -148,7 +148,7 @@ fn min_max_under_key(
     min_max
 }
 
-/// Returns the list of the values, if they lie in one and no test is made of them.
+/// Returns the list of the values, if they are a list and the aggregate has no filter.
 fn untested_numbers<'a>(spec: &Spec, columns: &[Column<'a>]) -> Option<&'a [Option<i64>]>
     ensures values { IfSome result (λ numbers. AreValues columns.now spec.now.value numbers.now) }
     ensures untested { IfSome result (λ numbers. spec.now.filter ≡ []) }
@@ -159,7 +159,7 @@ fn untested_numbers<'a>(spec: &Spec, columns: &[Column<'a>]) -> Option<&'a [Opti
     find(columns, spec.value)?.numbers()
 }
 
-/// Returns the number that a list has at a place, if there is one.
+/// Returns the number in a list at a place, if there is one.
 #[inline(always)]
 fn number_at(numbers: &[Option<i64>], place: usize) -> Option<i64>
     ensures number { result ≡ number_in (Some (slice_index_or (map int_cell numbers.now) place Missing)) }
@@ -171,7 +171,7 @@ fn number_at(numbers: &[Option<i64>], place: usize) -> Option<i64>
     }
 }
 
-/// Returns the value of a place, which no test is made of.
+/// Returns the value at a place, without a filter.
 #[inline(always)]
 fn untested_value(
     spec: &Spec,
@@ -192,8 +192,8 @@ fn untested_value(
     }
 }
 
-/// Returns what `min_max_under` does under no key, if the values lie in a list and no test is made of them. Where they lie is
-/// decided once for all places.
+/// Returns what `min_max_under` returns without a key, if the values are a list and the aggregate has no filter. The form of
+/// the column is tested once for all places.
 fn min_max_untested(
     spec: &Spec,
     columns: &[Column<'_>],
@@ -215,8 +215,8 @@ fn min_max_untested(
     min_max
 }
 
-/// Returns the least and the greatest value of the live places that belong to a key, if there is one. That is what the extrema
-/// of `fold` have under the key. Allocates nothing.
+/// Returns the least and the greatest value of the live places with a key, if there is one. The extrema of `fold` have the same
+/// under this key. Allocates nothing.
 pub fn min_max_under(
     spec: &Spec,
     columns: &[Column<'_>],
@@ -228,7 +228,7 @@ pub fn min_max_under(
 {
     if let (Some(column), Some(Key::Int(number))) = (key_column(columns, spec.key), key) {
         if let Some(numbers) = column.numbers() {
-            // With a number for each place, no turn of the loop checks where the numbers end.
+            // There is a number for each place, so no turn of the loop tests where the numbers end.
             if numbers.len() >= alive.len() {
                 return min_max_under_number(spec, columns, alive, &numbers, number);
             }

@@ -1,5 +1,5 @@
 #![tactic(auto)]
-//! Pointer words: one number of 64 bits that says where an object's elements are and what state they are in.
+//! Pointer words: 64 bits that say where an object's elements are and what state they are in.
 
 pub mod pointer;
 pub mod word;

@@ -1,6 +1,6 @@
-// What a pointer word can say.
+// The meaning of a pointer word.
 
-/// Where in the local region an object's elements begin.
+/// The location of an object's elements in the local region.
 #[derive(Clone, Copy, Debug, PartialEq, Eq)]
 pub struct At {
     /// The number of the segment.
@@ -9,7 +9,7 @@ pub struct At {
     pub offset: u32,
 }
 
-/// What a pointer word says of its object.
+/// The state of an object, as its pointer word encodes it.
 #[derive(Clone, Copy, Debug, PartialEq, Eq)]
 pub enum Pointer {
     /// The object is in local memory.
@@ -20,9 +20,9 @@ pub enum Pointer {
         dirty: bool,
         /// It was used since the bit was last cleared: the reference bit.
         hot: bool,
-        /// The far store holds a copy of it.
+        /// The far store has a copy of it.
         far: bool,
     },
-    /// The object is in the far store alone.
+    /// Only the far store has the object.
     Remote,
 }

@@ -23,8 +23,8 @@ const SEGMENT: u32 = 32;
 // The one word that is not local.
 const REMOTE: u64 = 1 << FAR;
 
-/// A pointer word: 64 bits that say where an object's elements are and what state they are in. Contracts see
-/// the `Pointer` that it says.
+/// A pointer word: 64 bits that say where an object's elements are and what state they are in. Contracts see the `Pointer` that it
+/// encodes.
 ///
 /// | Bits | Meaning |
 /// |---|---|
@@ -36,9 +36,9 @@ const REMOTE: u64 = 1 << FAR;
 /// | 47..32 | segment, if present, else 0 |
 /// | 31..0 | offset, if present, else 0 |
 ///
-/// A local word is dirty, or has a far copy, or both. A remote word has bit 60 alone.
+/// A local word is dirty, or has a far copy, or both. A remote word has only bit 60.
 ///
-/// The word of a clean object that is not hot is moved. Then its object is used, and written:
+/// A clean object that is not hot is moved, used and written, and its word follows:
 ///
 /// ```
 /// fn changes_part_by_part() -> bool {
@@ -60,7 +60,7 @@ const REMOTE: u64 = 1 << FAR;
 /// }
 /// ```
 ///
-/// After the remoteable pointer of AIFM (Ruan et al., OSDI 2020), whose flags and address lie in one word too.
+/// After the remoteable pointer of AIFM (Ruan et al., OSDI 2020), which also has flags and address in one word.
 #[derive(Clone, Copy, Debug, PartialEq, Eq)]
 pub struct Word {
     bits: u64,
@@ -101,7 +101,7 @@ impl Word {
         }
     }
 
-    /// Makes the word of an object that is in the far store alone.
+    /// Makes the word of an object that only the far store has.
     pub fn remote() -> Word
         ensures { result ≡ Pointer.Remote }
     {
@@ -130,7 +130,7 @@ impl Word {
         self.bits
     }
 
-    /// Returns what the word says, which is what it was made of.
+    /// Returns the pointer that the word encodes.
     pub fn read(&self) -> Pointer
         ensures says { result ≡ self.now }
         ensures valid { HasWord result }
@@ -163,7 +163,7 @@ impl Word {
         is_set(self.bits, HOT)
     }
 
-    /// Returns the word with the dirty bit set, and nothing else changed. A remote word stays as it is.
+    /// Returns the word with the dirty bit set, otherwise unchanged. A remote word stays as it is.
     pub fn with_dirty(self) -> Word
         ensures { result ≡ with_dirty self }
     {
@@ -175,7 +175,7 @@ impl Word {
         }
     }
 
-    /// Returns the word with the hot bit as given, and nothing else changed. A remote word stays as it is.
+    /// Returns the word with this hot bit, otherwise unchanged. A remote word stays as it is.
     pub fn with_hot(self, hot: bool) -> Word
         ensures { result ≡ with_hot self hot }
     {
@@ -187,7 +187,7 @@ impl Word {
         }
     }
 
-    /// Returns the word of the same object at another location, and nothing else changed. A remote word stays as it is.
+    /// Returns the word with another location, otherwise unchanged. A remote word stays as it is.
     pub fn with_at(self, at: At) -> Word
         ensures { result ≡ with_at self at }
     {

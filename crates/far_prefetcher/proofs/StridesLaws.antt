@@ -13,13 +13,13 @@ module _ {X : Type 0} where
   abbrev from_back : List X → ℕ → Option X
   from_back xs k = if nat_lt k (length xs) then slice_get xs (length xs - k - 1) else None
 
-  -- what is left from an item on
+  -- the rest of a list from an item on begins with that item
   drop-here : (xs : List X) (i : ℕ) (x : X) → slice_get xs i ≡ Some x → drop i xs ≡ x ∷ drop (suc i) xs
   drop-here [] i x h = cc
   drop-here (y ∷ ys) zero x h = cc
   drop-here (y ∷ ys) (suc i) x h = drop-here ys i x h
 
-  -- there is such an item only in a list that is long enough
+  -- only a list that is long enough has such an item
   from_back-within : (xs : List X) (k : ℕ) (x : X) → from_back xs k ≡ Some x → k < length xs
   from_back-within xs k x h = grind (arith, nat_tests)
 
@@ -27,7 +27,7 @@ module _ {X : Type 0} where
   from_back-get : (xs : List X) (k : ℕ) (x : X) → from_back xs k ≡ Some x → slice_get xs (length xs - k - 1) ≡ Some x
   from_back-get xs k x h = grind (arith, nat_tests)
 
-  -- what is left from it on is the item and what was left behind it
+  -- the last k + 1 items are this item and the k items after it
   from_back-drop : (xs : List X) (k : ℕ) (x : X) → from_back xs k ≡ Some x → keep_last (k + 1) xs ≡ x ∷ keep_last k xs
   from_back-drop xs k x h =
       let within : k < length xs = from_back-within xs k x h in
@@ -35,7 +35,7 @@ module _ {X : Type 0} where
       let after : suc (length xs - k - 1) ≡ length xs - k = omega arith in
       ap (λ i. drop i xs) here ∙ drop-here xs (length xs - k - 1) x (from_back-get xs k x h) ∙ ap (λ i. x ∷ drop i xs) after
 
-  -- four items from the back are the last four
+  -- the four items counted from the back are the last four
   pub last_four : (xs : List X) (a b c d : X) → from_back xs 3 ≡ Some a → from_back xs 2 ≡ Some b → from_back xs 1 ≡ Some c → from_back xs 0 ≡ Some d → (4 ≤ length xs) × (keep_last 4 xs ≡ a ∷ b ∷ c ∷ d ∷ [])
   last_four xs a b c d ha hb hc hd =
       let within : 3 < length xs = from_back-within xs 3 a ha in
@@ -65,7 +65,7 @@ proposed_by_four groups history four h e =
     let len : length four ≡ 4 = ap length (sym e) ∙ length-drop (length history - 4) history ∙ omega arith in
     ap (proposed_after groups) (e ∙ as_four four len)
 
--- what two options have, one after the other
+-- the items of two options, one after another
 pub two_options : (a b : Option ℕ) → ([] ++ option_to_list a) ++ option_to_list b ≡ cons_option a (cons_option b [])
 two_options None None = refl
 two_options None (Some y) = refl

@@ -1,4 +1,4 @@
--- Which row groups of a column are proposed after those that were accessed.
+-- Which row groups of a column the prefetcher proposes, given the accesses so far.
 use Rattle.std.specs.Prelude.{ℕ, Bool, ℤ, pos, negsuc, ◌+ℤ◌, ◌-ℤ◌, List, [], ◌∷◌, ◌++◌, Option, None, Some, if◌then◌else◌, nat_lt, not, ◌&&◌, slice_index_or, filter_map}
 use Rattle.std.specs.Ordering.{int_eq}
 use Rattle.circular_buffer.specs.Buffer.{keep_last}
@@ -7,15 +7,15 @@ use Rattle.circular_buffer.specs.Buffer.{keep_last}
 abbrev pub history_of : List (List ℕ) → ℕ → List ℕ
 history_of histories column = slice_index_or histories column []
 
--- a history after one more group was accessed: the last eight groups, oldest first
+-- the history after an access to one more group: the last eight groups, oldest first
 abbrev pub with_access : List ℕ → ℕ → List ℕ
 with_access history group = keep_last 8 (history ++ group ∷ [])
 
--- how far it is from one group to another, as a signed number
+-- the signed distance from one group to another
 abbrev pub difference : ℕ → ℕ → ℤ
 difference from to = pos to -ℤ pos from
 
--- whether three differences are one stride: they are equal, and not 0
+-- whether three differences form a stride: they are equal and not 0
 abbrev pub is_stride : ℤ → ℤ → ℤ → Bool
 is_stride first second third = int_eq first second && int_eq second third && not (int_eq third (pos 0))
 
@@ -24,7 +24,7 @@ abbrev pub existing : ℕ → ℤ → Option ℕ
 existing groups (pos group) = if nat_lt group groups then Some group else None
 existing groups (negsuc below) = None
 
--- those of the next two groups of the stride that exist: each is as far from the one before as the last is
+-- the next two groups of the stride, without those that do not exist: each is as far from the one before as the last two groups are apart
 abbrev pub next_two : ℕ → ℕ → ℕ → List ℕ
 next_two groups before last =
     let stride = difference before last
@@ -36,6 +36,6 @@ proposed_after groups (a ∷ b ∷ c ∷ d ∷ []) =
     if is_stride (difference a b) (difference b c) (difference c d) then next_two groups c d else []
 proposed_after groups _ = []
 
--- the proposals by a history
+-- the groups that are proposed for a column with this history
 abbrev pub proposed : ℕ → List ℕ → List ℕ
 proposed groups history = proposed_after groups (keep_last 4 history)

@@ -1,4 +1,4 @@
-// The last groups that were accessed of one column.
+// The access history of one column.
 ghost use Rattle.std.specs.Prelude.{◌≡◌, ◌≤◌, ◌<◌, [], ◌++◌, length, IfOk, IfErr, IfNone, IfSome, OnOk};
 ghost use Rattle.std.specs.Option.{option_to_list};
 ghost use Rattle.circular_buffer.specs.Buffer.{keep_last};
@@ -30,7 +30,7 @@ impl Model for History {
 }
 
 impl History {
-    /// Makes an empty history, with space for all that it will remember. Refused with `NoMemory` (1) alone.
+    /// Makes an empty history, with space for all that it will remember. Refused only with `NoMemory` (1).
     pub fn new(alloc: Global) -> Result<History, Refusal>
         ensures empty { IfOk result (λ history. history ≡ []) }
         ensures memory { IfErr result (λ e. e ≡ Refusal.NoMemory) }
@@ -46,8 +46,8 @@ impl History {
         self.groups.push_back(group);
     }
 
-    /// Returns the row groups below `groups` that continue the stride of the last four; none if these have no stride. Refused with
-    /// `NoMemory` (1) alone.
+    /// Returns the row groups below `groups` that continue the stride of the last four; none if these have no stride. Refused only
+    /// with `NoMemory` (1).
     #[tactic(auto, using(crate::proofs::StridesLaws::proposed_by_four))]
     pub fn proposals(&self, alloc: Global, groups: u32) -> Result<Vec<u32>, Refusal>
         ensures found { IfOk result (λ proposals. proposals.items ≡ proposed groups self.now) }
@@ -78,21 +78,22 @@ impl History {
     }
 }
 
-// Returns how far it is from one group to another.
+// Returns the signed distance from one group to another.
 fn difference(from: u32, to: u32) -> i64
     ensures { result ≡ difference from to }
 {
     i64::from(to) - i64::from(from)
 }
 
-// Returns whether three differences are one stride: they are equal, and not 0.
+// Returns whether three differences form a stride: they are equal and not 0.
 fn is_stride(first: i64, second: i64, third: i64) -> bool
     ensures { result ≡ is_stride first second third }
 {
     first == second && second == third && third != 0
 }
 
-// Returns those of the next two groups of the stride that exist: each is as far from the one before as `last` is from `before`.
+// Returns the next two groups of the stride, without those that do not exist. Each is as far from the one before as `last` is from
+// `before`.
 #[tactic(auto, using(crate::proofs::StridesLaws::two_options))]
 fn next_two(alloc: Global, groups: u32, before: u32, last: u32) -> Result<Vec<u32>, Refusal>
     ensures found { IfOk result (λ found. found.items ≡ next_two groups before last) }
@@ -106,7 +107,7 @@ fn next_two(alloc: Global, groups: u32, before: u32, last: u32) -> Result<Vec<u3
     Ok(found)
 }
 
-// Adds the group of this number, if it exists.
+// Appends the group with this number, if it exists.
 fn push_existing(found: &mut Vec<u32>, groups: u32, number: i64) -> Result<(), Refusal>
     ensures ok { OnOk result (found.new.items ≡ found.old.items ++ option_to_list (existing groups number)) }
     ensures memory { IfErr result (λ e. e ≡ Refusal.NoMemory) }

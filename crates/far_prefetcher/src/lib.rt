@@ -1,5 +1,5 @@
 #![tactic(auto)]
-//! Which objects to fetch next: for each column, the row groups that continue the stride in which it was read.
+//! Proposes what to fetch next: for each column, the row groups that continue the stride in which it was read.
 
 mod history;
 pub mod prefetcher;

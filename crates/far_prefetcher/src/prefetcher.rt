@@ -7,8 +7,8 @@ use far_types::Refusal;
 use std::alloc::Global;
 use std::marker::Model;
 
-/// What was read lately of each column, and what to fetch next. Contracts see one list for each column: the numbers of the last 8 row
-/// groups that were accessed, oldest first.
+/// The recent accesses to each column, and what to fetch next. Contracts see one list for each column: the numbers of the last 8 row groups
+/// that were accessed, oldest first.
 ///
 /// Row groups of column 0 of three are accessed:
 ///
@@ -39,8 +39,8 @@ impl Model for Prefetcher {
 }
 
 impl Prefetcher {
-    /// Makes a prefetcher of `columns` columns, of which nothing was accessed yet. It has space for all that it will remember. Refused with
-    /// `NoMemory` (1) alone.
+    /// Makes a prefetcher of `columns` columns, none of them accessed yet. It has space for all that it will remember. Refused only with
+    /// `NoMemory` (1).
     pub fn new(alloc: Global, columns: u32) -> Result<Prefetcher, Refusal>
         ensures empty { IfOk result (λ prefetcher. prefetcher ≡ replicate columns []) }
         ensures memory { IfErr result (λ e. e ≡ Refusal.NoMemory) }
@@ -62,10 +62,10 @@ impl Prefetcher {
         }
     }
 
-    /// Returns the row groups of a column to fetch next, all of them below `groups`. Refused with `NoMemory` (1) alone.
+    /// Returns the row groups of a column to fetch next, all of them below `groups`. Refused only with `NoMemory` (1).
     ///
-    /// If the last three differences of its history are equal and not 0, these are a stride. Then it returns those of the next two groups
-    /// of the stride that exist. Else it returns none.
+    /// If the last three differences of its history are equal and not 0, these are a stride. Then it returns the next two groups of the
+    /// stride, without those that do not exist. Else it returns none.
     pub fn proposals(&self, alloc: Global, column: u32, groups: u32) -> Result<Vec<u32>, Refusal>
         ensures found { IfOk result (λ proposals. proposals.items ≡ proposed groups (history_of self.now column)) }
         ensures memory { IfErr result (λ e. e ≡ Refusal.NoMemory) }

@@ -1,13 +1,13 @@
 #![tactic(auto)]
-//! Quotients by a product, for divisors that do not change.
+//! Fast division by a number that does not change.
 
 ghost use Rattle.std.specs.Prelude.{◌≡◌, ◌<◌, ◌/◌, ◌%◌, ◌+◌, ◌^◌};
 
-/// A hint for divisions by a number that does not change, like the places of a row group: 2^40 over it, and a little more. A division takes
-/// a processor as long as some thirty other instructions. With the hint, a product finds the quotient.
+/// A hint for divisions by a number that does not change, such as the number of places of a row group: 2^40 divided by it, and a little
+/// more. A division takes a processor as long as some thirty other instructions. With the hint, one multiplication finds the quotient.
 ///
-/// The result of the product is tested. If the test fails, a division is made. So a hint for another number costs time and nothing else.
-/// The test holds for numbers below 2^24 over at most 2^16, as places and row groups are.
+/// Each quotient is tested, and computed by a division if the test fails. So a hint for another number costs time and nothing else. The
+/// test passes for numbers below 2^24 over at most 2^16, as places and row groups are.
 ///
 /// Divisions with the hint for the divisor, and with one for another number:
 ///
@@ -44,8 +44,8 @@ impl Reciprocal {
         ensures { result ≡ number / divisor }
     {
         let guess = ((number as u64).wrapping_mul(self.factor) >> 40) as usize;
-        // The guess has 24 bits, so its product with such a divisor has at most 56. If that is more than the number, the difference wraps
-        // around to more than the divisor.
+        // The guess has 24 bits, so its product with such a divisor has at most 56. If the product is more than the number, the difference
+        // wraps around to more than the divisor.
         if divisor <= 0xffff_ffff {
             let left = number.wrapping_sub(guess * divisor);
             if left < divisor {
@@ -55,7 +55,7 @@ impl Reciprocal {
         number / divisor
     }
 
-    /// Returns the remainder of a number over a divisor. Allocates nothing.
+    /// Returns the remainder of a number divided by a divisor. Allocates nothing.
     #[inline(always)]
     pub fn remainder(self, number: usize, divisor: usize) -> usize
         requires { 0 < divisor }

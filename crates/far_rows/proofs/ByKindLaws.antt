@@ -1,4 +1,4 @@
--- Why a row may not be appended, as one list in the order of the refusals, and as each kind of columns has it.
+-- Why appending a row is refused: as one list in the order of the refusals, and as each kind of columns has it.
 use Rattle.std.proofs.Common.{◌≡◌, ◌≢◌, ℕ, zero, suc, ◌/◌, ◌%◌, Bool, true, false, not, if◌then◌else◌, List, [], ◌∷◌, ◌++◌, map, length, replicate, ℤ, Option, None, Some, refl, sym, ap, subst, ◌∙◌, arith}
 use Rattle.std.specs.Prelude.{◌&&◌, ◌||◌, All, cond, slice_get}
 use Rattle.std.specs.List.{list_any}
@@ -31,7 +31,7 @@ use Rattle.far_rows.proofs.NamingTexts.{true-not}
 use Rattle.far_rows.proofs.EffectsVersions.{last-there}
 use Rattle.far_rows.proofs.RefusingWrites.{none-any, any-same, no-text, no-number, text_written, number_written, by-kinds, forms-written}
 
--- 17 of numbers stands before 24 of texts: if one is due the other is not
+-- 17 of numbers comes before 24 of texts: if one applies the other does not
 in-order : (full texts numbers text number : Bool) (x y z : Refusal) → (text ≡ true → numbers ≡ false)
     → option_or (cond full (Some x) (cond texts (Some y) (cond text (Some z) None))) (cond numbers (Some y) (cond number (Some z) None)) ≡ cond full (Some x) (cond texts (Some y) (cond numbers (Some y) (cond (text || number) (Some z) None)))
 in-order true texts numbers text number x y z disjoint = refl
@@ -43,7 +43,7 @@ module _ {K : Type 0} (content : K → List ℕ) (r : Rows K) (are : AreRows con
   abbrev g : ℕ
   g = length r.alive / r.size
 
-  -- a column of texts by its place among them
+  -- a column of texts, by its index among them
   record IsText (c : Texts) : Type 0 where
     has : HasGroups c
     size : c.size ≡ r.size
@@ -89,7 +89,7 @@ module _ {K : Type 0} (content : K → List ℕ) (r : Rows K) (are : AreRows con
         let none : slice_get c.objects g ≡ None = (λ k. slice_get c.objects (sym known.len k / sym known.size k)) ∙ no-number c known.shaped full in
         ap (λ (o : Option ℕ). option_map_or (λ p. (written_out r.number_objects p).0) o false) none
 
-  -- 24 of the columns of texts
+  -- 24, for the columns of texts
   texts-written : (values : Values) → length values.texts ≡ length r.texts → (b : Bool) → all_begin r.texts ≡ b → first_of (if b then [] else some_text_written_out r.text_objects (next_forms (lists_of content r.text_objects) (length r.text_objects.records) r.texts values.texts) ∷ []) ≡ first_of ((list_any (text_written r g) r.texts, refusal.EditsUsedUp) ∷ [])
   texts-written values same_length true is = sym (ap (λ (b : Bool). first_of ((b, refusal.EditsUsedUp) ∷ [])) (texts-none is))
   texts-written values same_length false is =
@@ -100,7 +100,7 @@ module _ {K : Type 0} (content : K → List ℕ) (r : Rows K) (are : AreRows con
             let not = subst (λ (d : Texts). begins_group d ≡ false) (get_or_from_slice_get r.texts i c c at) (all-not content r are is i c (slice_get_within r.texts i c at)) in
             (not, (λ k. slice_get c.objects (sym known.len k / sym known.size k)) ∙ last-group c known.has not)
 
-  -- 11, 17 and 24 of the columns of texts, of which nothing is away
+  -- 11, 17 and 24, for the columns of texts if nothing is away
   texts-tests : (values : Values) → length values.texts ≡ length r.texts → (any_too_long values.texts).0 ≡ false → first_of (absents r g) ≡ None
       → push_texts_refusal content r.text_objects r.texts values.texts ≡ first_of (any_full (lists_of content r.text_objects) r.texts values.texts ∷ no_space_for_texts r (map (λ form. length form.1) (next_forms (lists_of content r.text_objects) (length r.text_objects.records) r.texts values.texts)) ∷ (list_any (text_written r g) r.texts, refusal.EditsUsedUp) ∷ [])
   texts-tests values same_length short free =
@@ -130,12 +130,12 @@ module _ {K : Type 0} (content : K → List ℕ) (r : Rows K) (are : AreRows con
       let rest = sizes columns (All-tail (λ (d : Vector (Option ℤ)). (d.size ≡ r.size) × (d.len ≡ length r.alive)) c columns same_length) in
       λ k. here k ∷ rest k
 
-  -- no column of numbers has nothing to refuse
+  -- a table without columns of numbers has nothing to refuse for them
   no-columns : (columns : NumberColumns) → length columns ≡ 0 → first_of (number_space (map (λ (c : Vector (Option ℤ)). c.size) columns) ∷ []) ≡ first_of ((list_any (number_written r g) columns, refusal.EditsUsedUp) ∷ [])
   no-columns [] none = refl
   no-columns (c ∷ columns) none = absurd (omega (arith, none))
 
-  -- 17 and 24 of the columns of numbers, of which nothing is away
+  -- 17 and 24, for the columns of numbers if nothing is away
   numbers-tests : first_of (absents r g) ≡ None → push_numbers_refusal r.number_objects r.numbers ≡ first_of (no_space_for_numbers r ∷ (list_any (number_written r g) r.numbers, refusal.EditsUsedUp) ∷ [])
   numbers-tests free = by (begins r) refl where
     wide : Bool

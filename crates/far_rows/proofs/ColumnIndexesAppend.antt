@@ -1,4 +1,4 @@
--- What columns hold once each has a value more.
+-- The columns after a value is appended to each.
 use Rattle.std.proofs.Common.{◌≡◌, ℕ, zero, suc, ◌<◌, List, [], ◌∷◌, ◌++◌, map, length, get_or, Option, None, refl, ap, ◌∙◌, arith}
 use Rattle.std.specs.Prelude.{All}
 use Rattle.std.proofs.lemmas.List.{map-append}
@@ -14,7 +14,7 @@ use Rattle.far_types.specs.Lent.{int_cell, text_cell}
 use Rattle.far_rows.specs.ColumnIndexes.{Values, IsColumnIn, cell_in, row_of, column_in, columns_of, with_row}
 
 module _ {A : Type 0} where
-  -- each list with one more behind it
+  -- each list with one more element
   abbrev pub all_with : List (List A) → List A → List (List A)
   all_with [] xs = []
   all_with (l ∷ ls) [] = []
@@ -45,7 +45,7 @@ module _ (numbers : List Numbers) (texts : List (List (Option (List ℕ)))) (val
       ap (map text_cell) (at-with texts values.texts i None same_length_texts (omega (arith, within, m_is)))
       ∙ map-append text_cell (get_or texts i []) (get_or values.texts i None ∷ [])
 
-  -- each column of the table has its cell of the row more
+  -- each column of the table has its cell of the new row
   pub columns-with : (column_indexes : List ColumnIndex) → All (IsColumnIn n m) column_indexes → columns_of column_indexes (all_with numbers values.numbers) (all_with texts values.texts) ≡ with_row (columns_of column_indexes numbers texts) (row_of column_indexes values)
   columns-with [] within = refl
   columns-with (s ∷ column_indexes) within =

@@ -1,4 +1,4 @@
--- Columns of texts that have a text more.
+-- Columns of texts with one more text.
 use Rattle.std.proofs.Common.{◌≡◌, inl, inr, ℕ, zero, ◌+◌, ◌*◌, ◌%◌, ◌<◌, Bool, true, false, if◌then◌else◌, List, [], ◌∷◌, ◌++◌, length, refl, sym, ap, subst, ◌∙◌, arith}
 use Rattle.std.specs.Prelude.{All, slice_index_or}
 use Rattle.std.proofs.Math.Nat.{mul-add, mul-one}
@@ -10,14 +10,14 @@ use Rattle.far_texts.specs.Together.{all_begin, after_push_all}
 use Rattle.far_rows.proofs.RowsGroupStarts.{IsTexts, text-begins, text-begun, texts-begin, texts-begun}
 use Rattle.far_rows.proofs.EffectsGrowth.{as-many-texts, all-texts}
 
--- a column with a number more, as its last row group is full or not
+-- a column with one more text, whether its last row group was full or not
 pub begun : (c : Texts) (o : ℕ) → begins_group c ≡ true → after_push c o ≡ record c { objects = c.objects ++ o ∷ []; len = c.len + 1 }
 begun c o full = rw full refl
 
 pub longer : (c : Texts) (o : ℕ) → begins_group c ≡ false → after_push c o ≡ record c { len = c.len + 1 }
 longer c o full = rw full refl
 
--- it has row groups of the size that it had, and a place more
+-- it has row groups of the same size, and one more place
 pub same_length-grown : (size len more : ℕ) → len + 1 ≡ more → (c : Texts) (o : ℕ) → (c.size ≡ size) × (c.len ≡ len) → ((after_push c o).size ≡ size) × ((after_push c o).len ≡ more)
 same_length-grown size len more e c o same_length = elim (cases_Bool (begins_group c)) [
   | inl full ↦ subst (λ (d : Texts). (d.size ≡ size) × (d.len ≡ more)) (sym (begun c o full)) (same_length.0, omega (arith, e, same_length.1))

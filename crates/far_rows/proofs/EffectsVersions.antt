@@ -1,4 +1,4 @@
--- Each object is written at most once if a row is appended or a cell is set.
+-- Appending a row or setting a cell writes each object at most once.
 use Rattle.std.proofs.Common.{◌≡◌, ◌≢◌, inl, inr, ℕ, zero, suc, ◌+◌, ◌-◌, ◌*◌, ◌/◌, ◌<◌, ◌≤◌, ◌%◌, true, false, List, [], ◌∷◌, ◌++◌, map, length, get_or, Option, None, Some, refl, sym, ap, subst, ◌∙◌, arith}
 use Rattle.std.specs.Prelude.{ℤ, All, AllPairs, slice_get, slice_set}
 use Rattle.std.specs.Option.{option_map_or}
@@ -24,7 +24,7 @@ use Rattle.far_columns.proofs.NumbersTogether.{pairs-head, pairs-tail}
 use Rattle.far_rows.proofs.RowsGroupStarts.{IsNumbers, number-begins, number-begun, IsTexts, text-begun, texts-begin}
 use Rattle.far_rows.proofs.NamingTexts.{true-not}
 
--- no number is there twice
+-- no number is listed twice
 abbrev pub AreOnce : List ℕ → Type 0
 AreOnce [] = Unit {0}
 AreOnce (o ∷ os) = All (λ p. p ≢ o) os × AreOnce os
@@ -37,7 +37,7 @@ module _ {K : Type 0} where
   abbrev once_more : ObjectRecord K → ObjectRecord K
   once_more object_record = record object_record { version = object_record.version + 1 }
 
-  -- these are written, one after the other
+  -- these objects are written, one after another
   abbrev counted : List (ObjectRecord K) → List ℕ → List (ObjectRecord K)
   counted records [] = records
   counted records (o ∷ os) = counted (with_record records o once_more) os
@@ -77,7 +77,7 @@ module _ {K : Type 0} where
       counted-others (with_record records o once_more) os p (All-tail (λ q. q ≢ p) o os others)
       ∙ writes-other records o p (λ same. All-head (λ q. q ≢ p) o os others (sym same))
 
-  -- each at most once
+  -- each of them at most once
   counted-once : (records : List (ObjectRecord K)) (os : List ℕ) → AreOnce os → (p : ℕ) → writes (counted records os) p ≤ writes records p + 1
   counted-once records [] once p = omega arith
   counted-once records (o ∷ os) once p = elim (cases_eq p o) [
@@ -92,7 +92,7 @@ module _ {K : Type 0} where
         omega (arith, rest, here)
   ]
 
-  -- numbers
+  -- for numbers
   one-written : (m : Movement (Option ℤ) K) (c : Vector (Option ℤ)) (x : Option ℤ) → is_full c ≡ false → (objects_after_push m c x).records ≡ with_record m.records (object_at c c.len) once_more
   one-written m c x not = rw not refl
 
@@ -145,7 +145,7 @@ module _ {K : Type 0} (content : K → List ℕ) where
         subst (λ (l : List (ObjectRecord K)). writes l o ≤ writes m.records o + 1) (sym (all-written m columns numbers same_length not)) (counted-once m.records last (numbers-once columns shaped not all_disjoint.all_disjoint.disjoint) o)
   ]
 
--- texts
+-- for texts
 module _ {K : Type 0} where
   lens-unchanged : (records : List (ObjectRecord K)) (lists : List (Replacement ℕ)) (p : ℕ) → writes (with_lens records lists) p ≡ writes records p
   lens-unchanged records [] p = refl
@@ -214,7 +214,7 @@ module _ {K : Type 0} (content : K → List ℕ) (size len : ℕ) (columns : Lis
         omega (arith, ap (λ (objects : Movement ℕ K). version_of objects o) given.2, replaced-once m given.0 once o)
   ]
 
--- one object is written
+-- a single object is written
 pub after_write-once : {X K : Type 0} (m : Movement X K) (o p : ℕ) → version_of (after_write m o) p ≤ version_of m p + 1
 after_write-once m o p = counted-once m.records (o ∷ []) (All-nil (λ q. q ≢ o), (cc)) p
 

@@ -29,7 +29,7 @@ use Rattle.far_rows.specs.Lending.{numbers_of}
 use Rattle.far_rows.proofs.RefusingNames.{range-named}
 use Rattle.far_rows.proofs.RowsReading.{all-read, absent-number, numbers-read}
 
--- of several objects the first that is away
+-- the first of several objects that is away
 module _ {X K : Type 0} (m : Movement X K) (os : List ℕ) where
   abbrev pub absent-of : ℕ → Bool × Refusal
   absent-of g = option_map_or (absent m) (slice_get os g) (false, refusal.StaleJob)
@@ -53,7 +53,7 @@ module _ {X K : Type 0} (m : Movement X K) (os : List ℕ) where
             ∙ ap (λ o. first_of (option_map_or (absent m) o (false, refusal.StaleJob) ∷ map absent-of (range_with_len (a + 1) n))) (sym (slice_get_past os a past))
       ]
 
--- a part of a list, once a function is applied to all
+-- a part of a list, after a function is applied to all elements
 pub range-map : {X Y : Type 0} (f : X → Y) (xs : List X) (from to : ℕ) → slice_range (map f xs) from to ≡ map f (slice_range xs from to)
 range-map f xs from to = ap (take _) (drop-map f from xs) ∙ take-map f _ (drop from xs)
 

@@ -36,12 +36,12 @@ or-swap true false = refl
 or-swap false true = refl
 or-swap false false = refl
 
--- the objects of a part, of which an empty one has none
+-- the objects of a part; an empty part has none
 overlapped-by : {X K : Type 0} (m : Movement X K) (os : List ℕ) (some : Bool) (first end : ℕ) → first_absent m (if some then slice_range os first end else []) ≡ first_of (map (absent-of m os) (range_with_len first (if some then end - first else 0)))
 overlapped-by m os true first end = absent-range m os first (end - first)
 overlapped-by m os false first end = refl
 
--- parts of two lists are as long as each other if the lists are
+-- parts of two lists are equally long if the lists are
 range-length : {X Y : Type 0} (xs : List X) (ys : List Y) (from to : ℕ) → length xs ≡ length ys → length (slice_range ys from to) ≡ length (slice_range xs from to)
 range-length xs ys from to same =
     length-take (to - from) (drop from ys)

@@ -1,4 +1,4 @@
--- Rows whose objects moved: each has the list that it had, so the rows have the cells that they had.
+-- Rows whose objects moved: each object has the same list, so the rows have the same cells.
 use Rattle.std.proofs.Common.{◌≡◌, ℕ, List, [], ◌∷◌, map, get_or, Option, refl, sym, ap, subst, ◌∙◌}
 use Rattle.std.specs.Prelude.{ℤ}
 use Rattle.far_types.specs.declared.name.Name.{Name}
@@ -92,7 +92,7 @@ module _ {K : Type 0} (content : K → List ℕ) {r : Rows K} where
         (same-map (texts_in (lists_of content m)) (texts_in (lists_of content r.text_objects)) (λ c. texts-stay (lists_of content r.text_objects) (lists_of content m) c lists) r.texts)
         ∙ ap (all_cells content) is
 
-    -- and tickets of a store stay tickets of it, as those of the objects that moved do
+    -- tickets of a store remain tickets of that store, if the moved objects' tickets do
     pub numbers-unchanged : (is_of : K → List ℕ → Type 0) (m : Movement (Option ℤ) K) → ((o : ℕ) → number_lists content m o ≡ number_lists content r.number_objects o) → ((id : List ℕ) → AreHere is_of id r.number_objects → AreHere is_of id m) → KeepsCells content is_of now (record r { number_objects = m })
     numbers-unchanged is_of m lists store = record {
       cells = number-cells m lists;

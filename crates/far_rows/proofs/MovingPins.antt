@@ -1,4 +1,4 @@
--- Why an object that is found may not be pinned, with the object named by its column and its row group.
+-- Why pinning an object that exists is refused, where the refusal names its column and its row group.
 use Rattle.std.proofs.Common.{◌≡◌, inl, inr, ℕ, Bool, false, List, [], ◌∷◌, Option, None, Some, refl, sym, ap, ◌∙◌}
 use Rattle.std.specs.Prelude.{cond, is_none, option_map, slice_get}
 use Rattle.std.specs.Option.{option_and_then, option_map_or, option_or}

@@ -1,4 +1,4 @@
--- The names of objects, which stay whatever is done to an object.
+-- The names of objects do not change, whatever is done to an object.
 use Rattle.std.proofs.Common.{◌≡◌, inl, inr, ℕ, ◌+◌, List, [], ◌∷◌, length, map, set, Option, None, Some, refl, sym, ap, ◌∙◌}
 use Rattle.std.specs.Prelude.{Result, option_map, OnOk, OnErr, IsSomeAnd, slice_get}
 use Rattle.std.proofs.lemmas.List.{length-map, map-set, set-get_or}
@@ -16,7 +16,7 @@ use Rattle.far_rows.specs.Naming.{names_of}
 abbrev names_in : {K : Type 0} → List (ObjectRecord K) → List Name
 names_in records = map (λ object_record. object_record.name) records
 
--- another record for an object, of the same name
+-- another record for an object, with the same name
 pub names-with : {K : Type 0} (records : List (ObjectRecord K)) (o : ℕ) (change : ObjectRecord K → ObjectRecord K) → ((object_record : ObjectRecord K) → (change object_record).name ≡ object_record.name) → names_in (with_record records o change) ≡ names_in records
 names-with {K} records o change keeps = elim (cases_option (slice_get records o)) [
   | inl none ↦ rw none refl
@@ -31,11 +31,11 @@ names-with {K} records o change keeps = elim (cases_option (slice_get records o)
 pub as-many : {X K L : Type 0} (old : Movement X K) (new : Movement X L) → names_of new ≡ names_of old → length new.records ≡ length old.records
 as-many old new same = sym (length-map new.records (λ e. e.name)) ∙ ap length same ∙ length-map old.records (λ e. e.name)
 
--- the names stay, if a call that keeps them is done or refused
+-- the names stay, whether a call that keeps them succeeds or is refused
 pub still-named : {X K A : Type 0} (old new done : Movement X K) (result : Result A Refusal) → OnOk result (new ≡ done) → OnErr result (new ≡ old) → names_of done ≡ names_of old → names_of new ≡ names_of old
 still-named old new done result ok err same = by-outcome result ok err (λ e. ap names_of e ∙ same) (ap names_of)
 
--- so do they if an object comes back
+-- they stay if an object is brought back
 came : {X K : Type 0} (old new : Movement X K) (o : ℕ) (list : Option (List X)) → IsSomeAnd list (λ xs. new ≡ after_arrive old o xs) → names_of new ≡ names_of old
 came old new o (Some xs) is = ap names_of is
 came old new o None is = absurd is

@@ -1,4 +1,4 @@
--- The owners of the objects of columns of numbers that get a number each.
+-- The owners of the objects of columns of numbers, after a number is appended to each.
 use Rattle.std.proofs.Common.{◌≡◌, inl, inr, ℕ, zero, suc, ◌+◌, ◌%◌, ◌<◌, true, false, List, [], ◌∷◌, ◌++◌, map, length, get_or, sym, ap, subst, ◌∙◌, arith}
 use Rattle.std.specs.Prelude.{ℤ, Option, Some, All, slice_get}
 use Rattle.std.proofs.lemmas.Bool.{cases_eq}
@@ -25,7 +25,7 @@ column_of c = c.column
 abbrev objects_of : Vector (Option ℤ) → List ℕ
 objects_of c = c.objects
 
--- a column with a number more is there in its place
+-- a column with one more number is at its index
 pushed-at : (n : ℕ) (columns : NumberColumns) (i : ℕ) (c : Vector (Option ℤ)) → slice_get columns i ≡ Some c → slice_get (after_push_all n columns) i ≡ Some (after_push c (n + i))
 pushed-at n [] i c at = absurd (none-some c at)
 pushed-at n (d ∷ columns) zero c at =

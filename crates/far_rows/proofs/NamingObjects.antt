@@ -1,4 +1,4 @@
--- Each listed object has a far form, and is that of the column and the row group that it is named by.
+-- Each object with a list has a far form, and belongs to the column and the row group in its name.
 use Rattle.std.proofs.Common.{◌≡◌, inl, inr, ℕ, zero, suc, [], ◌∷◌, ◌<◌, ◌≤◌, List, length, Option, None, Some, sym, ap, subst, ◌∙◌, arith}
 use Rattle.std.specs.Prelude.{ℤ, IfSome, IsSomeAnd, option_map, slice_get}
 use Rattle.std.specs.Option.{option_and_then, option_or}
@@ -21,7 +21,7 @@ use Rattle.far_rows.specs.Naming.{names_of}
 use Rattle.far_rows.specs.Rows.{Rows, AreRows, object_of}
 use Rattle.far_rows.specs.Moving.{object_in, object_at}
 
--- a list that is there is the list of its object
+-- a list that is in local memory is the list of its object
 of-local : {A : Type 0} (P Q : List A → Type 0) (local far : Option (List A)) → IsSomeAnd (option_or local far) P → ((list : List A) → P list → Q list) → IfSome local Q
 of-local P Q None far has then = (cc)
 of-local P Q (Some list) far has then = then list has

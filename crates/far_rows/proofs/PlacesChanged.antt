@@ -1,4 +1,4 @@
--- How the places change with a row more, and with another cell.
+-- The places after a row is appended, and after a cell is set.
 use Rattle.std.proofs.Common.{◌≡◌, ◌≢◌, ℕ, zero, suc, ◌+◌, ◌<◌, ◌≤◌, Bool, List, [], ◌∷◌, ◌++◌, length, get_or, set, inl, inr, refl, sym, ap, ◌∙◌, arith}
 use Rattle.std.specs.Prelude.{All}
 use Rattle.std.proofs.lemmas.Bool.{cases_lt}
@@ -14,7 +14,7 @@ use Rattle.far_rows.specs.Setting.{with_cell_at}
 use Rattle.far_rows.specs.Places.{row_at, places_of}
 use Rattle.far_rows.proofs.Places.{placed, length-places}
 
--- the columns have so many cells
+-- the number of cells that each column has
 abbrev pub AsLong : ℕ → List (List Cell) → Type 0
 AsLong n columns = All (λ (cells : List Cell). length cells ≡ n) columns
 
@@ -89,7 +89,7 @@ changed-past change p [] past = refl
 changed-past change zero (place ∷ places) past = absurd (omega (arith, past))
 changed-past change (suc p) (place ∷ places) past = ap (λ (rest : List Place). place ∷ rest) (changed-past change p places (omega (arith, past)))
 
--- a cell is another; past the places nothing is
+-- a cell is set; past the places nothing changes
 pub places-set : (columns : List (List Cell)) (flags : List Bool) (c p : ℕ) (new : Cell) → length (get_or columns c []) ≡ length flags → places_of (with_cell_at columns c p new) flags ≡ change_at (with_cell c new) p (places_of columns flags)
 places-set columns flags c p new count = elim (cases_lt p (length (get_or columns c []))) [
   | inl within ↦ placed-set (row_at columns) (row_at (with_cell_at columns c p new)) c new 0 p p flags (omega arith) (row_at-set columns c p new within) (λ i other. row_at-set_other columns c p new i other)

@@ -1,4 +1,4 @@
--- Whether a text object would be too long is seen from the places alone.
+-- Whether a text object would be too long depends only on the places.
 use Rattle.std.proofs.Common.{◌≡◌, ℕ, zero, suc, ◌+◌, ◌/◌, ◌<◌, Bool, true, false, nat_lt, List, [], ◌∷◌, ◌++◌, map, length, get_or, set, inl, inr, Option, None, Some, refl, sym, ap, subst, ◌∙◌, arith}
 use Rattle.std.specs.Prelude.{◌⊎◌, ◌&&◌, ◌||◌, option_map, slice_get, unwrap_or}
 use Rattle.std.specs.List.{list_any, zip, enumerate_from}
@@ -31,7 +31,7 @@ use Rattle.far_rows.specs.Rows.{Rows, AreRows, all_numbers, all_texts, all_cells
 use Rattle.far_rows.specs.Places.{places_in, AreOf, text_parts}
 use Rattle.far_rows.proofs.Places.{length-places, places-column, set-column, group-round_trip}
 
--- two tests that imply each other are the same
+-- two tests that imply each other are equal
 pub both-ways : (a b : Bool) → (a ≡ true → b ≡ true) → (b ≡ true → a ≡ true) → a ≡ b
 both-ways true b to back = sym (to refl)
 both-ways false true to back = back refl
@@ -69,7 +69,7 @@ has-column_index test n (t ∷ column_indexes) (suc k) s at is =
     let e : n + 1 + k ≡ n + suc k = omega arith in
     or-later (test (n, kind_of t)) (list_any test (enumerate_from (n + 1) (map kind_of column_indexes))) (has-column_index test (n + 1) column_indexes k s at (ap (λ j. test (j, kind_of s)) e ∙ is))
 
--- some column of texts passes a test with the text beside it
+-- some column of texts passes a test with its text
 some-text : (test : Texts × Option (List ℕ) → Bool) (columns : List Texts) (texts : List (Option (List ℕ))) → list_any test (zip columns texts) ≡ true → (i : ℕ) × (c : Texts) × (slice_get columns i ≡ Some c) × (test (c, get_or texts i None) ≡ true)
 some-text test [] texts is = absurd cc
 some-text test (c ∷ columns) [] is = absurd cc
@@ -84,7 +84,7 @@ has-text test (d ∷ columns) [] same_length i c at is = absurd (omega (arith, s
 has-text test (d ∷ columns) (text ∷ texts) same_length zero c at is = let same = same_Some d c at in or-first (test (d, text)) (list_any test (zip columns texts)) ((λ i. test (same i, text)) ∙ is)
 has-text test (d ∷ columns) (text ∷ texts) same_length (suc i) c at is = or-later (test (d, text)) (list_any test (zip columns texts)) (has-text test columns texts (omega (arith, same_length)) i c at is)
 
--- the lengths of the forms that are to come, if each is that of its column
+-- the lengths of the next forms, if each is that of its column
 form-lens : (lists : Lists) (n : ℕ) (columns : List Texts) (texts : List (Option (List ℕ))) (long : Texts → ℕ) → length texts ≡ length columns → ((i : ℕ) (c : Texts) → slice_get columns i ≡ Some c → texts_length (group_with_next lists c (get_or texts i None)) ≡ long c) → map (λ form. length form.1) (next_forms lists n columns texts) ≡ map long columns
 form-lens lists n [] texts long same_length each = refl
 form-lens lists n (c ∷ columns) [] long same_length each = absurd (omega (arith, same_length))
@@ -106,7 +106,7 @@ module _ {K : Type 0} (content : K → List ℕ) (r : Rows K) (are : AreRows con
   abbrev lists : Lists
   lists = lists_of content r.text_objects
 
-  -- a column of texts that is there
+  -- a column of texts that exists
   record IsThere (k i : ℕ) (c : Texts) : Type 0 where
     lies : slice_get r.column_indexes k ≡ Some (column_index.Text i)
     at : slice_get r.texts i ≡ Some c
@@ -142,7 +142,7 @@ module _ {K : Type 0} (content : K → List ℕ) (r : Rows K) (are : AreRows con
   by-column : (i : ℕ) (c : Texts) → slice_get r.texts i ≡ Some c → IsThere c.column i c
   by-column i c at = there c.column i c (are.placed_texts i c.column (slice_get-map (λ (d : Texts). d.column) r.texts i ∙ ap (option_map (λ (d : Texts). d.column)) at)) at
 
-  -- its cells are its texts
+  -- the cells of a text column are its texts
   cells-are : (k i : ℕ) (c : Texts) → IsThere k i c → get_or (all_cells content r) k [] ≡ map text_cell (texts_in lists c)
   cells-are k i c t =
       get_or_from_slice_get (all_cells content r) k (map text_cell (texts_in lists c)) [] (
@@ -178,7 +178,7 @@ module _ {K : Type 0} (content : K → List ℕ) (r : Rows K) (are : AreRows con
     insert-over : (k i : ℕ) (c : Texts) → IsThere k i c → is_over limits k (length (places_in content r) / limits.group) (places_after insert (places_in content r)) ≡ (chunk_full c (group_with_next lists c (get_or values.texts i None))).0
     insert-over k i c t = let long = insert-long k i c t in λ j. nat_lt (sym t.limit j) (long j)
 
-    -- 11 of an insert
+    -- 11, for an insert
     pub insert-full : (any_full lists r.texts values.texts).0 ≡ overfills (map kind_of r.column_indexes) limits insert (places_in content r)
     insert-full =
         let g = length (places_in content r) / limits.group in
@@ -201,7 +201,7 @@ module _ {K : Type 0} (content : K → List ℕ) (r : Rows K) (are : AreRows con
         let known = by-column_index k i (found.2 ∙ ap Some text.1) in
         has-text full r.texts values.texts same_length i known.0 known.1.at (sym (insert-over k i known.0 known.1) ∙ ap (λ j. is_over limits j g after) (sym e) ∙ text.2))
 
-    -- 17 of an insert, for texts
+    -- 17, for an insert and texts
     pub insert-parts : (n : ℕ) → map (λ form. length form.1) (next_forms lists n r.texts values.texts) ≡ text_parts content limits r insert (length (places_in content r) / limits.group)
     insert-parts n =
         form-lens lists n r.texts values.texts (λ c. text_object_length limits c.column (length (places_in content r) / limits.group) (places_after insert (places_in content r))) same_length
@@ -222,7 +222,7 @@ module _ {K : Type 0} (content : K → List ℕ) (r : Rows K) (are : AreRows con
       ∙ (λ j. texts_length (in_group (sym t.size j) (p / sym t.size j) (set (texts_in lists c) p text)))
       ∙ ap texts_length (sym (group-with-text lists c p text t.has t.is (omega (arith, below, t.len)))))
 
-  -- 11 of a set
+  -- 11, for a set
   pub set-full : (k i p : ℕ) (c : Texts) (text : Option (List ℕ)) → slice_get r.column_indexes k ≡ Some (column_index.Text i) → slice_get r.texts i ≡ Some c → p < length r.alive → (chunk_full c (group_with lists c p text)).0 ≡ overfills (map kind_of r.column_indexes) limits (edit.Set p k (text_cell text)) (places_in content r)
   set-full k i p c text lies at below =
       let t = there k i c lies at in

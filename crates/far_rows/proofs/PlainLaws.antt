@@ -1,4 +1,4 @@
--- Why a row may not be appended, seen from the places.
+-- Why appending a row is refused, in terms of the places.
 use Rattle.std.proofs.Common.{◌≡◌, ◌≢◌, ℕ, zero, suc, ◌+◌, ◌-◌, ◌*◌, ◌/◌, ◌%◌, Bool, true, false, not, List, [], ◌∷◌, ◌++◌, length, get_or, ℤ, Option, None, Some, refl, sym, ap, subst, ◌∙◌, arith}
 use Rattle.std.specs.Prelude.{All, cond, option_map, slice_get}
 use Rattle.std.specs.Option.{option_and_then, option_map_or}
@@ -46,7 +46,7 @@ module _ {K : Type 0} (r : Rows K) (g : ℕ) where
   none-away n (t ∷ column_indexes) free zero s at = let same = same_Some t s at in subst (λ (u : ColumnIndex). (away_at r g u).0 ≡ false) same (not-due (away_at r g t).0 (refusal.Absent n g) (first_of (absents_from r g (n + 1) column_indexes)) free).0
   none-away n (t ∷ column_indexes) free (suc k) s at = none-away (n + 1) column_indexes (not-due (away_at r g t).0 (refusal.Absent n g) (first_of (absents_from r g (n + 1) column_indexes)) free).1 k s at
 
--- the last row group of a column that begins none is the one of the next place
+-- the last row group of a column that begins none is the row group of the next place
 pub last-group : (c : Texts) → HasGroups c → begins_group c ≡ false → slice_get c.objects (c.len / c.size) ≡ Some (last_object c)
 last-group c has not = by (length c.objects) refl where
   by : (n : ℕ) → n ≡ length c.objects → slice_get c.objects (c.len / c.size) ≡ Some (last_object c)
@@ -89,7 +89,7 @@ module _ {K : Type 0} (content : K → List ℕ) (r : Rows K) (are : AreRows con
     from [] each = All-nil (λ (case : Bool × Refusal). case.0 ≡ false)
     from (c ∷ columns) each = All-cons (λ (case : Bool × Refusal). case.0 ≡ false) (absent r.text_objects (last_object c)) (texts_absent r.text_objects columns) (each 0 c refl) (from columns (λ i d at. each (suc i) d at))
 
-  -- so with columns of numbers
+  -- the same for columns of numbers
   pub all-numbers-not : all_numbers_begin r.numbers ≡ false → All (λ c. is_full c ≡ false) r.numbers
   all-numbers-not is =
       let len = length r.alive in
@@ -115,6 +115,6 @@ module _ {K : Type 0} (content : K → List ℕ) (r : Rows K) (are : AreRows con
     from [] each = All-nil (λ (case : Bool × Refusal). case.0 ≡ false)
     from (c ∷ columns) each = All-cons (λ (case : Bool × Refusal). case.0 ≡ false) (absent r.number_objects (object_at c c.len)) (numbers_absent r.number_objects columns) (each 0 c refl) (from columns (λ i d at. each (suc i) d at))
 
-  -- 11 and 17 of an insert are seen from the places
+  -- 11 and 17 of an insert depend only on the places
   pub push-plain : (limits : Limits) → AreOf limits r → (values : Values) → length values.texts ≡ length r.texts → push_refusal content r values ≡ insert_refusal content limits r values
   push-plain limits of values same_length = λ k. first_of (append_tests r (insert-full content r are limits of values same_length k) (insert-parts content r are limits of values same_length (length r.text_objects.records) k))

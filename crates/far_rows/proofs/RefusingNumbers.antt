@@ -1,4 +1,4 @@
--- Why a number may not be set, if its row group is known.
+-- Why setting a number is refused, given its row group.
 use Rattle.std.proofs.Common.{◌≡◌, ℕ, ℤ, ◌*◌, ◌/◌, ◌<◌, nat_lt, Bool, true, false, cond, List, [], ◌∷◌, length, get_or, Option, None, Some, refl, sym, ap, subst, ◌∙◌, arith}
 use Rattle.std.specs.Prelude.{not, slice_get}
 use Rattle.std.specs.Option.{option_and_then}
@@ -22,11 +22,11 @@ module _ {K : Type 0} (content : K → List ℕ) (r : Rows K) (are : AreRows con
   shaped : IsShaped v
   shaped = subst IsShaped same (are.shaped i v (slice_get_within r.numbers i v column))
 
-  -- its row group has an object
+  -- the row group has an object
   pub group-there : slice_get v.objects group ≡ Some (object_at v place)
   group-there = ap (slice_get v.objects) (of ∙ ap (λ n. place / n) (sym same_length.0)) ∙ object-there v shaped place (omega (arith, used, same_length.1, shaped.enough))
 
-  -- and it may not be written
+  -- why that object may not be written
   pub group-writable : (o : ℕ) → Some o ≡ slice_get v.objects group → write_refusal r.number_objects o ≡ option_and_then (λ w. set_refusal r.number_objects w place) (slice_get r.numbers i)
   group-writable o found =
       let there : nat_lt place v.len ≡ true = lt-ltb place v.len (omega (arith, used, same_length.1)) in
@@ -39,7 +39,7 @@ cond-free : {A : Type 0} (b : Bool) (x : A) (rest : Option A) → cond b (Some x
 cond-free true x rest is = cc
 cond-free false x rest is = refl
 
--- if a number may be set there is its place, and the row group of the place in its column is that in the table
+-- if a number may be set its place exists, and the place has the same row group in its column and in the table
 module _ {K : Type 0} (content : K → List ℕ) (r : Rows K) (are : AreRows content r) (i place : ℕ) (v : Vector (Option ℤ)) (column : slice_get r.numbers i ≡ Some v) where
   also-same_length : (v.size ≡ r.size) × (v.len ≡ length r.alive)
   also-same_length = subst (λ (d : Vector (Option ℤ)). (d.size ≡ r.size) × (d.len ≡ length r.alive)) (get_or_from_slice_get r.numbers i v v column) (are.same_length_numbers i v (slice_get_within r.numbers i v column))

@@ -1,4 +1,4 @@
--- That an object of a row group was written too often: asked of the indexes, and of the columns of each kind.
+-- Whether an object of a row group was written too often, tested by index and by kind of column.
 use Rattle.std.proofs.Common.{◌≡◌, ℕ, zero, suc, ◌+◌, ◌*◌, ◌/◌, Bool, true, false, if◌then◌else◌, List, [], ◌∷◌, length, inl, inr, ℤ, Option, None, Some, refl, sym, ap, ◌∙◌, arith}
 use Rattle.std.specs.Prelude.{◌||◌, option_map, slice_get}
 use Rattle.std.specs.List.{list_any}
@@ -19,7 +19,7 @@ use Rattle.far_rows.specs.Refusing.{is_written_out}
 use Rattle.far_rows.proofs.PlacesTextSize.{both-ways, or-either, or-first, or-later}
 
 module _ {A : Type 0} where
-  -- one that passes a test
+  -- an element that passes a test
   some-at : (test : A → Bool) (xs : List A) → list_any test xs ≡ true → (i : ℕ) × (x : A) × (slice_get xs i ≡ Some x) × (test x ≡ true)
   some-at test [] is = absurd cc
   some-at test (x ∷ xs) is = elim (or-either (test x) (list_any test xs) is) [
@@ -40,7 +40,7 @@ module _ {A : Type 0} where
   any-same f g [] each = refl
   any-same f g (x ∷ xs) each = let here = each 0 x refl in let rest = any-same f g xs (λ i y at. each (suc i) y at) in λ k. here k || rest k
 
--- if all places of its objects are used, a column has none for the next place
+-- a column whose objects' places are all used has no object for the next place
 pub no-text : (c : Texts) → HasGroups c → begins_group c ≡ true → slice_get c.objects (c.len / c.size) ≡ None
 no-text c has begins =
     let e = eqb-true c.len (length c.objects * c.size) begins in
@@ -56,7 +56,7 @@ module _ {K : Type 0} (r : Rows K) (g : ℕ) where
   abbrev pub text_written : Texts → Bool
   text_written c = option_map_or (λ o. (written_out r.text_objects o).0) (slice_get c.objects g) false
 
-  -- likewise of a column of numbers
+  -- the object of the row group of a column of numbers was written too often
   abbrev pub number_written : Vector (Option ℤ) → Bool
   number_written c = option_map_or (λ o. (written_out r.number_objects o).0) (slice_get c.objects g) false
 
@@ -90,7 +90,7 @@ module _ {K : Type 0} (r : Rows K) (g : ℕ) where
             has-at (is_written_out r g) r.column_indexes c.column (column_index.Number found.0) lies (ap (λ (o : Option (Vector (Option ℤ))). option_map_or (λ p. (written_out r.number_objects p).0) (option_and_then (λ (d : Vector (Option ℤ)). slice_get d.objects g) o) false) found.2 ∙ found.3)
       ])
 
-  -- of columns whose last row group this is, the forms that are to come are for its objects
+  -- if this is the columns' last row group, the next forms are for its objects
   pub forms-written : (lists : Lists) (n : ℕ) (columns : List Texts) (texts : List (Option (List ℕ))) → length texts ≡ length columns → ((i : ℕ) (c : Texts) → slice_get columns i ≡ Some c → (begins_group c ≡ false) × (slice_get c.objects g ≡ Some (last_object c))) → list_any (λ (form : ℕ × List ℕ). (written_out r.text_objects form.0).0) (next_forms lists n columns texts) ≡ list_any text_written columns
   forms-written lists n [] texts same_length each = refl
   forms-written lists n (c ∷ columns) [] same_length each = absurd (omega (arith, same_length))

@@ -1,4 +1,4 @@
--- Rows whose objects went under the tickets of another store: each has the list that it had, and its name.
+-- Rows whose objects got tickets of another store: each object has the same list and the same name.
 use Rattle.std.proofs.Common.{◌≡◌, ℕ, List, [], ◌∷◌, map, length, get_or, Option, refl, sym, ap, subst, ◌∙◌, arith}
 use Rattle.std.specs.Prelude.{ℤ}
 use Rattle.std.specs.List.{zip}

@@ -1,4 +1,4 @@
--- Where row groups begin: at a place whose number is divided by the size of a row group.
+-- Where row groups begin: at a place whose number is divisible by the size of a row group.
 use Rattle.std.proofs.Common.{◌≡◌, ◌≢◌, inl, inr, ℕ, ◌+◌, ◌*◌, ◌/◌, ◌%◌, ◌≤◌, ◌<◌, ◌^◌, true, false, List, [], ◌∷◌, length, refl, sym, ap, ◌∙◌, arith, mul-le-mul_left, mul-le-mul_right}
 use Rattle.std.specs.Prelude.{ℤ, Option, None, Some, All}
 use Rattle.std.specs.Option.{option_or}
@@ -13,7 +13,7 @@ use Rattle.far_texts.specs.Effects.{begins_group}
 use Rattle.far_columns.specs.NumbersTogether.{NumberColumns, all_begin}
 use Rattle.far_texts.specs.Together.{all_begin as all_texts_begin}
 
--- len elements lie in k row groups of so many places
+-- len elements fill k row groups of one size
 module _ (len k size : ℕ) (some : 0 < size) (enough : len ≤ k * size) (needed : k * size < len + size) where
   -- all places of the last row group are used
   pub full-at : len % size ≡ 0 → len ≡ k * size
@@ -35,7 +35,7 @@ module _ (len k size : ℕ) (some : 0 < size) (enough : len ≤ k * size) (neede
   pub begun-at : len % size ≢ 0 → len ≢ k * size
   begun-at not_divides full = not_divides (ap (λ n. n % size) full ∙ mul-mod_left k size)
 
--- a column of numbers with rows of this table
+-- a column of numbers with the rows of this table
 pub record IsNumbers (size len : ℕ) (c : Vector (Option ℤ)) : Type 0 where
   pub shaped : IsShaped c
   pub same_length : (c.size ≡ size) × (c.len ≡ len)
@@ -80,7 +80,7 @@ text-begun size len some not_divides c is =
       | inr begun ↦ begun
     ]
 
--- of columns of one table all begin a row group if the next place is the first of one
+-- the columns of one table all begin a row group if the next place is the first of one
 pub numbers-begin : (size len : ℕ) (columns : NumberColumns) → 0 < size → len % size ≡ 0 → All (IsNumbers size len) columns → all_begin columns ≡ true
 numbers-begin size len columns some divides are =
     list_all-from_AllPass is_full columns (All-weaker (IsNumbers size len) (λ c. is_full c ≡ true) (number-begins size len some divides) columns are)
@@ -101,7 +101,7 @@ texts-begun size len (c ∷ columns) some not_divides more are =
     let first = text-begun size len some not_divides c (All-head (IsTexts size len) c columns are) in
     rw first refl
 
--- a table of at most 16 columns and 2^24 places has few enough objects: as many a row group as columns of a kind
+-- a table of at most 16 columns and 2^24 places has few enough objects: for each row group, one for each column of a kind
 pub few-more : (records n k size len : ℕ) → records ≡ n * k → k * size ≡ len → len < 2 ^ 24 → 0 < size → n ≤ 16 → records + n ≤ 2 ^ 28
 few-more records n k size len count all below some few =
     let groups = mul-le-mul_left {m = 1} {n = size} k some in
@@ -136,7 +136,7 @@ module _ (size len records : ℕ) (some : 0 < size) (below : len < 2 ^ 24) (few 
       let all : length c.objects * size ≡ len = ap (λ s. length c.objects * s) (sym here.same_length.0) ∙ sym (eqb-true c.len (length c.objects * c.size) full) ∙ here.same_length.1 in
       few-more records n (length c.objects) size len (All-head (λ c. records ≡ n * length c.objects) c columns count) all below some small
 
--- neither of two refusals is due
+-- neither of two refusals applies
 pub none-of-two : {A : Type 0} (a b : Option A) → option_or a b ≡ None → (a ≡ None) × (b ≡ None)
 none-of-two None b free = (refl, free)
 none-of-two (Some e) b free = absurd cc

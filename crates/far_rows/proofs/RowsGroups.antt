@@ -1,4 +1,4 @@
--- A row group of a column, as its object holds it.
+-- A row group of a column, as its object has it.
 use Rattle.std.proofs.Common.{◌≡◌, ℕ, ℤ, ◌*◌, ◌≤◌, ◌<◌, List, [], ◌∷◌, ◌++◌, map, length, take, drop, replicate, get_or, Option, None, Some, refl, sym, ap, subst, ◌∙◌, arith}
 use Rattle.std.specs.Prelude.{◌-◌, min, option_map, unwrap_or, slice_get, IsSomeAnd}
 use Rattle.std.specs.Option.{option_and_then, option_or}
@@ -26,14 +26,14 @@ use Rattle.far_rows.proofs.JobsBeginning.{lies}
 use Rattle.far_rows.proofs.PlacesTextSize.{found-at}
 use Rattle.far_rows.proofs.MovingPins.{found-in, number-of, no-number, text-of, no-text}
 
--- row groups of lists of one length have one length
+-- row groups of lists of equal length are equally long
 group-long : {X Y : Type 0} (size g : ℕ) (xs : List X) (ys : List Y) → length xs ≡ length ys → length (in_group size g xs) ≡ length (in_group size g ys)
 group-long size g xs ys same =
     length-take size (drop (g * size) xs)
     ∙ ap (min size) (length-drop (g * size) xs ∙ ap (λ n. n - g * size) same ∙ sym (length-drop (g * size) ys))
     ∙ sym (length-take size (drop (g * size) ys))
 
--- a row group, once a function is applied to all
+-- a row group, after a function is applied to all elements
 group-map : {X Y : Type 0} (f : X → Y) (size g : ℕ) (xs : List X) → in_group size g (map f xs) ≡ map f (in_group size g xs)
 group-map f size g xs = ap (take size) (drop-map f (g * size) xs) ∙ take-map f size (drop (g * size) xs)
 

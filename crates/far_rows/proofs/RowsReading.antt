@@ -1,4 +1,4 @@
--- What is read of a table's columns, as cells of its rows.
+-- Reading a table's columns, as cells of its rows.
 use Rattle.std.proofs.Common.{◌≡◌, ℕ, ℤ, ◌/◌, ◌<◌, Bool, true, false, not, List, [], ◌∷◌, map, length, get_or, Option, None, Some, refl, sym, ap, subst, ◌∙◌, arith}
 use Rattle.std.specs.Prelude.{All, nat_lt, unwrap_or, slice_get}
 use Rattle.std.specs.Option.{option_map_or, option_and_then}
@@ -23,14 +23,14 @@ use Rattle.far_rows.specs.ColumnIndexes.{column_in}
 use Rattle.far_rows.specs.Rows.{Rows, AreRows, all_numbers, all_texts}
 use Rattle.far_rows.specs.Refusing.{away_at}
 
--- what holds of all holds of one that is read
+-- a property of all elements is one of the element that is read
 pub all-read : {X : Type 0} (P : X → Type 0) (xs : List X) (i : ℕ) (x : X) → All P xs → i < length xs → x ≡ get_or xs i x → P x
 all-read P xs i x all within read = subst P (sym read) (all i x within)
 
 read-some : {X : Type 0} (xs : List X) (i : ℕ) (x d : X) → slice_get xs i ≡ Some x → get_or xs i d ≡ x
 read-some xs i x d is = sym (unwrap_or-slice_get xs i d) ∙ ap (λ o. unwrap_or o d) is
 
--- an element that is read, once a function is applied to all
+-- an element that is read, after a function is applied to all
 map-read : {X Y : Type 0} (f : X → Y) (xs : List X) (i : ℕ) (x : X) (e : Y) → i < length xs → x ≡ get_or xs i x → get_or (map f xs) i e ≡ f x
 map-read f xs i x e within read = map-at f xs i x e within ∙ ap f (sym read)
 
@@ -50,7 +50,7 @@ module _ {K : Type 0} (content : K → List ℕ) (r : Rows K) (are : AreRows con
   absent-text g i c within read =
       ap (λ (d : Option Texts). option_map_or (absent r.text_objects) (option_and_then (λ (t : Texts). slice_get t.objects g) d) (false, refusal.StaleJob)) (slice_get_read r.texts (length r.texts) i c refl within read)
 
-  -- a place that is there has an object, which alone refuses that it is read
+  -- a place that exists has an object, and only that can refuse a read
   pub number-refused : (i place : ℕ) (c : Vector (Option ℤ)) → i < length r.numbers → c ≡ get_or r.numbers i c → place < length r.alive → IsShaped c → get_refusal r.number_objects c place ≡ first_of (away_at r (place / r.size) (column_index.Number i) ∷ [])
   number-refused i place c within read there shaped =
       let same_length = all-read (λ (v : Vector (Option ℤ)). (v.size ≡ r.size) × (v.len ≡ length r.alive)) r.numbers i c are.same_length_numbers within read in

@@ -1,4 +1,4 @@
--- The cells of a table of which one column has another value at a place.
+-- The cells of a table after one column gets another value at a place.
 use Rattle.std.proofs.Common.{◌≡◌, ◌≢◌, inl, inr, ℕ, zero, suc, ◌<◌, List, [], ◌∷◌, length, map, get_or, set, Option, Some, refl, sym, ap, ◌∙◌, arith}
 use Rattle.std.specs.Prelude.{ℤ, AllPairs, option_map, slice_get}
 use Rattle.std.proofs.lemmas.Bool.{cases_eq, cases_lt}
@@ -26,13 +26,13 @@ other-column_index column_indexes once c j s d at ne within same =
       | inr behind ↦ once c j d (omega (arith, behind, λ (e : c ≡ j). ne (sym e))) within (here ∙ sym same)
     ]
 
--- an index of some kind is one of them
+-- an index with a known kind is one of the indexes
 pub column_index-within : (column_indexes : List ColumnIndex) (c : ℕ) (k : Kind) → option_map kind_of (slice_get column_indexes c) ≡ Some k → c < length column_indexes
 column_index-within [] c k is = absurd cc
 column_index-within (s ∷ column_indexes) zero k is = omega arith
 column_index-within (s ∷ column_indexes) (suc c) k is = let rest = column_index-within column_indexes c k is in omega (arith, rest)
 
--- the column of an index, as the cells of the table
+-- the column with an index, as cells of the table
 at-column_index : (column_indexes : List ColumnIndex) (numbers : List Numbers) (texts : TextLists) (c : ℕ) (s : ColumnIndex) → slice_get column_indexes c ≡ Some s → get_or (columns_of column_indexes numbers texts) c [] ≡ column_in numbers texts s
 at-column_index column_indexes numbers texts c s at =
     get_or_from_slice_get (columns_of column_indexes numbers texts) c (column_in numbers texts s) [] (slice_get-map (column_in numbers texts) column_indexes c ∙ ap (option_map (column_in numbers texts)) at)

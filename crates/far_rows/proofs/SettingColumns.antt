@@ -1,4 +1,4 @@
--- Columns of which one gets another value at a place.
+-- Columns, one of which gets another value at a place.
 use Rattle.std.proofs.Common.{◌≡◌, ◌≢◌, ℕ, zero, suc, ◌<◌, List, [], ◌∷◌, length, map, get_or, set, Option, Some, refl, sym, ap, subst, ◌∙◌, arith}
 use Rattle.std.specs.Prelude.{ℤ, slice_get, slice_set}
 use Rattle.std.proofs.lemmas.Option.{slice_get_within, get_or_from_slice_get}
@@ -12,7 +12,7 @@ use Rattle.far_columns.specs.NumbersTogether.{NumberLists, NumberColumns, AreNum
 use Rattle.far_texts.specs.Together.{AreColumns}
 use Rattle.far_texts.proofs.ColumnsLaws.{columns-after, others-after as texts-after}
 
--- what reads of one is another, and of the others as it was
+-- mapping another function changes one element, if it agrees on the others
 pub map-one : {A B : Type 0} (f h : A → B) (xs : List A) (i : ℕ) (y : B) → i < length xs → ((d : A) → h (get_or xs i d) ≡ y) → ((j : ℕ) (d : A) → j ≢ i → j < length xs → h (get_or xs j d) ≡ f (get_or xs j d)) → map h xs ≡ set (map f xs) i y
 map-one f h [] i y within here others = absurd (omega (arith, within))
 map-one f h (x ∷ xs) zero y within here others =
@@ -29,7 +29,7 @@ map-one f h (x ∷ xs) (suc i) y within here others =
     let rest = map-one f h xs i y (omega (arith, within)) here (λ j d ne below. others (suc j) d (λ e. ne (omega (arith, e))) (omega (arith, below))) in
     λ k. first k ∷ rest k
 
--- what stays where it is written is as it was
+-- writing an element that is already there changes nothing
 pub set-same : {A : Type 0} (xs : List A) (k : ℕ) (x : A) → slice_get xs k ≡ Some x → set xs k x ≡ xs
 set-same xs k x at = ap (set xs k) (sym (get_or_from_slice_get xs k x x at)) ∙ set-get_or xs k x
 

@@ -1,4 +1,4 @@
--- Why a row may not be appended, asked of one kind of columns after the other.
+-- Why appending a row is refused, tested kind by kind.
 -- Internal: no public contract cites it.
 use Rattle.std.specs.Prelude.{ℕ, ◌/◌, List, length, Option}
 use Rattle.std.specs.Option.{option_or}
@@ -10,8 +10,8 @@ use Rattle.far_rows.specs.ColumnIndexes.{Values}
 use Rattle.far_rows.specs.Rows.{Rows}
 use Rattle.far_rows.specs.Refusing.{absents}
 
--- why a row is not appended, by kind: the object of some column in the row group of the next place is away. Else the columns of texts
--- refuse it, and then those of numbers
+-- why appending a row is refused, by kind: first if an object of the next place's row group is away, then by the columns of texts, then by
+-- those of numbers
 abbrev pub kinds_refusal : {K : Type 0} → (K → List ℕ) → Rows K → Values → Option Refusal
 kinds_refusal content r values =
     option_or (first_of (absents r (length r.alive / r.size))) (option_or (push_texts_refusal content r.text_objects r.texts values.texts) (push_numbers_refusal r.number_objects r.numbers))

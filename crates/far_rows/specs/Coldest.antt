@@ -1,4 +1,4 @@
--- Which object of rows goes away first.
+-- The eviction victim among the objects of rows.
 use Rattle.std.specs.Prelude.{ℕ, ◌*◌, nat_le, Bool, cond, Option, option_map}
 use Rattle.std.specs.Option.{option_and_then, option_or}
 use Rattle.far_types.specs.declared.name.Name.{Name}
@@ -9,19 +9,19 @@ use Rattle.far_rows.specs.declared.object.Object.{Object}
 use Rattle.far_rows.specs.declared.object.Object.TheVariants as object
 use Rattle.far_rows.specs.Rows.{Rows}
 
--- the name that the coldest of some objects has
+-- the name of the coldest object of one kind
 abbrev pub coldest_name : {X K : Type 0} → Movement X K → Option Name
 coldest_name m = option_and_then (λ o. option_map (λ object_record. object_record.name) (record_of m o)) (coldest_in m)
 
 module _ {K : Type 0} (r : Rows K) where
-  -- whether the objects of numbers have no more space, in proportion to their capacity, than those of texts
+  -- whether the objects of numbers have at most as much space, in proportion to their capacity, as those of texts
   abbrev pub numbers_go_first : Bool
   numbers_go_first =
       let numbers = r.number_objects.memory.state in
       let texts = r.text_objects.memory.state in
       nat_le (space_of numbers * capacity_of texts) (space_of texts * capacity_of numbers)
 
-  -- the name of the coldest object of the kind with less space; if that kind has none, of the other
+  -- the name of the coldest object of the kind with less space or, if that kind has none, of the other
   abbrev pub coldest : Option Name
   coldest = cond numbers_go_first (option_or (coldest_name r.number_objects) (coldest_name r.text_objects)) (option_or (coldest_name r.text_objects) (coldest_name r.number_objects))
 

@@ -1,4 +1,4 @@
--- Where each column of a table lies: among its columns of numbers, or among those of texts.
+-- The index of each column of a table, among its number columns or among its text columns.
 use Rattle.std.specs.Prelude.{◌≡◌, ◌≢◌, length, ℕ, ◌+◌, ◌<◌, List, [], ◌∷◌, ◌++◌, map, All, AllPairs, Option, Some, None, ℤ, slice_index_or, slice_set}
 use Rattle.far_types.specs.declared.cell.Cell.{Cell}
 use Rattle.far_types.specs.Cells.{number_in, text_in}
@@ -8,34 +8,34 @@ use Rattle.far_rows.specs.declared.column_index.ColumnIndex.{ColumnIndex}
 use Rattle.far_rows.specs.declared.column_index.ColumnIndex.TheVariants as column_index
 use Rattle.far_types.specs.Lent.{int_cell, text_cell}
 
--- the indexes of columns of these kinds, after `numbers` columns of numbers and `texts` of texts
+-- the indexes of columns of these kinds, which come after `numbers` columns of numbers and `texts` of texts
 abbrev pub column_indexes_from : ℕ → ℕ → List Kind → List ColumnIndex
 column_indexes_from numbers texts [] = []
 column_indexes_from numbers texts (kind.Int ∷ kinds) = column_index.Number numbers ∷ column_indexes_from (numbers + 1) texts kinds
 column_indexes_from numbers texts (kind.Text ∷ kinds) = column_index.Text texts ∷ column_indexes_from numbers (texts + 1) kinds
 
--- the kind of an index's column
+-- the kind of the column with this index
 abbrev pub kind_of : ColumnIndex → Kind
 kind_of (column_index.Number i) = kind.Int
 kind_of (column_index.Text i) = kind.Text
 
--- there is such a column, among `numbers` of numbers and `texts` of texts
+-- the index is of one of `numbers` columns of numbers, or of one of `texts` columns of texts
 abbrev pub IsColumnIn : ℕ → ℕ → ColumnIndex → Type 0
 IsColumnIn numbers texts (column_index.Number i) = i < numbers
 IsColumnIn numbers texts (column_index.Text i) = i < texts
 
--- the indexes are those of `numbers` columns of numbers and `texts` of texts, each once: as many as there are columns
+-- the indexes are those of `numbers` columns of numbers and `texts` of texts, each once
 pub record AreColumnIndexes (column_indexes : List ColumnIndex) (numbers texts : ℕ) : Type 0 where
   pub within : All (IsColumnIn numbers texts) column_indexes
   pub once : AllPairs (λ s t. s ≢ t) column_indexes
   pub count : length column_indexes ≡ numbers + texts
 
--- the values of a row, by kind: those of its columns of numbers, and those of its columns of texts
+-- the values of a row, by kind: those of its number columns, and those of its text columns
 pub record Values : Type 0 where
   pub numbers : List (Option ℤ)
   pub texts : List (Option (List ℕ))
 
--- the cell at an index of a row
+-- the cell with this index in a row
 abbrev pub cell_in : Values → ColumnIndex → Cell
 cell_in values (column_index.Number i) = int_cell (slice_index_or values.numbers i None)
 cell_in values (column_index.Text i) = text_cell (slice_index_or values.texts i None)
@@ -44,21 +44,21 @@ cell_in values (column_index.Text i) = text_cell (slice_index_or values.texts i 
 abbrev pub row_of : List ColumnIndex → Values → List Cell
 row_of column_indexes values = map (cell_in values) column_indexes
 
--- the values with another at an index, which has the kind of this cell
+-- the values with another one at an index; the cell has the index's kind
 abbrev pub with_value : Values → ColumnIndex → Cell → Values
 with_value values (column_index.Number i) cell = record values { numbers = slice_set values.numbers i (number_in (Some cell)) }
 with_value values (column_index.Text i) cell = record values { texts = slice_set values.texts i (text_in cell) }
 
--- the cells of an index's column
+-- the cells of the column with this index
 abbrev pub column_in : List (List (Option ℤ)) → List (List (Option (List ℕ))) → ColumnIndex → List Cell
 column_in numbers texts (column_index.Number i) = map int_cell (slice_index_or numbers i [])
 column_in numbers texts (column_index.Text i) = map text_cell (slice_index_or texts i [])
 
--- the columns of a table of these columns of numbers and of texts
+-- the columns of a table, given its number columns and its text columns
 abbrev pub columns_of : List ColumnIndex → List (List (Option ℤ)) → List (List (Option (List ℕ))) → List (List Cell)
 columns_of column_indexes numbers texts = map (column_in numbers texts) column_indexes
 
--- the columns with one more row: a cell more in each, in order
+-- the columns with one more row: one more cell in each
 abbrev pub with_row : List (List Cell) → List Cell → List (List Cell)
 with_row [] row = []
 with_row (cells ∷ columns) [] = cells ∷ columns

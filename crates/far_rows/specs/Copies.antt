@@ -1,4 +1,4 @@
--- What the far store has of the objects of rows.
+-- The far copies of the objects of rows.
 use Rattle.std.specs.Prelude.{ℕ, cond, List, Option, None, IsSomeAnd}
 use Rattle.std.specs.Option.{option_and_then}
 use Rattle.far_scopes.specs.Movement.{Movement, dirty, ticket_of}
@@ -15,12 +15,12 @@ module _ {K : Type 0} where
   abbrev pub clean_ticket : {X : Type 0} → Movement X K → ℕ → Option K
   clean_ticket m o = cond (dirty m o) None (ticket_of m o)
 
-  -- likewise of an object of either kind
+  -- the ticket of an object of either kind that is clean
   abbrev pub copy_in : Rows K → Object → Option K
   copy_in r (object.Number o) = clean_ticket r.number_objects o
   copy_in r (object.Text o) = clean_ticket r.text_objects o
 
-  -- the ticket of the far copy of a row group of a column as it is now: none if its object is dirty, or there is none
+  -- the ticket of the far copy of a row group of a column, as it is now; none if its object is dirty, or does not exist
   abbrev pub copy_of : Rows K → ℕ → ℕ → Option K
   copy_of r column group = option_and_then (copy_in r) (object_at r column group)
 

@@ -1,4 +1,4 @@
--- Jobs on the objects of rows: what they carry, how they begin, and when they are accepted.
+-- Jobs on the objects of rows: what they carry, what they are when they begin, and when they are accepted.
 use Rattle.std.specs.Prelude.{◌≡◌, ℕ, ℤ, ◌<◌, ◌^◌, not, false, List, [], ◌∷◌, length, Option, FitsSigned, IfSome, IsSomeAnd}
 use Rattle.std.specs.Int.{w64}
 use Rattle.std.specs.Option.{option_or}
@@ -24,15 +24,15 @@ use Rattle.far_rows.specs.Rows.{Rows}
 use Rattle.far_rows.specs.Refusing.{absent_in}
 use Rattle.far_rows.specs.Moving.{object_at, object_refusal}
 
--- the bytes are the far form of an object of these numbers
+-- the bytes are the far form of these numbers
 abbrev pub SpellsNumbers : List (Option ℤ) → List ℕ → Type 0
 SpellsNumbers = IsSpelled (λ number. IfSome number (FitsSigned w64)) FitsCount ints_form
 
--- the bytes are a far form of texts, which is what an object of texts has in it
+-- the bytes are this far form of texts: an object of texts has its form as its list
 abbrev pub SpellsTexts : List ℕ → List ℕ → Type 0
 SpellsTexts = IsSpelled (λ byte. byte < 2 ^ 8) IsTextsForm (λ bytes. bytes)
 
--- what both kinds share
+-- the value of either kind
 abbrev pub of_either : {A : Type 0} → ByKind A A → A
 of_either (Numbers a) = a
 of_either (Texts a) = a
@@ -44,14 +44,14 @@ module _ {K : Type 0} where
     pub texts : AreHere is_of id r.text_objects
 
   module _ (content : K → List ℕ) where
-    -- an evacuation that was carried: the far store has its form
+    -- an evacuation after its carry: the far store has its form
     abbrev pub IsCarriedEvac : ByKind (Evacuation K) (Evacuation K) → ByKind (CarriedEvacuation K) (CarriedEvacuation K) → Type 0
     IsCarriedEvac (Numbers job) (Numbers carried) = (carried.job ≡ job) × IsFormTicket content job.form carried.ticket
     IsCarriedEvac (Texts job) (Texts carried) = (carried.job ≡ job) × IsFormTicket content job.form carried.ticket
     IsCarriedEvac (Numbers job) (Texts carried) = ⊥
     IsCarriedEvac (Texts job) (Numbers carried) = ⊥
 
-    -- a fetch that was carried: its bytes are the content of its ticket
+    -- a fetch after its carry: its bytes are the content of its ticket
     abbrev pub IsCarriedFetch : ByKind (Fetch K) (Fetch K) → ByKind (CarriedFetch K) (CarriedFetch K) → Type 0
     IsCarriedFetch (Numbers job) (Numbers fetched) = (fetched.job ≡ job) × (fetched.bytes ≡ content job.ticket)
     IsCarriedFetch (Texts job) (Texts fetched) = (fetched.job ≡ job) × (fetched.bytes ≡ content job.ticket)
@@ -59,14 +59,14 @@ module _ {K : Type 0} where
     IsCarriedFetch (Texts job) (Numbers fetched) = ⊥
 
   module _ (r : Rows K) where
-    -- an evacuation of an object, begun now
+    -- an evacuation of an object that begins now
     abbrev pub IsEvacOf : Object → ByKind (Evacuation K) (Evacuation K) → Type 0
     IsEvacOf (object.Number o) (Numbers job) = IsBegunEvac ints_form r.number_objects o job
     IsEvacOf (object.Text o) (Texts job) = IsBegunEvac (λ bytes. bytes) r.text_objects o job
     IsEvacOf (object.Number o) (Texts job) = ⊥
     IsEvacOf (object.Text o) (Numbers job) = ⊥
 
-    -- a fetch of an object, begun now
+    -- a fetch of an object that begins now
     abbrev pub IsFetchOf : Object → ByKind (Fetch K) (Fetch K) → Type 0
     IsFetchOf (object.Number o) (Numbers job) = IsFetch r.number_objects o job
     IsFetchOf (object.Text o) (Texts job) = IsFetch r.text_objects o job
@@ -74,50 +74,50 @@ module _ {K : Type 0} where
     IsFetchOf (object.Text o) (Numbers job) = ⊥
 
     module _ (column group : ℕ) where
-      -- an evacuation of the object of a row group of a column, begun now
+      -- an evacuation of the object of a row group of a column that begins now
       abbrev pub IsEvacBegun : ByKind (Evacuation K) (Evacuation K) → Type 0
       IsEvacBegun job = IsSomeAnd (object_at r column group) (λ object. IsEvacOf object job)
 
-      -- a fetch of it, begun now
+      -- a fetch of the object of a row group of a column that begins now
       abbrev pub IsFetchBegun : ByKind (Fetch K) (Fetch K) → Type 0
       IsFetchBegun job = IsSomeAnd (object_at r column group) (λ object. IsFetchOf object job)
 
-      -- there is no such object, or it is away
+      -- why no evacuation begins: there is no such object, or it is away
       abbrev pub evac_refusal : Option Refusal
       evac_refusal = option_or (object_refusal r column group) (first_of (absent_in r column group ∷ []))
 
-      -- there is no such object, or it is local
+      -- why no fetch begins: there is no such object, or it is local
       abbrev pub fetch_refusal : Option Refusal
       fetch_refusal = option_or (object_refusal r column group) (first_of ((not (absent_in r column group).0, refusal.StaleJob) ∷ []))
 
-    -- how many pins its object has
+    -- how many pins the object of a carried evacuation has
     abbrev pub pins_by : ByKind (CarriedEvacuation K) (CarriedEvacuation K) → ℕ
     pins_by (Numbers carried) = pins_of r.number_objects carried.job.object
     pins_by (Texts carried) = pins_of r.text_objects carried.job.object
 
-    -- the rows once its object is away
+    -- the rows after the object of a carried evacuation is sent away
     abbrev pub after_commit : ByKind (CarriedEvacuation K) (CarriedEvacuation K) → Rows K
     after_commit (Numbers carried) = record r { number_objects = after_leave r.number_objects carried.job.object carried.ticket }
     after_commit (Texts carried) = record r { text_objects = after_leave r.text_objects carried.job.object carried.ticket }
 
   module _ (number_of : K → ℕ) (r : Rows K) where
-    -- a carried evacuation is accepted if this holds and its object has no pin
+    -- when a carried evacuation can be committed; it is accepted if the object has no pin either
     abbrev pub IsEvacAccepted : ByKind (CarriedEvacuation K) (CarriedEvacuation K) → Type 0
     IsEvacAccepted (Numbers carried) = IsCommittable number_of ints_form r.number_objects carried
     IsEvacAccepted (Texts carried) = IsCommittable number_of (λ bytes. bytes) r.text_objects carried
 
-    -- a carried fetch is accepted if this holds and there is space
+    -- when a carried fetch can be installed; it is accepted if a segment has space for it too
     abbrev pub IsFetchAccepted : ByKind (CarriedFetch K) (CarriedFetch K) → Type 0
     IsFetchAccepted (Numbers fetched) = IsInstallable number_of SpellsNumbers r.number_objects fetched
     IsFetchAccepted (Texts fetched) = IsInstallable number_of SpellsTexts r.text_objects fetched
 
   module _ (content : K → List ℕ) (r : Rows K) where
-    -- no segment has the space for the list of the object that is fetched
+    -- no segment has the space for the list of the fetched object
     abbrev pub HasNoSpace : ByKind (CarriedFetch K) (CarriedFetch K) → Type 0
     HasNoSpace (Numbers fetched) = IsSomeAnd (number_lists content r.number_objects fetched.job.object) (λ list. fits_in r.number_objects.memory.state (length list) ≡ false)
     HasNoSpace (Texts fetched) = IsSomeAnd (lists_of content r.text_objects fetched.job.object) (λ list. fits_in r.text_objects.memory.state (length list) ≡ false)
 
-    -- the rows once that object is back, with the list that it has
+    -- the rows after the fetched object is brought back, with its list
     abbrev pub IsAfterInstall : ByKind (CarriedFetch K) (CarriedFetch K) → Rows K → Type 0
     IsAfterInstall (Numbers fetched) now = IsSomeAnd (number_lists content r.number_objects fetched.job.object) (λ list. now ≡ record r { number_objects = after_arrive r.number_objects fetched.job.object list })
     IsAfterInstall (Texts fetched) now = IsSomeAnd (lists_of content r.text_objects fetched.job.object) (λ list. now ≡ record r { text_objects = after_arrive r.text_objects fetched.job.object list })

@@ -1,4 +1,4 @@
--- The objects of rows: which they are, how they change in place, and why that is refused.
+-- The objects of rows: which they are, how they change in place, and when that is refused.
 use Rattle.std.specs.Prelude.{◌≡◌, ℕ, ◌<◌, List, [], ◌∷◌, length, Option, is_none, option_map, slice_get, Bool, false}
 use Rattle.std.specs.Option.{option_and_then, option_map_or, option_or}
 use Rattle.far_types.specs.declared.refusal.Refusal.{Refusal}
@@ -14,7 +14,7 @@ use Rattle.far_rows.specs.declared.object.Object.TheVariants as object
 use Rattle.far_rows.specs.Rows.{Rows, object_of, all_cells}
 use Rattle.far_rows.specs.Refusing.{no_column, absent_in}
 
--- the object of this number, among those of an index's kind
+-- the object of this number, of the kind of an index
 abbrev pub object_in : ColumnIndex → ℕ → Object
 object_in (column_index.Number i) o = object.Number o
 object_in (column_index.Text i) o = object.Text o
@@ -24,40 +24,40 @@ module _ {K : Type 0} where
   abbrev pub object_at : Rows K → ℕ → ℕ → Option Object
   object_at r column group = option_and_then (λ s. option_map (object_in s) (object_of r s group)) (slice_get r.column_indexes column)
 
-  -- there is such an object
+  -- the object exists
   abbrev pub IsInUse : Rows K → Object → Type 0
   IsInUse r (object.Number o) = o < length r.number_objects.records
   IsInUse r (object.Text o) = o < length r.text_objects.records
 
-  -- an object is pinned once more
+  -- an object has one more pin
   abbrev pub after_pin : Rows K → Object → Rows K
   after_pin r (object.Number o) = record r { number_objects = after_pin_in r.number_objects o }
   after_pin r (object.Text o) = record r { text_objects = after_pin_in r.text_objects o }
 
-  -- it is pinned once less
+  -- an object has one pin less
   abbrev pub after_unpin : Rows K → Object → Rows K
   after_unpin r (object.Number o) = record r { number_objects = after_unpin_in r.number_objects o }
   after_unpin r (object.Text o) = record r { text_objects = after_unpin_in r.text_objects o }
 
-  -- it is marked as recently used: hot, and used last, if it is local
+  -- an object is marked as recently used, if it is local: it is hot, and the most recently used
   abbrev pub after_touch : Rows K → Object → Rows K
   after_touch r (object.Number o) = record r { number_objects = after_touch_in r.number_objects o }
   after_touch r (object.Text o) = record r { text_objects = after_touch_in r.text_objects o }
 
-  -- what a pin, an unpin, a use and a compaction keep, accepted or not: the cells, and whose tickets the objects have
+  -- what a pin, an unpin, a use and a compaction keep, accepted or refused: the cells, and the stores of the tickets
   pub record KeepsCells (content : K → List ℕ) (is_of : K → List ℕ → Type 0) (old new : Rows K) : Type 0 where
-    -- each column has the cells that it had
+    -- each column has the same cells
     pub cells : all_cells content new ≡ all_cells content old
-    -- tickets of a store stay tickets of it
+    -- tickets of a store remain tickets of that store
     pub number_store : (id : List ℕ) → AreHere is_of id old.number_objects → AreHere is_of id new.number_objects
     pub text_store : (id : List ℕ) → AreHere is_of id old.text_objects → AreHere is_of id new.text_objects
 
-  -- its pins are used up
+  -- the object has 65,535 pins
   abbrev pub pins_used : Rows K → Object → Bool × Refusal
   pins_used r (object.Number o) = pins_used_up r.number_objects o
   pins_used r (object.Text o) = pins_used_up r.text_objects o
 
-  -- why an object may not be unpinned
+  -- why unpinning an object is refused
 
   abbrev pub unpin_refusal_of : Rows K → Object → Option Refusal
   unpin_refusal_of r (object.Number o) = unpin_refusal_in r.number_objects o
@@ -68,10 +68,10 @@ module _ {K : Type 0} where
     abbrev pub object_refusal : Option Refusal
     object_refusal = first_of (no_column r column ∷ (is_none (object_at r column group), refusal.OutOfRange) ∷ [])
 
-    -- why the object of a row group of a column is not pinned (`pin`)
+    -- why pinning the object of a row group of a column is refused (`pin`)
     abbrev pub pin_refusal : Option Refusal
     pin_refusal = option_or object_refusal (first_of (absent_in r column group ∷ option_map_or (pins_used r) (object_at r column group) (false, refusal.StaleJob) ∷ []))
 
-    -- why the object of a row group of a column is not unpinned (`unpin`)
+    -- why unpinning the object of a row group of a column is refused (`unpin`)
     abbrev pub unpin_refusal : Option Refusal
     unpin_refusal = option_or object_refusal (option_and_then (unpin_refusal_of r) (object_at r column group))

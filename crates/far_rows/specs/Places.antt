@@ -1,4 +1,4 @@
--- The places of a table, by its columns and its flags.
+-- The places of a table, from its columns and its flags.
 use Rattle.std.specs.Prelude.{◌≡◌, ℕ, Bool, List, map, All, slice_index_or}
 use Rattle.std.specs.List.{enumerate_from}
 use Rattle.far_types.specs.declared.cell.Cell.{Cell}
@@ -9,11 +9,11 @@ use Rattle.far_types.specs.Edits.{text_object_length, places_after}
 use Rattle.far_types.specs.Table.{Place}
 use Rattle.far_rows.specs.Rows.{Rows, all_cells}
 
--- the row at a place: the cell that each column has there
+-- the row at a place: each column's cell there
 abbrev pub row_at : List (List Cell) → ℕ → List Cell
 row_at columns place = map (λ cells. slice_index_or cells place Missing) columns
 
--- the places of some columns: to each flag, in order, the row that stands there
+-- the places of some columns: for each flag, in order, the row at that place
 abbrev pub places_of : List (List Cell) → List Bool → List Place
 places_of columns flags = map (λ at. record { cells = row_at columns at.0; alive = at.1 }) (enumerate_from 0 flags)
 
@@ -22,11 +22,11 @@ module _ {K : Type 0} where
   abbrev pub places_in : (K → List ℕ) → Rows K → List Place
   places_in content r = places_of (all_cells content r) r.alive
 
-  -- the rows are those of a table with these limits
+  -- the rows belong to a table with these limits
   pub record AreOf (limits : Limits) (r : Rows K) : Type 0 where
     pub group : r.size ≡ limits.group
     pub limit : All (λ c. c.limit ≡ limits.text_size) r.texts
 
-  -- how long the text objects are that an insert writes, in the order of the columns of texts
+  -- the lengths of the text objects that an insert writes, in the order of the text columns
   abbrev pub text_parts : (K → List ℕ) → Limits → Rows K → Edit → ℕ → List ℕ
   text_parts content limits r edit g = map (λ c. text_object_length limits c.column g (places_after edit (places_in content r))) r.texts

@@ -1,4 +1,4 @@
--- Why an edit is refused, in the plain table's words: by its places, and by the lengths of what it writes.
+-- Why an edit is refused, in terms of the plain table: by its places, and by the lengths of what it writes.
 use Rattle.std.specs.Prelude.{ℕ, ◌/◌, not, Bool, false, List, [], ◌∷◌, ◌++◌, map, length, Option}
 use Rattle.std.specs.Option.{option_map_or}
 use Rattle.far_types.specs.declared.edit.Edit.{Edit}
@@ -21,28 +21,28 @@ use Rattle.far_rows.specs.Moving.{object_at}
 use Rattle.far_rows.specs.Places.{places_in, text_parts}
 
 module _ {K : Type 0} (content : K → List ℕ) (limits : Limits) (r : Rows K) where
-  -- a text object that the edit writes would be longer than one may be
+  -- a text object that the edit writes would be longer than its limit
   abbrev pub is_too_full : Edit → Bool
   is_too_full e = overfills (map kind_of r.column_indexes) limits e (places_in content r)
 
-  -- why a row of these values may not be appended
+  -- why appending a row of these values is refused
   abbrev pub insert_refusal : Values → Option Refusal
   insert_refusal values =
       let e : Edit = edit.Insert (row_of r.column_indexes values)
       in first_of (append_tests r (is_too_full e) (text_parts content limits r e (length (places_in content r) / limits.group)))
 
-  -- its form, written alone, does not fit; a number needs none
+  -- the form of a text object, written by itself, does not fit; a number needs no space
   abbrev pub no_space_alone : Edit → ℕ → ℕ → Object → Bool × Refusal
   no_space_alone e column g (object.Number o) = (false, refusal.RegionFull)
   no_space_alone e column g (object.Text o) = (not (fits_in r.text_objects.memory.state (text_object_length limits column g (places_after e (places_in content r)))), refusal.RegionFull)
 
-  -- it was written as often as objects may be
+  -- the object was written as often as the limits allow
   abbrev pub writes_used : Object → Bool × Refusal
   writes_used (object.Number o) = written_out r.number_objects o
   writes_used (object.Text o) = written_out r.text_objects o
 
-  -- why a value may not be put in a column of a place. An object of its row group is away. A text object would be too long. It does not
-  -- fit. The column's object was written too often
+  -- why setting a cell is refused: an object of its row group is away, a text object would be too long, it does not fit, or the column's
+  -- object was written too often
   abbrev pub cell_set_refusal : ℕ → ℕ → NewCell → Option Refusal
   cell_set_refusal column place value =
       let e : Edit = edit.Set place column (cell_of value)

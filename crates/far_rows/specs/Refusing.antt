@@ -1,4 +1,4 @@
--- Why calls on rows are refused.
+-- When calls on rows are refused.
 use Rattle.std.specs.Prelude.{ℕ, ◌+◌, ◌/◌, ◌%◌, ◌==◌, ◌&&◌, ◌||◌, nat_lt, not, false, Bool, List, [], ◌∷◌, ◌++◌, map, length, replicate, Option, option_map, slice_get, is_none}
 use Rattle.std.specs.List.{list_any}
 use Rattle.std.specs.Option.{option_map_or}
@@ -18,29 +18,29 @@ use Rattle.far_rows.specs.ColumnIndexes.{Values, kind_of}
 use Rattle.far_rows.specs.Rows.{Rows, object_of}
 
 module _ {K : Type 0} (r : Rows K) where
-  -- the object of a row group of an index's column is away; the refusal has the object's own name
+  -- the object of a row group of the column with this index is away; the refusal names the object
   abbrev pub away_at : ℕ → ColumnIndex → Bool × Refusal
   away_at g (column_index.Number i) = option_map_or (absent r.number_objects) (object_of r (column_index.Number i) g) (false, refusal.StaleJob)
   away_at g (column_index.Text i) = option_map_or (absent r.text_objects) (object_of r (column_index.Text i) g) (false, refusal.StaleJob)
 
-  -- the object of a row group of a column, which has this index, is away: the refusal says the column and the row group
+  -- the object of a row group of a column, which has this index, is away; the refusal names the column and the row group
   abbrev pub absent_at : ℕ → ℕ → ColumnIndex → Bool × Refusal
   absent_at column g s = ((away_at g s).0, refusal.Absent column g)
 
-  -- the columns of these indexes, in order, of which the first is the n-th of the table
+  -- for each of these columns in order: its object of a row group is away. The first has number n
   abbrev pub absents_from : ℕ → ℕ → List ColumnIndex → List (Bool × Refusal)
   absents_from g n [] = []
   absents_from g n (s ∷ column_indexes) = absent_at n g s ∷ absents_from g (n + 1) column_indexes
 
-  -- the columns of a row group, in order: its object is away
+  -- for each column in order: its object of a row group is away
   abbrev pub absents : ℕ → List (Bool × Refusal)
   absents g = absents_from g 0 r.column_indexes
 
-  -- there is no such place
+  -- the place is past the end
   abbrev pub no_row : ℕ → Bool × Refusal
   no_row place = (not (nat_lt place (length r.alive)), refusal.NoRow)
 
-  -- the places `from` up to `to` are not all there
+  -- the range is no range of the table's places
   abbrev pub no_range : ℕ → ℕ → Bool × Refusal
   no_range from to = (nat_lt to from || nat_lt (length r.alive) to, refusal.OutOfRange)
 
@@ -49,31 +49,31 @@ module _ {K : Type 0} (r : Rows K) where
     abbrev pub no_column : Bool × Refusal
     no_column = (is_none (slice_get r.column_indexes column), refusal.NoColumn)
 
-    -- it is a text column
+    -- the column is a text column
     abbrev pub of_texts : Bool × Refusal
     of_texts = (is_text (option_map kind_of (slice_get r.column_indexes column)), refusal.WrongKind)
 
-    -- it is of numbers
+    -- the column is a number column
     abbrev pub of_numbers : Bool × Refusal
     of_numbers = (is_int (option_map kind_of (slice_get r.column_indexes column)), refusal.WrongKind)
 
-    -- its object of a row group is away
+    -- the column's object of a row group is away
     abbrev pub absent_in : ℕ → Bool × Refusal
     absent_in g = option_map_or (absent_at column g) (slice_get r.column_indexes column) (false, refusal.StaleJob)
 
-  -- why a cell is not read (`cell`)
+  -- why reading a cell is refused (`cell`)
   abbrev pub cell_refusal : ℕ → ℕ → Option Refusal
   cell_refusal column place = first_of (no_column column ∷ no_row place ∷ absent_in column (place / r.size) ∷ [])
 
-  -- why a text is not read (`text`)
+  -- why reading a text is refused (`text`)
   abbrev pub text_refusal : ℕ → ℕ → Option Refusal
   text_refusal column place = first_of (no_column column ∷ of_numbers column ∷ no_row place ∷ absent_in column (place / r.size) ∷ [])
 
-  -- a part of a column of numbers, whose row groups are looked at in order
+  -- why lending a part of a number column is refused; its row groups are tested in order
   abbrev pub ints_refusal : ℕ → ℕ → ℕ → Option Refusal
   ints_refusal column from to = first_of (no_column column ∷ of_texts column ∷ no_range from to ∷ map (absent_in column) (overlapped_groups r.size from to))
 
-  -- likewise of texts
+  -- why lending a part of a text column is refused
   abbrev pub texts_refusal : ℕ → ℕ → ℕ → Option Refusal
   texts_refusal column from to = first_of (no_column column ∷ of_numbers column ∷ no_range from to ∷ map (absent_in column) (overlapped_groups r.size from to))
 
@@ -89,23 +89,23 @@ module _ {K : Type 0} (r : Rows K) where
   abbrev pub no_space_for_numbers : Bool × Refusal
   no_space_for_numbers = (begins && not (fit_in_order (spaces_of r.number_objects.memory.state) (replicate (length r.numbers) r.size)), refusal.RegionFull)
 
-  -- the object of a row group of an index's column is there, and was written as often as objects may be
+  -- the object of a row group of the column with this index exists, and was written as often as the limits allow
   abbrev pub is_written_out : ℕ → ColumnIndex → Bool
   is_written_out g (column_index.Number i) = option_map_or (λ o. (written_out r.number_objects o).0) (object_of r (column_index.Number i) g) false
   is_written_out g (column_index.Text i) = option_map_or (λ o. (written_out r.text_objects o).0) (object_of r (column_index.Text i) g) false
 
-  -- some object of a row group was
+  -- some object of a row group was written as often as the limits allow
   abbrev pub some_written_out : ℕ → Bool × Refusal
   some_written_out g = (list_any (is_written_out g) r.column_indexes, refusal.EditsUsedUp)
 
-  -- the tests of an appended row. An object of its row group is away. A text object would be too long. The text objects that it writes,
-  -- which have these lengths, do not fit, or its objects of numbers do not. An object was written too often
+  -- the tests of an appended row: an object of its row group is away; a text object would be too long; the text objects that it writes,
+  -- which have these lengths, do not fit, or its objects of numbers do not; an object was written too often
   abbrev pub append_tests : Bool → List ℕ → List (Bool × Refusal)
   append_tests too_long lengths =
       let g : ℕ = length r.alive / r.size
       in absents g ++ (too_long, refusal.ChunkFull) ∷ no_space_for_texts lengths ∷ no_space_for_numbers ∷ some_written_out g ∷ []
 
--- why a row of these values may not be appended, by the forms of its columns of texts
+-- why appending a row of these values is refused, given the forms of the text columns
 abbrev pub push_refusal : {K : Type 0} → (K → List ℕ) → Rows K → Values → Option Refusal
 push_refusal content r values =
     let lists : Lists = lists_of content r.text_objects

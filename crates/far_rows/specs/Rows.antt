@@ -1,4 +1,4 @@
--- The rows of a table whose columns lie in objects that may be away.
+-- The rows of a table, in columns whose objects may be away.
 use Rattle.std.specs.Prelude.{◌≡◌, ℕ, ℤ, ◌+◌, ◌*◌, ◌<◌, ◌≤◌, ◌^◌, Bool, true, false, List, map, length, All, Option, slice_get}
 use Rattle.std.specs.Option.{option_and_then}
 use Rattle.far_types.specs.declared.cell.Cell.{Cell}
@@ -14,8 +14,8 @@ use Rattle.far_rows.specs.declared.column_index.ColumnIndex.TheVariants as colum
 use Rattle.far_rows.specs.ColumnIndexes.{AreColumnIndexes, columns_of}
 use Rattle.far_rows.specs.Naming.{names_of, AreNamed, AreNumbered, AreOwned, ArePlaced}
 
--- the rows of a table: the index of each column, how many places a row group has, and the columns of numbers and of texts. Then come the
--- objects in which they lie, and the alive flag of each place
+-- the rows of a table: the index of each column, the size of a row group, the number columns and the text columns, the objects of either
+-- kind, and the alive flag of each place
 pub record Rows (K : Type 0) : Type 0 where
   pub column_indexes : List ColumnIndex
   pub size : ℕ
@@ -44,9 +44,9 @@ module _ {K : Type 0} where
     abbrev pub all_cells : Rows K → List (List Cell)
     all_cells r = columns_of r.column_indexes (all_numbers r) (all_texts r)
 
-    -- at most 16 columns and 2^24 places. All columns are as long as there are places, and have row groups of one size. Each column has
-    -- objects of its own, named by the column and the row group, and there are no others. A clean object's list is what its far copy
-    -- means
+    -- a valid table: at most 16 columns and 2^24 places; each column has a cell for each place, and all have row groups of one size; each
+    -- column has objects of its own, named by the column and the row group, and there are no others; a clean object's list is what its far
+    -- copy means
     pub record AreRows (r : Rows K) : Type 0 where
       pub column_indexes : AreColumnIndexes r.column_indexes (length r.numbers) (length r.texts)
       pub few : length r.numbers + length r.texts ≤ 16
@@ -71,7 +71,7 @@ module _ {K : Type 0} where
       pub clean_numbers : AreClean ints_meaning content r.number_objects
       pub clean_texts : AreClean (λ bytes. bytes) content r.text_objects
 
-  -- the objects of texts once each column of texts has got one of these. They are new ones if row groups begin, else the last of each
+  -- the objects of texts after one of these texts is appended to each text column: new objects if row groups begin, else the last of each
   -- with another form. All forms were placed before an old one was dropped
   pub record TextsMoved (content : K → List ℕ) (r : Rows K) (texts : List (Option (List ℕ))) (now : Movement ℕ K) : Type 0 where
     pub begun : all_begin r.texts ≡ true → now ≡ after_create_all r.text_objects r.texts (next_forms (lists_of content r.text_objects) (length r.text_objects.records) r.texts texts)

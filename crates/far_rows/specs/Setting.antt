@@ -1,4 +1,4 @@
--- How the cell of a place is set.
+-- Setting a cell.
 use Rattle.std.specs.Prelude.{ℕ, ◌/◌, List, [], ◌∷◌, Option, None, slice_get, slice_set, slice_index_or}
 use Rattle.std.specs.Option.{option_and_then, option_map_or, option_or}
 use Rattle.far_types.specs.declared.cell.Cell.{Cell}
@@ -18,32 +18,32 @@ use Rattle.far_types.specs.Lent.{int_cell, text_cell}
 use Rattle.far_rows.specs.Rows.{Rows}
 use Rattle.far_rows.specs.Refusing.{absents}
 
--- the cell that a value is
+-- the value as a cell
 abbrev pub cell_of : NewCell → Cell
 cell_of (new.Number number) = int_cell number
 cell_of (new.Text text) = text_cell text
 
--- the kind of its column
+-- the kind of the value's column
 abbrev pub kind_in : NewCell → Kind
 kind_in (new.Number number) = kind.Int
 kind_in (new.Text text) = kind.Text
 
--- the columns with another cell at a place of one
+-- the columns with another cell at a place of one column
 abbrev pub with_cell_at : List (List Cell) → ℕ → ℕ → Cell → List (List Cell)
 with_cell_at columns c place cell = slice_set columns c (slice_set (slice_index_or columns c []) place cell)
 
 module _ {K : Type 0} (content : K → List ℕ) (r : Rows K) where
-  -- why a value of an index's kind cannot be put at a place, by that column's object alone
+  -- why setting a cell of this index is refused by the column's own object
   abbrev pub value_refusal : ColumnIndex → ℕ → NewCell → Option Refusal
   value_refusal (column_index.Number i) place value = option_and_then (λ c. number_refusal r.number_objects c place) (slice_get r.numbers i)
   value_refusal (column_index.Text i) place (new.Text text) = option_and_then (λ c. text_refusal content r.text_objects c place text) (slice_get r.texts i)
   value_refusal (column_index.Text i) place (new.Number number) = None
 
-  -- a set is refused if the object of some column in the place's row group is away, and otherwise as its own column is
+  -- why setting a cell is refused: an object of the place's row group is away, or the cell's column refuses
   abbrev pub set_refusal : ℕ → ℕ → NewCell → Option Refusal
   set_refusal column place value = option_or (first_of (absents r (place / r.size))) (option_and_then (λ s. value_refusal s place value) (slice_get r.column_indexes column))
 
-  -- the rows once a value is put at a place: the object of its row group is written
+  -- the rows after a cell is set: the object of its row group is written
   abbrev pub set_in : ColumnIndex → ℕ → NewCell → Rows K
   set_in (column_index.Number i) place (new.Number number) = record r { number_objects = option_map_or (λ c. after_write_range r.number_objects c place (number ∷ [])) (slice_get r.numbers i) r.number_objects }
   set_in (column_index.Text i) place (new.Text text) = record r { text_objects = option_map_or (λ c. text_set_in content r.text_objects c place text) (slice_get r.texts i) r.text_objects }

@@ -1,10 +1,10 @@
-// Where the columns of a table lie.
+// Indexes of columns by kind.
 
 /// Index of a column among the number columns or among the text columns.
 #[derive(Clone, Copy, Debug, PartialEq, Eq)]
 pub enum ColumnIndex {
-    /// Among the columns of numbers.
+    /// Index among the number columns.
     Number(usize),
-    /// Among the columns of texts.
+    /// Index among the text columns.
     Text(usize),
 }

@@ -1,4 +1,4 @@
-// Jobs on the objects of a table, of either kind of values.
+// Jobs on the objects of a table, of either kind.
 ghost use Rattle.std.specs.Prelude.{◌≡◌, ◌+◌, ◌<◌, ◌^◌, [], ◌∷◌, IfOk, IfErr, IsErr, option_map};
 ghost use Rattle.far_store.specs.Faults.{faults_in, outcome, RefusedBy};
 ghost use Rattle.far_evacuator.specs.Jobs.{IsFormOf, IsDirtyForm, put_ticket};
@@ -10,7 +10,7 @@ use far_types::Refusal;
 use std::alloc::Global;
 use std::marker::Model;
 
-/// One of two: for numbers, or for texts.
+/// A value for number columns, or one for text columns.
 #[derive(Drop)]
 pub enum ByKind<N, T> {
     /// For numbers.
@@ -80,12 +80,11 @@ impl<S: FarTickets> Model for RowsFetched<S> {
 }
 
 impl<S: FarStore> RowsEvac<S> {
-    /// Puts the far form that the job holds into the store. A job begun on a clean object asks the store for nothing, and is
-    /// not refused.
+    /// Puts the job's far form into the store. A job on a clean object does not call the store, and is never refused.
     ///
-    /// Refused with one of these; the job then comes back whole:
+    /// A refused call returns the whole job. Refused with one of these:
     ///
-    /// - `FarFault` (21): the store fails in this call, exactly if the meter rises, by one.
+    /// - `FarFault` (21): the store fails in this call. Only then does the meter rise, by one.
     /// - `FarFull` (22): the number drawn from the store is not below its capacity.
     /// - `NoMemory` (1): an allocation fails.
     pub fn carry(
@@ -131,8 +130,8 @@ impl<S: FarStore> RowsEvac<S> {
 }
 
 impl<S: FarTickets> RowsCarried<S> {
-    /// Returns the number of the ticket under which the job put its far form, and borrows the bytes of that. `None` exactly if
-    /// the job was begun on a clean object: the store had its far form already. Allocates nothing.
+    /// Returns the number of the ticket that the job's far form got, and borrows the bytes of the form. `None` exactly if the
+    /// job was begun on a clean object, whose far form the store already had. Allocates nothing.
     pub fn outgoing(&self, store: &S) -> Option<(u64, &[u8])>
         requires here { S.is_of (of_either self.now).ticket (S.store_id store.now) }
         ensures number { option_map (λ out. out.0) result ≡ option_map S.number_of (put_ticket (of_either self.now)) }
@@ -146,7 +145,7 @@ impl<S: FarTickets> RowsCarried<S> {
 }
 
 impl<S: FarTickets> RowsFetch<S> {
-    /// Returns the ticket of the content that the job reads. Allocates nothing.
+    /// Returns the ticket of the content that the job will read. Allocates nothing.
     pub fn ticket(&self) -> &S::Ticket
         ensures { result.now ≡ (of_either self.now).ticket }
     {
@@ -172,9 +171,9 @@ impl<S: FarTickets> RowsFetched<S> {
 impl<S: FarRead> RowsFetch<S> {
     /// Reads the content of the job's ticket.
     ///
-    /// Refused with one of these; the job then comes back whole:
+    /// A refused call returns the whole job. Refused with one of these:
     ///
-    /// - `FarFault` (21): the store fails in this call, exactly if the meter rises, by one.
+    /// - `FarFault` (21): the store fails in this call. Only then does the meter rise, by one.
     /// - `NoMemory` (1): an allocation fails.
     pub fn carry(
         self,

@@ -1,5 +1,5 @@
 #![tactic(auto)]
-//! The rows of a table whose columns lie in objects that may be away.
+//! The rows of a table, in columns whose objects may be away.
 
 mod column_index;
 mod job;

@@ -6,7 +6,7 @@ ghost use Rattle.far_rows.specs.Setting.{cell_of, kind_in};
 
 use far_types::{Cell, CellRef, Kind, Text};
 
-/// A value for a place of a column: a number or a text, each of which may be missing.
+/// A new value for a cell: a number or a text, each of which may be missing.
 #[derive(Drop, Debug)]
 pub enum NewCell {
     /// For a column of numbers.
@@ -16,7 +16,7 @@ pub enum NewCell {
 }
 
 impl NewCell {
-    /// Returns the value of a cell for a column of this kind. Allocates nothing.
+    /// Makes the value from a cell, for a column of this kind. Allocates nothing.
     pub fn new(kind: Kind, cell: Cell) -> NewCell
         requires { is_of_kind kind cell ≡ true }
         ensures cell { cell_of result ≡ cell }
@@ -31,7 +31,7 @@ impl NewCell {
         }
     }
 
-    /// Returns the value as a cell, borrowed. Allocates nothing.
+    /// Borrows the value as a cell. Allocates nothing.
     pub fn lend(&self) -> CellRef<'_>
         ensures { lent_cell result ≡ cell_of self.now }
     {
@@ -42,7 +42,7 @@ impl NewCell {
     }
 }
 
-// Returns the cell of a text that may be missing, borrowed.
+// Borrows a text that may be missing as a cell.
 #[inline(always)]
 pub(crate) fn text_ref(text: &Option<Text>) -> CellRef<'_>
     ensures { lent_cell result ≡ text_cell text.now }

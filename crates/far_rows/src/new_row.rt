@@ -15,13 +15,13 @@ use std::alloc::Global;
 use std::marker::Model;
 use std::mem;
 
-/// The values of a new row, split into those of its number columns and those of its text columns. It is made once for a table,
-/// and loaded for each row without an allocation.
+/// The values of a new row, split into those of the number columns and those of the text columns. A table makes one, and loads
+/// each row into it without an allocation.
 #[derive(Drop, Debug)]
 pub struct NewRow {
     numbers: Vec<Option<i64>>,
     texts: Vec<Option<Text>>,
-    // The list of the row that was loaded last. Its texts are those of the row before.
+    // The cells of the row that was loaded last. Its texts are those of the row before it.
     spare: Vec<Cell>,
 }
 
@@ -38,7 +38,7 @@ impl Model for NewRow {
 }
 
 impl NewRow {
-    /// Returns a row without a value, with this many columns of numbers and of texts. Refused with `NoMemory` (1) alone.
+    /// Makes a row without values, with this many columns of numbers and of texts. Refused only with `NoMemory` (1).
     pub fn new(alloc: Global, numbers: usize, texts: usize) -> Result<NewRow, Refusal>
         ensures numbers { IfOk result (λ row. length row.numbers ≡ numbers) }
         ensures texts { IfOk result (λ row. length row.texts ≡ texts) }
@@ -52,7 +52,7 @@ impl NewRow {
         })
     }
 
-    /// Loads the cells of a row, whose columns have these indexes. None is too long. Allocates nothing.
+    /// Loads the cells of a row, whose columns have these indexes. No text may be too long. Allocates nothing.
     #[inline(always)]
     pub fn load(&mut self, column_indexes: &[ColumnIndex], row: Row)
         requires column_indexes { AreColumnIndexes column_indexes.now (length self.old.numbers) (length self.old.texts) }
@@ -70,7 +70,7 @@ impl NewRow {
         self.spare = cells;
     }
 
-    /// Returns cells that are no longer needed: a later row may be made in their memory. Allocates nothing.
+    /// Returns cells that are no longer needed, so that a later row can be made in their memory. Allocates nothing.
     pub fn spare_cells(&mut self) -> Vec<Cell>
         ensures { self.new ≡ self.old }
     {
@@ -78,7 +78,7 @@ impl NewRow {
         mem::replace(&mut self.spare, Vec::new(alloc))
     }
 
-    // Puts the value of a cell, which is of the kind of its index. The cell gets the text that was there before.
+    // Sets the value at an index to that of a cell of the index's kind. The cell gets the old text.
     #[inline(always)]
     fn put(&mut self, column_index: ColumnIndex, cell: &mut Cell)
         requires within { IsColumnIn (length self.old.numbers) (length self.old.texts) column_index }
@@ -92,7 +92,7 @@ impl NewRow {
         }
     }
 
-    /// Returns the row, whose columns have these indexes, with each cell borrowed. Allocates nothing.
+    /// Borrows the row, whose columns have these indexes, cell by cell. Allocates nothing.
     pub fn lend(&self, column_indexes: &[ColumnIndex]) -> LentRow<'_>
         requires column_indexes { AreColumnIndexes column_indexes.now (length self.now.numbers) (length self.now.texts) }
         requires few { length column_indexes.now ≤ 16 }
@@ -105,7 +105,7 @@ impl NewRow {
         row
     }
 
-    /// Returns the row, whose columns have these indexes. It borrows each cell when it is asked for. Allocates nothing.
+    /// Returns a view of the row, whose columns have these indexes. It borrows each cell when it is read. Allocates nothing.
     #[inline(always)]
     pub fn row_ref<'a>(&'a self, column_indexes: &'a [ColumnIndex]) -> NewRowRef<'a>
         requires { AreColumnIndexes column_indexes.now (length self.now.numbers) (length self.now.texts) }
@@ -126,14 +126,14 @@ impl NewRow {
         }
     }
 
-    /// Returns the numbers, borrowed: one for each column of numbers.
+    /// Borrows the numbers, one for each column of numbers.
     pub fn numbers(&self) -> &[Option<i64>]
         ensures { result.now ≡ self.now.numbers }
     {
         self.numbers.as_slice()
     }
 
-    /// Returns the texts, borrowed: one for each column of texts. None has more than 4,096 bytes.
+    /// Borrows the texts, one for each column of texts. None has more than 4,096 bytes.
     pub fn texts(&self) -> &[Option<Text>]
         ensures texts { result.now ≡ self.now.texts }
         ensures short { (any_too_long self.now.texts).0 ≡ false }
@@ -142,7 +142,7 @@ impl NewRow {
     }
 }
 
-// Returns a list of `count` values, all missing.
+// Returns a list of `count` missing values.
 fn nothing<T: Drop>(alloc: Global, count: usize) -> Result<Vec<Option<T>>, Refusal>
     ensures count { IfOk result (λ values. length values.items ≡ count) }
     ensures missing { IfOk result (λ values. values.items ≡ replicate count None) }
@@ -155,7 +155,7 @@ fn nothing<T: Drop>(alloc: Global, count: usize) -> Result<Vec<Option<T>>, Refus
     Ok(values)
 }
 
-// Returns the number of a cell of a column of numbers.
+// Returns the number in a cell of a column of numbers.
 #[inline(always)]
 fn number_of(cell: &Cell) -> Option<i64>
     requires { is_of_kind Kind.Int cell.now ≡ true }
@@ -168,7 +168,7 @@ fn number_of(cell: &Cell) -> Option<i64>
     }
 }
 
-// Exchanges a text for that of a cell of a column of texts. Mostly both have one, and then nothing but the texts is moved.
+// Exchanges a text for the text in a cell of a column of texts. Mostly both have one, and then only the texts move.
 #[inline(always)]
 fn exchange(text: &mut Option<Text>, cell: &mut Cell)
     requires { is_of_kind Kind.Text cell.old ≡ true }
@@ -184,7 +184,7 @@ fn exchange(text: &mut Option<Text>, cell: &mut Cell)
     *cell = cell_of(mem::replace(text, later));
 }
 
-// Returns the cell of a text.
+// Returns the cell that has a text.
 fn cell_of(text: Option<Text>) -> Cell
     ensures { result ≡ text_cell text }
 {
@@ -194,7 +194,7 @@ fn cell_of(text: Option<Text>) -> Cell
     }
 }
 
-// Returns the text of a cell of a column of texts.
+// Returns the text in a cell of a column of texts.
 fn text_of(cell: Cell) -> Option<Text>
     requires { is_of_kind Kind.Text cell ≡ true }
     ensures { text_cell result ≡ cell }

@@ -1,4 +1,4 @@
-// A new row, read cell by cell.
+// A view of a new row, read cell by cell.
 ghost use Rattle.std.specs.Prelude.{◌≡◌, length};
 ghost use Rattle.far_types.specs.Cells.{cells_of};
 ghost use Rattle.far_rows.specs.ColumnIndexes.{AreColumnIndexes, row_of};
@@ -8,7 +8,8 @@ use super::new_row::NewRow;
 use far_types::{CellRef, LendCells};
 use std::marker::Model;
 
-/// A new row that is not copied: each cell is borrowed when it is asked for. Contracts see the list of the cells.
+/// A view of a new row, without a copy: each cell is borrowed when it is read. Contracts see the list of the
+/// cells.
 #[derive(Drop)]
 pub struct NewRowRef<'a> {
     values: &'a NewRow,
@@ -28,7 +29,7 @@ impl<'a> Model for NewRowRef<'a> {
 }
 
 impl<'a> NewRowRef<'a> {
-    // Returns the row of these values, whose columns have these indexes.
+    // Makes the view of these values, whose columns have these indexes.
     #[inline(always)]
     pub(crate) fn new(values: &'a NewRow, column_indexes: &'a [ColumnIndex]) -> NewRowRef<'a>
         requires { AreColumnIndexes column_indexes.now (length values.now.numbers) (length values.now.texts) }

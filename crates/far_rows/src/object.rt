@@ -1,10 +1,10 @@
 // The objects of a table.
 
-/// An object of a table, by its number among those of numbers or among those of texts.
+/// An object of a table: its number among the objects of numbers, or among those of texts.
 #[derive(Clone, Copy, Debug, PartialEq, Eq)]
 pub enum Object {
     /// An object of numbers.
     Number(u32),
-    /// An object of the bytes of texts.
+    /// An object of texts, whose elements are bytes.
     Text(u32),
 }

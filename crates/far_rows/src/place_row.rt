@@ -1,4 +1,4 @@
-// The row of a place whose columns were found. Its numbers are read when they are asked for.
+// The row of a place, whose columns are looked up once and whose numbers are read on demand.
 ghost use Rattle.std.specs.Prelude.{◌≡◌, ◌<◌, [], ◌∷◌, ◌++◌, length, slice_get, option_map};
 ghost use Rattle.far_types.specs.Cells.{cells_of};
 ghost use Rattle.far_types.specs.Lent.{lent_cell};
@@ -10,7 +10,7 @@ use std::marker::Model;
 /// A cell of a place.
 #[derive(Clone, Copy)]
 pub(crate) enum PlaceCell<'a> {
-    /// A number that is not read yet.
+    /// A number that was not read yet.
     Number(&'a Option<i64>),
     /// A cell that was read.
     Lent(CellRef<'a>),
@@ -29,10 +29,10 @@ impl<'a> PlaceCell<'a> {
     }
 }
 
-/// The row of a place. Each column is found once for all readers. A number is read when it is asked for, so no cell is read of a column that
-/// nobody asks for. Contracts see the list of the cells.
+/// The row of a place. It looks up each column once for all readers. A number is read on demand, so the cells of columns that nobody reads
+/// are not touched. Contracts see the list of the cells.
 ///
-/// It has at most 16 cells, as a table has at most 16 columns. Nothing here allocates.
+/// It has at most 16 cells, since a table has at most 16 columns. Nothing here allocates.
 #[derive(Drop)]
 pub struct PlaceRow<'a> {
     cells: [PlaceCell<'a>; 16],
@@ -52,7 +52,7 @@ impl<'a> Model for PlaceRow<'a> {
 }
 
 impl<'a> PlaceRow<'a> {
-    // Returns a row without a cell.
+    // Makes a row without cells.
     #[inline(always)]
     pub(crate) fn new() -> PlaceRow<'a>
         ensures { result ≡ [] }

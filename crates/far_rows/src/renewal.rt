@@ -3,8 +3,8 @@ use far_scopes::Renewal;
 use far_store::FarTickets;
 use std::marker::Model;
 
-/// The far copies that `Rows::renewal` put into another store. Contracts see a list by object number for numbers, and one for
-/// texts. Each has the ticket of each object that was away, and `None` for each that was local.
+/// The far copies that `Rows::renewal` put into another store. Contracts see two lists by object number, one for numbers and
+/// one for texts: the ticket of each object that was away, and `None` for each that was local.
 #[derive(Drop)]
 pub struct RowsRenewal<N: FarTickets> {
     pub(crate) numbers: Renewal<N>,

@@ -1,4 +1,4 @@
-// The row of a place, read cell by cell.
+// A view of the row of a place, read cell by cell.
 ghost use Rattle.std.specs.Prelude.{◌≡◌, ◌<◌, ◌/◌, None, length, slice_get, option_map};
 ghost use Rattle.far_types.specs.FirstOf.{first_of};
 ghost use Rattle.far_types.specs.Lent.{lent_cell};
@@ -11,7 +11,7 @@ use far_store::FarTickets;
 use far_types::CellRef;
 use std::marker::Model;
 
-/// The row of a place whose objects are all local. The row is not copied: each cell is borrowed when it is asked for. Contracts
+/// A view of the row of a place whose objects are all local, without a copy: each cell is borrowed when it is read. Contracts
 /// see the list of the cells.
 #[derive(Drop)]
 pub struct RowRef<'a, S: FarTickets> {
@@ -35,7 +35,7 @@ impl<'a, S: FarTickets> Model for RowRef<'a, S> {
 }
 
 impl<'a, S: FarTickets> RowRef<'a, S> {
-    // Returns the row of a place, whose objects are local.
+    // Makes the view of the row of a place, whose objects are local.
     #[inline(always)]
     pub(crate) fn new(rows: &'a Rows<S>, place: usize) -> RowRef<'a, S>
         requires place { place < length rows.now.alive }
@@ -53,7 +53,7 @@ impl<'a, S: FarTickets> RowRef<'a, S> {
         self.rows.column_indexes().len()
     }
 
-    /// Returns the cell of a column, borrowed, or `None` if the row has no such column. Allocates nothing.
+    /// Borrows the cell of a column, or returns `None` if the row has no such column. Allocates nothing.
     #[inline(always)]
     pub fn get(&self, column: usize) -> Option<CellRef<'_>>
         ensures { option_map lent_cell result ≡ slice_get self.now column }

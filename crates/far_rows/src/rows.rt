@@ -1,4 +1,4 @@
-// The rows of a table whose columns lie in objects that may be away.
+// The rows of a table, in columns whose objects may be away.
 ghost use Rattle.std.specs.Prelude.{◌≡◌, ℕ, ◌<◌, ◌≤◌, [], List, length, map, option_map, slice_get, slice_set, false, true, IfOk, IfErr};
 ghost use Rattle.far_types.specs.Bounds.{AreLimits};
 ghost use Rattle.far_scopes.specs.Movement.{AreHere};
@@ -49,7 +49,7 @@ pub struct Rows<S: FarTickets> {
     number_objects: Objects<Option<i64>, S>,
     text_objects: Objects<u8, S>,
     alive: Alive,
-    // A form of texts that is no longer needed: the next one is made in its memory.
+    // The form of texts that is no longer needed: the next one is made in its memory.
     spare: Vec<u8>,
 }
 
@@ -64,10 +64,10 @@ impl<S: FarTickets> Model for Rows<S> {
 }
 
 impl<S: FarTickets> Rows<S> {
-    /// Returns the rows of a table with this schema, without a row. The number distinguishes the jobs of its objects from those
-    /// of other tables. Allocates all memory for elements.
+    /// Makes an empty table with this schema. `number` distinguishes the jobs of its objects from those of other tables.
+    /// Allocates all memory for elements.
     ///
-    /// Refused with `NoMemory` (1) alone.
+    /// Refused only with `NoMemory` (1).
     pub fn new(
         alloc: Global,
         schema: &Schema,
@@ -95,7 +95,7 @@ impl<S: FarTickets> Rows<S> {
         })
     }
 
-    /// Returns how many places there are, dead ones too. Allocates nothing.
+    /// Returns how many places there are, including dead ones. Allocates nothing.
     pub fn len(&self) -> usize
         ensures len { result ≡ length self.now.alive }
         ensures rows { AreRows S.content self.now }
@@ -103,7 +103,7 @@ impl<S: FarTickets> Rows<S> {
         self.alive.len()
     }
 
-    /// For the proof: gives that each object has a word and a record. It does nothing.
+    /// For the proof: shows that each object has a word and a record. It does nothing.
     #[inline(always)]
     pub fn each_object_has_a_word(&self)
         ensures numbers { length self.now.number_objects.records ≡ length self.now.number_objects.memory.words }
@@ -113,14 +113,14 @@ impl<S: FarTickets> Rows<S> {
         let _texts = self.text_objects.number();
     }
 
-    /// Returns whether a place is alive; `None` if there is no such place. Allocates nothing.
+    /// Returns whether a place is alive, or `None` if there is no such place. Allocates nothing.
     pub fn is_alive(&self, place: usize) -> Option<bool>
         ensures { result ≡ slice_get self.now.alive place }
     {
         self.alive.get(place)
     }
 
-    /// Clears the flag of a place; its cells stay. Allocates nothing.
+    /// Clears the alive flag of a place; its cells stay. Allocates nothing.
     pub fn clear(&mut self, place: usize)
         requires { place < length self.old.alive }
         ensures cleared { self.new ≡ record self.old { alive = slice_set self.old.alive place false } }
@@ -129,7 +129,7 @@ impl<S: FarTickets> Rows<S> {
         self.alive.clear(place);
     }
 
-    /// Returns the kind of a column; `None` if there is no such column. Allocates nothing.
+    /// Returns the kind of a column, or `None` if there is no such column. Allocates nothing.
     pub fn kind(&self, column: usize) -> Option<Kind>
         ensures { result ≡ option_map kind_of (slice_get self.now.column_indexes column) }
     {
@@ -139,7 +139,7 @@ impl<S: FarTickets> Rows<S> {
         }
     }
 
-    /// Returns the index of each column, by its number. Allocates nothing.
+    /// Returns the index of each column, by column number. Allocates nothing.
     pub fn column_indexes(&self) -> &[ColumnIndex]
         ensures { result.now ≡ self.now.column_indexes }
     {

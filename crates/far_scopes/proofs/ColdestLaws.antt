@@ -1,4 +1,4 @@
--- Which object goes away first, looked for from the end of the order of use.
+-- The search for the eviction victim, from the end of the order of use.
 use Rattle.std.proofs.Common.{◌≡◌, ◌≢◌, ℕ, ◌<◌, ◌||◌, ◌&&◌, nat_eq, length, subst, not, Bool, true, false, inl, inr, List, [], ◌∷◌, ◌++◌, Option, Some, None, reverse, refl, sym, ap, ◌∙◌}
 use Rattle.std.specs.Prelude.{◌↔◌, IfSome}
 use Rattle.std.specs.Map.{keys_of}
@@ -20,17 +20,16 @@ use Rattle.far_scopes.proofs.RecencySearch.{has-reverse, found-is, found-none}
 use Rattle.far_scopes.proofs.CoolLaws.{all-hot}
 
 module _ {X K : Type 0} (m : Movement X K) where
-  -- what is found in the part of the order that is left, if this object is the first without pins in the part that was
-  -- looked at, and none there is cold
+  -- the victim that the rest of the order has, if `found` is the first object without pins in the searched part, and none there is cold
   abbrev pub coldest_in : Option ℕ → List ℕ → Option ℕ
   coldest_in found order = option_or (find (is_cold m) (reverse order)) (option_or found (find (is_unpinned m) (reverse order)))
 
-  -- none is left
+  -- the search of an empty rest
   pub coldest-none : (found : Option ℕ) → coldest_in found [] ≡ found
   coldest-none None = refl
   coldest-none (Some o) = refl
 
-  -- it is local and has no pin, and there is one exactly if a local object has none
+  -- the victim is local and has no pin, and there is one exactly if a local object has no pin
   module _ (ordered : (o : ℕ) → has m.order o ≡ is_local m o) where
     local-has : (o : ℕ) → has (reverse m.order) o ≡ is_local m o
     local-has o = has-reverse m.order o ∙ ordered o
@@ -76,7 +75,7 @@ module _ {X K : Type 0} (m : Movement X K) where
     not-hot true false both is = cc
     not-hot false b both is = cc
 
-    -- if each local object is hot it is the last of all without pins
+    -- if each local object is hot, the victim is the last of all without pins
     pub coldest-hot : cool_in m.memory.words ≡ 0 → coldest m ≡ find (is_unpinned m) (reverse m.order)
     coldest-hot none = elim (cases_option (find (is_cold m) (reverse m.order))) [
       | inl nothing ↦ rw nothing refl
@@ -97,7 +96,7 @@ module _ {X K : Type 0} (m : Movement X K) where
     pub coldest-exactly : (found : Option ℕ) → coldest m ≡ found → (found ≡ None) ↔ ((o : ℕ) → is_local m o ≡ true → pins_of m o ≢ 0)
     coldest-exactly found is = subst (λ (f : Option ℕ). (f ≡ None) ↔ ((o : ℕ) → is_local m o ≡ true → pins_of m o ≢ 0)) is exactly
 
-  -- the last of the part of the order that is left
+  -- one step of the search: the last of the rest
   module _ (left rest : List (ℕ × Unit {0})) (visited : List ℕ) (pair : ℕ × Unit {0}) (step : left ≡ rest ++ pair ∷ []) where
     pub keys-step : keys_of left ≡ keys_of rest ++ pair.0 ∷ []
     keys-step = ap keys_of step ∙ map_push (λ (p : ℕ × Unit {0}). p.0) rest pair
@@ -105,7 +104,7 @@ module _ {X K : Type 0} (m : Movement X K) where
     pub order-step : m.order ≡ keys_of left ++ visited → m.order ≡ keys_of rest ++ pair.0 ∷ visited
     order-step is = is ∙ ap (λ l. l ++ visited) keys-step ∙ append_assoc (keys_of rest) (pair.0 ∷ []) visited
 
-    -- it has a number
+    -- the victim's number is in use
     pub last-within : {meaning : List ℕ → List X} {content : K → List ℕ} {spelled : List X → List ℕ → Type 0} → AreTracked meaning content spelled m → m.order ≡ keys_of left ++ visited → pair.0 < length m.records
     last-within tracked is =
         let there : has m.order pair.0 ≡ true = ap (λ l. has l pair.0) (order-step is) ∙ list_any-append (λ p. nat_eq pair.0 p) (keys_of rest) (pair.0 ∷ visited) ∙ ap (λ b. has (keys_of rest) pair.0 || b) (has-cons_same visited pair.0) ∙ or_comm (has (keys_of rest) pair.0) true in

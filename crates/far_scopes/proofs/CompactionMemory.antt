@@ -1,4 +1,4 @@
--- The local memory once a segment is compacted.
+-- The local memory after a segment is compacted.
 use Rattle.std.proofs.Common.{◌≡◌, ◌≢◌, ℕ, zero, suc, ◌+◌, ◌<◌, ◌≤◌, inl, inr, true, false, List, [], ◌∷◌, length, get_or, map, cond, eqb, Some, IsSome, refl, sym, ap, subst, ◌∙◌, arith}
 use Rattle.std.specs.Prelude.{◌↔◌, IsErrOf, slice_get, slice_index, option_map, Contains, All, AllPairs}
 use Rattle.std.specs.Option.{option_and_then}
@@ -25,21 +25,21 @@ use Rattle.far_scopes.proofs.Sorted.{in-read, Rises, rises-before, rises-disjoin
 use Rattle.far_scopes.proofs.CompactionOrder.{at-is, order-whole, order-is, objects-there, objects-within, objects-whole, objects-once}
 use Rattle.far_scopes.proofs.MemoryRelocation.{own-relocated, lists-relocated}
 
--- a segment that a call does not miss is there
+-- a segment exists if the call is not refused for it
 pub not-missing : {A : Type 0} (x : A) (refusal : Refusal) (count segment : ℕ) → (IsErrOf (Ok x) refusal ↔ (count ≤ segment)) → segment < count
 not-missing x refusal count segment h = elim (cases_lt segment count) [
   | inl there ↦ there
   | inr past ↦ absurd (let e = h.1 past in cc)
 ]
 
--- lists that read alike are one
+-- lists with the same elements are equal
 pub same-slices : {A : Type 0} (xs ys : List A) → ((p : ℕ) → slice_get xs p ≡ slice_get ys p) → xs ≡ ys
 same-slices [] [] h = refl
 same-slices [] (y ∷ ys) h = absurd (let e = h zero in cc)
 same-slices (x ∷ xs) [] h = absurd (let e = h zero in cc)
 same-slices (x ∷ xs) (y ∷ ys) h = rw (same_Some x y (h zero), same-slices xs ys (λ p. h (suc p))) refl
 
--- numbers that differ have one place each
+-- numbers that all differ have one index each
 same-index : (xs : List ℕ) (i j : ℕ) → AllPairs (λ o p. o ≢ p) xs → i < length xs → j < length xs → get_or xs i 0 ≡ get_or xs j 0 → i ≡ j
 same-index xs i j disjoint first second same = elim (cases_lt i j) [
   | inl less ↦ absurd (disjoint i j 0 less second same)
@@ -50,7 +50,7 @@ same-index xs i j disjoint first second same = elim (cases_lt i j) [
 ]
 
 module _ {X : Type 0} where
-  -- the k-th part of an order begins behind those before it
+  -- the k-th part of an order begins after those before it
   after-is : (parts : List (Part X)) (from : ℕ) (order : List ℕ) (k : ℕ) → AllPairs (λ o p. o ≢ p) order → k < length order
       → from + offset_after parts order (get_or order k 0) ≡ get_or (map (λ p. p.offset) (layout_from from (map (list_or_none parts) order))) k 0
   after-is parts from [] k once lt = absurd (omega (arith, lt))
@@ -62,14 +62,14 @@ module _ {X : Type 0} where
   after-at : (parts : List (Part X)) (order : List ℕ) (k : ℕ) → AllPairs (λ o p. o ≢ p) order → k < length order → offset_after parts order (get_or order k 0) ≡ get_or (map (λ p. p.offset) (gathered parts order)) k 0
   after-at parts order k once lt = omega (arith, after-is parts 0 order k once lt)
 
-  -- lists that have elements begin at numbers that rise
+  -- lists that are not empty begin at ascending offsets
   rises-picked : (pick : ℕ → List X) (from : ℕ) (order : List ℕ) → ((k : ℕ) → k < length order → 0 < length (pick (get_or order k 0))) → Rises from (map (λ p. p.offset) (layout_from from (map pick order)))
   rises-picked pick from [] h = tt
   rises-picked pick from (o ∷ order) h =
       (omega arith, rises-before (from + 1) (from + length (pick o)) (map (λ p. p.offset) (layout_from (from + length (pick o)) (map pick order))) (omega (arith, h zero (omega arith))) (rises-picked pick (from + length (pick o)) order (λ k lt. h (suc k) (omega (arith, lt)))))
 
   module _ (parts : List (Part X)) (order : List ℕ) (from to : ℕ) where
-    -- where a list lies that lay at a location
+    -- the new location of a list
     abbrev pub moved_to : At → At
     moved_to at = cond (eqb at.segment from) record { segment = to; offset = offset_after parts order at.offset } at
 
@@ -89,7 +89,7 @@ module _ {X : Type 0} where
       | inr (word, is) ↦ ap (option_and_then at_of) (slice_get-map (moved_word parts order from to) words o ∙ ap (option_map (moved_word parts order from to)) is) ∙ at-moved word ∙ sym (ap (λ w. option_map moved_to (option_and_then at_of w)) is)
     ]
 
-    -- a word that is not of the segment stays, and one that is says where and not hot
+    -- a word of another segment is unchanged; a word of this segment has its new location, and is not hot
     word-else : (word : Pointer) → ((at : At) → at_of word ≡ Some at → at.segment ≢ from) → moved_word parts order from to word ≡ word
     word-else (Local at dirty hot far) h = rw (ne_eqb at.segment from (h at refl)) refl
     word-else Remote h = refl
@@ -100,7 +100,7 @@ module _ {X : Type 0} where
         rw (eq-eqb here.segment from (ap (λ q. q.segment) same ∙ within)) (ap (λ q. Local record { segment = to; offset = offset_after parts order q.offset } dirty false far) same)
     word-here Remote at is within = cc
 
-    -- the objects of the segment are settled: their words are those of the compaction
+    -- the words of the segment's objects are those of the compaction
     module _ (old new : List Pointer) (objects : List SegmentObject) (offsets : List ℕ) (settled : Settles old new objects to offsets (length objects))
         (listed : map (λ (f : SegmentObject). f.offset) objects ≡ order) (once : AllPairs (λ o p. o ≢ p) order) (offsets-are : offsets ≡ map (λ p. p.offset) (gathered parts order))
         (there : (found : SegmentObject) → Contains objects found → place_of old found.object ≡ Some record { segment = from; offset = found.offset })
@@ -140,7 +140,7 @@ module _ {X : Type 0} where
       pub words-settled : new ≡ map (moved_word parts order from to) old
       words-settled = same-slices new (map (moved_word parts order from to) old) (λ o. one-word o ∙ sym (slice_get-map (moved_word parts order from to) old o))
 
--- each list lies where its object's word says
+-- each list is at the location in its object's word
 module _ {X : Type 0} (words : List Pointer) (state state' : RegionState X) (m : IsMemory words state) (from to : ℕ) (order offsets : List ℕ)
     (compacts : Compacts state state' from to order offsets) (listed : IsOrder (segment_of state from).parts order) (sound : IsRegion state') where
   abbrev source : List (Part X)
@@ -149,13 +149,13 @@ module _ {X : Type 0} (words : List Pointer) (state state' : RegionState X) (m :
   abbrev moved : At → At
   moved = moved_to source order from to
 
-  -- a part of the segment is one of the order
+  -- the order has each part of the segment
   part-listed : (at : At) → at.segment ≡ from → IsSome (part_of state at) → (k : ℕ) × (k < length order) × (get_or order k 0 ≡ at.offset)
   part-listed at here some =
       let w = listed.whole at.offset (subst (λ n. IsSome (list_at (segment_of state n).parts at.offset)) here some) in
       (w.0, w.1, get_or_default order w.0 0 at.offset w.1 ∙ w.2)
 
-  -- the k-th of the order lies at the k-th of the offsets
+  -- part k of the order is at offset k
   offset-at : (k : ℕ) → k < length order → offset_after source order (get_or order k 0) ≡ get_or offsets k 0
   offset-at k lt = after-at source order k listed.once lt ∙ ap (λ l. get_or l k 0) (sym compacts.offsets_are)
 
@@ -166,7 +166,7 @@ module _ {X : Type 0} (words : List Pointer) (state state' : RegionState X) (m :
   pub offsets-long : length offsets ≡ length order
   offsets-long = ap (λ (l : List ℕ). length l) compacts.offsets_are ∙ length-map (gathered source order) (λ p. p.offset) ∙ length-layout 0 (map (list_or_none source) order) ∙ length-map order (list_or_none source)
 
-  -- no part lies in the segment that was empty
+  -- no part is in the segment that was empty
   not-target : (at : At) → IsSome (part_of state at) → at.segment ≢ to
   not-target at some same = not_some (part_of state at) (ap (λ n. list_at (segment_of state n).parts at.offset) same ∙ ap (λ ps. list_at ps at.offset) compacts.target.empty) some
 
@@ -181,7 +181,7 @@ module _ {X : Type 0} (words : List Pointer) (state state' : RegionState X) (m :
     | inr else ↦ ap (part_of state') (moved-else source order from to at else) ∙ ap (λ s. list_at s.parts at.offset) (compacts.others at.segment else (not-target at some))
   ]
 
-  -- no two lists begin at one place
+  -- no two lists begin at one location
   offsets-disjoint : from < length state → AllPairs (λ o p. o ≢ p) offsets
   offsets-disjoint there =
       rw compacts.offsets_are (rises-disjoint 0 (map (λ p. p.offset) (gathered source order)) (rises-picked (list_or_none source) 0 order
@@ -229,7 +229,7 @@ module _ {X : Type 0} (words : List Pointer) (state state' : RegionState X) (m :
   pub lists-compacted : (o : ℕ) → list_in record { words = map (moved_word source order from to) words; state = state' } o ≡ list_in record { words = words; state = state } o
   lists-compacted = lists-relocated (place_of words) (place_of (map (moved_word source order from to) words)) (part_of state) (part_of state') m.own moved (places-moved source order from to words) once unchanged came
 
--- a compaction that is done
+-- the result of a compaction
 pub record Done {X : Type 0} (words new : List Pointer) (state state' : RegionState X) (from : ℕ) : Type 0 where
   pub compacted : IsCompacted record { words = words; state = state } record { words = new; state = state' } from
   pub memory : IsMemory new state'
@@ -249,11 +249,11 @@ module _ {X : Type 0} (words : List Pointer) (state : RegionState X) (m : IsMemo
   in-order : order ≡ hot_first record { words = words; state = state } from
   in-order = order-is words state from layout m.own objects are
 
-  -- what the region is asked to move
+  -- the arguments for the region
   pub order-listed : IsOrder parts order
   order-listed = rw in-order (order-whole words state from layout)
 
-  -- what the words are asked to say
+  -- the arguments for the words
   pub within-words : All (λ (f : SegmentObject). f.object < length words) objects
   within-words = objects-within words state from layout m.own objects are
 

@@ -36,7 +36,7 @@ heat true false is = cc
 heat false true is = cc
 heat false false is = refl
 
--- what it says of a word that it lies in a segment
+-- what a word in a segment says
 offset-is : (segment : ℕ) (h : Bool) (word : Pointer) (offset : ℕ) → offset_if segment h word ≡ Some offset → (at_of word ≡ Some record { segment = segment; offset = offset }) × (is_hot word ≡ h)
 offset-is segment h (Local at dirty hot far) offset is =
     let w = both (eqb at.segment segment) (cond h hot (not hot)) at.offset offset is in
@@ -90,7 +90,7 @@ not-true true e = cc
 not-true false e = refl
 
 module _ {X : Type 0} where
-  -- the parts of a segment begin at numbers that rise
+  -- the parts of a segment begin at ascending offsets
   pub rises-layout : (from size : ℕ) (parts : List (Part X)) → IsLayoutFrom from parts size → Rises from (map (λ p. p.offset) parts)
   rises-layout from size [] h = tt
   rises-layout from size (p ∷ ps) h = (h.0, rises-before (p.offset + 1) (end_of p) (map (λ p. p.offset) ps) (omega (arith, h.1)) (rises-layout (end_of p) size ps h.2))
@@ -128,7 +128,7 @@ module _ {X : Type 0} where
         (λ hot. Contains-append_left (filter hot-from offsets) (filter cold-from offsets) offset (in-filter hot-from offsets offset there hot))
         (λ cold. Contains-append_right (filter hot-from offsets) (filter cold-from offsets) offset (in-filter cold-from offsets offset there (ap not cold)))
 
-    -- a compaction lists the parts of the segment, each once
+    -- the order lists each part of the segment once
     pub order-whole : IsOrder (segment_of state from).parts (hot_first here from)
     order-whole =
         let up = rises-layout 0 (segment_of state from).size (segment_of state from).parts layout in
@@ -142,7 +142,7 @@ module _ {X : Type 0} where
               let also : hot-from o ≡ false = ap hot-from same ∙ not-is in cc);
         }
 
-    -- what is known of the objects of the segment
+    -- facts about the objects of the segment
     module _ (own : OwnPlaces (place_of words) (part_of state)) where
       -- an object is hot if its word says so
       hot-is : (o : ℕ) (word : Pointer) (at : At) → slice_get words o ≡ Some word → at_of word ≡ Some at → hot_at words at ≡ is_hot word
@@ -153,7 +153,7 @@ module _ {X : Type 0} where
           let same : k ≡ o = own.disjoint k o at (ap (option_and_then at_of) read ∙ begins-is at (get_or words k d) begins) (ap (option_and_then at_of) there ∙ is) in
           ap is_hot (same_Some (get_or words k d) word (sym read ∙ ap (slice_get words) same ∙ there)) ∙ cold)) ∙ sym cold)
 
-      -- what is known of an object that is found
+      -- facts about an object that was found
       found-is : (h : Bool) (o offset : ℕ) → offset_of words from h o ≡ Some offset → (place_of words o ≡ Some record { segment = from; offset = offset }) × (hot-from offset ≡ h)
       found-is h o offset is = elim (cases_option (slice_get words o)) [
         | inl none ↦ absurd (none_or_some (offset_of words from h o) (ap (option_and_then (offset_if from h)) none) is)
@@ -162,7 +162,7 @@ module _ {X : Type 0} where
             (ap (option_and_then at_of) there ∙ w.0, hot-is o word record { segment = from; offset = offset } there w.0 ∙ w.1)
       ]
 
-      -- an object that lies in the segment is found
+      -- an object that is in the segment is found
       is-found : (h : Bool) (o : ℕ) (at : At) → place_of words o ≡ Some at → at.segment ≡ from → hot-from at.offset ≡ h → offset_of words from h o ≡ Some at.offset
       is-found h o at was within heat =
           let w = some-word words o at was in
@@ -173,7 +173,7 @@ module _ {X : Type 0} where
         there : (found : SegmentObject) → Contains objects found → (place_of words found.object ≡ Some record { segment = from; offset = found.offset }) × (hot-from found.offset ≡ h)
         there found in-it = found-is h found.object found.offset (All-contains (λ (f : SegmentObject). (f.object < length words) × (offset_of words from h f.object ≡ Some f.offset)) objects found are.all.sound in-it).1
 
-        -- two of them begin at two offsets
+        -- two objects have two offsets
         offsets-disjoint : AllPairs (λ o p. o ≢ p) (map (λ (f : SegmentObject). f.offset) objects)
         offsets-disjoint i j d lt within same =
             let none : SegmentObject = record { object = 0; offset = 0 } in
@@ -186,7 +186,7 @@ module _ {X : Type 0} where
             disjoint-at objects i j none are.all.once (λ e. omega (arith, lt, e)) first second
             (own.disjoint (get_or objects i none).object (get_or objects j none).object record { segment = from; offset = (get_or objects j none).offset } (one ∙ ap (λ (n : ℕ). let at : At = record { segment = from; offset = n } in Some at) offset) two)
 
-        -- where they begin, in the words of the region
+        -- their offsets, as the region has them
         sorted-is : (passes : ℕ → Bool) → ((offset : ℕ) → passes offset ≡ true → hot-from offset ≡ h) → ((offset : ℕ) → hot-from offset ≡ h → passes offset ≡ true) → map (λ (f : SegmentObject). f.offset) objects ≡ filter passes offsets
         sorted-is passes to back =
             same-sorted 0 (map (λ (f : SegmentObject). f.offset) objects) (filter passes offsets)

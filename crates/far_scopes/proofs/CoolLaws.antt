@@ -1,4 +1,4 @@
--- How many local objects are not hot, once a word is another, comes or goes.
+-- How many local objects are not hot, after a word changes, is added or is removed.
 use Rattle.std.proofs.Common.{◌≡◌, ℕ, ◌+◌, ◌-◌, ◌*◌, ◌≤◌, Bool, true, false, cond, inl, inr, List, [], ◌∷◌, ◌++◌, length, get_or, map, Some, refl, sym, ap, subst, ◌∙◌, arith}
 use Rattle.std.specs.Prelude.{is_some, slice_get, slice_set}
 use Rattle.std.specs.Option.{option_map_or, option_and_then}
@@ -23,7 +23,7 @@ pub same-moved : (word : Pointer) (to : At) → cool_of (with_at word to) ≡ co
 same-moved (Local at dirty hot far) to = refl
 same-moved Remote to = refl
 
--- a hot object that is so no more is counted from then on
+-- an object that was hot and no longer is counts from then on
 pub more-cooled : (word : Pointer) (to : At) → cool_of (with_hot (with_at word to) false) ≡ cool_of word + cond (is_hot word) 1 0
 more-cooled (Local at dirty true far) to = refl
 more-cooled (Local at dirty false far) to = refl
@@ -38,11 +38,11 @@ at-most-one (Local at dirty true far) = omega arith
 at-most-one (Local at dirty false far) = omega arith
 at-most-one Remote = omega arith
 
--- no more are counted than there are
+-- the count is at most the number of words
 pub cool-le-length : (words : List Pointer) → cool_in words ≤ length words
 cool-le-length words = let h : cool_in words ≤ length words * 1 = sum_by-le cool_of 1 words (λ k d below. at-most-one (get_or words k d)) in omega arith
 
--- one word is another
+-- one word changes
 module _ (words : List Pointer) (o : ℕ) (old : Pointer) (was : slice_get words o ≡ Some old) where
   read : get_or words o old ≡ old
   read = get_or_from_slice_get words o old old was
@@ -57,19 +57,19 @@ module _ (words : List Pointer) (o : ℕ) (old : Pointer) (was : slice_get words
     pub count-there : cool_of old ≤ cool
     count-there = omega (arith, cool-there)
 
-    -- its object is hot or away from then on
+    -- its object is then hot or away
     pub count-less : (word : Pointer) → cool_of word ≡ 0 → cool - cool_of old ≡ cool_in (slice_set words o word)
     count-less word none = omega (arith, cool-set word)
 
-    -- its object is hot, cool or away as before
+    -- its object is hot, cool or away as before, so the count stays
     pub count-same : (word : Pointer) → cool_of word ≡ cool_of old → cool ≡ cool_in (slice_set words o word)
     count-same word same = omega (arith, cool-set word)
 
--- a word comes that is not counted
+-- a word that is not counted is added
 pub count-pushed : (words : List Pointer) (word : Pointer) (cool : ℕ) → cool ≡ cool_in words → cool_of word ≡ 0 → cool ≡ cool_in (words ++ word ∷ [])
 count-pushed words word cool is none = omega (arith, sum_by_push cool_of words word)
 
--- the last word goes
+-- the last word is removed
 module _ (words rest : List Pointer) (last : Pointer) (end : words ≡ rest ++ last ∷ []) (cool : ℕ) (is : cool ≡ cool_in words) where
   parts : cool_in words ≡ cool_in rest + cool_of last
   parts = ap cool_in end ∙ sum_by_push cool_of rest last
@@ -84,7 +84,7 @@ same-renewed : (word : Pointer) → cool_of (renewed_word word) ≡ cool_of word
 same-renewed (Local at dirty hot far) = refl
 same-renewed Remote = refl
 
--- a far copy more or less changes no count
+-- the far-copy bit does not change the count
 pub cool-renewed : (words : List Pointer) → cool_in (map renewed_word words) ≡ cool_in words
 cool-renewed [] = refl
 cool-renewed (word ∷ words) = omega (arith, sum_by-cons cool_of (renewed_word word) (map renewed_word words), sum_by-cons cool_of word words, same-renewed word, cool-renewed words)
@@ -94,7 +94,7 @@ hot-here (Local at dirty true far) none local = refl
 hot-here (Local at dirty false far) none local = absurd (omega arith)
 hot-here Remote none local = cc
 
--- if none is counted each local object is hot
+-- if the count is 0, each local object is hot
 pub all-hot : (words : List Pointer) (o : ℕ) → cool_in words ≡ 0 → is_some (place_of words o) ≡ true → option_map_or is_hot (slice_get words o) false ≡ true
 all-hot words o none local = elim (cases_option (slice_get words o)) [
   | inl past ↦ absurd (let never : false ≡ true = sym (ap (λ w. is_some (option_and_then at_of w)) past) ∙ local in cc)

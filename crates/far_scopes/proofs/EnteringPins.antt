@@ -1,4 +1,4 @@
--- Pins that are taken one after the other, and taken back.
+-- Pins that are added one after another, and removed again.
 use Rattle.std.proofs.Common.{◌≡◌, ℕ, zero, suc, ◌+◌, ◌-◌, ◌<◌, ◌≤◌, Bool, true, false, inl, inr, List, [], ◌∷◌, ◌++◌, length, take, get_or, Some, None, refl, sym, ap, subst, ◌∙◌, arith}
 use Rattle.std.specs.Prelude.{not, IsTrue, ◌==◌, slice_get, slice_set}
 use Rattle.std.specs.Option.{option_map_or}
@@ -42,7 +42,7 @@ module _ {X K : Type 0} where
   after_pin_all-last m [] o = refl
   after_pin_all-last m (p ∷ objects) o = after_pin_all-last (after_pin m p) objects o
 
-  -- a pin that is taken and taken back
+  -- a pin is added and removed
   pub after_unpin-after_pin : (m : Movement X K) (o : ℕ) → after_unpin (after_pin m o) o ≡ m
   after_unpin-after_pin m o = elim (cases_option (slice_get m.records o)) [
     | inl none ↦ rw (none, none) refl
@@ -60,7 +60,7 @@ module _ {X K : Type 0} where
     | inr (object_record, is) ↦ rw is (ap (λ e. option_map_or (λ (x : ObjectRecord K). x.pins) e 0 == 0) (slice_get-set_same m.records o record object_record { pins = object_record.pins + 1 } within) ∙ ne_eqb (object_record.pins + 1) 0 (λ none. omega (arith, none)))
   ]
 
-  -- the last pin that was taken is taken back
+  -- the last pin that was added is removed
   pub undo-one : (m self new : Movement X K) (objects : List ℕ) (left : ℕ) (result : Bool) → 0 < left → left ≤ length objects → get_or objects (left - 1) 0 < length self.records → self ≡ after_pin_all m (take left objects)
       → result ≡ not (pins_of self (get_or objects (left - 1) 0) == 0) → (IsTrue result → new ≡ after_unpin self (get_or objects (left - 1) 0)) → new ≡ after_pin_all m (take (left - 1) objects)
   undo-one m self new objects left result some within there is answer taken =

@@ -1,4 +1,4 @@
--- Listed objects that are pinned one after the other: what is due of those that are left.
+-- Listed objects that are pinned one after another: the refusal that the remaining ones cause.
 use Rattle.std.proofs.Common.{◌≡◌, ℕ, ◌+◌, Bool, true, false, inl, inr, List, [], ◌∷◌, cond, Option, Some, None, refl, ap, ◌∙◌}
 use Rattle.std.specs.Prelude.{not, ◌==◌, slice_get}
 use Rattle.std.proofs.lemmas.Bool.{cases_eq}
@@ -25,7 +25,7 @@ ok-goes true rest r is = cc
 ok-goes false rest r is = refl
 
 module _ {X K : Type 0} where
-  -- a pin leaves the names as they are
+  -- a pin changes no name
   absent-after_pin : (m : Movement X K) (o p : ℕ) → (absent (after_pin m o) p).1 ≡ (absent m p).1
   absent-after_pin m o p = elim (cases_option (slice_get m.records o)) [
     | inl none ↦ rw none refl

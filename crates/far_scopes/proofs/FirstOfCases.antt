@@ -1,4 +1,4 @@
--- The first refusal that is due in a list of cases, and cases that are gone through one after the other.
+-- The first refusal that applies in a list of cases, which are tried one after another.
 use Rattle.std.proofs.Common.{◌≡◌, ℕ, ◌+◌, ◌<◌, Bool, true, false, List, [], ◌∷◌, ◌++◌, length, get_or, map, drop, None, Some, refl, sym, ap, ◌∙◌}
 use Rattle.std.specs.Prelude.{All}
 use Rattle.std.specs.List.{list_any}
@@ -17,38 +17,38 @@ pub first-none : (case : Bool × Refusal) (cases : List (Bool × Refusal)) → N
 first-none (true, e) cases free = absurd cc
 first-none (false, e) cases free = refl
 
--- of two cases neither is due
+-- neither of two cases applies
 pub two-free : (case : Bool × Refusal) (cases : List (Bool × Refusal)) → None ≡ first_of (case ∷ cases) → (None ≡ first_of (case ∷ [])) × (None ≡ first_of cases)
 two-free (true, e) cases free = absurd cc
 two-free (false, e) cases free = (refl, free)
 
 module _ {C : Type 0} (case : C → Bool × Refusal) where
-  -- the next one is not due
+  -- the next case does not apply
   pub next-free : (cs : List C) (k : ℕ) (c : C) → k < length cs → c ≡ get_or cs k c → None ≡ first_of (case c ∷ []) → first_of (map case (drop k cs)) ≡ first_of (map case (drop (k + 1) cs))
   next-free cs k c below read free = ap (λ l. first_of (map case l)) (next-is cs k c below read) ∙ first-none (case c) (map case (drop (k + 1) cs)) free
 
-  -- the next one is
+  -- the next case applies
   pub next-due : (cs : List C) (k : ℕ) (c : C) (e : Refusal) → k < length cs → c ≡ get_or cs k c → Some e ≡ first_of (case c ∷ []) → first_of (map case (drop k cs)) ≡ Some e
   next-due cs k c e below read due =
       ap (λ l. first_of (map case l)) (next-is cs k c below read)
       ∙ first-append (case c ∷ []) (map case (drop (k + 1) cs))
       ∙ ap (λ r. option_or r (first_of (map case (drop (k + 1) cs)))) (sym due)
 
-  -- none of them is
+  -- no case applies
   pub none-due : (cs : List C) → None ≡ first_of (map case cs) → All (λ c. None ≡ first_of (case c ∷ [])) cs
   none-due [] free = All-nil (λ c. None ≡ first_of (case c ∷ []))
   none-due (c ∷ cs) free =
       let first = two-free (case c) (map case cs) free in
       All-cons (λ d. None ≡ first_of (case d ∷ [])) c cs first.0 (none-due cs first.1)
 
-  -- whether some is, once the next one is not
+  -- whether a case applies, if the next one does not
   pub any-later : (cs : List C) (k : ℕ) (c : C) → k < length cs → c ≡ get_or cs k c → (case c).0 ≡ false → list_any (λ d. (case d).0) (drop k cs) ≡ list_any (λ d. (case d).0) (drop (k + 1) cs)
   any-later cs k c below read free = rw (next-is cs k c below read, free) refl
 
   pub any-here : (cs : List C) (k : ℕ) (c : C) → k < length cs → c ≡ get_or cs k c → (case c).0 ≡ true → list_any (λ d. (case d).0) (drop k cs) ≡ true
   any-here cs k c below read due = rw (next-is cs k c below read, due) refl
 
--- of an object that is local and may be written, and one that is local and may not
+-- for a local object that may be written, and for one that may not
 pub written-free : (here spent : Bool × Refusal) → None ≡ first_of (here ∷ spent ∷ []) → spent.0 ≡ false
 written-free (true, e) spent free = absurd cc
 written-free (false, e) (true, f) free = absurd cc

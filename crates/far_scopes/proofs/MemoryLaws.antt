@@ -1,4 +1,4 @@
--- The local memory once an object comes, goes or is written.
+-- The local memory after an object is added, removed or written.
 use Rattle.std.proofs.Common.{◌≡◌, ◌≢◌, ℕ, ◌<◌, inl, inr, true, false, List, [], ◌∷◌, ◌++◌, length, Some, None, IsSome, refl, sym, ap, subst, ◌∙◌}
 use Rattle.std.specs.Prelude.{slice_get, slice_set}
 use Rattle.std.specs.Option.{option_and_then, option_map_or}
@@ -28,7 +28,7 @@ module _ {X : Type 0} (words : List Pointer) (state state' : RegionState X) (m :
     pub list-lost : ChangesList (list_in record { words = words; state = state }) (list_in record { words = slice_set words o Remote; state = state' }) o None
     list-lost = lists-lost (place_of words) (place_of (slice_set words o Remote)) (part_of state) (part_of state') m.own o (place-set_other words o Remote) at was (place-set_same words o Remote within) change.here change.others
 
-  -- an object comes
+  -- an object is added
   module _ (word : Pointer) (at : At) (list : List X) (is : at_of word ≡ Some at) (free : part_of state at ≡ None) (change : ChangesOnly state state' at (Some list)) where
     pub memory-with_object : IsRegion state' → IsMemory (words ++ word ∷ []) state'
     memory-with_object region = record {
@@ -50,7 +50,7 @@ module _ {X : Type 0} (words : List Pointer) (state state' : RegionState X) (m :
     pub list-after_bring : ChangesList (list_in record { words = words; state = state }) (list_in record { words = slice_set words o word; state = state' }) o (Some list)
     list-after_bring = lists-gained (place_of words) (place_of (slice_set words o word)) (part_of state) (part_of state') m.own o (place-set_other words o word) at list was (place-set_same words o word within ∙ is) free change.here change.others
 
-  -- the last object goes
+  -- the last object is removed
   module _ (rest : List Pointer) (word : Pointer) (at : At) (is : words ≡ rest ++ word ∷ []) (local : at_of word ≡ Some at) (change : ChangesOnly state state' at None) where
     others : (p : ℕ) → p ≢ length rest → place_of rest p ≡ place_of words p
     others p ne = rw is (sym (place-push_other rest word p ne))
@@ -67,7 +67,7 @@ module _ {X : Type 0} (words : List Pointer) (state state' : RegionState X) (m :
     pub list-after_remove_last : ChangesList (list_in record { words = words; state = state }) (list_in record { words = rest; state = state' }) (length rest) None
     list-after_remove_last = lists-lost (place_of words) (place_of rest) (part_of state) (part_of state') m.own (length rest) others at place-last (place-end rest) change.here change.others
 
-  -- an object gets another list: the new part is placed, then the old one dropped
+  -- an object's list is replaced: the new part is placed, then the old one dropped
   module _ (o : ℕ) (word : Pointer) (at to : At) (list : List X) (between : RegionState X) (within : o < length words) (was : place_of words o ≡ Some at) (is : at_of word ≡ Some to) (free : part_of state to ≡ None)
       (placed : ChangesOnly state between to (Some list)) (dropped : ChangesOnly between state' at None) where
     disjoint : to ≢ at
@@ -88,7 +88,7 @@ module _ {X : Type 0} (words : List Pointer) (state state' : RegionState X) (m :
     pub list-replaced : ChangesList (list_in record { words = words; state = state }) (list_in record { words = slice_set words o word; state = state' }) o (Some list)
     list-replaced = lists-moved (place_of words) (place_of (slice_set words o word)) (part_of state) (part_of state') m.own o (place-set_other words o word) at to list was (place-set_same words o word within ∙ is) free here dropped.here parts
 
--- the same, if a word changes and neither goes nor comes
+-- the same, if a word changes and none is added or removed
 module _ {X : Type 0} (words : List Pointer) (state : RegionState X) (m : IsMemory words state) (o : ℕ) (old word : Pointer) (was : slice_get words o ≡ Some old) (same : at_of word ≡ at_of old) where
   places-after_mark : (p : ℕ) → place_of (slice_set words o word) p ≡ place_of words p
   places-after_mark p = elim (cases_eq p o) [
@@ -110,14 +110,14 @@ pub at-dirty_hot : (word : Pointer) → at_of (with_hot (with_dirty word) true) 
 at-dirty_hot (Local at dirty hot far) = refl
 at-dirty_hot Remote = refl
 
--- a word that says dirty and hot is as it would be marked
+-- marking a word that is dirty and hot changes nothing
 pub after_mark-is : (word : Pointer) → is_dirty word ≡ true → is_hot word ≡ true → with_hot (with_dirty word) true ≡ word
 after_mark-is (Local at true true far) dirty hot = refl
 after_mark-is (Local at true false far) dirty hot = cc
 after_mark-is (Local at false hot far) dirty hot' = cc
 after_mark-is Remote dirty hot = refl
 
--- so its object is marked
+-- marking its object changes nothing
 pub already-marked : {X : Type 0} (memory : Memory X) (o : ℕ) (word : Pointer) → slice_get memory.words o ≡ Some word → with_hot (with_dirty word) true ≡ word → memory ≡ after_mark memory o
 already-marked memory o word was same =
     let unchanged : slice_set memory.words o word ≡ memory.words = ap (slice_set memory.words o) (sym (get_or_from_slice_get memory.words o word word was)) ∙ set-get_or memory.words o word in
@@ -133,7 +133,7 @@ pub at-moved : (word : Pointer) (from to : At) → at_of word ≡ Some from → 
 at-moved (Local at dirty hot far) from to is = refl
 at-moved Remote from to is = cc
 
--- what was placed lies where a new part goes
+-- the new part is at the location for new parts
 pub spot-is : {X : Type 0} (old new : RegionState X) (at : At) (list : List X) → IsPlaced old new at list → spot old (length list) ≡ at
 spot-is old new at list placed = rw placed.segment (ap (λ (n : ℕ). let q : At = record { segment = at.segment; offset = n } in q) (sym placed.offset))
 

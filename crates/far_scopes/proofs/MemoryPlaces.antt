@@ -1,4 +1,4 @@
--- Objects that get, lose and change the places of their lists.
+-- Objects that get, lose and change the locations of their lists.
 use Rattle.std.proofs.Common.{◌≡◌, ◌≢◌, ℕ, ◌⊎◌, inl, inr, List, Option, Some, None, IsSome, refl, sym, ap, subst, ◌∙◌}
 use Rattle.std.specs.Option.{option_and_then}
 use Rattle.std.proofs.lemmas.Bool.{cases_eq}
@@ -43,7 +43,7 @@ module _ {X : Type 0} (place place' : ℕ → Option At) (part part' : At → Op
   abbrev pub lists' : ℕ → Option (List X)
   lists' o = option_and_then part' (place' o)
 
-  -- what lies at the place of another object is the same
+  -- the list at another object's location is unchanged
   other_list : (p : ℕ) → place' p ≡ place p → ((q : At) → place p ≡ Some q → part' q ≡ part q) → lists' p ≡ lists p
   other_list p same parts = elim (cases_option (place p)) [
     | inl none ↦ ap (option_and_then part') (same ∙ none) ∙ sym (ap (option_and_then part) none)
@@ -51,7 +51,7 @@ module _ {X : Type 0} (place place' : ℕ → Option At) (part part' : At → Op
   ]
 
   module _ (o : ℕ) (others : (p : ℕ) → p ≢ o → place' p ≡ place p) where
-    -- object o had a place and has none now
+    -- object o loses its location
     module _ (at : At) (was : place o ≡ Some at) (is : place' o ≡ None) (gone : part' at ≡ None) (parts : (q : At) → q ≢ at → part' q ≡ part q) where
       elsewhere : (p : ℕ) (q : At) → p ≢ o → place p ≡ Some q → q ≢ at
       elsewhere p q ne here same = ne (own.disjoint p o at (subst (λ k. place p ≡ Some k) same here) was)
@@ -81,7 +81,7 @@ module _ {X : Type 0} (place place' : ℕ → Option At) (part part' : At → Op
         others = λ p ne. other_list p (others p ne) (λ q here. parts q (elsewhere p q ne here));
       }
 
-    -- object o had none and has one now
+    -- object o gets a location
     module _ (at : At) (list : List X) (was : place o ≡ None) (is : place' o ≡ Some at) (free : part at ≡ None) (here : part' at ≡ Some list) (parts : (q : At) → q ≢ at → part' q ≡ part q) where
       not_free : (p : ℕ) (q : At) → place p ≡ Some q → q ≢ at
       not_free p q taken same = not_some (part at) free (own.placed p at (subst (λ k. place p ≡ Some k) same taken))
@@ -122,7 +122,7 @@ module _ {X : Type 0} (place place' : ℕ → Option At) (part part' : At → Op
         others = λ p ne. other_list p (others p ne) (λ q taken. parts q (not_free p q taken));
       }
 
-    -- object o has another place than it had
+    -- the location of object o changes
     module _ (at to : At) (list : List X) (was : place o ≡ Some at) (is : place' o ≡ Some to) (free : part to ≡ None) (here : part' to ≡ Some list) (gone : part' at ≡ None) (parts : (q : At) → q ≢ at → q ≢ to → part' q ≡ part q) where
       not_to : (p : ℕ) (q : At) → place p ≡ Some q → q ≢ to
       not_to p q taken same = not_some (part to) free (own.placed p to (subst (λ k. place p ≡ Some k) same taken))
@@ -169,7 +169,7 @@ module _ {X : Type 0} (place place' : ℕ → Option At) (part part' : At → Op
         others = λ p ne. other_list p (others p ne) (λ q taken. parts q (not_at p q ne taken) (not_to p q taken));
       }
 
-  -- no place changes, nor what lies where
+  -- no location changes, and no list
   module _ (same : (p : ℕ) → place' p ≡ place p) where
     pub own-same : ((q : At) → IsSome (part' q) → IsSome (part q)) → ((q : At) → IsSome (part q) → IsSome (part' q)) → OwnPlaces place' part'
     own-same stays comes = record {

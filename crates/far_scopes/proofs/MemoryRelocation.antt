@@ -1,4 +1,4 @@
--- Objects whose lists all go to other places, each list to a place of its own.
+-- Objects whose lists all move, each to a location of its own.
 use Rattle.std.proofs.Common.{◌≡◌, ℕ, inl, inr, List, Option, Some, IsSome, sym, ap, subst, ◌∙◌}
 use Rattle.std.specs.Prelude.{option_map}
 use Rattle.std.specs.Option.{option_and_then}
@@ -11,7 +11,7 @@ module _ {X : Type 0} (place place' : ℕ → Option At) (part part' : At → Op
     (once : (q r : At) → IsSome (part q) → IsSome (part r) → to q ≡ to r → q ≡ r)
     (unchanged : (q : At) → IsSome (part q) → part' (to q) ≡ part q)
     (from : (r : At) → IsSome (part' r) → (q : At) × IsSome (part q) × (to q ≡ r)) where
-  -- where an object was that is here now
+  -- the object that is now at a location
   came : (o : ℕ) (r : At) → place' o ≡ Some r → (q : At) × (place o ≡ Some q) × (to q ≡ r)
   came o r is = elim (cases_option (place o)) [
     | inl none ↦ absurd (none_or_some (place' o) (goes o ∙ ap (option_map to) none) is)

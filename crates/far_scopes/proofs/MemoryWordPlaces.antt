@@ -1,4 +1,4 @@
--- Where the words say that objects are, once one of them changes.
+-- The locations in the words of objects, after one word changes.
 use Rattle.std.proofs.Common.{inl, inr, true, ◌≡◌, ◌≢◌, ℕ, zero, suc, ◌<◌, List, [], ◌∷◌, ◌++◌, length, Option, Some, None, refl, ap, sym, subst, ◌∙◌, ◌-◌, length-append, arith, IsSome, get_or}
 use Rattle.std.specs.Prelude.{is_some, slice_get, slice_set, take}
 use Rattle.std.specs.Option.{option_and_then}
@@ -59,11 +59,11 @@ last-of xs ys y is = omega (arith, ap (λ l. length l) is, length-append ys (y �
 pub take-last : {X : Type 0} (xs ys : List X) (y : X) → xs ≡ ys ++ y ∷ [] → take (length xs - 1) xs ≡ ys
 take-last xs ys y is = rw (last-of xs ys y is, is) (take-append_seam ys (y ∷ []))
 
--- what was read is there
+-- an element that was read exists
 pub word-read : {X : Type 0} (xs : List X) (o : ℕ) (x : X) → o < length xs → x ≡ get_or xs o x → slice_get xs o ≡ Some x
 word-read xs o x h read = slice_get-get_or xs o x h ∙ ap Some (sym read)
 
--- where the word that was read says that the object is
+-- the location in the word that was read
 pub place-read : (words : List Pointer) (o : ℕ) (word : Pointer) (at : At) → o < length words → word ≡ get_or words o word → at_of word ≡ Some at → place_of words o ≡ Some at
 place-read words o word at h read is = ap (option_and_then at_of) (slice_get-get_or words o word h ∙ ap Some (sym read)) ∙ is
 

@@ -1,4 +1,4 @@
--- What is written over the elements of an object moves no part.
+-- Writing over the elements of an object moves no part.
 use Rattle.std.proofs.Common.{◌≡◌, ℕ, ◌+◌, ◌-◌, ◌<◌, true, false, inl, inr, List, [], ◌∷◌, ◌++◌, length, take, drop, map, nat_eq, cond, Option, Some, None, IsSome, refl, sym}
 use Rattle.std.specs.Prelude.{is_some, IsSomeAnd}
 use Rattle.std.proofs.lemmas.Bool.{cases_eq}
@@ -62,7 +62,7 @@ module _ {X : Type 0} where
     pub list-after_write : (i : ℕ) (ws list : List X) → WritesPart state (after_write_at state at i ws) at list → ChangesList (list_in record { words = words; state = state }) (list_in (after_overwrite_in record { words = words; state = state } o i ws)) o (Some list)
     list-after_write i ws list writes = rw (after_overwrite-is i ws) (lists-after_write (place_of words) (place_of words) (part_of state) (part_of (after_write_at state at i ws)) m.own (λ p. refl) o at list was writes.change.here writes.change.others)
 
-    -- the same of a range
+    -- the same for a range
     abbrev WritesRange : ℕ → ℕ → List X → Type 0
     WritesRange from to list = (range : List X) → length range ≡ to - from → WritesPart state (after_write_at state at from range) at (take from list ++ (range ++ drop to list))
 

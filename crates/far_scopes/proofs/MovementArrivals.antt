@@ -1,4 +1,4 @@
--- What holds of all objects once one comes back.
+-- What is true of all objects after one is brought back.
 use Rattle.std.proofs.Common.{◌≡◌, ◌≢◌, ℕ, zero, suc, ◌<◌, true, false, inl, inr, List, [], ◌∷◌, length, Option, Some, None, refl, sym, ap, subst, ◌∙◌, arith}
 use Rattle.std.specs.Prelude.{is_some, slice_get, slice_set, option_map, IsSomeAnd}
 use Rattle.std.specs.Option.{option_and_then}
@@ -22,7 +22,7 @@ remote-is : (word : Pointer) → is_some (at_of word) ≡ false → word ≡ Rem
 remote-is (Local at d h f) away = cc
 remote-is Remote away = refl
 
--- an object that has a number and is away has the word that says so
+-- an object that is away has the remote word
 pub word-away : (words : List Pointer) (o : ℕ) → o < length words → is_some (place_of words o) ≡ false → slice_get words o ≡ Some Remote
 word-away words o within away =
     let (word, is) = word-there words o within in
@@ -34,7 +34,7 @@ not-within (x ∷ xs) zero within none = cc
 not-within (x ∷ xs) (suc i) within none = not-within xs i (omega (arith, within)) none
 
 module _ {X K : Type 0} (meaning : List ℕ → List X) (content : K → List ℕ) (spelled : List X → List ℕ → Type 0) (m : Movement X K) (tracked : AreTracked meaning content spelled m) (o : ℕ) where
-  -- an object that is away comes back with the list that its ticket means
+  -- an object that is away is brought back with the list that its ticket means
   module _ (within : o < length m.records) (list : List X) (away : is_local m o ≡ false) (means : list_of meaning content m o ≡ Some list) where
     abbrev object_record-there : (e : ObjectRecord K) × (record_of m o ≡ Some e)
     object_record-there = elim (cases_option (record_of m o)) [

@@ -1,4 +1,4 @@
--- What holds of all objects once one is made.
+-- What is true of all objects after one is made.
 use Rattle.std.proofs.Common.{◌≡◌, ◌≢◌, ℕ, ◌<◌, ◌^◌, true, false, inl, inr, List, [], ◌∷◌, ◌++◌, length, length-append, Some, refl, sym, ap, subst, ◌∙◌, arith}
 use Rattle.std.specs.Prelude.{is_some}
 use Rattle.std.specs.Option.{option_map_or}
@@ -18,7 +18,7 @@ use Rattle.far_scopes.proofs.RecencyLaws.{has-cons_same, has-cons_other}
 use Rattle.far_scopes.proofs.MovementLaws.{Others, clean-one, list-one, each-one}
 use Rattle.far_scopes.proofs.MovementTransitions.{some-one}
 
--- an object that was just made, whatever is meant by tickets
+-- a new object, whatever tickets mean
 pub tracked-new : {X K : Type 0} (meaning : List ℕ → List X) (content : K → List ℕ) (spelled : List X → List ℕ → Type 0) (max_writes leavings : ℕ) (at : At) (name : Name) (list : List X)
     → 0 < length list → IsTracked meaning content spelled max_writes leavings (Local at true true false) (Some list) (new_record name (length list))
 tracked-new meaning content spelled max_writes leavings at name list some =
@@ -26,7 +26,7 @@ tracked-new meaning content spelled max_writes leavings at name list some =
 
 module _ {X K : Type 0} (meaning : List ℕ → List X) (content : K → List ℕ) (spelled : List X → List ℕ → Type 0) (m : Movement X K) (tracked : AreTracked meaning content spelled m) (memory : Memory X) (at : At) (name : Name) (list : List X)
     (words : memory.words ≡ m.memory.words ++ Local at true true false ∷ []) (change : ChangesList (list_in m.memory) (list_in memory) (length m.memory.words) (Some list)) where
-  -- the objects once this one is made
+  -- the objects after this one is made
   abbrev with_one : Movement X K
   with_one = record m { memory = memory; records = m.records ++ new_record name (length list) ∷ []; order = length m.records ∷ m.order }
 
@@ -46,7 +46,7 @@ module _ {X K : Type 0} (meaning : List ℕ → List X) (content : K → List �
     lists = λ p ne. change.others p (disjoint p ne);
   }
 
-  -- it is local, and has no pin
+  -- the new object is local, and has no pin
   pub last-made : (is_local with_one (length m.records) ≡ true) × (pins_of with_one (length m.records) ≡ 0)
   last-made = (
     rw (words, tracked.same_length) (ap is_some (place-push_last m.memory.words (Local at true true false))),
@@ -66,7 +66,7 @@ module _ {X K : Type 0} (meaning : List ℕ → List X) (content : K → List �
     | inr ne ↦ has-cons_other m.order (length m.records) p ne ∙ tracked.ordered p ∙ rw words (ap is_some (sym (place-push_other m.memory.words (Local at true true false) p (disjoint p ne))))
   ]
 
-  -- the new object was in no order of use
+  -- the new object was not in the order of use
   pub not-yet : has m.order (length m.records) ≡ false
   not-yet = tracked.ordered (length m.records) ∙ rw tracked.same_length (ap is_some (place-end m.memory.words))
 

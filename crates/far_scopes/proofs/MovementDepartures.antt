@@ -1,4 +1,4 @@
--- What holds of all objects once one goes away.
+-- What is true of all objects after one goes away.
 use Rattle.std.proofs.Common.{◌≡◌, ◌≢◌, ℕ, ◌+◌, ◌<◌, get_or, inl, inr, List, length, Option, Some, None, IsSome, refl, sym, ap, subst, ◌∙◌, arith}
 use Rattle.std.specs.Prelude.{slice_get, slice_set, All, IsSomeAnd, IfSome}
 use Rattle.std.specs.Option.{option_map_or}
@@ -58,7 +58,7 @@ module _ {X K : Type 0} (meaning : List ℕ → List X) (content : K → List �
     left-behind = record object_record { leavings = object_record.leavings + 1; ticket = Some ticket }
 
     module _ (memory : Memory X) (words : memory.words ≡ slice_set m.memory.words o Remote) (change : ChangesList (list_in m.memory) (list_in memory) o None) where
-      -- the objects once it is gone
+      -- the objects after it went away
       abbrev gone : Movement X K
       gone = record m { memory = memory; records = slice_set m.records o left-behind; order = without m.order o }
 

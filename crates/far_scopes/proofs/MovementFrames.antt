@@ -1,4 +1,4 @@
--- What calls leave as it is: the words and records of other objects, and whose tickets they are.
+-- What calls do not change: the words and records of other objects, and the store of their tickets.
 use Rattle.std.proofs.Common.{◌≡◌, ◌≢◌, ℕ, zero, suc, arith, ◌<◌, ◌+◌, inl, inr, List, [], ◌∷◌, length, Some, refl, sym, ap, subst, ◌∙◌, ◌-◌}
 use Rattle.std.specs.Prelude.{Bool, true, false, ◌==◌, if◌then◌else◌, IfSome, is_some, slice_get}
 use Rattle.std.specs.Option.{option_map_or, option_and_then}
@@ -15,7 +15,7 @@ use Rattle.far_scopes.specs.Movement.{Movement, ChangesObject, AreHere, AreTrack
 use Rattle.far_scopes.proofs.MemoryPlaces.{cases_option}
 use Rattle.far_scopes.proofs.MemoryWordPlaces.{slice_get-set_other, slice_get-set_same}
 
--- one record of a list is made another
+-- one record of a list changes
 pub object_record-with_other : {K : Type 0} (records : List (ObjectRecord K)) (o : ℕ) (change : ObjectRecord K → ObjectRecord K) (p : ℕ) → p ≢ o → slice_get (with_record records o change) p ≡ slice_get records p
 object_record-with_other records o change p ne = elim (cases_option (slice_get records o)) [
   | inl none ↦ rw none refl
@@ -30,7 +30,7 @@ word-with_other memory o change p ne = elim (cases_option (slice_get memory.word
 
 module _ {X K : Type 0} where
   module _ (is_of : K → List ℕ → Type 0) (id : List ℕ) where
-    -- one object changes, and its ticket is of the store too
+    -- one object changes, and its new ticket is of the store too
     pub here-one : (old new : Movement X K) (o : ℕ) → ChangesObject old new o → AreHere is_of id old → IfSome (ticket_of new o) (λ ticket. is_of ticket id) → AreHere is_of id new
     here-one old new o others here one p = elim (cases_eq p o) [
       | inl same ↦ subst (λ k. IfSome (ticket_of new k) (λ ticket. is_of ticket id)) (sym same) one
@@ -103,6 +103,6 @@ module _ {X K : Type 0} (is_of : K → List ℕ → Type 0) (id : List ℕ) wher
   here-after_write_all m [] here = here
   here-after_write_all m (r ∷ rs) here = here-after_write_all (after_write m r.object) rs (here-after_write m r.object is_of id here)
 
-  -- several objects get other lists
+  -- the lists of several objects are replaced
   pub here-replaced_all : (m now : Movement X K) (lists : List (Replacement X)) → now.records ≡ with_lens m.records lists → AreHere is_of id m → AreHere is_of id (after_write_all now lists)
   here-replaced_all m now lists records here = here-after_write_all now lists (λ o. rw records (here-lens m lists here o))

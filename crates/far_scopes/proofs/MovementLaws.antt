@@ -1,4 +1,4 @@
--- One object changes: what holds of all objects then.
+-- What is true of all objects after one changes.
 use Rattle.std.proofs.Common.{◌≡◌, ◌≢◌, ℕ, ◌<◌, arith, get_or, true, false, inl, inr, List, length, Option, Some, refl, sym, ap, subst, ◌∙◌}
 use Rattle.std.specs.Prelude.{option_map, IfSome}
 use Rattle.std.specs.Option.{option_map_or, option_and_then}
@@ -12,7 +12,7 @@ use Rattle.far_scopes.proofs.MemoryWordPlaces.{word-read, place-within, some-tru
 use Rattle.far_scopes.specs.Movement.{Movement, is_local, word_of, record_of, dirty, ticket_of, list_of, AreClean, IsTracked, AreTracked}
 
 module _ {X K : Type 0} (meaning : List ℕ → List X) (content : K → List ℕ) where
-  -- all but object o stay as they are
+  -- every object except o is unchanged
   pub record Others (old new : Movement X K) (o : ℕ) : Type 0 where
     pub words : (p : ℕ) → p ≢ o → word_of new p ≡ word_of old p
     pub records : (p : ℕ) → p ≢ o → record_of new p ≡ record_of old p
@@ -22,7 +22,7 @@ module _ {X K : Type 0} (meaning : List ℕ → List X) (content : K → List �
     list-other : (p : ℕ) → p ≢ o → list_of meaning content new p ≡ list_of meaning content old p
     list-other p ne = rw (others.lists p ne, others.records p ne) refl
 
-    -- what the object is, if it is clean, is what its ticket means
+    -- the list of the object, if it is clean, is what its ticket means
     pub clean-one : AreClean meaning content old → (dirty new o ≡ false → list_of meaning content new o ≡ option_map (λ ticket. meaning (content ticket)) (ticket_of new o)) → AreClean meaning content new
     clean-one clean here p = elim (cases_eq p o) [
       | inl same ↦ subst (λ k. dirty new k ≡ false → list_of meaning content new k ≡ option_map (λ ticket. meaning (content ticket)) (ticket_of new k)) (sym same) here
@@ -39,7 +39,7 @@ module _ {X K : Type 0} (meaning : List ℕ → List X) (content : K → List �
     ]
 
     module _ (spelled : List X → List ℕ → Type 0) (tracked : AreTracked meaning content spelled old) where
-      -- what holds of each object, if it holds of the one that changes
+      -- what is true of each object, if it is true of the one that changed
       pub each-one : new.max_writes ≡ old.max_writes → new.leavings ≡ old.leavings
           → ((word : Pointer) (object_record : ObjectRecord K) → word_of new o ≡ Some word → record_of new o ≡ Some object_record → IsTracked meaning content spelled new.max_writes new.leavings word (list_in new.memory o) object_record)
           → (p : ℕ) (word : Pointer) (object_record : ObjectRecord K) → word_of new p ≡ Some word → record_of new p ≡ Some object_record → IsTracked meaning content spelled new.max_writes new.leavings word (list_in new.memory p) object_record
@@ -48,7 +48,7 @@ module _ {X K : Type 0} (meaning : List ℕ → List X) (content : K → List �
         | inr ne ↦ rw (max_writes, leavings, others.lists p ne) (tracked.each p word object_record (sym (others.words p ne) ∙ w) (sym (others.records p ne) ∙ e))
       ]
 
--- the list of a local object is as long as its record, which was read, says
+-- the list of a local object has the length in its record
 pub long-read : {X K : Type 0} (meaning : List ℕ → List X) (content : K → List ℕ) (spelled : List X → List ℕ → Type 0) (m : Movement X K) → AreTracked meaning content spelled m
     → (o : ℕ) (object_record : ObjectRecord K) → is_local m o ≡ true → object_record ≡ get_or m.records o object_record → IfSome (list_in m.memory o) (λ list. length list ≡ object_record.len)
 long-read meaning content spelled m tracked o object_record local read =

@@ -1,4 +1,4 @@
--- Whatever is written over the elements of an object, the lists keep their lengths.
+-- Writing over the elements of an object changes no list's length.
 use Rattle.std.proofs.Common.{◌≡◌, ℕ, zero, suc, ◌+◌, ◌-◌, ◌≤◌, Bool, true, false, inl, inr, List, [], ◌∷◌, ◌++◌, length, map, nat_eq, cond, take, drop, length-take, length-drop, length-append, Option, Some, None, refl, sym, ap, ◌∙◌, arith}
 use Rattle.std.specs.Prelude.{slice_set, option_map, IfSome, IsSomeAnd}
 use Rattle.std.specs.Option.{option_or}
@@ -21,7 +21,7 @@ set-past (x ∷ xs) zero y h = absurd (omega (arith, h))
 set-past (x ∷ xs) (suc i) y h = ap (λ l. x ∷ l) (set-past xs i y (omega (arith, h)))
 
 module _ {X : Type 0} where
-  -- how long a list is, if there is one
+  -- the length of a list, if there is one
   abbrev pub long : Option (List X) → Option ℕ
   long list = option_map (λ (xs : List X). length xs) list
 
@@ -90,14 +90,14 @@ module _ {X K : Type 0} (meaning : List ℕ → List X) (content : K → List �
     pub clean-after_overwrite : dirty m o ≡ true → AreClean meaning content m → AreClean meaning content (after_overwrite m o i ws)
     clean-after_overwrite marked clean = clean-one meaning content m (after_overwrite m o i ws) o others clean (λ c. absurd (true-or-false (dirty m o) marked c))
 
-    -- seen from before it counted as written
+    -- compared with the objects before it counted as written
     pub list-since : (before : Movement X K) → ((p : ℕ) → list_of meaning content m p ≡ list_of meaning content before p) → ChangesList (list_of meaning content before) (list_of meaning content (after_overwrite m o i ws)) o (Some now)
     list-since before lists = record { here = list-after_overwrite.here; others = λ p ne. list-after_overwrite.others p ne ∙ lists p }
 
--- the same of a range
+-- the same for a range
 module _ {X K : Type 0} (meaning : List ℕ → List X) (content : K → List ℕ) (spelled : List X → List ℕ → Type 0) (before m : Movement X K) (o from to : ℕ)
     (parts : (p : ℕ) → list_in m.memory p ≡ list_in before.memory p) (lists : (p : ℕ) → list_of meaning content m p ≡ list_of meaning content before p) where
-  -- the list once a range of it is another
+  -- the list after a range of it changes
   abbrev pub with_range : List X → List X → List X
   with_range list range = take from list ++ (range ++ drop to list)
 

@@ -1,4 +1,4 @@
--- Calls that change records alone, and leave every list as it is.
+-- Calls that change only records, and no list.
 use Rattle.std.proofs.Common.{◌≡◌, ℕ, ◌+◌, ◌-◌, inl, inr, List, [], ◌∷◌, refl, ap, ◌∙◌}
 use Rattle.std.specs.Prelude.{◌==◌, option_map}
 use Rattle.std.specs.Option.{option_and_then, option_or}
@@ -11,7 +11,7 @@ use Rattle.far_scopes.specs.Entering.{after_pin_all, after_close}
 use Rattle.far_scopes.proofs.MovementFrames.{object_record-with_other, ticket-with, if-either}
 
 module _ {X K : Type 0} where
-  -- no record gets another ticket
+  -- no record's ticket changes
   tickets-unchanged : (m : Movement X K) (o : ℕ) (change : ObjectRecord K → ObjectRecord K) → ((e : ObjectRecord K) → (change e).ticket ≡ e.ticket) → (p : ℕ) → ticket_of record m { records = with_record m.records o change } p ≡ ticket_of m p
   tickets-unchanged m o change same p = elim (cases_eq p o) [
     | inl here ↦ rw here (ticket-with m.records o change same)

@@ -1,4 +1,4 @@
--- What holds of all objects once one gets another list.
+-- What is true of all objects after the list of one is replaced.
 use Rattle.std.proofs.Common.{◌≡◌, ◌≢◌, ℕ, ◌+◌, ◌<◌, get_or, nat_lt, Bool, true, false, inl, inr, List, length, Some, None, refl, sym, ap, subst, ◌∙◌}
 use Rattle.std.specs.Prelude.{not, is_some, slice_set}
 use Rattle.std.specs.Option.{option_and_then}
@@ -22,7 +22,7 @@ use Rattle.far_scopes.proofs.MovementTransitions.{some-one, words-other}
 use Rattle.far_scopes.proofs.RefusingLaws.{two-none, free-parts, local-replaced}
 use Rattle.std.proofs.lemmas.Option.{slice_get-get_or}
 
--- a word of an object that was local and lies elsewhere
+-- the word of a local object after its part moved
 local-at : (word : Pointer) (to : At) → is_some (at_of word) ≡ true → is_some (at_of (with_at word to)) ≡ true
 local-at (Local at d h f) to local = refl
 local-at Remote to local = cc
@@ -55,7 +55,7 @@ module _ {X K : Type 0} (meaning : List ℕ → List X) (content : K → List �
   its-place : is_some (at_of word) ≡ true
   its-place = sym (ap (λ w. is_some (option_and_then at_of w)) word-was) ∙ local-replaced m o (length list) free
 
-  -- where the new part lies
+  -- the location of the new part
   abbrev to : At
   to = spot m.memory.state (length list)
 
@@ -65,7 +65,7 @@ module _ {X K : Type 0} (meaning : List ℕ → List X) (content : K → List �
   abbrev now : ObjectRecord K
   now = record object_record { len = length list }
 
-  -- the objects once the list is another, before the object is marked as written
+  -- the objects after the list is replaced, before the object is marked as written
   abbrev mid : Movement X K
   mid = record m { memory = memory; records = slice_set m.records o now }
 
@@ -115,7 +115,7 @@ module _ {X K : Type 0} (meaning : List ℕ → List X) (content : K → List �
   pub free-mid : write_refusal mid o ≡ None
   free-mid = two-none (absent mid o).0 (written_out mid o).0 (absent mid o).1 (written_out mid o).1 (ap not local-mid) (ap (λ v. not (nat_lt v m.max_writes)) version-mid ∙ (free-parts m o (length list) free).1)
 
-  -- the objects once it is marked
+  -- the objects after it is marked
   module _ (new : Movement X K) (marks : new ≡ after_write mid o) where
     pub lists-new : ((p : ℕ) → list_of meaning content new p ≡ list_of meaning content mid p) → ChangesList (list_of meaning content m) (list_of meaning content new) o (Some list)
     lists-new same =

@@ -1,4 +1,4 @@
--- What holds of all objects, once one of them is used or written.
+-- What is true of all objects after one is used or written.
 use Rattle.std.proofs.Common.{◌≡◌, ℕ, ◌+◌, ◌<◌, Bool, true, false, inl, inr, List, length, Option, Some, None, refl, sym, ap, subst, ◌∙◌, arith}
 use Rattle.std.specs.Prelude.{is_some, slice_get, slice_set, IfSome}
 use Rattle.std.specs.Option.{option_map_or, option_and_then}
@@ -56,7 +56,7 @@ true-is-not-false : (b : Bool) → b ≡ true → b ≡ false → ⊥
 true-is-not-false b one other = cc
 
 module _ {X K : Type 0} (meaning : List ℕ → List X) (content : K → List ℕ) (spelled : List X → List ℕ → Type 0) (m : Movement X K) (tracked : AreTracked meaning content spelled m) (o : ℕ) where
-  -- it is used
+  -- the object is used
   module _ (lists : (p : ℕ) → list_in (after_heat m.memory o) p ≡ list_in m.memory p) where
     abbrev heat : Pointer → Pointer
     heat word = with_hot word true
@@ -90,7 +90,7 @@ module _ {X K : Type 0} (meaning : List ℕ → List X) (content : K → List �
     pub clean-after_touch : AreClean meaning content m → AreClean meaning content after_touch_m
     clean-after_touch clean = clean-one meaning content m after_touch_m o others-after_touch clean (λ c. rw (lists o) (clean o (sym dirty-after_touch ∙ c)))
 
-  -- it is written
+  -- the object is written
   module _ (object_record : ObjectRecord K) (was : record_of m o ≡ Some object_record) (local : is_local m o ≡ true) (left : object_record.version < m.max_writes) (lists : (p : ℕ) → list_in (after_mark m.memory o) p ≡ list_in m.memory p) where
     abbrev mark : Pointer → Pointer
     mark word = with_hot (with_dirty word) true

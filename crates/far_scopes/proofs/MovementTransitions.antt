@@ -1,4 +1,4 @@
--- What holds of all objects, once one of them is pinned, used, written, goes away or comes back.
+-- What is true of all objects after one is pinned, used or written, goes away or is brought back.
 use Rattle.std.proofs.Common.{◌≡◌, ◌≢◌, ℕ, Bool, true, false, inl, inr, List, length, Option, Some, refl, sym, ap, subst, ◌∙◌}
 use Rattle.std.specs.Prelude.{not, is_some, slice_get, slice_set}
 use Rattle.std.specs.Option.{option_and_then}
@@ -24,7 +24,7 @@ true-or-false true local away = cc
 true-or-false false local away = cc
 
 module _ {X K : Type 0} (meaning : List ℕ → List X) (content : K → List ℕ) (spelled : List X → List ℕ → Type 0) (m : Movement X K) (tracked : AreTracked meaning content spelled m) (o : ℕ) (object_record now : ObjectRecord K) (was : record_of m o ≡ Some object_record) where
-  -- the records once that of object o is another
+  -- the records after the record of object o changes
   abbrev pub entries' : List (ObjectRecord K)
   entries' = slice_set m.records o now
 
@@ -40,7 +40,7 @@ module _ {X K : Type 0} (meaning : List ℕ → List X) (content : K → List �
   pub ticket-same : now.ticket ≡ object_record.ticket → ticket-in (slice_get entries' o) ≡ ticket-in (slice_get m.records o)
   ticket-same same = ap ticket-in object_record-same ∙ same ∙ sym (ap ticket-in was)
 
-  -- the local memory and the order of use change too, but neither goes the object nor comes
+  -- the local memory and the order of use change too, but no object is added or removed
   module _ (memory : Memory X) (order : List ℕ) (words : (p : ℕ) → p ≢ o → slice_get memory.words p ≡ slice_get m.memory.words p) (lists : (p : ℕ) → list_in memory p ≡ list_in m.memory p) where
     abbrev pub changed : Movement X K
     changed = record m { memory = memory; records = entries'; order = order }
@@ -65,7 +65,7 @@ module _ {X K : Type 0} (meaning : List ℕ → List X) (content : K → List �
       ordered = ordered;
     }
 
-  -- only its record changes
+  -- only the object's record changes
   pub tracked-recorded : ((word : Pointer) → word_of m o ≡ Some word → IsTracked meaning content spelled m.max_writes m.leavings word (list_in m.memory o) now) → AreTracked meaning content spelled record m { records = entries' }
   tracked-recorded here = tracked-changed m.memory m.order (λ p ne. refl) (λ p. refl) refl tracked.once tracked.ordered here
 
@@ -78,7 +78,7 @@ pub tracked-pins : {X K : Type 0} (meaning : List ℕ → List X) (content : K �
 tracked-pins meaning content spelled max_writes leavings word list object_record pins t away =
     record { version = t.version; left = t.left; some = t.some; long = t.long; away = λ is. (away is, (t.away is).1); copy = t.copy; far = t.far }
 
--- the words once one of them is marked as it is used or written: which objects are local stays
+-- the words after one is marked as used or written: the same objects are local
 module _ {X : Type 0} (memory : Memory X) (o : ℕ) (change : Pointer → Pointer) (same : (word : Pointer) → at_of (change word) ≡ at_of word) where
   pub words-other : (p : ℕ) → p ≢ o → slice_get (with_word memory o change).words p ≡ slice_get memory.words p
   words-other p ne = elim (cases_option (slice_get memory.words o)) [

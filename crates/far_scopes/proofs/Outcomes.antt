@@ -1,4 +1,4 @@
--- What follows from facts of a result's two outcomes.
+-- Consequences of facts about a result's two outcomes.
 use Rattle.std.specs.Prelude.{Result, OnOk, OnErr}
 use Rattle.std.specs.declared.result.Result.TheVariants.{Ok, Err}
 use Rattle.far_types.specs.declared.refusal.Refusal.{Refusal}
@@ -13,7 +13,7 @@ pub on-ok : {A P R : Type 0} (r : Result A Refusal) → OnOk r P → (P → R) �
 on-ok (Ok x) p ok = ok p
 on-ok (Err e) p ok = tt
 
--- the same of two facts of each
+-- the same for two facts about each
 pub by-outcomes : {A P Q R S T : Type 0} (r : Result A Refusal) → OnOk r P → OnOk r Q → OnErr r R → OnErr r S → (P → Q → T) → (R → S → T) → T
 by-outcomes (Ok x) p q r s ok err = ok p q
 by-outcomes (Err e) p q r s ok err = err r s

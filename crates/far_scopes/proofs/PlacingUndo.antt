@@ -1,4 +1,4 @@
--- What was just placed or made, taken away again, leaves all as it was.
+-- Removing what was just placed or made restores the state before.
 use Rattle.std.proofs.Common.{◌≡◌, ℕ, zero, suc, ◌≤◌, nat_eq, cond, true, false, inl, inr, List, [], ◌∷◌, ◌++◌, length, filter, unwrap_or, Some, None, refl, ap, subst, ◌∙◌, arith, append-nil}
 use Rattle.std.specs.Prelude.{not, slice_set}
 use Rattle.std.proofs.lemmas.Bool.{cases_Bool, cases_lt, eq-eqb}
@@ -60,7 +60,7 @@ module _ {X : Type 0} where
       let word : Pointer = Local (spot memory.state (length list)) true true false in
       rw (take-last (memory.words ++ word ∷ []) memory.words word refl, last-of (memory.words ++ word ∷ []) memory.words word refl, place-push_last memory.words word, state-undone memory.state list region) refl
 
--- all objects, if it is so of the local memory
+-- all objects, if the local memory is restored
 pub after_uncreate-after_create : {X K : Type 0} (m : Movement X K) (name : Name) (list : List X) → after_remove_last (with_object m.memory list) ≡ m.memory → after_uncreate (after_create m name list) ≡ m
 after_uncreate-after_create {K = K} m name list back =
     let object_record = new_record {K = K} name (length list) in

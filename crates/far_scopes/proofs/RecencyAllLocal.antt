@@ -1,4 +1,4 @@
--- An order of use of objects below a bound has them all exactly if it has as many as the bound.
+-- An order of use of objects below a bound has all of them exactly if its length is the bound.
 use Rattle.std.proofs.Common.{◌≡◌, ◌≢◌, ℕ, zero, suc, ◌+◌, ◌<◌, ◌≤◌, ◌||◌, Bool, true, false, nat_eq, inl, inr, List, [], ◌∷◌, length, refl, sym, ap, subst, ◌∙◌, arith}
 use Rattle.std.specs.Prelude.{◌↔◌}
 use Rattle.std.proofs.lemmas.Bool.{cases_eq, cases_Bool, eq-eqb, ne_eqb}
@@ -16,7 +16,7 @@ length-without (q ∷ order) o there = elim (cases_eq o q) [
   | inr ne ↦ (let rest = length-without order o (sym (has-cons_other order q o ne) ∙ there) in rw (ne_eqb o q ne) (omega (arith, rest)))
 ]
 
--- an order of objects below a bound has no more of them than the bound
+-- an order of objects below a bound is at most as long as the bound
 at-most : (n : ℕ) (order : List ℕ) → Once order → ((p : ℕ) → has order p ≡ true → p < n) → length order ≤ n
 at-most zero [] once below = omega arith
 at-most zero (q ∷ order) once below = omega (arith, below q (has-cons_same order q))
@@ -35,7 +35,7 @@ at-most (suc n) order once below = elim (cases_Bool (has order n)) [
       omega (arith, rest)
 ]
 
--- one that has as many has each
+-- an order of that length has each of them
 each-there : (n : ℕ) (order : List ℕ) → Once order → ((p : ℕ) → has order p ≡ true → p < n) → length order ≡ n → (o : ℕ) → o < n → has order o ≡ true
 each-there n order once below full o within = elim (cases_Bool (has order o)) [
   | inl there ↦ there
@@ -47,7 +47,7 @@ each-there n order once below full o within = elim (cases_Bool (has order o)) [
       absurd (omega (arith, more, full))
 ]
 
--- one that has each has at least as many
+-- an order that has each of them has at least that length
 at-least : (n : ℕ) (order : List ℕ) → ((o : ℕ) → o < n → has order o ≡ true) → n ≤ length order
 at-least zero order each = omega arith
 at-least (suc n) order each =

@@ -37,7 +37,7 @@ module _ {V : Type 0} (o : ℕ) where
   not_some None e = refl
   not_some (Some x) e = cc
 
-  -- a number that was not there goes first
+  -- a number that was not in the order is added first
   pub added_keys : (c : LruCache ℕ V) (v : V) → has (keys_of c.entries) o ≡ false → length c.entries ≤ c.cap - 1 → keys_of (put_entries nat_eq c o v) ≡ o ∷ keys_of c.entries
   added_keys c v h fits = rw (not_some _ (sym (has_entry c.entries) ∙ h)) (ap (λ es. o ∷ keys_of es) (take_all (c.cap - 1) c.entries fits))
 

@@ -1,4 +1,4 @@
--- Who is in an order of use that changed.
+-- Which objects are in an order of use after it changes.
 use Rattle.std.proofs.Common.{◌≡◌, ◌≢◌, ℕ, ◌||◌, Bool, true, false, inl, inr, List, [], ◌∷◌, nat_eq, cond, refl, sym, ap, ◌∙◌}
 use Rattle.std.proofs.lemmas.Bool.{cases_eq, cases_Bool, eq-eqb, ne_eqb}
 use Rattle.far_scopes.specs.Recency.{has, without, after_use, Once}
@@ -9,7 +9,7 @@ has-cons_same order o = rw (eq-eqb o o refl) refl
 pub has-cons_other : (order : List ℕ) (o p : ℕ) → p ≢ o → has (o ∷ order) p ≡ has order p
 has-cons_other order o p ne = rw (ne_eqb p o ne) refl
 
--- an object goes
+-- an object is removed
 pub has-without_other : (order : List ℕ) (o p : ℕ) → p ≢ o → has (without order o) p ≡ has order p
 has-without_other [] o p ne = refl
 has-without_other (q ∷ order) o p ne = elim (cases_eq o q) [
@@ -32,7 +32,7 @@ or-right : (a b : Bool) → a || b ≡ false → b ≡ false
 or-right true b e = cc
 or-right false b e = e
 
--- who is not in an order, is not in it without another
+-- an object that is not in an order is not in it after another is removed
 not-without : (order : List ℕ) (o p : ℕ) → has order p ≡ false → has (without order o) p ≡ false
 not-without [] o p absent = absent
 not-without (q ∷ order) o p absent = elim (cases_eq o q) [
@@ -63,7 +63,7 @@ once-after_use order o once = elim (cases_Bool (has order o)) [
   | inr gone ↦ rw gone once
 ]
 
--- an object that came and goes again
+-- an object that was added and is removed again
 pub without-cons : (order : List ℕ) (o : ℕ) → without (o ∷ order) o ≡ order
 without-cons order o = rw (eq-eqb o o refl) refl
 

@@ -1,4 +1,4 @@
--- What is found in an order of use, from its end on.
+-- Searches in an order of use, from its end.
 use Rattle.std.proofs.Common.{◌≡◌, ℕ, ◌||◌, Bool, true, false, inl, inr, List, [], ◌∷◌, ◌++◌, Some, None, nat_eq, reverse, refl, sym, ap, subst, ◌∙◌}
 use Rattle.std.specs.List.{find}
 use Rattle.std.proofs.lemmas.Bool.{cases_Bool, cases_eq, ne_eqb}
@@ -15,13 +15,13 @@ or-none false = refl
 pub has-last : (order : List ℕ) (o p : ℕ) → has (order ++ o ∷ []) p ≡ has (o ∷ order) p
 has-last order o p = list_any-append (λ q. nat_eq p q) order (o ∷ []) ∙ ap (λ b. has order p || b) (or-none (nat_eq p o)) ∙ or_comm (has order p) (nat_eq p o)
 
--- an order has the same objects from its end on
+-- a reversed order has the same objects
 pub has-reverse : (order : List ℕ) (p : ℕ) → has (reverse order) p ≡ has order p
 has-reverse [] p = refl
 has-reverse (o ∷ order) p = ap (λ l. has l p) (reverse-append (o ∷ []) order) ∙ has-last (reverse order) o p ∙ ap (λ b. nat_eq p o || b) (has-reverse order p)
 
 module _ (test : ℕ → Bool) where
-  -- what is found is there, and passes
+  -- an object that is found is in the order, and passes
   pub found-is : (order : List ℕ) (o : ℕ) → find test order ≡ Some o → (test o ≡ true) × (has order o ≡ true)
   found-is [] o is = cc
   found-is (p ∷ order) o is = elim (cases_Bool (test p)) [
@@ -29,7 +29,7 @@ module _ (test : ℕ → Bool) where
     | inr fails ↦ (let rest = found-is order o (sym (rw fails refl) ∙ is) in (rest.0, rw rest.1 (or_comm (nat_eq o p) true)))
   ]
 
-  -- if nothing is found, nothing that is there passes
+  -- if none is found, no object in the order passes
   pub found-none : (order : List ℕ) → find test order ≡ None → (o : ℕ) → has order o ≡ true → test o ≡ false
   found-none [] none o there = cc
   found-none (p ∷ order) none o there = elim (cases_Bool (test p)) [

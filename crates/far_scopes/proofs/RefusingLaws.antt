@@ -1,4 +1,4 @@
--- What is known if a call is not refused.
+-- What follows if a call is not refused.
 use Rattle.std.proofs.Common.{◌≡◌, ℕ, ◌<◌, Bool, true, false, [], ◌∷◌, nat_lt, None, refl, ap}
 use Rattle.std.specs.Prelude.{not}
 use Rattle.std.proofs.lemmas.Bool.{ltb-true, true_from_ne_false}
@@ -43,7 +43,7 @@ module _ {X K : Type 0} (m : Movement X K) (o : ℕ) where
   pub left-after_write : write_refusal m o ≡ None → version_of m o < m.max_writes
   left-after_write free = ltb-true (version_of m o) m.max_writes (not-not (nat_lt (version_of m o) m.max_writes) (none-two (not (is_local m o)) (written_out m o).0 (absent m o).1 (written_out m o).1 free).1)
 
-  -- another list that fits
+  -- a new list that fits
   pub free-placed : (n : ℕ) → write_refusal m o ≡ None → (fits_in m.memory.state n ≡ false → ⊥) → replace_refusal m o n ≡ None
   free-placed n free fits = none-between (absent m o).0 (no_space m o n).0 (written_out m o).0 (absent m o).1 (no_space m o n).1 (written_out m o).1 free (ap not (true_from_ne_false (fits_in m.memory.state n) fits))
 

@@ -1,4 +1,4 @@
--- Several objects that get other lists together: what is known if that is refused, and if it is not.
+-- Replacing the lists of several objects: what follows if it is refused, and if it is not.
 use Rattle.std.proofs.Common.{◌≡◌, ℕ, Ok, Err, Bool, true, false, inl, inr, List, [], ◌∷◌, map, Option, Some, None, IsSome, refl, sym, subst, ◌∙◌}
 use Rattle.std.specs.Prelude.{Result, IfErr, IsErrAnd, slice_index_or, All}
 use Rattle.std.specs.Option.{option_or, option_map_or}
@@ -18,7 +18,7 @@ use Rattle.far_scopes.specs.Replacing.{no_space_for_all}
 use Rattle.far_scopes.proofs.MemoryWordPlaces.{some-true}
 use Rattle.far_scopes.proofs.EnteringRefusals.{first-local}
 
--- none passes if not any does
+-- if not any passes, none does
 pub none-listed : {A : Type 0} (p : A → Bool) (xs : List A) → list_any p xs ≡ false → All (λ x. p x ≡ false) xs
 none-listed p xs none k d lt = elim (cases_Bool (p (slice_index_or xs k d))) [
   | inl passes ↦ absurd (let never = sym (list_any_at p xs k d lt passes) ∙ none in cc)
@@ -36,12 +36,12 @@ module _ {X K : Type 0} (m : Movement X K) where
   pub all-placed : (rs : List (Replacement X)) → first_absent m (map (λ r. r.object) rs) ≡ None → All (λ r. IsSome (place_of m.memory.words r.object)) rs
   all-placed rs free k d lt = some-true _ (all-local rs free k d lt)
 
--- what is known of a refusal that is handed on
+-- what follows from a refusal that is passed on
 pub err-handed : {A : Type 0} (r : Result A Refusal) (given : Refusal) (P : Refusal → Type 0) → P given → IsErrAnd r (λ e. e ≡ given) → IfErr r P
 err-handed (Ok x) given P known h = absurd h
 err-handed (Err e) given P known h = subst P (sym h) known
 
--- the refusals in their order: those of space and of writes come if all listed objects are local
+-- the order of the refusals: space and writes matter only if all listed objects are local
 pub refusal-is : {X K : Type 0} (m : Movement X K) (lists : List (Replacement X)) (checked : Option Refusal) → first_absent m (map (λ r. r.object) lists) ≡ None → checked ≡ first_of (any_written_out m lists ∷ [])
     → replace_all_refusal m lists ≡ option_or (first_of (no_space_for_all m.memory.state lists ∷ [])) checked
 refusal-is m lists checked here is = rw (here, is) (two-first (no_space_for_all m.memory.state lists) (any_written_out m lists))
@@ -54,7 +54,7 @@ pub checked-free : (full checked : Option Refusal) → option_or full checked �
 checked-free None checked free = free
 checked-free (Some r) checked free = cc
 
--- an object that is away is no lack of memory
+-- the refusal Absent is not NoMemory
 name-no-memory : {K : Type 0} (object_record : Option (ObjectRecord K)) (e : Refusal) → Some (option_map_or (λ (x : ObjectRecord K). refusal.Absent x.name.column x.name.group) object_record refusal.StaleJob) ≡ Some e → e ≡ refusal.NoMemory → ⊥
 name-no-memory None e stated memory = cc
 name-no-memory (Some x) e stated memory = cc

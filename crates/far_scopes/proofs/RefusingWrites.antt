@@ -1,4 +1,4 @@
--- Listed objects that count as written, one after the other.
+-- Listed objects that are counted as written, one after another.
 use Rattle.std.proofs.Common.{◌≡◌, ◌≢◌, ℕ, ◌+◌, ◌<◌, ◌≤◌, get_or, true, false, inl, inr, List, ◌∷◌, length, drop, Some, None, refl, sym, ap, ◌∙◌}
 use Rattle.std.specs.Prelude.{not, All, slice_get, option_map}
 use Rattle.std.specs.Option.{option_map_or, option_and_then}
@@ -19,7 +19,7 @@ use Rattle.far_scopes.proofs.MemoryLaws.{at-dirty_hot}
 use Rattle.far_scopes.proofs.MovementTransitions.{words-other}
 use Rattle.far_scopes.proofs.ReplacingRecords.{once-head}
 
--- the next element of a list that is gone through
+-- the next element of a list in a loop
 pub next-is : {A : Type 0} (xs : List A) (i : ℕ) (x : A) → i < length xs → x ≡ get_or xs i x → drop i xs ≡ x ∷ drop (i + 1) xs
 next-is xs i x lt read = drop_more xs i x lt ∙ ap (λ y. y ∷ drop (i + 1) xs) (sym read)
 

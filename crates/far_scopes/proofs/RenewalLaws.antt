@@ -1,4 +1,4 @@
--- Objects whose far copies are in another store.
+-- Objects after their far copies moved to another store.
 use Rattle.std.proofs.Common.{◌≡◌, ◌⊎◌, ℕ, zero, suc, Bool, true, false, inl, inr, List, [], ◌∷◌, length, map, cond, Option, Some, None, IsSome, refl, sym, ap, subst, ◌∙◌, arith}
 use Rattle.std.specs.Prelude.{is_some, slice_get, option_map, IfSome, IsSomeAnd}
 use Rattle.std.specs.List.{zip}
@@ -22,7 +22,7 @@ module _ {K L : Type 0} where
   abbrev pub records-renewed : List (ObjectRecord K) → List (Option L) → List (ObjectRecord L)
   records-renewed records tickets = map (λ (e : ObjectRecord K × Option L). renewed_record e.0 e.1) (zip records tickets)
 
-  -- if one of two lists of one length is spent, no record is left
+  -- if one of two lists of equal length is empty, no record remains
   pub none-left : (records : List (ObjectRecord K)) (tickets : List (Option L)) → length records ≡ length tickets → (length records ≡ 0) ⊎ (length tickets ≡ 0) → records-renewed records tickets ≡ []
   none-left [] tickets same_length spent = refl
   none-left (e ∷ records) [] same_length spent = refl
@@ -51,7 +51,7 @@ map-twice : {A B C : Type 0} (f : A → B) (g : B → C) (o : Option A) → opti
 map-twice f g None = refl
 map-twice f g (Some x) = refl
 
--- two tickets, or none, of one content
+-- two tickets with the same content, or none
 module _ {K L : Type 0} (content : K → List ℕ) (content' : L → List ℕ) where
   both-some : (old : Option K) (new : Option L) → option_map content' new ≡ option_map content old → is_some old ≡ is_some new
   both-some None None is = refl
@@ -70,7 +70,7 @@ module _ {K L : Type 0} (content : K → List ℕ) (content' : L → List ℕ) w
   if-some P (Some k) (Some t) is h = let same : Some (content' t) ≡ Some (content k) = is in subst P (let e : content k ≡ content' t = cc in e) h
 
 module _ {X K L : Type 0} (meaning : List ℕ → List X) (content : K → List ℕ) (content' : L → List ℕ) (spelled : List X → List ℕ → Type 0) where
-  -- what holds of one object
+  -- what is true of one object
   one-renewed : (max_writes leavings : ℕ) (word : Pointer) (list : Option (List X)) (object_record : ObjectRecord K) (ticket : Option L) → IsTracked meaning content spelled max_writes leavings word list object_record
       → option_map content' ticket ≡ cond (is_some (at_of word)) None (option_map content object_record.ticket) → IsTracked meaning content' spelled max_writes leavings (renewed_word word) list (renewed_record object_record ticket)
   one-renewed max_writes leavings (Local at dirty hot far) list object_record None t is = record { version = t.version; left = t.left; some = t.some; long = t.long; away = λ remote. cc; copy = refl; far = tt }

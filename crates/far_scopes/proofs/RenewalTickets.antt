@@ -1,4 +1,4 @@
--- The tickets of a renewal, one after the other.
+-- The tickets of a renewal, one after another.
 use Rattle.std.proofs.Common.{◌≡◌, ℕ, ◌+◌, ◌<◌, ◌≤◌, Bool, true, false, inl, inr, List, [], ◌∷◌, ◌++◌, length, cond, Option, Some, None, refl, sym, ap, subst, ◌∙◌, arith}
 use Rattle.std.specs.Prelude.{IfSome, option_map}
 use Rattle.std.specs.Option.{option_and_then}
@@ -9,7 +9,7 @@ use Rattle.far_scopes.specs.Renewal.{ticket_in, Renews, AreTicketsHere}
 use Rattle.far_scopes.proofs.MemoryWordPlaces.{slice_get-push_last, slice_get-push_other}
 
 module _ {K L : Type 0} (content : K → List ℕ) (content' : L → List ℕ) where
-  -- what is due of an object's ticket, if it is away, by what it has
+  -- an object's old and new tickets, if it is away, have the same content
   pub away-some : (local : Bool) (ticket : Option K) (old : K) (new : L) → content' new ≡ content old → Some old ≡ cond local None ticket → option_map content' (Some new) ≡ cond local None (option_map content ticket)
   away-some true ticket old new same is = cc
   away-some false ticket old new same is = ap Some same ∙ ap (option_map content) is
@@ -19,11 +19,11 @@ module _ {K L : Type 0} (content : K → List ℕ) (content' : L → List ℕ) w
   away-none false ticket is = ap (option_map content) is
 
   module _ {X : Type 0} (m : Movement X K) where
-    -- an object's ticket is as it should be
+    -- an object's new ticket is right
     abbrev pub Renewed : List (Option L) → ℕ → Type 0
     Renewed tickets p = option_map content' (ticket_in tickets p) ≡ cond (is_local m p) None (option_map content (ticket_of m p))
 
-    -- one ticket more
+    -- one more ticket
     pub renewed-push : (tickets : List (Option L)) (ticket : Option L) (o : ℕ) → length tickets ≡ o → ((p : ℕ) → p < o → Renewed tickets p) → option_map content' ticket ≡ cond (is_local m o) None (option_map content (ticket_of m o)) → (p : ℕ) → p < o + 1 → Renewed (tickets ++ ticket ∷ []) p
     renewed-push tickets ticket o long before here p within = elim (cases_eq p (length tickets)) [
       | inl last ↦ subst (Renewed (tickets ++ ticket ∷ [])) (sym last) (ap (λ t. option_map content' (option_and_then (λ x. x) t)) (slice_get-push_last tickets ticket) ∙ subst (λ k. option_map content' ticket ≡ cond (is_local m k) None (option_map content (ticket_of m k))) (sym long) here)
@@ -37,7 +37,7 @@ module _ {K L : Type 0} (content : K → List ℕ) (content' : L → List ℕ) w
         either true = refl
         either false = refl
 
-    -- all of them
+    -- all tickets
     pub renews-all : (tickets : List (Option L)) (o : ℕ) → length tickets ≡ o → length m.records ≡ o → ((p : ℕ) → p < o → Renewed tickets p) → Renews content content' m tickets
     renews-all tickets o long all before = record {
       same_length = long ∙ sym all;

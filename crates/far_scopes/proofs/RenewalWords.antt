@@ -1,4 +1,4 @@
--- The words of objects that have no far copy any more.
+-- The words of objects after they lost their far copies.
 use Rattle.std.proofs.Common.{◌≡◌, ℕ, zero, suc, ◌<◌, ◌≤◌, ◌++◌, take, drop, get_or, List, [], ◌∷◌, length, map, IsSome, refl, ap, arith}
 use Rattle.std.specs.Prelude.{slice_set}
 use Rattle.std.specs.Option.{option_and_then}
@@ -22,17 +22,17 @@ place-renewed (word ∷ words) (suc o) = place-renewed words o
 pub list-renewed : {X : Type 0} (memory : Memory X) (o : ℕ) → list_in (renewed_memory memory) o ≡ list_in memory o
 list-renewed memory o = ap (option_and_then (part_of memory.state)) (place-renewed memory.words o)
 
--- each local object has the place that it had
+-- each local object keeps its location
 pub memory-renewed : {X : Type 0} (words : List Pointer) (state : RegionState X) → IsMemory words state → IsMemory (map renewed_word words) state
 memory-renewed words state is = record { region = is.region; own = own-same (place_of words) (place_of (map renewed_word words)) (part_of state) (part_of state) is.own (place-renewed words) (λ at there. there) (λ at there. there) }
 
--- each of them has a list there
+-- each local object has a list at its location
 pub list-placed : {X : Type 0} (words : List Pointer) (state : RegionState X) → IsMemory words state → (o : ℕ) → IsSome (place_of words o) → IsSome (option_and_then (part_of state) (place_of words o))
 list-placed words state is o there =
     let (at, at-is) = some_of (place_of words o) there in
     rw at-is (is.own.placed o at at-is)
 
--- the words one after the other: those before the i-th are renewed
+-- the words in the loop: those before the i-th are renewed
 module _ (words : List Pointer) where
   abbrev pub renewed_before : ℕ → List Pointer
   renewed_before i = map renewed_word (take i words) ++ drop i words

@@ -1,4 +1,4 @@
--- Of several objects that get other lists, the first's list is placed before the others get theirs.
+-- When the lists of several objects are replaced, the first new list is placed before the others.
 use Rattle.std.proofs.Common.{◌≡◌, ◌≢◌, ℕ, ◌<◌, ◌-◌, true, false, inl, inr, List, ◌∷◌, length, Some, None, IsSome, refl, sym, ap, subst, ◌∙◌, arith}
 use Rattle.std.specs.Prelude.{All, slice_index_or}
 use Rattle.std.specs.Option.{option_and_then}

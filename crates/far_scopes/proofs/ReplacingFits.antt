@@ -1,4 +1,4 @@
--- Whether several lists fit, once the first of them is placed.
+-- Whether several lists fit, after the first of them is placed.
 use Rattle.std.proofs.Common.{◌≡◌, ℕ, inl, inr, Bool, true, false, List, ◌∷◌, length, map, Option, Some, None, refl, sym, ap, ◌∙◌}
 use Rattle.std.specs.Prelude.{is_some}
 use Rattle.far_log.specs.RegionState.{RegionState, spaces_of, target_of, fits_in, fit_in_order}
@@ -25,6 +25,6 @@ module _ {X : Type 0} (state : RegionState X) (list : List X) (ns : List ℕ) wh
     | inr (i, is) ↦ fits-placed i is
   ]
 
--- the others are refused space if all of them are
+-- the others lack space if all of them do
 pub no_space-next : {X : Type 0} (state between : RegionState X) (r : Replacement X) (rs lists : List (Replacement X)) → lists ≡ r ∷ rs → between ≡ with_new state r.list.items → (fits_in state (length r.list.items) ≡ false → ⊥) → no_space_for_all state lists ≡ no_space_for_all between rs
 no_space-next state between r rs lists is placed fits = rw (is, placed, fits-next state r.list.items (map (λ s. length s.list.items) rs) (not-false (fits_in state (length r.list.items)) fits)) refl

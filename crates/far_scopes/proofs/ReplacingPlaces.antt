@@ -1,4 +1,4 @@
--- Objects that get other lists together: the words and the region, list by list.
+-- Replacing the lists of several objects: the words and the region, list by list.
 use Rattle.std.proofs.Common.{◌≡◌, ◌≢◌, ℕ, ◌<◌, ◌-◌, true, false, inl, inr, List, [], ◌∷◌, ◌++◌, length, Some, refl, ap, ◌∙◌, arith}
 use Rattle.std.specs.Prelude.{All, slice_get}
 use Rattle.std.specs.Option.{option_and_then}
@@ -16,7 +16,7 @@ use Rattle.far_scopes.specs.Replacing.{with_place, IsUnlisted, with_all, without
 use Rattle.far_scopes.proofs.MemoryPlaces.{cases_option}
 use Rattle.far_scopes.proofs.MemoryWordPlaces.{slice_get-set_other, slice_get-push_other, place-push_last, place-push_other, last-of, take-last}
 
--- a word that says another place
+-- a word with another location
 place-length : (words : List Pointer) (o : ℕ) (at : At) → length (with_place words o at) ≡ length words
 place-length words o at = elim (cases_option (slice_get words o)) [
   | inl none ↦ rw none refl
@@ -40,7 +40,7 @@ module _ {X : Type 0} where
   length-moved state words [] = refl
   length-moved state words (r ∷ rs) = place-length (moved_all (with_new state r.list.items) words rs) r.object (spot state (length r.list.items)) ∙ length-moved (with_new state r.list.items) words rs
 
-  -- the word of an object that is not listed stays
+  -- the word of an object that is not listed does not change
   pub moved-other : (state : RegionState X) (words : List Pointer) (rs : List (Replacement X)) (p : ℕ) → IsUnlisted rs p → slice_get (moved_all state words rs) p ≡ slice_get words p
   moved-other state words [] p un = refl
   moved-other state words (r ∷ rs) p un =
@@ -48,7 +48,7 @@ module _ {X : Type 0} where
       ∙ moved-other (with_new state r.list.items) words rs p (All-tail (λ (s : Replacement X). p ≢ s.object) r rs un)
 
   module _ (words : List Pointer) (word : Pointer) where
-    -- a further object behind the listed ones stays behind
+    -- an extra object after the listed ones stays after them
     moved-push : (state : RegionState X) (rs : List (Replacement X)) → All (λ r. r.object < length words) rs → moved_all state (words ++ word ∷ []) rs ≡ moved_all state words rs ++ word ∷ []
     moved-push state [] within = refl
     moved-push state (r ∷ rs) within =
@@ -63,7 +63,7 @@ module _ {X : Type 0} where
         let o = All-head (λ (s : Replacement X). s.object < length words) r rs within in
         rw (without-push state rs (All-tail (λ (s : Replacement X). s.object < length words) r rs within), place-push_other words word r.object (λ e. omega (arith, o, e))) refl
 
-  -- the first of several lists is placed as that of a further object, the others are placed and take over, and then it does
+  -- the first of several lists is placed as the list of an extra object; the others are placed and taken over, and then it is
   module _ (words : List Pointer) (state : RegionState X) (r : Replacement X) (rs : List (Replacement X)) (within : All (λ s. s.object < length words) rs) where
     abbrev n : ℕ
     n = length r.list.items
@@ -71,7 +71,7 @@ module _ {X : Type 0} where
     abbrev further : Pointer
     further = Local (spot state n) true true false
 
-    -- the words of the objects that were there, once the others have taken over
+    -- the words of the original objects, after the others are taken over
     abbrev rest : List Pointer
     rest = moved_all (with_new state r.list.items) words rs
 

@@ -1,4 +1,4 @@
--- Objects once several of them have other lists: their words and records, one by one.
+-- The words and records of objects after the lists of several are replaced, one by one.
 use Rattle.std.proofs.Common.{◌≡◌, ◌≢◌, ℕ, ◌⊎◌, suc, inl, inr, List, [], ◌∷◌, length, Option, Some, None, refl, sym, ap, subst, ◌∙◌, arith}
 use Rattle.std.specs.Prelude.{is_some, All, slice_get, option_map}
 use Rattle.std.proofs.lemmas.Bool.{cases_eq}
@@ -20,7 +20,7 @@ use Rattle.far_scopes.specs.Effects.{with_record, with_lens}
 use Rattle.far_scopes.proofs.MemoryPlaces.{cases_option}
 use Rattle.far_scopes.proofs.MemoryWordPlaces.{slice_get-set_same, slice_get-set_other}
 
--- a word is the same, or but for where it says that its object lies
+-- a word is the same, or differs only in its location
 abbrev pub IsMoved : Pointer → Pointer → Type 0
 IsMoved old new = (new ≡ old) ⊎ ((at : At) × (new ≡ with_at old at))
 
@@ -44,7 +44,7 @@ moved-remote old new (inl same) gone = sym same ∙ gone
 moved-remote (Local at d h f) new (inr (to, is)) gone = absurd (let no = sym is ∙ gone in cc)
 moved-remote Remote new (inr (to, is)) gone = refl
 
--- the same of words that may be there
+-- the same for words that may not exist
 abbrev pub BothMoved : Option Pointer → Option Pointer → Type 0
 BothMoved old new = ((old ≡ None) × (new ≡ None)) ⊎ ((word : Pointer) × (now : Pointer) × (old ≡ Some word) × (new ≡ Some now) × IsMoved word now)
 
@@ -114,14 +114,14 @@ module _ {X : Type 0} where
       | inr (object_record, is) ↦ rw is (length-set records r.object (len_of (length r.list.items) object_record))
     ]
 
-    -- the record of an object that is not listed stays
+    -- the record of an object that is not listed does not change
     pub lens-other : (records : List (ObjectRecord K)) (rs : List (Replacement X)) (p : ℕ) → IsUnlisted rs p → slice_get (with_lens records rs) p ≡ slice_get records p
     lens-other records [] p un = refl
     lens-other records (r ∷ rs) p un =
         lens-other (with_record records r.object (len_of (length r.list.items))) rs p (All-tail (λ (s : Replacement X). p ≢ s.object) r rs un)
         ∙ object_record-other records r.object (length r.list.items) p (All-head (λ (s : Replacement X). p ≢ s.object) r rs un)
 
-    -- an object is not listed, or has a list, of which all holds that holds of listed ones, and its record says its length
+    -- an object is not listed, or has a new list with every property of listed ones, and its record has the list's length
     pub listed : (P : ℕ → List X → Type 0) (rs : List (Replacement X)) → AreListedOnce rs → All (λ r. P r.object r.list.items) rs → (p : ℕ)
         → IsUnlisted rs p ⊎ ((list : List X) × P p list × ((records : List (ObjectRecord K)) → slice_get (with_lens records rs) p ≡ option_map (len_of (length list)) (slice_get records p)))
     listed P [] once all p = inl (All-nil (λ (s : Replacement X). p ≢ s.object))

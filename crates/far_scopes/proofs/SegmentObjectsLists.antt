@@ -1,4 +1,4 @@
--- The objects of a segment, found one after the other.
+-- The objects of a segment, found one after another.
 use Rattle.std.proofs.Common.{◌≡◌, ◌≢◌, ℕ, ◌+◌, ◌<◌, inl, inr, Bool, List, [], ◌∷◌, ◌++◌, length, map, eqb, Some, None, sym, subst, ◌∙◌, arith}
 use Rattle.std.proofs.lemmas.Bool.{cases_eq, eq-eqb, ne_eqb}
 use Rattle.std.proofs.lemmas.List.{map_push, length-map, get_or-map}
@@ -27,7 +27,7 @@ module _ (words : List Pointer) (segment : ℕ) (hot : Bool) where
   more-sound : (n : ℕ) (found : SegmentObject) → Sound n found → Sound (n + 1) found
   more-sound n found h = (omega (arith, h.0), h.1)
 
-  -- the next object is none of them
+  -- the next object is none of these
   pub objects-past : (n : ℕ) (found : List SegmentObject) → AreObjects words segment hot n found → offset_of words segment hot n ≡ None → AreObjects words segment hot (n + 1) found
   objects-past n found h none = record {
     sound = All-weaker (Sound n) (Sound (n + 1)) (more-sound n) found h.sound;
@@ -38,7 +38,7 @@ module _ (words : List Pointer) (segment : ℕ) (hot : Bool) where
     once = h.once;
   }
 
-  -- it is one
+  -- the next object is one of these
   pub objects-push : (n offset : ℕ) (found : List SegmentObject) → AreObjects words segment hot n found → offset_of words segment hot n ≡ Some offset → AreObjects words segment hot (n + 1) (found ++ record { object = n; offset = offset } ∷ [])
   objects-push n offset found h some =
       let next : SegmentObject = record { object = n; offset = offset } in
@@ -57,7 +57,7 @@ module _ (words : List Pointer) (segment : ℕ) (hot : Bool) where
             omega (arith, below.0, read, e)));
       }
 
-  -- in another order they are the same
+  -- reordering them keeps the same objects
   pub objects-moved : (n : ℕ) (found others : List SegmentObject) → IsPermutation found others → AreObjects words segment hot n found → AreObjects words segment hot n others
   objects-moved n found others moves h = record {
     sound = All-permutation (Sound n) found others moves h.sound;

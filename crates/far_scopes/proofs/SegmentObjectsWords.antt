@@ -1,4 +1,4 @@
--- The words of objects that are settled one after the other.
+-- The words of objects that are updated one after another.
 use Rattle.std.proofs.Common.{◌≡◌, ◌≢◌, ℕ, ◌+◌, ◌<◌, inl, inr, false, List, length, length-set, get_or, map, Some, refl, sym, ap, ◌∙◌, arith}
 use Rattle.std.specs.Prelude.{slice_get, slice_set, slice_index, AllPairs}
 use Rattle.std.proofs.lemmas.Bool.{cases_eq, cases_lt}
@@ -24,7 +24,7 @@ disjoint-at objects i j d once ne first second same =
 pub settles-none : (words : List Pointer) (objects : List SegmentObject) (to : ℕ) (offsets : List ℕ) → Settles words words objects to offsets 0
 settles-none words objects to offsets = record { long = refl; here = λ k d lt. absurd (omega (arith, lt)); others = λ p h. refl }
 
--- one object more is settled
+-- one more object is updated
 pub settles-more : (old new : List Pointer) (objects : List SegmentObject) (to : ℕ) (offsets : List ℕ) (k : ℕ) (found : SegmentObject) (word : Pointer)
     → AllPairs (λ o p. o ≢ p) (map (λ (f : SegmentObject). f.object) objects) → k < length objects → found ≡ get_or objects k found → slice_get new found.object ≡ Some word
     → Settles old new objects to offsets k → Settles old (slice_set new found.object (with_hot (with_at word record { segment = to; offset = slice_index offsets k }) false)) objects to offsets (k + 1)

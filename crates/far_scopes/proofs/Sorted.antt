@@ -1,4 +1,4 @@
--- Lists of numbers that rise, and what is in them.
+-- Ascending lists of numbers, and what they contain.
 use Rattle.std.proofs.Common.{◌≡◌, ◌≢◌, ℕ, zero, suc, ◌+◌, ◌<◌, ◌≤◌, ◌⊎◌, inl, inr, Bool, true, false, List, [], ◌∷◌, ◌++◌, length, get_or, map, cond, refl, sym, ap, subst, ◌∙◌, arith}
 use Rattle.std.specs.Prelude.{filter, Contains, AllPairs}
 use Rattle.std.specs.List.Sorted.{IsNonDecreasing}
@@ -23,7 +23,7 @@ module _ {X : Type 0} where
   pub in-cases : (x o : X) (xs : List X) → Contains (x ∷ xs) o → (o ≡ x) ⊎ Contains xs o
   in-cases x o xs h = cases-at x o xs h.0 h.1 h.2
 
-  -- what passes a test is in the list of those that pass
+  -- an element that passes a test is in the filtered list
   pub in-filter : (p : X → Bool) (xs : List X) (o : X) → Contains xs o → p o ≡ true → Contains (filter p xs) o
   in-filter p [] o h passes = absurd (in-none o h)
   in-filter p (x ∷ xs) o h passes = elim (in-cases x o xs h) [
@@ -44,13 +44,13 @@ module _ {X : Type 0} where
   from-filter p [] o h = absurd (in-none o h)
   from-filter p (x ∷ xs) o h = first-or-later p x xs o (p x) refl (from-filter p xs o) h
 
-  -- what is read from a list is in it
+  -- an element that is read from a list is in it
   pub in-read : (xs : List X) (k : ℕ) (d : X) → k < length xs → Contains xs (get_or xs k d)
   in-read [] k d lt = absurd (omega (arith, lt))
   in-read (z ∷ zs) zero d lt = in-head z zs
   in-read (z ∷ zs) (suc k) d lt = in-tail z (get_or zs k d) zs (in-read zs k d (omega (arith, lt)))
 
-  -- two lists of which each is once in itself and which share nothing
+  -- two lists without repetitions that share nothing
   pub pairs-append : (R : X → X → Type 0) (xs ys : List X) → AllPairs R xs → AllPairs R ys → ((x y : X) → Contains xs x → Contains ys y → R x y) → AllPairs R (xs ++ ys)
   pairs-append R [] ys one two across = two
   pairs-append R (x ∷ xs) ys one two across =
@@ -73,7 +73,7 @@ module _ {X Y : Type 0} (f : X → Y) where
     | inr later ↦ let w = from-map xs y later in (w.0, in-tail x w.0 xs w.1, w.2)
   ]
 
--- numbers that rise from a number on
+-- numbers that ascend from a number on
 abbrev pub Rises : ℕ → List ℕ → Type 0
 Rises from [] = Unit {0}
 Rises from (x ∷ xs) = (from ≤ x) × Rises (x + 1) xs
@@ -99,19 +99,19 @@ pub rises-pairs : (from : ℕ) (xs : List ℕ) → ((d : ℕ) → 0 < length xs 
 rises-pairs from [] low h = tt
 rises-pairs from (x ∷ xs) low h = (low 0 (omega arith), rises-pairs (x + 1) xs (λ d lt. let first = h 0 1 d (omega arith) (omega (arith, lt)) in omega (arith, first)) (λ i j d lt within. h (suc i) (suc j) d (omega (arith, lt)) (omega (arith, within))))
 
--- numbers that do not fall and differ rise
+-- numbers that do not descend and all differ ascend
 pub rises-sorted : (xs : List ℕ) → IsNonDecreasing xs → AllPairs (λ o p. o ≢ p) xs → Rises 0 xs
 rises-sorted xs up disjoint = rises-pairs 0 xs (λ d lt. omega arith) (λ i j d lt within. elim (cases_lt (get_or xs i d) (get_or xs j d)) [
   | inl less ↦ less
   | inr more ↦ absurd (disjoint i j d lt within (omega (arith, more, up i j d (omega (arith, lt)) within)))
 ])
 
--- numbers that rise are each once
+-- ascending numbers do not repeat
 pub rises-disjoint : (from : ℕ) (xs : List ℕ) → Rises from xs → AllPairs (λ o p. o ≢ p) xs
 rises-disjoint from [] h = λ i j d lt within. absurd (omega (arith, within))
 rises-disjoint from (x ∷ xs) h = AllPairs-cons (λ o p. o ≢ p) x xs (λ k d lt e. let least = rises-least (x + 1) xs (get_or xs k d) h.1 (in-read xs k d lt) in omega (arith, least, e)) (rises-disjoint (x + 1) xs h.1)
 
--- two lists that rise and have the same numbers are one
+-- two ascending lists with the same numbers are equal
 pub same-sorted : (from : ℕ) (xs ys : List ℕ) → Rises from xs → Rises from ys → ((o : ℕ) → Contains xs o → Contains ys o) → ((o : ℕ) → Contains ys o → Contains xs o) → xs ≡ ys
 same-sorted from [] [] hx hy to back = refl
 same-sorted from [] (y ∷ ys) hx hy to back = absurd (in-none y (back y (in-head y ys)))

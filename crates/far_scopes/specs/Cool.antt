@@ -11,7 +11,7 @@ abbrev pub cool_of : Pointer → ℕ
 cool_of (Local at dirty hot far) = if hot then 0 else 1
 cool_of Remote = 0
 
--- how many of these words are those of local objects that are not hot
+-- how many of these words belong to local objects that are not hot
 abbrev pub cool_in : List Pointer → ℕ
 cool_in words = sum_by cool_of words
 

@@ -1,4 +1,4 @@
--- How objects change.
+-- The effects of calls on objects.
 use Rattle.std.specs.Prelude.{ℕ, ◌+◌, ◌-◌, List, [], ◌∷◌, ◌++◌, length, take, None, Some, slice_get, slice_set}
 use Rattle.std.specs.Option.{option_map_or}
 use Rattle.far_types.specs.declared.name.Name.{Name}
@@ -13,12 +13,12 @@ use Rattle.far_scopes.specs.Replacing.{replaced_all as replaced_all_in}
 abbrev pub new_record : {K : Type 0} → Name → ℕ → ObjectRecord K
 new_record name len = record { name = name; len = len; version = 0; leavings = 0; pins = 0; ticket = None }
 
--- the records with that of object o changed by a function
+-- the records, where the record of object o is changed by a function
 abbrev pub with_record : {K : Type 0} → List (ObjectRecord K) → ℕ → (ObjectRecord K → ObjectRecord K) → List (ObjectRecord K)
 with_record records o change = option_map_or (λ object_record. slice_set records o (change object_record)) (slice_get records o) records
 
 module _ {X K : Type 0} where
-  -- the objects with one more: local, dirty and hot, never written, away or pinned, without a far copy, used last
+  -- the objects and a new one: local, dirty, hot and the most recently used, never written, away or pinned, without a far copy
   abbrev pub after_create : Movement X K → Name → List X → Movement X K
   after_create m name list = record m {
     memory = with_object m.memory list;
@@ -34,11 +34,11 @@ module _ {X K : Type 0} where
     order = without m.order (length m.records - 1);
   }
 
-  -- object o is marked as recently used, if it is local: it is hot, and used last
+  -- object o is marked as recently used, if it is local: it is hot, and the most recently used
   abbrev pub after_touch : Movement X K → ℕ → Movement X K
   after_touch m o = record m { memory = after_heat m.memory o; order = after_use m.order o }
 
-  -- object o, which is local, counts as written: it is dirty, hot and used last, and written once more
+  -- object o, which is local, counts as written: it is dirty, hot and the most recently used, and its version is one more
   abbrev pub after_write : Movement X K → ℕ → Movement X K
   after_write m o = record m {
     memory = after_mark m.memory o;
@@ -50,7 +50,7 @@ module _ {X K : Type 0} where
   abbrev pub after_overwrite : Movement X K → ℕ → ℕ → List X → Movement X K
   after_overwrite m o i ws = record m { memory = after_overwrite_in m.memory o i ws }
 
-  -- object o has another list
+  -- object o has this list
   abbrev pub after_replace : Movement X K → ℕ → List X → Movement X K
   after_replace m o list = after_write (record m {
     memory = replaced_in m.memory o list;
@@ -62,7 +62,7 @@ module _ {X K : Type 0} where
   with_lens records [] = records
   with_lens records (r ∷ rs) = with_lens (with_record records r.object (λ object_record. record object_record { len = length r.list.items })) rs
 
-  -- the listed objects count as written, one after the other
+  -- the listed objects count as written, one after another
   abbrev pub after_write_all : Movement X K → List (Replacement X) → Movement X K
   after_write_all m [] = m
   after_write_all m (r ∷ rs) = after_write_all (after_write m r.object) rs
@@ -71,11 +71,11 @@ module _ {X K : Type 0} where
   abbrev pub after_replace_all : Movement X K → List (Replacement X) → Movement X K
   after_replace_all m lists = after_write_all (record m { memory = replaced_all_in m.memory lists; records = with_lens m.records lists }) lists
 
-  -- object o is pinned once more
+  -- object o has one more pin
   abbrev pub after_pin : Movement X K → ℕ → Movement X K
   after_pin m o = record m { records = with_record m.records o (λ object_record. record object_record { pins = object_record.pins + 1 }) }
 
-  -- object o is pinned once less
+  -- object o has one pin less
   abbrev pub after_unpin : Movement X K → ℕ → Movement X K
   after_unpin m o = record m { records = with_record m.records o (λ object_record. record object_record { pins = object_record.pins - 1 }) }
 
@@ -87,6 +87,6 @@ module _ {X K : Type 0} where
     order = without m.order o;
   }
 
-  -- object o arrives, with this list
+  -- object o is local again, with this list
   abbrev pub after_arrive : Movement X K → ℕ → List X → Movement X K
   after_arrive m o list = record m { memory = after_bring m.memory o list; order = o ∷ m.order }

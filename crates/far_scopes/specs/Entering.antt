@@ -8,21 +8,21 @@ use Rattle.far_scopes.specs.Refusing.{first_absent}
 use Rattle.far_scopes.specs.Effects.{after_pin, after_unpin}
 
 module _ {X K : Type 0} where
-  -- each object has one pin more for each time that it is listed
+  -- each object has one more pin for each time that it is listed
   abbrev pub after_pin_all : Movement X K → List ℕ → Movement X K
   after_pin_all m [] = m
   after_pin_all m (o ∷ objects) = after_pin_all (after_pin m o) objects
 
-  -- the refusal if some listed object has 65,535 pins when its turn comes
+  -- the refusal if some listed object already has 65,535 pins when it is pinned
   abbrev pub pins_overflow : Movement X K → List ℕ → Option Refusal
   pins_overflow m [] = None
   pins_overflow m (o ∷ objects) = if pins_of m o == 65535 then Some refusal.EditsUsedUp else pins_overflow (after_pin m o) objects
 
-  -- why a scope of these objects is not entered (`enter`)
+  -- why `enter` is refused for these objects
   abbrev pub enter_refusal : Movement X K → List ℕ → Option Refusal
   enter_refusal m objects = option_or (first_absent m objects) (pins_overflow m objects)
 
-  -- the objects once a scope's pins are removed, one for each listing if the object has one; and how many pins that were
+  -- the objects after a scope's pins are removed, one for each listing if the object has one, and the number of pins removed
   abbrev pub after_close : Movement X K → List ℕ → Movement X K × ℕ
   after_close m [] = (m, 0)
   after_close m (o ∷ objects) =

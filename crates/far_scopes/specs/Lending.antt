@@ -1,4 +1,4 @@
--- The local memory of objects once a mutable borrow of a list ends.
+-- The local memory of objects after a mutable borrow of a list ends.
 -- Internal: no public contract cites it.
 use Rattle.std.specs.Prelude.{ℕ, List}
 use Rattle.std.specs.Borrow.{Lends, Fml, RattleType, MutBor, Array}
@@ -7,6 +7,6 @@ use Rattle.far_scopes.specs.Placing.{after_overwrite}
 use Rattle.far_scopes.specs.contracts.memory.LocalMemory.{the_row}
 
 module _ (T : RattleType) (s : MutBor (Memory T.Denot)) where
-  -- what the borrow r leaves is written over the elements of object o from the i-th on
+  -- what the borrow r ends with is written over the elements of object o from the i-th on
   abbrev pub lends_part : ℕ → ℕ → MutBor (List T.Denot) → Fml
   lends_part o i r = Lends (the_row T) (Array T 0) s r (after_overwrite s.now o i)

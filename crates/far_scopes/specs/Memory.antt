@@ -1,4 +1,4 @@
--- The local memory of objects: what the pointer word of each says, and the region with the lists of the local ones.
+-- The local memory of objects: the pointer word of each, and the region with the lists of the local ones.
 use Rattle.std.specs.Prelude.{◌≡◌, ◌≢◌, ℕ, List, Option, None, Some, IsSome, slice_get}
 use Rattle.std.specs.Option.{option_and_then}
 use Rattle.far_pointer.specs.declared.pointer.At.{At}
@@ -11,12 +11,12 @@ pub record Memory (X : Type 0) : Type 0 where
   pub words : List Pointer
   pub state : RegionState X
 
--- where the list of a local object begins
+-- the location of a local object's list
 abbrev pub at_of : Pointer → Option At
 at_of (Local at dirty hot far) = Some at
 at_of Remote = None
 
--- where the list of an object begins, if it is local
+-- the location of object o's list, if the object is local
 abbrev pub place_of : List Pointer → ℕ → Option At
 place_of words o = option_and_then at_of (slice_get words o)
 
@@ -24,19 +24,19 @@ place_of words o = option_and_then at_of (slice_get words o)
 abbrev pub list_in : {X : Type 0} → Memory X → ℕ → Option (List X)
 list_in memory o = option_and_then (part_of memory.state) (place_of memory.words o)
 
--- only the list of object o changes: it is `now`, or the object has none
+-- only the list of object o changes: it is `now` afterwards, which may be none
 pub record ChangesList {X : Type 0} (old new : ℕ → Option (List X)) (o : ℕ) (now : Option (List X)) : Type 0 where
   pub here : new o ≡ now
   pub others : (p : ℕ) → p ≢ o → new p ≡ old p
 
--- `place` has the locations of objects, and `part` what lies at a location. No two objects have the same location, something lies at each
--- of them, and nothing lies elsewhere
+-- `place` maps objects to locations, and `part` maps locations to lists. No two objects have the same location, each location of an object
+-- has a list, and no other location has one
 pub record OwnPlaces {X : Type 0} (place : ℕ → Option At) (part : At → Option (List X)) : Type 0 where
   pub placed : (o : ℕ) (at : At) → place o ≡ Some at → IsSome (part at)
   pub disjoint : (o p : ℕ) (at : At) → place o ≡ Some at → place p ≡ Some at → o ≡ p
   pub only : (at : At) → IsSome (part at) → (o : ℕ) × (place o ≡ Some at)
 
--- each local object has one part of the region of its own, and there is no other part
+-- each local object owns one part of the region, and there is no other part
 pub record IsMemory {X : Type 0} (words : List Pointer) (state : RegionState X) : Type 0 where
   pub region : IsRegion state
   pub own : OwnPlaces (place_of words) (part_of state)

@@ -1,5 +1,5 @@
--- The movement record: all that is known of objects and of where they are. Objects are numbered 0, 1, 2 and so on, in the order in which
--- they were made.
+-- The state of objects: all that is known of them and of where they are. Objects are numbered 0, 1, 2 and so on, in the order in which they
+-- were made.
 use Rattle.std.specs.Prelude.{◌≡◌, ◌≢◌, ℕ, ◌≤◌, ◌<◌, ◌^◌, Bool, true, false, List, length, Option, Some, is_some, IfSome, IsSomeAnd, option_map, slice_get}
 use Rattle.std.specs.Option.{option_map_or, option_and_then, option_or}
 use Rattle.far_pointer.specs.declared.pointer.Pointer.{Pointer}
@@ -9,8 +9,8 @@ use Rattle.far_scopes.specs.declared.object_record.ObjectRecord.{ObjectRecord}
 use Rattle.far_scopes.specs.Recency.{has, Once}
 use Rattle.far_scopes.specs.Memory.{Memory, place_of, list_in}
 
--- objects of lists over X, with far copies under tickets of type K. They have the frame's number, and how often each object may be written
--- and may go away. Then come the local memory, the record of each object, and the local ones in the order of use, the last used first
+-- objects of lists over X, with far copies under tickets of type K: the frame's number, the limits of writes and leavings, the local
+-- memory, the record of each object, and the local ones in the order of use, the most recently used first
 pub record Movement (X K : Type 0) : Type 0 where
   pub number : ℕ
   pub max_writes : ℕ
@@ -84,7 +84,7 @@ module _ {X K : Type 0} where
     AreClean m = (o : ℕ) → dirty m o ≡ false → list_of m o ≡ option_map meant (ticket_of m o)
 
     module _ (spelled : List X → List ℕ → Type 0) where
-      -- what holds of one object, by its word, its list if it is local, and its record
+      -- what is true of one object, given its word, its list if it is local, and its record
       pub record IsTracked (max_writes leavings : ℕ) (word : Pointer) (list : Option (List X)) (object_record : ObjectRecord K) : Type 0 where
         pub version : object_record.version ≤ max_writes
         pub left : object_record.leavings ≤ leavings
@@ -94,7 +94,7 @@ module _ {X K : Type 0} where
         pub copy : has_copy word ≡ is_some object_record.ticket
         pub far : IfSome object_record.ticket (λ ticket. spelled (meant ticket) (content ticket))
 
-      -- what holds of all objects: each has a word and a record, and those in the order of use are the local ones
+      -- what is true of all objects: each has a word and a record, and the objects in the order of use are the local ones
       pub record AreTracked (m : Movement X K) : Type 0 where
         pub same_length : length m.records ≡ length m.memory.words
         pub few : length m.records ≤ 2 ^ 28

@@ -1,9 +1,9 @@
--- Objects when they are opened.
+-- Objects when a frame is opened.
 use Rattle.std.specs.Prelude.{ℕ, [], replicate}
 use Rattle.far_scopes.specs.declared.limits.ObjectLimits.{ObjectLimits}
 use Rattle.far_scopes.specs.Movement.{Movement}
 
--- no object, with this frame number and these limits: all segments are without parts
+-- no objects, with this frame number and these limits: no segment has a part
 abbrev pub no_objects : {X K : Type 0} → ℕ → ObjectLimits → Movement X K
 no_objects number limits = record {
   number = number;

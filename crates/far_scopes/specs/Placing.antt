@@ -1,4 +1,4 @@
--- How the local memory changes.
+-- Changes of the local memory.
 use Rattle.std.specs.Prelude.{ℕ, ◌-◌, true, false, List, [], ◌∷◌, ◌++◌, length, take, unwrap_or, Option, None, Some, slice_get, slice_set}
 use Rattle.std.specs.Option.{option_map_or}
 use Rattle.far_pointer.specs.declared.pointer.At.{At}
@@ -10,13 +10,13 @@ use Rattle.far_log.specs.Effects.{with_segment, with_part, without_part, after_w
 use Rattle.far_scopes.specs.Memory.{Memory, place_of}
 
 module _ {X : Type 0} where
-  -- where a new part of n elements goes: to the lowest segment that has the space, at its fill
+  -- the location for a new part of n elements: in the lowest segment that has the space, at its fill
   abbrev pub spot : RegionState X → ℕ → At
   spot state n =
       let segment : ℕ = unwrap_or (target_of state n) 0
       in record { segment = segment; offset = fill_of (segment_of state segment) }
 
-  -- the region with a new part
+  -- the region with one more part, of this list
   abbrev pub with_new : RegionState X → List X → RegionState X
   with_new state list =
       let segment : ℕ = unwrap_or (target_of state (length list)) 0
@@ -27,7 +27,7 @@ module _ {X : Type 0} where
   without_at state None = state
   without_at state (Some at) = with_segment state at.segment (without_part (segment_of state at.segment) at.offset)
 
-  -- the memory with one object more, with this list: dirty and hot, and without a far copy
+  -- the memory with one more object, which has this list: dirty and hot, and without a far copy
   abbrev pub with_object : Memory X → List X → Memory X
   with_object memory list = record {
     words = memory.words ++ Local (spot memory.state (length list)) true true false ∷ [];
@@ -40,7 +40,7 @@ module _ {X : Type 0} where
       let last : ℕ = length memory.words - 1
       in record { words = take last memory.words; state = without_at memory.state (place_of memory.words last) }
 
-  -- the memory with the word of object o changed by a function
+  -- the memory, where the word of object o is changed by a function
   abbrev pub with_word : Memory X → ℕ → (Pointer → Pointer) → Memory X
   with_word memory o change = record memory { words = option_map_or (λ word. slice_set memory.words o (change word)) (slice_get memory.words o) memory.words }
 
@@ -48,7 +48,7 @@ module _ {X : Type 0} where
   abbrev pub after_mark : Memory X → ℕ → Memory X
   after_mark memory o = with_word memory o (λ word. with_hot (with_dirty word) true)
 
-  -- object o is used: hot
+  -- object o is hot
   abbrev pub after_heat : Memory X → ℕ → Memory X
   after_heat memory o = with_word memory o (λ word. with_hot word true)
 
@@ -72,7 +72,7 @@ module _ {X : Type 0} where
     state = option_map_or (λ at. after_write_at memory.state at i ws) (place_of memory.words o) memory.state;
   }
 
-  -- object o, which is local, has another list, placed while the old one was still there
+  -- object o, which is local, has this list, which was placed before the old one was dropped
   abbrev pub replaced : Memory X → ℕ → List X → Memory X
   replaced memory o list = record {
     words = (with_word memory o (λ word. with_at word (spot memory.state (length list)))).words;

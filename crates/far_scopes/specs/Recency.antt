@@ -1,4 +1,4 @@
--- An order of use: object numbers, the last used first.
+-- An order of use: object numbers, the most recently used first.
 use Rattle.std.specs.Prelude.{ℕ, ◌==◌, if◌then◌else◌, Bool, false, ◌≡◌, List, [], ◌∷◌}
 use Rattle.std.specs.List.{list_any}
 
@@ -11,7 +11,7 @@ abbrev pub without : List ℕ → ℕ → List ℕ
 without [] o = []
 without (p ∷ order) o = if o == p then order else p ∷ without order o
 
--- an order of use once an object in it is used again: that object goes first
+-- an order of use after an object in it is used again: that object comes first
 abbrev pub after_use : List ℕ → ℕ → List ℕ
 after_use order o = if has order o then o ∷ without order o else order
 

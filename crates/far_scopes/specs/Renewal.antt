@@ -1,4 +1,4 @@
--- Objects whose far copies go into another store.
+-- Objects after their far copies moved to another store.
 use Rattle.std.specs.Prelude.{◌≡◌, ℕ, true, false, if◌then◌else◌, List, length, map, Option, None, IfSome, option_map, slice_get}
 use Rattle.std.specs.List.{zip}
 use Rattle.std.specs.Option.{option_and_then}
@@ -33,11 +33,11 @@ module _ {K L : Type 0} where
     order = m.order;
   }
 
--- the ticket of an object
+-- the ticket at an object number, if there is one
 abbrev pub ticket_in : {L : Type 0} → List (Option L) → ℕ → Option L
 ticket_in tickets o = option_and_then (λ ticket. ticket) (slice_get tickets o)
 
--- these tickets renew the objects: each object that is away has one with the content of its old ticket, and a local one has none
+-- these tickets renew the objects: each object that is away has a ticket with the content of its old one, and a local one has none
 pub record Renews {X K L : Type 0} (content : K → List ℕ) (new_content : L → List ℕ) (m : Movement X K) (tickets : List (Option L)) : Type 0 where
   pub same_length : length tickets ≡ length m.records
   pub each : (o : ℕ) → option_map new_content (ticket_in tickets o) ≡ (if is_local m o then None else option_map content (ticket_of m o))

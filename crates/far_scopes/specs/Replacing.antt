@@ -1,4 +1,4 @@
--- Objects that get other lists together.
+-- Replacing the lists of several objects at once.
 use Rattle.std.specs.Prelude.{◌≡◌, ◌≢◌, ℕ, ◌-◌, not, Bool, true, false, List, [], ◌∷◌, length, take, map, Option, Some, option_map, All, AllPairs, slice_get, slice_set}
 use Rattle.std.specs.Option.{option_map_or}
 use Rattle.far_types.specs.declared.refusal.Refusal.{Refusal}
@@ -12,7 +12,7 @@ use Rattle.far_scopes.specs.Memory.{Memory, place_of}
 use Rattle.far_scopes.specs.Placing.{spot, with_new, without_at}
 use Rattle.far_scopes.specs.Movement.{Movement, dirty, ticket_of, meant, list_of}
 
--- the words once that of object o has another location
+-- the words, with another location in the word of object o
 abbrev pub with_place : List Pointer → ℕ → At → List Pointer
 with_place words o at = option_map_or (λ word. slice_set words o (with_at word at)) (slice_get words o) words
 
@@ -25,12 +25,12 @@ module _ {X : Type 0} where
   abbrev pub IsUnlisted : List (Replacement X) → ℕ → Type 0
   IsUnlisted lists o = All (λ r. o ≢ r.object) lists
 
-  -- only the lists of listed objects change: each gets the list that is listed for it
+  -- only the lists of listed objects change: each gets its new list
   pub record ChangesLists (old new : ℕ → Option (List X)) (lists : List (Replacement X)) : Type 0 where
     pub here : All (λ r. new r.object ≡ Some r.list.items) lists
     pub others : (p : ℕ) → IsUnlisted lists p → new p ≡ old p
 
-  -- the new lists do not fit, placed one after the other
+  -- the new lists, placed one after another, do not fit
   abbrev pub no_space_for_all : RegionState X → List (Replacement X) → Bool × Refusal
   no_space_for_all state lists = (not (fit_in_order (spaces_of state) (map (λ r. length r.list.items) lists)), refusal.RegionFull)
 
@@ -39,7 +39,7 @@ module _ {X : Type 0} where
   first_fits state [] = true
   first_fits state (r ∷ rs) = fits_in state (length r.list.items)
 
-  -- the region with the new lists, placed one after the other
+  -- the region with the new lists, placed one after another
   abbrev pub with_all : RegionState X → List (Replacement X) → RegionState X
   with_all state [] = state
   with_all state (r ∷ rs) = with_all (with_new state r.list.items) rs
@@ -49,7 +49,7 @@ module _ {X : Type 0} where
   without_all state words [] = state
   without_all state words (r ∷ rs) = without_at (without_all state words rs) (place_of words r.object)
 
-  -- the words once those of these objects have the locations of the new lists
+  -- the words, with the locations of the new lists in the words of these objects
   abbrev pub moved_all : RegionState X → List Pointer → List (Replacement X) → List Pointer
   moved_all state words [] = words
   moved_all state words (r ∷ rs) = with_place (moved_all (with_new state r.list.items) words rs) r.object (spot state (length r.list.items))
@@ -61,7 +61,7 @@ module _ {X : Type 0} where
     state = without_all (with_all memory.state lists) memory.words lists;
   }
 
-  -- the memory without the last object, whose part is now that of object o
+  -- the memory without the last object, whose part now belongs to object o
   abbrev pub after_take_over : Memory X → ℕ → Memory X
   after_take_over memory o =
       let last : ℕ = length memory.words - 1

@@ -1,11 +1,11 @@
-// What objects are opened for.
+// The limits of objects.
 
-/// The limits of objects: how much memory they get for their elements, and how often each may be written and may go away.
+/// The limits of objects: how much memory their elements get, and how often each object may be written and may go away.
 #[derive(Clone, Copy, Debug, PartialEq, Eq)]
 pub struct ObjectLimits {
     /// How many segments the local region has: at most 65,536.
     pub segments: u32,
-    /// How many elements one of them holds.
+    /// How many elements one segment can hold.
     pub size: u32,
     /// How often an object may be written.
     pub max_writes: u64,

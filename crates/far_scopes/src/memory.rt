@@ -21,7 +21,7 @@ use far_types::Refusal;
 use std::alloc::Global;
 use std::marker::Model;
 
-/// The pointer words of objects, and the region in which the lists of the local ones lie.
+/// The pointer words of objects, and the region with the lists of the local ones.
 #[derive(Drop)]
 pub(crate) struct LocalMemory<T> {
     words: Vec<Word>,
@@ -67,7 +67,7 @@ impl<T: Elem> LocalMemory<T> {
         word
     }
 
-    /// For the proof: gives that each local object has a part of the region of its own, and that there is no other part.
+    /// For the proof: shows that each local object owns one part of the region, and that there is no other part.
     #[inline(always)]
     pub fn each_owns_its_part(&self)
         ensures { IsMemory self.now.words self.now.state }
@@ -91,7 +91,7 @@ impl<T: Elem> LocalMemory<T> {
         self.region.part_long(at_of(self.words[o]), len)
     }
 
-    /// Adds an object with this list: dirty and hot. If it is refused, nothing is changed.
+    /// Adds an object with this list: dirty and hot. A refused call changes nothing.
     pub fn add(&mut self, items: &[T]) -> Result<(), Refusal>
         requires some { 0 < length items.now }
         ensures ok { OnOk result (self.new ≡ with_object self.old items.now) }
@@ -136,7 +136,7 @@ impl<T: Elem> LocalMemory<T> {
         self.region.drop_at(at_of(word));
     }
 
-    /// Makes object `o`, which is away, local with this list: clean and hot. If it is refused, nothing is changed.
+    /// Makes object `o`, which is away, local with this list: clean and hot. A refused call changes nothing.
     pub fn bring(&mut self, o: usize, items: &[T]) -> Result<(), Refusal>
         requires some { 0 < length items.now }
         requires away { slice_get self.old.words o ≡ Some Pointer.Remote }
@@ -151,8 +151,8 @@ impl<T: Elem> LocalMemory<T> {
         Ok(())
     }
 
-    /// Gives object `o`, which is local, another list: places the new one before it drops the old one. If it is refused, nothing is
-    /// changed.
+    /// Replaces the list of object `o`, which is local: places the new list before it drops the old one. A refused call changes
+    /// nothing.
     #[inline(always)]
     pub fn replace(&mut self, o: usize, items: &[T]) -> Result<(), Refusal>
         requires some { 0 < length items.now }
@@ -177,21 +177,21 @@ impl<T: Elem> LocalMemory<T> {
         self.region.fits(len)
     }
 
-    /// Returns the space of all segments together, in elements.
+    /// Returns the total space of the segments, in elements.
     pub fn space(&self) -> usize
         ensures { result ≡ space_of self.now.state }
     {
         self.region.space()
     }
 
-    /// Returns the capacity of all segments together, in elements.
+    /// Returns the total capacity of the segments, in elements.
     pub fn capacity(&self) -> usize
         ensures { result ≡ capacity_of self.now.state }
     {
         self.region.capacity()
     }
 
-    /// Returns whether lists of these lengths can be placed one after the other.
+    /// Returns whether lists of these lengths can be placed one after another.
     pub fn fits_in_order(&self, lens: &[usize]) -> bool
         requires few { length lens.now ≤ 16 }
         requires some { All (λ len. 0 < len) lens.now }
@@ -226,7 +226,7 @@ impl<T: Elem> LocalMemory<T> {
     }
 }
 
-// Returns the location that the word of a local object has.
+// Returns the location in the word of a local object.
 fn at_of(word: Word) -> At
     requires { IsSome (word_at word) }
     ensures { word_at word ≡ Some result }
@@ -237,7 +237,7 @@ fn at_of(word: Word) -> At
     at
 }
 
-// Returns whether the word of an object says that it is dirty and hot, as it is if it is written again and again.
+// Returns whether a word is dirty and hot, as the word of an object that is written repeatedly is.
 fn is_marked(word: Word) -> bool
     ensures { IsTrue result → with_hot (with_dirty word) true ≡ word }
 {

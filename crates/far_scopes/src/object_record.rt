@@ -1,10 +1,10 @@
-// Object records: what is known of an object apart from its word and its list.
+// Object records: what is known of an object besides its word and its list.
 ghost use Rattle.std.specs.Prelude.{◌≡◌};
 ghost use Rattle.far_scopes.specs.Renewal.{renewed_record};
 
 use far_types::Name;
 
-/// The record of an object: it is always in local memory, wherever the object's list is.
+/// The record of an object. It is always in local memory, wherever the object's list is.
 #[derive(Drop)]
 pub struct ObjectRecord<K> {
     /// The name of the object: its column and its row group.
@@ -22,7 +22,7 @@ pub struct ObjectRecord<K> {
 }
 
 impl<K: Drop> ObjectRecord<K> {
-    // Returns the record with a ticket of another store, or without one.
+    // Returns the record with a ticket of another store, or with none.
     pub(crate) fn renewed<L>(self, ticket: Option<L>) -> ObjectRecord<L>
         ensures { result ≡ renewed_record self ticket }
     {

@@ -54,9 +54,10 @@ impl<T: Elem, S: FarTickets> Model for Objects<T, S> {
 }
 
 impl<T: Elem, S: FarTickets> Objects<T, S> {
-    /// Makes an empty collection of objects. It keeps the frame's number, which tells the jobs of one frame from those of another.
+    /// Makes an empty collection of objects. It keeps the frame's number, which distinguishes the jobs of one frame from those of
+    /// another.
     ///
-    /// Allocates all memory for elements. Refused with `NoMemory` (1) alone.
+    /// Allocates all memory for elements. Refused only with `NoMemory` (1).
     pub fn new(alloc: Global, number: u32, limits: ObjectLimits) -> Result<Objects<T, S>, Refusal>
         requires { limits.segments ≤ 65536 }
         ensures empty { IfOk result (λ m. m ≡ no_objects number limits) }
@@ -74,8 +75,8 @@ impl<T: Elem, S: FarTickets> Objects<T, S> {
 
     /// Returns the number that was given to `new`. Allocates nothing.
     ///
-    /// For the proof: gives what holds of all objects (`tracked`). Also gives that each local object has a part of the region of its own,
-    /// and that there is no other part (`own`).
+    /// For the proof: shows what is true of all objects (`tracked`), that each local object owns one part of the region, and that there
+    /// is no other part (`own`).
     pub fn number(&self) -> u32
         ensures number { result ≡ self.now.number }
         ensures tracked { AreTracked T.meaning S.content (IsSpelled T.in_range T.has_spelling T.spelling) self.now }

@@ -8,7 +8,7 @@ use lru::{Iter, LruCache};
 use std::alloc::Global;
 use std::marker::Model;
 
-/// An order of use, kept by an LRU cache that never evicts. Contracts see the object numbers, the last used first.
+/// An order of use, kept by an LRU cache that never evicts. Contracts see the object numbers, the most recently used first.
 #[derive(Drop)]
 pub(crate) struct Recency {
     cache: LruCache<u32, ()>,
@@ -50,7 +50,7 @@ impl Recency {
         ensures memory { IfErr result (λ e. e ≡ Refusal.NoMemory) }
         ensures err { OnErr result (self.new ≡ self.old) }
     {
-        // For the proof: gives that the cache is valid, and has fewer than 2^63 objects.
+        // For the proof: shows that the cache is valid, and has fewer than 2^63 objects.
         let _len = self.cache.len();
         self.cache.put(o, ())?;
         Ok(())
@@ -63,7 +63,7 @@ impl Recency {
         self.cache.pop(&o);
     }
 
-    /// Moves an object that is in the order to the front. Allocates nothing. It is inlined, since mostly nothing moves.
+    /// Moves an object that is in the order to the beginning. Allocates nothing. It is inlined, since mostly nothing moves.
     #[inline(always)]
     pub fn touch(&mut self, o: u32)
         ensures { self.new ≡ after_use self.old o }
@@ -73,8 +73,8 @@ impl Recency {
         }
     }
 
-    // Moves an object that is in the order to the front, wherever it is there. It is not inlined, so that a call of `touch` saves no
-    // registers for it.
+    // Moves an object that is anywhere in the order to the beginning. It is not inlined, so that a call of `touch` saves no registers for
+    // it.
     #[inline(never)]
     fn promote(&mut self, o: u32)
         ensures { self.new ≡ after_use self.old o }
@@ -82,7 +82,8 @@ impl Recency {
         self.cache.promote(&o);
     }
 
-    // Returns whether an object was used last. Then another use leaves the order as it is. Most objects that are used again were used last.
+    // Returns whether an object is the most recently used. Another use of it then leaves the order as it is. This is so for most objects
+    // that are used again.
     fn is_first(&self, o: u32) -> bool
         ensures { IsTrue result → after_use self.now o ≡ self.now }
     {
@@ -92,7 +93,7 @@ impl Recency {
         }
     }
 
-    /// Returns the objects, the last used first. Allocates nothing.
+    /// Returns the objects, the most recently used first. Allocates nothing.
     pub fn iter(&self) -> Iter<'_, u32, ()>
         ensures { keys_of result ≡ self.now }
     {

@@ -1,4 +1,4 @@
-// The far copies of objects in another store.
+// The far copies that objects get in another store.
 use super::object_record::ObjectRecord;
 use far_store::FarTickets;
 use std::marker::Model;
@@ -6,11 +6,11 @@ use std::marker::Model;
 /// The far copies that `Objects::renewal` put into another store. Contracts see, by object number, the ticket of each
 /// object that was away, and `None` for each that was local.
 ///
-/// It has the space for the records of the objects too, so `Objects::renew` allocates nothing.
+/// It has the space for the objects' records too, so `Objects::renew` allocates nothing.
 #[derive(Drop)]
 pub struct Renewal<N: FarTickets> {
     pub(crate) tickets: Vec<Option<N::Ticket>>,
-    /// The space: no record, and space for one for each ticket.
+    /// The space: no record, and capacity for one record for each ticket.
     pub(crate) records: Vec<ObjectRecord<N::Ticket>>,
 }
 

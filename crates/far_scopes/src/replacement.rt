@@ -1,6 +1,6 @@
 // A new list for an object.
 
-/// Another list for an object. `Objects::replace_all` takes several.
+/// A new list for an object. `Objects::replace_all` takes several.
 #[derive(Drop)]
 pub struct Replacement<T> {
     /// The number of the object.

@@ -1,8 +1,8 @@
 // Scopes: objects that are pinned together.
 use std::marker::Model;
 
-/// The pins that one `enter` took, one for each listing of an object. Contracts see the object numbers as they were
-/// listed.
+/// The pins that one `enter` took, one for each listing of an object. Contracts see the object numbers in the order
+/// in which they were listed.
 ///
 /// A scope must be spent by `Objects::close`: dropping one does not compile.
 pub struct Scope {

@@ -1,11 +1,11 @@
--- How a call to a far store may be refused, and what the refusal adds to the caller's meter.
+-- The refusals of a far store's calls, and what each adds to the caller's meter.
 use Rattle.std.specs.Prelude.{ℕ, ◌==◌, if◌then◌else◌, List, IsTrue, Result, IfErr}
 use Rattle.std.specs.List.{list_any}
 use Rattle.std.specs.declared.result.Result.TheVariants.{Ok, Err}
 use Rattle.far_types.specs.declared.refusal.Refusal.{Refusal}
 use Rattle.far_types.specs.Refusals.{number_of}
 
--- 1 for FarFault, and 0 for every other refusal
+-- 1 for FarFault, 0 for every other refusal
 abbrev pub faults_of : Refusal → ℕ
 faults_of refusal = if number_of refusal == 21 then 1 else 0
 
@@ -14,11 +14,11 @@ abbrev pub faults_in : {A : Type 0} → Result A Refusal → ℕ
 faults_in (Ok x) = 0
 faults_in (Err refusal) = faults_of refusal
 
--- the result of a call that returns its job if it is refused, without that job
+-- the result of a call that returns its job when it is refused, without that job
 abbrev pub outcome : {A J : Type 0} → Result A (Refusal × J) → Result A Refusal
 outcome (Ok done) = Ok done
 outcome (Err refused) = Err refused.0
 
--- if the call was refused, the refusal has one of these numbers
+-- a refusal of the call has one of these numbers
 abbrev pub RefusedBy : {A : Type 0} → List ℕ → Result A Refusal → Type 0
 RefusedBy numbers result = IfErr result (λ refusal. IsTrue (list_any (λ number. number == number_of refusal) numbers))

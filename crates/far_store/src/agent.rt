@@ -49,8 +49,8 @@ impl<R> Model for AgentStore<R> {
 }
 
 impl<R: Drop> AgentStore<R> {
-    /// Makes an empty store that gives out the numbers below `capacity`. It keeps `rt`, by which a put may wait. Refused with `NoMemory`
-    /// (1) alone.
+    /// Makes an empty store that gives out the numbers below `capacity`. It keeps `rt`, by which a put may wait. Refused only with
+    /// `NoMemory` (1).
     pub fn new(rt: R, alloc: Global, capacity: u64) -> Result<AgentStore<R>, Refusal>
         ensures capacity { IfOk result (λ s. s.capacity ≡ capacity) }
         ensures memory { IfErr result (λ e. e ≡ Refusal.NoMemory) }
@@ -88,7 +88,7 @@ impl<R: Sync + Drop> FarTickets for AgentStore<R> {
         if a.index() != b.index() {
             return false;
         }
-        // For the proof: gives that one number has one content. At run time nothing happens here.
+        // For the proof: shows that one number has one content. At run time nothing happens here.
         self.contents.agrees(a, b);
         true
     }

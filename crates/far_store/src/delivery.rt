@@ -1,4 +1,4 @@
-// A far store whose contents the calling program keeps.
+// Far stores whose contents the calling program keeps.
 ghost use Rattle.std.specs.Prelude.{◌≡◌, ℕ, ◌+◌, ◌<◌, ◌^◌, ◌↔◌, List, [], ◌∷◌, IsErrOf, OnOk};
 ghost use Rattle.far_store.specs.Faults.{faults_in, RefusedBy};
 
@@ -7,17 +7,17 @@ use crate::store::FarStore;
 use far_types::Refusal;
 use std::alloc::Global;
 
-/// A far store whose contents the calling program keeps: it delivers them for the gets that follow.
+/// A far store whose contents the calling program keeps, and delivers before they are read.
 ///
-/// A get reads what was delivered for its ticket, and is a fault of the store if nothing was. The store believes nobody: it compares what
-/// comes back with what it noted at the put.
+/// A get reads what was delivered for its ticket, and fails with a fault if nothing was. The store trusts nobody: it compares what is
+/// delivered with what it noted at the put.
 pub trait FarDelivery: FarStore {
-    /// What the store noted of a ticket's content holds of these bytes: their length and their digest, say.
+    /// These bytes match what the store noted of a ticket's content, such as their length and their digest.
     ghost matches: { Self.Ticket → List ℕ → Type 0 };
 
-    /// Takes the bytes that were kept for a ticket, for the gets that follow. They replace what was delivered for it before. If it is
-    /// refused, the store is as it was. Refused with:
-    /// - `FarFault` (21) if the bytes are not what the store noted of the ticket's content;
+    /// Takes the bytes that were kept for a ticket, for the gets that follow. They replace an earlier delivery for it. A refused delivery
+    /// changes nothing. Refused with:
+    /// - `FarFault` (21) if the bytes do not match what the store noted of the ticket's content;
     /// - `NoMemory` (1).
     fn deliver(
         &mut self,
@@ -36,13 +36,13 @@ pub trait FarDelivery: FarStore {
         ensures faults { meter.new ≡ meter.old + faults_in result }
         ensures refused { RefusedBy (21 ∷ 1 ∷ []) result };
 
-    /// Lets go of what was delivered for a ticket, if anything was. Allocates nothing.
+    /// Drops what was delivered for a ticket, if anything was. Allocates nothing.
     fn forget(&mut self, ticket: &Self::Ticket)
         requires { Self.is_of ticket.now (Self.store_id self.old) }
         ensures same { Self.store_id self.new ≡ Self.store_id self.old }
         ensures capacity { Self.capacity_of self.new ≡ Self.capacity_of self.old };
 
-    /// Lets go of all that was delivered. Allocates nothing.
+    /// Drops all that was delivered. Allocates nothing.
     fn forget_all(&mut self)
         ensures same { Self.store_id self.new ≡ Self.store_id self.old }
         ensures capacity { Self.capacity_of self.new ≡ Self.capacity_of self.old };

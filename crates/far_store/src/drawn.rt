@@ -1,4 +1,4 @@
-// Numbers that were drawn.
+// Drawn numbers.
 ghost use Rattle.std.specs.Prelude.{◌≡◌, ◌≤◌, ◌↔◌, IfOk, IfErr, IsErr};
 
 use boxcar::{Keeps, Pushed};

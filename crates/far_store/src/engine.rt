@@ -5,12 +5,12 @@ use std::alloc::{AllocError, AllocFailed, Global};
 use std::error::Error;
 use std::fmt;
 
-/// Why an engine did not serve a call.
+/// Why an engine's call failed.
 #[derive(Drop, Debug)]
 pub enum Failure<E> {
     /// A local allocation failed: out of memory.
     NoMemory,
-    /// The engine failed, for a reason of its own.
+    /// The engine failed for a reason of its own.
     Engine(E),
 }
 
@@ -44,19 +44,19 @@ impl<T: Drop, E> From<AllocFailed<T>> for Failure<E> {
 
 /// A storage driver: a file, a server, memory of another machine. [`EngineStore`](crate::EngineStore) makes a far store of it.
 ///
-/// An engine may be written in any repository. Either call may wait: put the bound that this asks for on the `impl`. An engine knows
-/// nothing of tickets, meters and refusals. All that is believed of an engine beyond this process is the one clause of
-/// [`read`](Engine::read).
+/// Any repository can have an engine. Either call may wait: put the bound that this asks for on the `impl`. An engine knows nothing
+/// of tickets, meters and refusals. If an engine reaches beyond this process, the one clause of [`read`](Engine::read) is all that
+/// is believed of it.
 ///
-/// The split of a table from what moves its bytes is AIFM's device (OSDI 2020).
+/// Separating a table from the device that moves its bytes is AIFM's idea (OSDI 2020).
 pub trait Engine: Sync + Drop {
-    /// The key under which the engine finds bytes again. It borrows nothing and goes from thread to thread.
+    /// The key under which the engine finds bytes again. It borrows nothing and can be sent from thread to thread.
     type Key: Send + Sync + Drop;
 
     /// Why the engine fails.
     type Error: Drop;
 
-    /// The bytes that were written under a key. If the engine is beyond this process, its key has them as a ghost field.
+    /// The bytes that were written under a key. The key of an engine beyond this process has them as a ghost field.
     ghost written: { Self.Key → List ℕ };
 
     /// The engine's id: numbers that no other engine has. They never change.
@@ -65,12 +65,12 @@ pub trait Engine: Sync + Drop {
     /// The key is of the engine with this id.
     ghost is_of: { Self.Key → List ℕ → Type 0 };
 
-    /// Writes these bytes, for good, and returns the key under which they lie.
+    /// Writes these bytes, for good, and returns the key under which they are stored.
     fn write(&self, alloc: Global, bytes: &[u8]) -> Result<Self::Key, Failure<Self::Error>>
         ensures here { IfOk result (λ key. is_of key (engine_id self.now)) }
         ensures written { IfOk result (λ key. written key ≡ bytes.now) };
 
-    /// Reads the bytes under a key into the buffer, which is empty. After a failure, the caller discards what the buffer holds.
+    /// Reads the bytes under a key into the buffer, which is empty. After a failure, the caller discards the buffer's content.
     fn read(
         &self,
         alloc: Global,

@@ -1,4 +1,4 @@
-// A far store over an engine of one's own.
+// A far store over an engine.
 ghost use Rattle.std.specs.Prelude.{◌≡◌, ◌==◌, ◌+◌, ◌<◌, ◌^◌, ◌∷◌, [], IfOk, IfErr, IsTrue};
 ghost use Rattle.std.specs.List.{list_any};
 ghost use Rattle.far_types.specs.Refusals.{number_of};
@@ -32,7 +32,7 @@ pub struct EngineStore<E: Engine, R> {
 /// A ticket of an `EngineStore`: the index of its key.
 pub type EngineTicket<E> = Pushed<<E as Engine>::Key, Global, OfEngine<E>>;
 
-/// The rule of the keys of a store: they are of its engine.
+/// The rule of a store's keys: each is of its engine.
 pub struct OfEngine<E> {
     engine: PhantomData<E>,
 }
@@ -59,8 +59,8 @@ impl<E: Engine, R> Model for EngineStore<E, R> {
 }
 
 impl<E: Engine, R: Drop> EngineStore<E, R> {
-    /// Makes a store over this engine that gives out the numbers below `capacity`. It keeps `rt`, by which a put may wait. Refused with
-    /// `NoMemory` (1) alone.
+    /// Makes a store over this engine that gives out the numbers below `capacity`. It keeps `rt`, by which a put may wait. Refused only
+    /// with `NoMemory` (1).
     pub fn new(rt: R, alloc: Global, engine: E, capacity: u64) -> Result<EngineStore<E, R>, Refusal>
         ensures capacity { IfOk result (λ s. s.capacity ≡ capacity) }
         ensures memory { IfErr result (λ e. e ≡ Refusal.NoMemory) }
@@ -105,7 +105,7 @@ impl<E: Engine, R: Sync + Drop> FarTickets for EngineStore<E, R> {
         if a.index() != b.index() {
             return false;
         }
-        // For the proof: gives that one number has one key. At run time nothing happens here.
+        // For the proof: shows that one number has one key. At run time nothing happens here.
         self.keys.agrees(a, b);
         true
     }
@@ -147,12 +147,12 @@ impl<E: Engine, R: Sync + Drop + Wait> FarStore for EngineStore<E, R> {
         ensures faults { meter.new ≡ meter.old + faults_in result }
         ensures refused { RefusedBy (21 ∷ 22 ∷ 1 ∷ []) result }
     {
-        // A full store asks its engine for nothing.
+        // A full store does not call its engine.
         if self.keys.count() as u64 >= self.capacity {
             return Err(Refusal::FarFull);
         }
-        // Space for the key comes first, so that a put that finds no memory for it has written nothing. Only another put that
-        // comes between may take this space.
+        // Space for the key comes first, so that a put that finds no memory for it has written nothing. Only another put in between may
+        // take this space.
         self.keys.reserve(1)?;
         let key = match self.engine.write(alloc, bytes) {
             Ok(key) => key,
@@ -165,7 +165,7 @@ impl<E: Engine, R: Sync + Drop + Wait> FarStore for EngineStore<E, R> {
     }
 }
 
-// Returns the refusal for a failure of the engine. Each failure but a failed local allocation is a fault, and is counted.
+// Returns the refusal for an engine's failure. Every failure except a failed local allocation is a fault, and is counted.
 fn counted<F: Drop>(meter: &mut Meter, failure: Failure<F>) -> Refusal
     requires { meter.old < 2 ^ 63 }
     ensures faults { meter.new ≡ meter.old + faults_of result }

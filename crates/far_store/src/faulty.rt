@@ -1,4 +1,4 @@
-// A far store that fails as planned.
+// A far store that fails as planned, for tests.
 ghost use Rattle.std.specs.Prelude.{◌≡◌, ◌<◌, IsTrue};
 
 use crate::Meter;
@@ -8,11 +8,11 @@ use std::alloc::Global;
 use std::marker::Model;
 use std::sync::atomic::{AtomicBool, AtomicU64, Ordering};
 
-/// A far store that fails one `put` and one `get`, each once, and otherwise does what the store under it does.
-/// Contracts see the store under it.
+/// A far store that fails one `put` and one `get`, each once, and otherwise does what the store inside it does. Contracts see the store
+/// inside it.
 ///
-/// It is there to try how a caller handles a fault: the failing call returns `FarFault` (21) without asking the store under it. The same
-/// call made again is served.
+/// It is for testing how a caller handles a fault: the failing call returns `FarFault` (21) without calling the store inside it. The
+/// same call made again succeeds.
 #[derive(Drop)]
 pub struct FaultyStore<S> {
     store: S,
@@ -30,7 +30,7 @@ impl<S> FaultyStore<S> {
     /// Makes a store over `store` whose put number `failing_put` and whose get number `failing_get` return `FarFault` (21).
     /// Allocates nothing.
     ///
-    /// Calls are counted from 1, and 0 stands for none. A call that is refused with `NoMemory` (1) is not counted.
+    /// Calls are counted from 1, and 0 means none. A call that is refused with `NoMemory` (1) is not counted.
     pub fn new(store: S, failing_put: u64, failing_get: u64) -> FaultyStore<S>
         ensures { result ≡ store }
     {
@@ -122,7 +122,7 @@ impl PlannedFault {
         }
     }
 
-    // Counts a call as it begins. Returns whether it is the one that fails. A call counts before it is served, so that threads draw
+    // Counts a call as it begins. Returns whether it is the one that fails. A call is counted before it is served, so that threads draw
     // different numbers. A number that was taken back is drawn again, and does not fail a second time.
     fn is_due(&self) -> bool
         ensures { IsTrue result → 0 < self.now.number }

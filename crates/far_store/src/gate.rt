@@ -1,4 +1,4 @@
-// A far store that holds its first put.
+// A far store that holds its first put, for tests.
 ghost use Rattle.std.specs.Prelude.{◌≡◌};
 
 use crate::Meter;
@@ -9,16 +9,16 @@ use std::marker::Model;
 use std::sync::atomic::{AtomicBool, AtomicU64, Ordering};
 use std::{hint, thread};
 
-// How many turns a put is held at most.
+// For how many turns a put is held at most.
 const TURNS: u32 = 10_000_000;
 
-// After how many turns a held put leaves the processor to others.
+// After how many turns a held put yields the processor.
 const YIELDING: u32 = 10_000;
 
-/// A far store that holds its first `put` at a gate, and otherwise does what the store under it does. Contracts
-/// see the store under it.
+/// A far store that holds its first `put` at a gate, and otherwise does what the store inside it does. Contracts see the store inside
+/// it.
 ///
-/// It is there to see what else a table can do while a put is under way. A put is held for at most 10,000,000 turns of a loop, and then
+/// It is for testing what else a table can do while a put is under way. A put is held for at most 10,000,000 turns of a loop, and then
 /// returns `FarFault` (21). So no call waits for ever.
 #[derive(Drop)]
 pub struct GateStore<S> {
@@ -28,7 +28,7 @@ pub struct GateStore<S> {
     open: AtomicBool,
 }
 
-// What opens a gate.
+// The event that opens a gate.
 #[derive(Clone, Copy, PartialEq, Eq)]
 enum Opener {
     Release,
@@ -72,7 +72,7 @@ impl<S> GateStore<S> {
         self.open.store(true, Ordering::SeqCst);
     }
 
-    /// Returns whether a put has come to the gate, now or earlier. Allocates nothing.
+    /// Returns whether a put has reached the gate, now or earlier. Allocates nothing.
     pub fn held(&self) -> bool {
         self.begun.load(Ordering::SeqCst) > 0
     }
@@ -88,7 +88,7 @@ impl<S> GateStore<S> {
         false
     }
 
-    // Counts a put as it begins. Returns whether it may go on to the store.
+    // Counts a put as it begins. Returns whether it may continue to the store.
     fn admits(&self) -> bool {
         let earlier = self.begun.fetch_add(1, Ordering::SeqCst);
         if self.opened_by == Opener::SecondPut && earlier == 1 {

@@ -1,17 +1,18 @@
 #![tactic(auto)]
-//! The far store: it keeps the contents of objects that are not in local memory.
+//! The far store: keeps the contents of objects that are not in local memory.
 //!
 //! A content is a list of bytes. [`FarStore::put`] returns a ticket for it. [`FarRead::get`] reads the ticket's content, as often as one
-//! likes. [`FarTickets`] compares tickets without asking the store.
+//! likes. [`FarTickets`] compares tickets without a call to the store.
 //!
-//! The table above knows no more of a store than these three traits say. So it runs over any store:
+//! A table knows of a store only what these three traits say. So it runs over any store:
 //! - [`AgentStore`] in this process;
 //! - [`EngineStore`] over an [`Engine`] of your own (docs/FAR_STORE.md);
-//! - [`FaultyStore`] and [`GateStore`], to try what happens when a call fails or takes long.
+//! - [`FaultyStore`] and [`GateStore`], for testing calls that fail or take long.
 //!
-//! A store that reaches nothing itself is a [`FarDelivery`]: the calling program keeps the contents, and delivers what is to be read.
+//! A store that reaches nothing itself is a [`FarDelivery`]: the calling program keeps the contents, and delivers those that are to be
+//! read.
 //!
-//! Stores are shared by threads, and nothing is ever removed from one.
+//! Threads share stores, and nothing is ever removed from one.
 
 mod agent;
 mod delivery;

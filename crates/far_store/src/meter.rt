@@ -1,4 +1,4 @@
-// The count of faults that goes along with a caller.
+// A caller's count of faults.
 ghost use Rattle.std.specs.Prelude.{◌≡◌, ◌+◌, ◌<◌, ◌^◌};
 
 use std::marker::Model;
@@ -6,7 +6,7 @@ use std::marker::Model;
 /// How many faults a caller has met. Contracts see the number.
 ///
 /// Threads share a far store, so the caller keeps the count. Each call that may fault takes the caller's meter, and adds one to it exactly
-/// if it returns `FarFault` (21). So only a store calls [`Meter::rise`], whichever crate it stands in.
+/// if it returns `FarFault` (21). So only a store calls [`Meter::rise`], in whichever crate it is.
 #[derive(Drop, Debug)]
 pub struct Meter {
     faults: u64,
@@ -35,7 +35,7 @@ impl Meter {
         self.faults
     }
 
-    /// Adds the faults that another meter has counted, like that of a thread that has ended. Allocates nothing.
+    /// Adds the faults that another meter has counted, such as the meter of a thread that has ended. Allocates nothing.
     pub fn join(&mut self, other: Meter)
         requires { self.old + other < 2 ^ 64 }
         ensures { self.new ≡ self.old + other }
@@ -43,7 +43,7 @@ impl Meter {
         self.faults += other.faults;
     }
 
-    /// Counts one fault more. It is for a store that is about to return `FarFault` (21), and for nobody else. Allocates nothing.
+    /// Counts one more fault. Only a store that is about to return `FarFault` (21) calls it. Allocates nothing.
     pub fn rise(&mut self)
         requires { self.old < 2 ^ 63 }
         ensures { self.new ≡ self.old + 1 }

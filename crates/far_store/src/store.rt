@@ -1,4 +1,4 @@
-// The far store as the table sees it.
+// The three traits of a far store.
 ghost use Rattle.std.specs.Prelude.{◌≡◌, ℕ, ◌+◌, ◌<◌, ◌^◌, ◌↔◌, List, [], ◌∷◌, IfOk, OnOk, OnErr, IsTrue};
 ghost use Rattle.far_store.specs.Faults.{faults_in, RefusedBy};
 
@@ -6,14 +6,14 @@ use crate::Meter;
 use far_types::Refusal;
 use std::alloc::Global;
 
-/// What a table knows of a far store's tickets, without talking to the store.
+/// The part of a far store that a table can use without waiting: comparing and copying its tickets.
 ///
-/// [`FarRead`] and [`FarStore`] are traits of their own since each of these may wait: a store over a network waits in every read. Code
-/// under a lock asks for `FarTickets` alone, and is known to return.
+/// [`FarRead`] and [`FarStore`] are traits of their own because each of these may wait: a store over a network waits in every read. Code
+/// under a lock asks only for `FarTickets`, and is known to return.
 ///
-/// A far store behind a small interface is AIFM's remote device (OSDI 2020). Tickets that name one content for good are this project's own.
+/// A far store with a small interface is AIFM's remote device (OSDI 2020). Tickets that name one content for good are this project's own.
 pub trait FarTickets: Sync + Drop {
-    /// The ticket of one content that was put: its handle. It is kept by value, outlives every borrow of the store, and goes from thread to
+    /// The handle of one content that was put. It is kept by value, outlives every borrow of the store, and can be sent from thread to
     /// thread.
     type Ticket: Send + Sync + Drop;
 
@@ -32,7 +32,7 @@ pub trait FarTickets: Sync + Drop {
     /// How many numbers a store may give out.
     ghost capacity_of: { Self → ℕ };
 
-    /// Copies a ticket: its number, its content and its store are the same. Allocates nothing.
+    /// Copies a ticket: the copy has the same number, content and store. Allocates nothing.
     fn again(&self, ticket: &Self::Ticket) -> Self::Ticket
         requires { is_of ticket.now (store_id self.now) }
         ensures { result ≡ ticket.now };
@@ -52,7 +52,7 @@ pub trait FarTickets: Sync + Drop {
 
 /// A far store whose contents can be read.
 pub trait FarRead: FarTickets {
-    /// Writes the ticket's content into the buffer, in place of what the buffer has. If it is refused, the buffer is empty. Refused with:
+    /// Replaces the content of the buffer by the ticket's content. If it is refused, the buffer is empty. Refused with:
     /// - `FarFault` (21) if the store fails in this call;
     /// - `NoMemory` (1).
     fn get(
@@ -70,9 +70,9 @@ pub trait FarRead: FarTickets {
         ensures refused { RefusedBy (21 ∷ 1 ∷ []) result };
 }
 
-/// A far store: contents are put into it, and read by the tickets that it returns for them.
+/// A far store: takes contents, and returns a ticket for each, by which they are read.
 ///
-/// Bytes are put, a second time if the first call runs out of memory:
+/// Bytes are put, with a second call if the first runs out of memory:
 ///
 /// ```
 /// pub fn put<T: Elem, S: FarStore>(alloc: Global, store: &S, list: &[T]) -> Result<S::Ticket, Refusal>

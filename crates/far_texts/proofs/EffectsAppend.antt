@@ -1,4 +1,4 @@
--- A column of texts once it has a text more.
+-- A column of texts after a text is appended.
 use Rattle.std.proofs.Common.{◌≡◌, ◌≢◌, inl, inr, ℕ, suc, ◌+◌, ◌-◌, ◌*◌, ◌<◌, ◌≤◌, ◌^◌, eqb, Bool, true, false, cond, List, [], ◌∷◌, ◌++◌, length, get_or, Option, None, Some, refl, sym, ap, subst, ◌∙◌, arith, mul-le-mul_right}
 use Rattle.std.specs.Prelude.{IsSomeAnd, unwrap_or}
 use Rattle.std.proofs.lemmas.Bool.{eqb-true, ltb-false, cases_lt}
@@ -27,7 +27,7 @@ use Rattle.far_texts.proofs.TextsSpace.{not-full, some-group}
 use Rattle.far_texts.proofs.TextsChanges.{some-and, column-changed, group-texts, group-others, keeps-others, texts-in-unchanged}
 use Rattle.far_texts.proofs.EffectsSet.{none-due}
 
--- a column has no more objects than are in use
+-- a column has at most as many objects as there are
 pub few-objects : (lists : Lists) (c : Texts) (count : ℕ) → IsTextColumn lists c → ((k : ℕ) → k < length c.objects → get_or c.objects k 0 < count) → length c.objects ≤ count
 few-objects lists c count is used =
     length-le_from_distinct_below c.objects count (IsDistinct-from_AllPairs Decides-eqb c.objects is.once) (λ q here.
@@ -35,7 +35,7 @@ few-objects lists c count is used =
     let at : q ≡ get_or c.objects found.0 0 = eqb-true q found.1 found.4 ∙ sym found.3 ∙ get_or_default c.objects found.0 found.1 0 found.2 in
     subst (λ o. o < count) (sym at) (used found.0 found.2))
 
--- a row group more
+-- one more row group
 pub has-more : (c : Texts) (o : ℕ) → HasGroups c → begins_group c ≡ true → length c.objects < 2 ^ 28 → HasGroups record { column = c.column; size = c.size; limit = c.limit; objects = c.objects ++ o ∷ []; len = c.len + 1 }
 has-more c o has begins few =
     let count = length_push c.objects o in
@@ -49,15 +49,15 @@ has-more c o has begins few =
       begun = subst (λ n. n * c.size < c.len + 1 + c.size) (sym count) (omega (arith, full, has.some));
     }
 
--- the bytes of a form are those of its texts
+-- a form has the bytes of its texts
 pub form-is : (bytes : List ℕ) (texts : List (Option (List ℕ))) → IsTextsForm bytes → texts_meaning bytes ≡ texts → bytes ≡ texts_form texts
 form-is bytes texts form means = form.is ∙ ap texts_form means
 
--- the column once a row group is begun
+-- the column after a row group is begun
 abbrev pub column-begun : Texts → ℕ → Texts
 column-begun c o = record { column = c.column; size = c.size; limit = c.limit; objects = c.objects ++ o ∷ []; len = c.len + 1 }
 
--- the column once a row group has a text more
+-- the column after a row group has one more text
 abbrev pub column-longer : Texts → Texts
 column-longer c = record { column = c.column; size = c.size; limit = c.limit; objects = c.objects; len = c.len + 1 }
 
@@ -122,7 +122,7 @@ module _ (old new : Lists) (c : Texts) (is : IsTextColumn old c) (has : HasGroup
         ∙ ap (λ l. l ++ (texts_at new o ++ [])) (texts-in-unchanged old new c groups-stay)
         ∙ ap (λ l. texts_in old c ++ (l ++ [])) last
 
--- the last row group has a text more
+-- the last row group has one more text
 module _ (old new : Lists) (c : Texts) (is : IsTextColumn old c) (has : HasGroups c) (begins : begins_group c ≡ false) (bytes : List ℕ) (changes : ChangesList old new (last_object c) (Some bytes)) where
   abbrev last : ℕ
   last = length c.objects - 1
@@ -160,7 +160,7 @@ module _ {K : Type 0} (content : K → List ℕ) (m : Movement ℕ K) (c : Texts
   abbrev next-texts : List (Option (List ℕ))
   next-texts = group_with_next (lists_of content m) c text
 
-  -- no refusal is due, so the new form is short enough
+  -- if no refusal applies, the new form is short enough
   abbrev push-cases : Bool → List (Bool × Refusal)
   push-cases begins =
       let o : ℕ = last_object c in

@@ -1,4 +1,4 @@
--- A column of texts once the text of a place is another.
+-- A column of texts after the text at a place is set.
 use Rattle.std.proofs.Common.{◌≡◌, ℕ, zero, suc, ◌/◌, ◌%◌, ◌<◌, ◌≤◌, Bool, true, false, not, ltb, List, [], ◌∷◌, length, Option, None, Some, refl, sym, ap, ◌∙◌}
 use Rattle.std.specs.Prelude.{slice_get, slice_set}
 use Rattle.std.proofs.lemmas.List.{length-set}
@@ -20,7 +20,7 @@ use Rattle.far_texts.proofs.Joined.{joined-set}
 use Rattle.far_texts.proofs.TextsGroups.{group-form, place-begun, place-inside, before-full}
 use Rattle.far_texts.proofs.TextsChanges.{column-changed, group-texts, group-others, keeps-others}
 
--- no refusal is due: none of the tests holds
+-- no refusal applies if none of the tests is true
 pub none-due : (cases : List (Bool × Refusal)) (k : ℕ) (test : Bool × Refusal) → None ≡ first_of cases → slice_get cases k ≡ Some test → test.0 ≡ false
 none-due [] k test none at = absurd cc
 none-due ((true, e) ∷ cases) k test none at = absurd cc

@@ -1,11 +1,11 @@
--- Lists joined, of which all but the last have one length.
+-- Joined lists, all but the last of one length.
 use Rattle.std.proofs.Common.{◌≡◌, ◌≢◌, ℕ, zero, suc, ◌+◌, ◌-◌, ◌*◌, ◌<◌, ◌≤◌, List, [], ◌∷◌, ◌++◌, length, get_or, set, take, drop, refl, sym, ap, ◌∙◌, arith, append_assoc}
 use Rattle.std.specs.List.{flat_map}
 use Rattle.std.proofs.lemmas.List.{length-append, append-nil, set-append_left, set-append_right, drop_all}
 use Rattle.std.proofs.lemmas.List.Concat.{get_or-flat_map}
 
 module _ {X : Type 0} where
-  -- how much stands before list g
+  -- how many elements come before list g
   pub length-before : (f : ℕ → List X) (os : List ℕ) (size g : ℕ) → g ≤ length os → ((h : ℕ) → h < g → length (f (get_or os h 0)) ≡ size) → length (flat_map f (take g os)) ≡ g * size
   length-before f os size zero within full = omega arith
   length-before f [] size (suc g) within full = absurd (omega arith)
@@ -20,14 +20,14 @@ module _ {X : Type 0} where
       let front : length (flat_map f (take g os)) ≡ g * size = length-before f os size g (omega arith) full in
       ap (λ n. get_or (flat_map f os) (n + i) d) (sym front) ∙ get_or-flat_map f os g i 0 d within inside
 
-  -- lists that are the same, joined
+  -- joining lists that are the same
   pub joined-same : (f h : ℕ → List X) (os : List ℕ) → ((k : ℕ) → k < length os → h (get_or os k 0) ≡ f (get_or os k 0)) → flat_map h os ≡ flat_map f os
   joined-same f h [] same = refl
   joined-same f h (o ∷ os) same =
       let first : h o ≡ f o = same 0 (omega arith) in
       ap (λ l. l ++ flat_map h os) first ∙ ap (λ l. f o ++ l) (joined-same f h os (λ k below. same (suc k) (omega arith)))
 
-  -- lists of which one is another, joined
+  -- joining lists after one changes
   pub joined-changed : (f h : ℕ → List X) (os : List ℕ) (g : ℕ) → g < length os → ((k : ℕ) → k < length os → k ≢ g → h (get_or os k 0) ≡ f (get_or os k 0)) → flat_map h os ≡ flat_map f (take g os) ++ (h (get_or os g 0) ++ flat_map f (drop (suc g) os))
   joined-changed f h [] g within others = absurd (omega arith)
   joined-changed f h (o ∷ os) zero within others = ap (λ l. h o ++ l) (joined-same f h os (λ k below. others (suc k) (omega arith) (λ e. omega arith)))
@@ -53,7 +53,7 @@ module _ {X : Type 0} where
       ∙ sym (set-append_right front (list ++ back) (g * size) (g * size + i) x before (omega arith))
       ∙ ap (λ l. set l (g * size + i) x) (sym old)
 
-  -- an element more in the last list
+  -- one more element in the last list
   pub joined-push : (f h : ℕ → List X) (os : List ℕ) (g : ℕ) (x : X) → suc g ≡ length os → ((k : ℕ) → k < length os → k ≢ g → h (get_or os k 0) ≡ f (get_or os k 0)) → h (get_or os g 0) ≡ f (get_or os g 0) ++ x ∷ [] → flat_map h os ≡ flat_map f os ++ x ∷ []
   joined-push f h os g x last others here =
       let front = flat_map f (take g os) in

@@ -1,4 +1,4 @@
--- Texts of a part of a column that are lent.
+-- Borrowed texts of a part of a column.
 use Rattle.std.proofs.Common.{◌≡◌, ℕ, zero, suc, ◌+◌, ◌-◌, ◌*◌, ◌/◌, ◌%◌, ◌^◌, ◌<◌, ◌≤◌, Bool, true, false, not, cond, ltb, List, [], ◌∷◌, length, get_or, take, drop, Option, None, Some, refl, sym, ap, subst, ◌∙◌, arith, mul-le-mul_right}
 use Rattle.std.specs.Prelude.{slice_get, slice_range}
 use Rattle.std.specs.List.{zip}
@@ -19,12 +19,12 @@ use Rattle.far_texts.specs.Lending.{IsCursor}
 use Rattle.far_texts.proofs.TextsGroups.{text-lent}
 
 module _ {K X : Type 0} where
-  -- a list beside none
+  -- a list paired with an empty one
   pub zip-none : (xs : List X) (ys : List K) → ys ≡ [] → zip xs ys ≡ []
   zip-none [] ys none = refl
   zip-none (x ∷ xs) ys none = rw none refl
 
-  -- a list beside the flags of its first elements
+  -- a list paired with the flags of its first elements
   pub zip-front : (n : ℕ) (xs : List X) (ys : List K) → length ys ≤ n → zip xs ys ≡ zip (take n xs) ys
   zip-front zero xs [] few = zip-none xs [] refl
   zip-front zero xs (y ∷ ys) few = absurd (omega arith)
@@ -32,19 +32,19 @@ module _ {K X : Type 0} where
   zip-front (suc n) (x ∷ xs) [] few = refl
   zip-front (suc n) (x ∷ xs) (y ∷ ys) few = ap (λ l. (x, y) ∷ l) (zip-front n xs ys (omega arith))
 
-  -- the next of it
+  -- the next pair
   pub zip-next : (xs : List X) (place : ℕ) (x : X) (y : K) (ys : List K) → slice_get xs place ≡ Some x → zip (drop place xs) (y ∷ ys) ≡ (x, y) ∷ zip (drop (place + 1) xs) ys
   zip-next xs place x y ys here =
       ap (λ l. zip l (y ∷ ys)) (drop_more xs place x (slice_get_within xs place x here))
       ∙ ap (λ z. (z, y) ∷ zip (drop (place + 1) xs) ys) (get_or_from_slice_get xs place x x here)
 
--- the next of a range
+-- the next number of a range
 pub range-next : (xs : List ℕ) (from to : ℕ) → from < to → to ≤ length xs → slice_range xs from to ≡ get_or xs from 0 ∷ slice_range xs (from + 1) to
 range-next xs from to below within =
     let more : to - from ≡ suc (to - (from + 1)) = omega arith in
     ap (take (to - from)) (drop_more xs from 0 (omega arith)) ∙ ap (λ n. take n (get_or xs from 0 ∷ drop (from + 1) xs)) more
 
--- by whether an object is local
+-- depending on whether an object is local
 away-by : (local : Bool) (name e : Refusal) (rest : Option Refusal) → Some e ≡ cond (not local) (Some name) None → cond local rest (Some name) ≡ Some e
 away-by true name e rest due = absurd cc
 away-by false name e rest due = sym due
@@ -67,18 +67,18 @@ module _ {K : Type 0} (m : Movement ℕ K) where
   pub away-first : (o : ℕ) (os : List ℕ) (e : Refusal) → Some e ≡ lend_refusal m o → first_absent m (o ∷ os) ≡ Some e
   away-first o os e due = away-by (is_local m o) (absent m o).1 e (first_absent m os) due
 
-  -- it is not
+  -- the first listed object is not away
   pub here-first : (o : ℕ) (os : List ℕ) → None ≡ lend_refusal m o → first_absent m (o ∷ os) ≡ first_absent m os
   here-first o os due = here-by (is_local m o) (absent m o).1 (first_absent m os) due
 
-  -- if none is away, each is local
+  -- if no object is away, each is local
   pub each-local : (os : List ℕ) → None ≡ first_absent m os → (k : ℕ) → k < length os → is_local m (get_or os k 0) ≡ true
   each-local [] none k within = absurd (omega arith)
   each-local (o ∷ os) none zero within = (local-by (is_local m o) (absent m o).1 (first_absent m os) none).0
   each-local (o ∷ os) none (suc k) within = each-local os (local-by (is_local m o) (absent m o).1 (first_absent m os) none).1 k (omega arith)
 
   module _ (content : K → List ℕ) (c : Texts) (has : HasGroups c) (from to : ℕ) (below : from < to) (within : to ≤ c.len) (none : None ≡ first_absent m (slice_range c.objects (from / c.size) ((to - 1) / c.size + 1))) where
-    -- the texts of a part may be lent whose row groups' objects are local
+    -- the texts of a part may be lent if its row groups' objects are local
     pub part-free : (p : ℕ) → from ≤ p → p < to → text_refusal content m c p ≡ None
     part-free p behind before =
         let first = from / c.size in
@@ -98,11 +98,11 @@ module _ {K : Type 0} (m : Movement ℕ K) where
 pub few-texts : (c : Texts) → HasGroups c → c.len ≤ 2 ^ 44
 few-texts c has = omega (arith, has.held, mul-le-mul_right {m = length c.objects} {n = 2 ^ 28} c.size has.few, has.small)
 
--- a part of a list beside as long a part of another
+-- a part of a list paired with an equally long part of another
 pub zip-part : {K X : Type 0} (xs : List X) (ys : List K) (from to : ℕ) → zip (drop from xs) (slice_range ys from to) ≡ zip (slice_range xs from to) (slice_range ys from to)
 zip-part xs ys from to = zip-front (to - from) (drop from xs) (slice_range ys from to) (omega (arith, length-take (to - from) (drop from ys)))
 
--- where a place lies that stands so far from the beginning of a row group
+-- the row group and index of a place at a distance from the beginning of a row group
 pub split-place : (place group index size : ℕ) → index < size → place ≡ group * size + index → (group ≡ place / size) × (index ≡ place % size)
 split-place place group index size inside at =
     let some : 0 < size = omega (arith, inside) in
@@ -112,19 +112,19 @@ split-place place group index size inside at =
     let whole : place / size * size + place % size ≡ place = div-add-mod' place size in
     (same, omega (arith, whole, at, ap (λ n. n * size) same))
 
--- by whether a place is there and its object is local
+-- depending on whether a place exists and its object is local
 of-free : (below local : Bool) (first name : Refusal) → cond (not below) (Some first) (cond (not local) (Some name) None) ≡ None → (below ≡ true) × (cond (not local) (Some name) None ≡ None)
 of-free true local first name free = (refl, free)
 of-free false local first name free = absurd cc
 
 module _ {K : Type 0} (content : K → List ℕ) (m : Movement ℕ K) (c : Texts) where
-  -- a place whose text can be lent is there, and its object is local
+  -- a place whose text can be lent exists, and its object is local
   pub lent-here : (place : ℕ) → text_refusal content m c place ≡ None → (place < c.len) × (lend_refusal m (get_or c.objects (place / c.size) 0) ≡ None)
   lent-here place free =
       let both = of-free (ltb place c.len) (is_local m (object_at c place)) NoRow (absent m (object_at c place)).1 free in
       (ltb-true place c.len both.0, both.1)
 
-  -- so is the object of the row group in which it stands
+  -- so is the object of its row group
   pub group-here : (place group index : ℕ) → HasGroups c → index < c.size → place ≡ group * c.size + index → text_refusal content m c place ≡ None → (group < length c.objects) × (lend_refusal m (get_or c.objects group 0) ≡ None)
   group-here place group index has inside at free =
       let here = lent-here place free in

@@ -9,7 +9,7 @@ use Rattle.far_log.specs.RegionState.{part_of}
 use Rattle.far_scopes.specs.Movement.{Movement, AreTracked, list_of, ticket_of, meant}
 
 module _ {X K : Type 0} (meaning : List ℕ → List X) (content : K → List ℕ) (spelled : List X → List ℕ → Type 0) (m : Movement X K) (tracked : AreTracked meaning content spelled m) where
-  -- past the objects there is no list
+  -- past the last object there is no list
   pub no-list : (o : ℕ) → length m.records ≤ o → list_of meaning content m o ≡ None
   no-list o past =
       let no_word : slice_get m.memory.words o ≡ None = slice_get_past m.memory.words o (omega (arith, tracked.same_length)) in

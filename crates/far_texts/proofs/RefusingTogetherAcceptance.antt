@@ -1,4 +1,4 @@
--- What is known of several columns that may get a text each.
+-- What follows if a text may be appended to each of several columns.
 use Rattle.std.proofs.Common.{◌≡◌, inl, inr, Bool, true, false, cond, List, [], ◌∷◌, ◌++◌, ℕ, Option, None, Some, refl, sym, ap, ◌∙◌}
 use Rattle.std.specs.Prelude.{All, ◌⊎◌, Result, IfErr, slice_index_or}
 use Rattle.std.specs.declared.result.Result.TheVariants.{Ok, Err}
@@ -17,7 +17,7 @@ use Rattle.far_texts.specs.Together.{AreColumns, all_begin}
 use Rattle.far_texts.specs.RefusingTogether.{any_too_long, any_full, absents, first_tests, last_tests, push_texts_refusal}
 use Rattle.far_texts.proofs.TogetherChecks.{none-begin, here-begun, here-longer}
 
--- of two lists of cases none is due
+-- no case of two lists applies
 both-free : (cases more : List (Bool × Refusal)) → first_of (cases ++ more) ≡ None → (first_of cases ≡ None) × (first_of more ≡ None)
 both-free [] more free = (refl, free)
 both-free ((true, e) ∷ cases) more free = absurd cc
@@ -42,7 +42,7 @@ module _ {K : Type 0} (content : K → List ℕ) (m : Movement ℕ K) (columns :
     pub none-full : first_of (full ∷ []) ≡ None
     none-full = parts.1
 
-    -- and none is to be made of one that is away
+    -- no form is to be made of an object that is away
     pub all-here : AreColumns (lists_of content m) columns → All HasGroups columns → All (λ (c : Texts). next_length_refusal content m c ≡ None) columns
     all-here are groups = elim (cases_Bool (all_begin columns)) [
       | inl begin ↦ λ k d below. here-begun m content (slice_index_or columns k d) (AllPass-from_list_all begins_group columns begin k d below)
@@ -51,7 +51,7 @@ module _ {K : Type 0} (content : K → List ℕ) (m : Movement ℕ K) (columns :
           λ k d below. here-longer m content (slice_index_or columns k d) (none-begin (lists_of content m) columns are groups begun k d below) (none-due (λ (c : Texts). absent m (last_object c)) columns free k d below)
     ]
 
--- a refusal if none is due is for lack of memory
+-- if no other refusal applies, the refusal is NoMemory
 pub only-memory : {A : Type 0} (r : Result A Refusal) (due first : Option Refusal) → due ≡ None → IfErr r (λ e. (due ≡ Some e) ⊎ ((first ≡ None) × (e ≡ NoMemory))) → IfErr r (λ e. e ≡ NoMemory)
 only-memory (Ok x) due first free given = tt
 only-memory (Err e) due first free (inl is) = absurd (let never = sym free ∙ is in cc)

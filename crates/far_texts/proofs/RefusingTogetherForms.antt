@@ -1,4 +1,4 @@
--- What is asked of the new forms of several columns before they are made.
+-- The tests of the new forms of several columns before they are made.
 use Rattle.std.proofs.Common.{◌≡◌, ℕ, ◌+◌, ◌<◌, Bool, true, false, cond, List, [], ◌∷◌, ◌++◌, length, map, get_or, take, drop, Option, None, Some, refl, sym, ap, ◌∙◌, arith, append_assoc}
 use Rattle.std.specs.Prelude.{not, ◌||◌, slice_set, All, Result, OnOk}
 use Rattle.std.specs.declared.result.Result.TheVariants.{Ok, Err}
@@ -25,15 +25,15 @@ use Rattle.far_texts.proofs.TogetherNextForms.{length-next}
 use Rattle.far_texts.proofs.TogetherOneColumn.{object-longer}
 
 module _ (lists : Lists) where
-  -- how long the new forms are
+  -- the lengths of the new forms
   abbrev pub lens-from : ℕ → List Texts → List (Option (List ℕ)) → List ℕ
   lens-from n columns texts = map (λ (form : ℕ × List ℕ). length form.1) (next_forms lists n columns texts)
 
-  -- there is one for each column
+  -- each column has a length
   pub length-lens : (n : ℕ) (columns : List Texts) (texts : List (Option (List ℕ))) → length texts ≡ length columns → length (lens-from n columns texts) ≡ length columns
   length-lens n columns texts same_length = length-map (next_forms lists n columns texts) (λ (form : ℕ × List ℕ). length form.1) ∙ length-next lists n columns texts same_length
 
-  -- none of them is empty
+  -- no form is empty
   pub lens-some : (n : ℕ) (columns : List Texts) (texts : List (Option (List ℕ))) → All (λ len. 0 < len) (lens-from n columns texts)
   lens-some n [] texts = All-nil (λ len. 0 < len)
   lens-some n (c ∷ columns) [] = All-nil (λ len. 0 < len)
@@ -43,7 +43,7 @@ module _ (lists : Lists) where
       All-cons (λ len. 0 < len) (length (texts_form group)) (lens-from (n + 1) columns texts) (omega (arith, long)) (lens-some (n + 1) columns texts)
 
   module _ (columns : List Texts) (texts : List (Option (List ℕ))) (k : ℕ) (c : Texts) (text : Option (List ℕ)) (within : k < length columns) (within_too : k < length texts) (read : c ≡ get_or columns k c) (read_too : text ≡ get_or texts k text) where
-    -- that of column k, and those behind it
+    -- the length of column k's form, and the lengths after it
     lens-next : (n : ℕ) → lens-from (n + k) (drop k columns) (drop k texts) ≡ texts_length (group_with_next lists c text) ∷ lens-from (n + (k + 1)) (drop (k + 1) columns) (drop (k + 1) texts)
     lens-next n =
         let group = group_with_next lists c text in
@@ -53,7 +53,7 @@ module _ (lists : Lists) where
         ∙ ap (λ i. length (texts_form group) ∷ lens-from i (drop (k + 1) columns) (drop (k + 1) texts)) place
         ∙ ap (λ len. len ∷ lens-from (n + (k + 1)) (drop (k + 1) columns) (drop (k + 1) texts)) (texts_form_length group)
 
-    -- one more is written down
+    -- one more length is recorded
     pub lens-more : (n : ℕ) (lens all : List ℕ) (len : ℕ) → len ≡ texts_length (group_with_next lists c text) → k < length lens → take k lens ++ lens-from (n + k) (drop k columns) (drop k texts) ≡ all
         → take (k + 1) (slice_set lens k len) ++ lens-from (n + (k + 1)) (drop (k + 1) columns) (drop (k + 1) texts) ≡ all
     lens-more n lens all len is place was =
@@ -65,7 +65,7 @@ module _ (lists : Lists) where
         ∙ was
 
 module _ {K : Type 0} (m : Movement ℕ K) where
-  -- if row groups are begun, the objects that get another form are the last ones
+  -- if the row groups have been begun, the objects that get another form are the last ones
   pub any-out : (lists : Lists) (n : ℕ) (columns : List Texts) (texts : List (Option (List ℕ))) → length texts ≡ length columns → All (λ (c : Texts). begins_group c ≡ false) columns
       → list_any (λ (c : Texts). (written_out m (last_object c)).0) columns ≡ (some_written_out m (next_forms lists n columns texts)).0
   any-out lists n [] texts same_length begun = refl
@@ -80,7 +80,7 @@ module _ {K : Type 0} (m : Movement ℕ K) where
   pub last-here : (content : K → List ℕ) (c : Texts) → begins_group c ≡ false → next_length_refusal content m c ≡ None → None ≡ first_of (absent m (last_object c) ∷ [])
   last-here content c begun free = sym (sym (ap (λ (b : Bool). first_of (cond b [] (absent m (last_object c) ∷ []))) begun) ∙ free)
 
--- if the forms fit and row groups are begun, it is left whether the objects may be written
+-- if the forms fit and the row groups have been begun, the remaining question is whether the objects may be written
 pub space-longer : (used : Bool × Refusal) (fits begins : Bool) → fits ≡ true → begins ≡ false → first_of (used ∷ []) ≡ first_of ((not fits, RegionFull) ∷ cond begins [] (used ∷ []))
 space-longer used false begins space begun = absurd cc
 space-longer used true true space begun = absurd cc
@@ -93,7 +93,7 @@ module _ {K : Type 0} (content : K → List ℕ) (m : Movement ℕ K) (columns :
   abbrev full : Bool × Refusal
   full = any_full (lists_of content m) columns texts
 
-  -- what is asked before lengths are found, and what is asked of the lengths
+  -- the tests before the lengths are known, and the tests of the lengths
   pub first-measured : first_of (first_tests content m columns texts) ≡ option_or (first_of (any_too_long texts ∷ away)) (first_of (full ∷ []))
   first-measured = first-append (any_too_long texts ∷ away) (full ∷ [])
 
@@ -102,14 +102,14 @@ module _ {K : Type 0} (content : K → List ℕ) (m : Movement ℕ K) (columns :
       ap (λ cases. first_of (any_too_long texts ∷ cases)) (append_assoc away (full ∷ []) (last_tests content m columns texts))
       ∙ first-append (any_too_long texts ∷ away) (full ∷ last_tests content m columns texts)
 
--- the answer of two questions, of which the first refuses nothing, or something
+-- two tests, of which the first refuses nothing, or something
 pub second-asked : (all first second : Option Refusal) → all ≡ option_or first second → None ≡ first → second ≡ all
 second-asked all first second is free = sym (is ∙ ap (λ r. option_or r second) (sym free))
 
 pub first-asked : (all first second : Option Refusal) (e : Refusal) → all ≡ option_or first second → Some e ≡ first → Some e ≡ all
 first-asked all first second e is due = sym (is ∙ ap (λ r. option_or r second) (sym due))
 
--- if no text is too long, what is left is whether an object is away
+-- if no text is too long, the remaining question is whether an object is away
 pub away-asked : (short : Bool × Refusal) (away : List (Bool × Refusal)) (begins : Bool) → None ≡ first_of (short ∷ []) → begins ≡ false → first_of away ≡ first_of (short ∷ cond begins [] away)
 away-asked short away begins fits begun = sym (first-none short (cond begins [] away) fits ∙ ap (λ (b : Bool). first_of (cond b [] away)) begun)
 

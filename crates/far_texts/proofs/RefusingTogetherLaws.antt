@@ -1,4 +1,4 @@
--- Which refusal is due if several columns get a text each, once the forms are made.
+-- Which refusal applies when texts are appended to several columns, after the forms are made.
 use Rattle.std.proofs.Common.{◌≡◌, ℕ, Bool, true, false, cond, inl, inr, List, [], ◌∷◌, length, map, Option, None, Some, refl, sym, ap, ◌∙◌}
 use Rattle.std.specs.Prelude.{All, not, ◌||◌, ◌⊎◌, Result, IfErr}
 use Rattle.std.specs.declared.result.Result.TheVariants.{Ok, Err}
@@ -48,7 +48,7 @@ module _ {K : Type 0} (content : K → List ℕ) (m : Movement ℕ K) (columns :
       pub begun-full : fit_in_order (spaces_of m.memory.state) (map (λ (r : Replacement ℕ). length r.list.items) forms) ≡ false → push_texts_refusal content m columns texts ≡ Some RegionFull
       begun-full full = due-begun ∙ ap (λ b. first_of ((not b, RegionFull) ∷ [])) full
 
-    -- the refusal of the objects is the one that is due, if row groups are begun
+    -- the refusal of the objects is the one that applies, if the row groups have been begun
     module _ (begins : all_begin columns ≡ false) (here : first_absent m (map (λ (r : Replacement ℕ). r.object) forms) ≡ None) where
       pub due-replaced : replace_all_refusal m forms ≡ push_texts_refusal content m columns texts
       due-replaced =
@@ -60,7 +60,7 @@ module _ {K : Type 0} (content : K → List ℕ) (m : Movement ℕ K) (columns :
           same_writes : list_any (λ (r : Replacement ℕ). (written_out m r.object).0) forms ≡ list_any (λ (form : ℕ × List ℕ). (written_out m form.0).0) (next_forms (lists_of content m) (length m.records) columns texts)
           same_writes = sym (any-mapped (λ (form : ℕ × List ℕ). (written_out m form.0).0) (λ (r : Replacement ℕ). (r.object, r.list.items)) forms) ∙ ap (list_any (λ (form : ℕ × List ℕ). (written_out m form.0).0)) is
 
--- listed objects are local if each may be lent
+-- listed objects are local if each can be lent
 pub all-local : {X K : Type 0} (m : Movement X K) (forms : List (Replacement X)) → All (λ (r : Replacement X). None ≡ lend_refusal m r.object) forms → first_absent m (map (λ (r : Replacement X). r.object) forms) ≡ None
 all-local {X = X} m [] free = refl
 all-local {X = X} m (r ∷ rs) free =
@@ -72,7 +72,7 @@ all-local {X = X} m (r ∷ rs) free =
     local-first false e rest free = absurd cc
 
 module _ {A : Type 0} (r : Result A Refusal) (due first : Option Refusal) (free : None ≡ first) where
-  -- what is refused if an object is made for each column
+  -- the refusal if an object is made for each column
   pub refused-begun : (fits : Bool) → (fits ≡ false → due ≡ Some RegionFull) → IfErr r (λ e. ((e ≡ RegionFull) × (fits ≡ false)) ⊎ (e ≡ NoMemory)) → IfErr r (λ e. (due ≡ Some e) ⊎ ((first ≡ None) × (e ≡ NoMemory)))
   refused-begun fits full given = each r given
     where
@@ -81,7 +81,7 @@ module _ {A : Type 0} (r : Result A Refusal) (due first : Option Refusal) (free 
       each (Err e) (inl due) = inl (full due.1 ∙ ap Some (sym due.0))
       each (Err e) (inr is) = inr (sym free, is)
 
-  -- and if the last object of each gets another list
+  -- the refusal if the last object of each gets a new list
   pub refused-longer : (returned : Option Refusal) (here : Type 0) → returned ≡ due → IfErr r (λ e. (returned ≡ Some e) ⊎ (here × (e ≡ NoMemory))) → IfErr r (λ e. (due ≡ Some e) ⊎ ((first ≡ None) × (e ≡ NoMemory)))
   refused-longer returned here same given = each r given
     where

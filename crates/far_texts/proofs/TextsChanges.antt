@@ -1,4 +1,4 @@
--- Columns of texts once the lists of objects change.
+-- Columns of texts after the lists of objects change.
 use Rattle.std.proofs.Common.{◌≡◌, ◌≢◌, inl, inr, ℕ, ◌<◌, List, [], length, get_or, Option, None, Some, refl, sym, ap, subst, ◌∙◌, arith}
 use Rattle.std.specs.Prelude.{IsSomeAnd, AllPairs, unwrap_or, slice_get}
 use Rattle.std.proofs.lemmas.Bool.{cases_lt, cases_eq}
@@ -13,7 +13,7 @@ some-and None P Q then here = absurd here
 some-and (Some bytes) P Q then here = then bytes here
 
 module _ (old new : Lists) where
-  -- the texts of an object whose list stays
+  -- the texts of an object whose list does not change
   pub texts-unchanged : (o : ℕ) → new o ≡ old o → texts_at new o ≡ texts_at old o
   texts-unchanged o same = ap (λ list. texts_meaning (unwrap_or list [])) same
 
@@ -41,7 +41,7 @@ module _ (old new : Lists) where
       texts = λ d is disjoint. texts-in-unchanged d (others-unchanged d (λ k. disjoint g k o here));
     }
 
-    -- if it is a new one
+    -- if the object is a new one
     pub keeps-others-new : (c : Texts) → old o ≡ None → KeepsOthers old new c
     keeps-others-new c none =
         let disjoint : (d : Texts) → IsTextColumn old d → (k : ℕ) → slice_get d.objects k ≢ Some o = λ d is k here. subst (λ list. IsSomeAnd list (IsGroupForm d k)) none (is.each k o here) in
@@ -72,7 +72,7 @@ module _ (old new : Lists) (c : Texts) (is : IsTextColumn old c) where
     pub group-others : (k : ℕ) → k < length c.objects → k ≢ g → texts_at new (get_or c.objects k 0) ≡ texts_at old (get_or c.objects k 0)
     group-others k within disjoint = texts-unchanged old new (get_or c.objects k 0) (groups-unchanged k within disjoint)
 
-    -- a column of the same objects lies in the new lists
+    -- a column with the same objects, in the new lists
     pub column-changed : (d : Texts) → d.objects ≡ c.objects → ((k : ℕ) (form : List ℕ) → k < length c.objects → k ≢ g → IsGroupForm c k form → IsGroupForm d k form) → IsGroupForm d g bytes → IsTextColumn new d
     column-changed d same forms form = record {
       once = subst (λ os. AllPairs (λ o p. o ≢ p) os) (sym same) is.once;

@@ -14,7 +14,7 @@ use Rattle.far_codec.specs.TextForm.{texts_meaning}
 use Rattle.far_texts.specs.Texts.{Texts, Lists, HasGroups, IsTextColumn, IsGroupForm, texts_at, texts_in}
 use Rattle.far_texts.proofs.Joined.{length-before, joined-at}
 
--- what holds of the list of an object holds of the list that it has, if it has one
+-- a property of an object's list, if it has one
 pub of-list : (list : Option (List ℕ)) (P : List ℕ → Type 0) → IsSomeAnd list P → P (unwrap_or list [])
 of-list None P here = absurd here
 of-list (Some bytes) P here = here
@@ -24,7 +24,7 @@ is-list None P here = absurd here
 is-list (Some bytes) P here = refl
 
 module _ (lists : Lists) (c : Texts) (is : IsTextColumn lists c) where
-  -- the form of a row group that is begun
+  -- the form of a row group that has been begun
   pub group-form : (g : ℕ) → g < length c.objects → IsGroupForm c g (unwrap_or (lists (get_or c.objects g 0)) [])
   group-form g begun = of-list (lists (get_or c.objects g 0)) (IsGroupForm c g) (is.each g (get_or c.objects g 0) (slice_get-get_or c.objects g 0 begun))
 
@@ -39,7 +39,7 @@ module _ (lists : Lists) (c : Texts) (is : IsTextColumn lists c) where
         let count = (group-form g (omega arith)).count in
         omega (arith, long, count, has.begun)
 
-    -- the texts of the last
+    -- the texts of the last row group
     pub group-last : (g : ℕ) → suc g ≡ length c.objects → length (texts_at lists (get_or c.objects g 0)) + g * c.size ≡ c.len
     group-last g last =
         let count = (group-form g (omega arith)).count in
@@ -47,7 +47,7 @@ module _ (lists : Lists) (c : Texts) (is : IsTextColumn lists c) where
         let begun : suc g * c.size < c.len + c.size = subst (λ n. n * c.size < c.len + c.size) (sym last) has.begun in
         omega (arith, count, held, begun)
 
-    -- where a place lies
+    -- the row group and index of a place
     pub place-begun : (place : ℕ) → place < c.len → place / c.size < length c.objects
     place-begun place below = div_below place c.size (length c.objects) has.some (omega (arith, has.held))
 
@@ -65,7 +65,7 @@ module _ (lists : Lists) (c : Texts) (is : IsTextColumn lists c) where
         ap (λ n. get_or (texts_in lists c) n d) (sym (div-add-mod' place c.size))
         ∙ joined-at (texts_at lists) c.objects c.size (place / c.size) (place % c.size) d (place-begun place below) (before-full place below) (place-inside place below)
 
--- how many elements lists have that are joined, of which all but the last have one length
+-- how many elements joined lists have, all but the last of one length
 length-joined : {X : Type 0} (f : ℕ → List X) (os : List ℕ) (size len : ℕ) → len ≤ length os * size → ((h : ℕ) → h + 1 < length os → length (f (get_or os h 0)) ≡ size) → ((h : ℕ) → suc h ≡ length os → length (f (get_or os h 0)) + h * size ≡ len) → length (flat_map f os) ≡ len
 length-joined f [] size len held full last = omega (arith, held)
 length-joined f (o ∷ os) size len held full last =
@@ -79,7 +79,7 @@ length-joined f (o ∷ os) size len held full last =
 pub texts-length : (lists : Lists) (c : Texts) (is : IsTextColumn lists c) (has : HasGroups c) → length (texts_in lists c) ≡ c.len
 texts-length lists c is has = length-joined (texts_at lists) c.objects c.size c.len has.held (group-full lists c is has) (group-last lists c is has)
 
--- the text that is lent is that of the place
+-- the text that is lent is the text at the place
 pub text-lent : (lists : Lists) (c : Texts) (is : IsTextColumn lists c) (has : HasGroups c) (place : ℕ) (form : List ℕ) (text : Option (List ℕ)) → place < c.len → lists (get_or c.objects (place / c.size) 0) ≡ Some form → text ≡ option_and_then (λ t. t) (slice_get (texts_meaning form) (place % c.size)) → slice_get (texts_in lists c) place ≡ Some text
 text-lent lists c is has place form text below lent returned =
     let texts = texts_at lists (get_or c.objects (place / c.size) 0) in
@@ -92,7 +92,7 @@ text-lent lists c is has place form text below lent returned =
     ∙ ap (λ l. Some (option_and_then (λ t. t) (slice_get l i))) same
     ∙ ap Some (sym returned)
 
--- what holds of the list that an object has holds of the one that it lends
+-- a property of an object's list is one of the list that it lends
 pub form-lent : (r : Result (Bor (List ℕ)) Refusal) (here rest : ℕ → Option (List ℕ)) (o p : ℕ) (P : List ℕ → Type 0) → o ≡ p → IfOk r (λ form. here o ≡ Some form.now) → P (unwrap_or (option_or (here p) (rest p)) []) → IfOk r (λ form. P form.now)
 form-lent (Ok form) here rest o p P same lent holds = subst P (ap (λ l. unwrap_or (option_or l (rest p)) []) (sym (ap here same) ∙ lent)) holds
 form-lent (Err refusal) here rest o p P same lent holds = tt

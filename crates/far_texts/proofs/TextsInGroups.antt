@@ -1,4 +1,4 @@
--- The texts of a row group are those that its object's list means.
+-- The texts of a row group are those that its object's list encodes.
 use Rattle.std.proofs.Common.{◌≡◌, ℕ, suc, inl, inr, ◌+◌, ◌*◌, ◌<◌, ◌≤◌, List, [], ◌∷◌, ◌++◌, length, get_or, take, drop, Option, Some, refl, sym, ap, subst, ◌∙◌, arith}
 use Rattle.std.specs.Prelude.{slice_get}
 use Rattle.std.specs.List.{flat_map}
@@ -30,7 +30,7 @@ cut-out f os size g within full =
     ∙ ap (drop (length front)) (joined-changed f f os g within (λ k below disjoint. refl))
     ∙ drop-append_seam front (f (get_or os g 0) ++ flat_map f (drop (suc g) os))
 
--- the first so many are a list that is no longer, with nothing behind it, or one that is as long
+-- the first n elements: a list that is no longer, followed by nothing, or a list of that length
 taken-alone : {X : Type 0} (size : ℕ) (list back : List X) → length list ≤ size → back ≡ [] → take size (list ++ back) ≡ list
 taken-alone size list back short none = ap (λ l. take size (list ++ l)) none ∙ ap (take size) (append-nil list) ∙ take_all size list short
 

@@ -1,4 +1,4 @@
--- A column whose last row group has space for a text more.
+-- A column whose last row group has space for one more text.
 use Rattle.std.proofs.Common.{◌≡◌, ◌≢◌, inl, inr, ◌*◌, ◌<◌, ◌≤◌, false, length, sym, ap, subst, ◌∙◌, arith}
 use Rattle.std.proofs.lemmas.Bool.{eqb-false, cases_lt}
 use Rattle.far_texts.specs.Texts.{Texts, HasGroups}

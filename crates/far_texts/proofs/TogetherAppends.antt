@@ -1,4 +1,4 @@
--- Several columns once each has a text more.
+-- Several columns after a text is appended to each.
 use Rattle.std.proofs.Common.{◌≡◌, ◌≢◌, inl, inr, ℕ, zero, suc, ◌+◌, ◌-◌, ◌<◌, ◌≤◌, List, [], ◌∷◌, ◌++◌, length, get_or, map, Option, None, Some, refl, sym, ap, subst, ◌∙◌, arith}
 use Rattle.std.specs.Prelude.{All, slice_get}
 use Rattle.std.proofs.lemmas.Bool.{cases_eq, cases_lt, cases_Bool}
@@ -22,7 +22,7 @@ pub length-pushed : (n : ℕ) (columns : List Texts) → length (after_push_all 
 length-pushed n [] = refl
 length-pushed n (c ∷ columns) = ap suc (length-pushed (n + 1) columns)
 
--- the texts of each
+-- the texts of each column
 pub texts-all : (old new : Lists) (n : ℕ) (columns : List Texts) (texts : List (Option (List ℕ))) → length texts ≡ length columns
     → ((k : ℕ) (c : Texts) (text : Option (List ℕ)) → slice_get columns k ≡ Some c → slice_get texts k ≡ Some text → texts_in new (after_push c (n + k)) ≡ texts_in old c ++ text ∷ [])
     → map (texts_in new) (after_push_all n columns) ≡ all_texts_with old columns texts
@@ -53,7 +53,7 @@ module _ (old : Lists) (n : ℕ) (columns : List Texts) (are : AreColumns old co
     pub column-groups : HasGroups c
     column-groups = subst HasGroups is-at (groups k c within)
 
-    -- an object that has a list, and is none of the column's, is not that of its next text
+    -- an object with a list that is not the column's is not the object of its next text
     pub disjoint-from : (p : ℕ) (list : List ℕ) → old p ≡ Some list → ((g : ℕ) → slice_get c.objects g ≢ Some p) → p ≢ object_for c (n + k)
     disjoint-from p list has disjoint same = elim (cases_Bool (begins_group c)) [
       | inl begins ↦ none-some list (sym (fresh p (omega (arith, same ∙ object-begun c (n + k) begins))) ∙ has)
@@ -113,7 +113,7 @@ module _ (old : Lists) (n : ℕ) (columns : List Texts) (are : AreColumns old co
         let at = slice_get-get_or columns k d inside in
         subst (IsTextColumn new) (sym (pushed-at n columns k d inside)) (each-is k c (get_or texts k None) at (slice_get-get_or texts k None (omega (arith, same_length, inside))))
 
-    -- every column disjoint from these is as it was
+    -- every column disjoint from these is unchanged
     others-unchanged : (d : Texts) → IsTextColumn old d → All (λ c. AreDisjoint c d) columns → (i : ℕ) → i < length d.objects → new (get_or d.objects i 0) ≡ old (get_or d.objects i 0)
     others-unchanged d is disjoint i below =
         let p = get_or d.objects i 0 in

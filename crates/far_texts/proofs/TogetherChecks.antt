@@ -1,4 +1,4 @@
--- What is known before several columns get a text each.
+-- What follows from the tests before a text is appended to each of several columns.
 use Rattle.std.proofs.Common.{◌≡◌, inl, inr, ℕ, ◌+◌, ◌*◌, ◌<◌, Bool, true, false, cond, List, [], ◌∷◌, ◌++◌, length, get_or, Option, None, Some, sym, ap, ◌∙◌, arith, mul-le-mul_right}
 use Rattle.std.specs.Prelude.{All, Result, OnOk}
 use Rattle.std.specs.declared.result.Result.TheVariants.{Ok, Err}
@@ -15,7 +15,7 @@ use Rattle.far_texts.specs.Effects.{begins_group, last_object}
 use Rattle.far_texts.specs.Refusing.{next_length_refusal}
 use Rattle.far_texts.specs.Together.{AreColumns, all_begin}
 
--- of two columns of one length and one size of row groups, both begin a row group or neither
+-- two columns of one length and one size of row groups both begin a row group, or neither does
 pub both-begin : (c d : Texts) → HasGroups c → HasGroups d → c.size ≡ d.size → c.len ≡ d.len → begins_group c ≡ true → begins_group d ≡ true
 both-begin c d has other size len begins =
     let full : c.len ≡ length c.objects * c.size = eqb-true c.len (length c.objects * c.size) begins in
@@ -36,14 +36,14 @@ module _ (lists : Lists) (columns : List Texts) (are : AreColumns lists columns)
   alike : (c d : Texts) → HasGroups c → HasGroups d → (c.size ≡ d.size) × (c.len ≡ d.len) → begins_group c ≡ true → begins_group d ≡ true
   alike c d has other same_length = both-begin c d has other same_length.0 same_length.1
 
-  -- if one begins a row group all do
+  -- if one begins a row group, all do
   pub all-begin : (k : ℕ) (d : Texts) → k < length columns → begins_group (get_or columns k d) ≡ true → All (λ (c : Texts). begins_group c ≡ true) columns
   all-begin = all-with begins_group HasGroups (λ c d. (c.size ≡ d.size) × (c.len ≡ d.len)) (λ c d same_length. (sym same_length.0, sym same_length.1)) alike columns groups are.same_length
 
   pub none-begin : all_begin columns ≡ false → All (λ (c : Texts). begins_group c ≡ false) columns
   none-begin = none-pass begins_group HasGroups (λ c d. (c.size ≡ d.size) × (c.len ≡ d.len)) (λ c d same_length. (sym same_length.0, sym same_length.1)) alike columns groups are.same_length
 
--- the tests before anything is made: a text too long, an object away, and a form too long
+-- the tests before a form is made: a text too long, an object away, and a form too long
 module _ (short full : Bool × Refusal) (away : List (Bool × Refusal)) (fits : None ≡ first_of (short ∷ [])) where
   pub tests-away : (begins : Bool) (e : Refusal) → begins ≡ false → Some e ≡ first_of away → Some e ≡ first_of (short ∷ (cond begins [] away ++ full ∷ []))
   tests-away begins e not due =
@@ -58,14 +58,14 @@ module _ (short full : Bool × Refusal) (away : List (Bool × Refusal)) (fits : 
       ∙ first-append (cond begins [] away) (full ∷ [])
       ∙ ap (λ r. option_or r (first_of (full ∷ []))) (sym free))
 
--- the objects of the last row groups are asked for if they are begun
+-- the objects of the last row groups are tested if they have been begun
 pub away-begun : (begins : Bool) (away : List (Bool × Refusal)) → true ≡ begins → None ≡ first_of (cond begins [] away)
 away-begun begins away is = ap (λ (b : Bool). first_of (cond b [] away)) is
 
 pub away-longer : (begins : Bool) (away : List (Bool × Refusal)) → false ≡ begins → None ≡ first_of away → None ≡ first_of (cond begins [] away)
 away-longer begins away is free = free ∙ ap (λ (b : Bool). first_of (cond b [] away)) is
 
--- what is known if nothing is refused
+-- what follows if nothing is refused
 pub where-ok : {A : Type 0} (r : Result A Refusal) (P : Type 0) → P → OnOk r P
 where-ok (Ok x) P p = p
 where-ok (Err e) P p = tt

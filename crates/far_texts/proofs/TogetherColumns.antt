@@ -1,4 +1,4 @@
--- Several columns that have a text more each stay columns of one table.
+-- Several columns with one more text each remain columns of one table.
 use Rattle.std.proofs.Common.{◌≡◌, ◌≢◌, inl, inr, ℕ, ◌+◌, ◌<◌, ◌≤◌, Bool, cond, List, [], ◌∷◌, ◌++◌, length, get_or, Option, None, Some, sym, ap, subst, ◌∙◌, arith}
 use Rattle.std.specs.Prelude.{All, slice_get, ◌⊎◌}
 use Rattle.std.proofs.lemmas.Bool.{cases_lt, cases_eq, cases_Bool}
@@ -10,7 +10,7 @@ use Rattle.far_texts.specs.Together.{AreColumns, next_forms, after_push_all, Cha
 use Rattle.far_texts.proofs.TextsGroups.{group-list}
 use Rattle.far_texts.proofs.TogetherAppends.{pushed-at, length-pushed, all-is, column-is}
 
--- an object of a column that has a text more is one of those that it had, or the new one
+-- an object of a column with one more text is one of its old ones, or the new one
 pub object-of : (c : Texts) (o g q : ℕ) → slice_get (after_push c o).objects g ≡ Some q → (slice_get c.objects g ≡ Some q) ⊎ (q ≡ o)
 object-of c o g q here = elim (cases_Bool (begins_group c)) [
   | inl begins ↦
@@ -22,7 +22,7 @@ object-of c o g q here = elim (cases_Bool (begins_group c)) [
   | inr not ↦ inl (sym (ap (λ (b : Bool). slice_get (cond b (c.objects ++ o ∷ []) c.objects) g) not) ∙ here)
 ]
 
--- two columns that get new objects stay disjoint
+-- two columns that get new objects remain disjoint
 pub disjoint-pushed : (c d : Texts) (n o p : ℕ) → AreDisjoint c d → ((g q : ℕ) → slice_get c.objects g ≡ Some q → q < n) → ((g q : ℕ) → slice_get d.objects g ≡ Some q → q < n) → n ≤ o → n ≤ p → o ≢ p → AreDisjoint (after_push c o) (after_push d p)
 disjoint-pushed c d n o p disjoint below_c below_d new_o new_p two g h q here there = elim (object-of c o g q here) [
   | inl mine ↦ elim (object-of d p h q there) [
@@ -45,7 +45,7 @@ module _ (old : Lists) (n : ℕ) (columns : List Texts) (are : AreColumns old co
         absurd (none-some _ (sym (fresh q past) ∙ ap old (sym (get_or_from_slice_get c.objects g q 0 at)) ∙ list))
   ]
 
-  -- a column that has no object in common with one of these has none in common with what they become
+  -- a column that has no object in common with these has none in common with what they become
   pub stays-disjoint : (d : Texts) → IsTextColumn old d → All (λ c. AreDisjoint c d) columns → All (λ c. AreDisjoint c d) (after_push_all n columns)
   stays-disjoint d is disjoint k e below =
       let inside : k < length columns = subst (λ m. k < m) (length-pushed n columns) below in

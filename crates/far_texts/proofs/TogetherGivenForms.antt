@@ -1,4 +1,4 @@
--- The new forms of several columns as they are given to the objects.
+-- The new forms of several columns, as they are stored in the objects.
 use Rattle.std.proofs.Common.{◌≡◌, ◌≢◌, ℕ, ◌+◌, ◌-◌, ◌<◌, ◌≤◌, Bool, true, false, cond, inl, inr, List, [], ◌∷◌, length, get_or, Option, None, Some, sym, ap, subst, ◌∙◌, arith}
 use Rattle.std.specs.Prelude.{All, slice_get, option_map}
 use Rattle.std.proofs.lemmas.Bool.{cases_lt}
@@ -22,13 +22,13 @@ use Rattle.far_texts.proofs.TogetherNextForms.{next-at, length-next, all-at}
 use Rattle.far_texts.proofs.TogetherAppends.{column-is, column-groups, two-disjoint}
 use Rattle.far_texts.proofs.TogetherGrowth.{AreNumbered}
 
--- an object that is none of those in pairs
+-- an object that is in none of the pairs
 pub unlisted-given : (p : ℕ) (forms : List (Replacement ℕ)) → All (λ (form : ℕ × List ℕ). p ≢ form.0) (forms_of forms) → All (λ (r : Replacement ℕ). p ≢ r.object) forms
 unlisted-given p forms un k d below same =
     let pair : Replacement ℕ → ℕ × List ℕ = λ r. (r.object, r.list.items) in
     un k (pair d) (omega (arith, below, length-map forms pair)) (same ∙ ap (λ (f : ℕ × List ℕ). f.0) (sym (get_or-map pair forms k d (pair d) below)))
 
--- a replacement is that of column k
+-- replacement k is the one of column k
 record IsGivenAt (lists : Lists) (n : ℕ) (columns : List Texts) (texts : List (Option (List ℕ))) (k : ℕ) (r : Replacement ℕ) : Type 0 where
   pub c : Texts
   pub text : Option (List ℕ)
@@ -59,7 +59,7 @@ module _ (lists : Lists) (n : ℕ) (columns : List Texts) (texts : List (Option 
       let at = given-at k d below in
       subst (λ l. 0 < length l) (sym at.list) (valid k at.c at.text at.here at.there).some
 
-  -- if row groups begin, the objects are the next that are made
+  -- if row groups begin, the objects are the next ones to be made
   pub given-numbered : ((k : ℕ) (c : Texts) → slice_get columns k ≡ Some c → begins_group c ≡ true) → AreNumbered n forms
   given-numbered begin k d below =
       let at = given-at k d below in
@@ -72,7 +72,7 @@ module _ (lists : Lists) (n : ℕ) (columns : List Texts) (texts : List (Option 
   }
 
   module _ (are : AreColumns lists columns) (groups : All HasGroups columns) (fresh : (p : ℕ) → n ≤ p → lists p ≡ None) (begun : (k : ℕ) (c : Texts) → slice_get columns k ≡ Some c → begins_group c ≡ false) where
-    -- else they are the last objects of the columns
+    -- otherwise they are the last objects of the columns
     last-of : (k : ℕ) (c : Texts) → slice_get columns k ≡ Some c → slice_get c.objects (length c.objects - 1) ≡ Some (last_object c)
     last-of k c here =
         let some = some-group c (column-groups lists n columns are groups fresh k c here) (begun k c here) in
@@ -90,7 +90,7 @@ module _ (lists : Lists) (n : ℕ) (columns : List Texts) (texts : List (Option 
           | inr past ↦ absurd (none-some _ (sym (fresh (last_object c) past) ∙ list))
         ])
 
-    -- none of them is away if each column's next form can be made
+    -- no object is away if each column's next form can be made
     pub given-here : {K : Type 0} (content : K → List ℕ) (m : Movement ℕ K) → All (λ (c : Texts). next_length_refusal content m c ≡ None) columns → All (λ (r : Replacement ℕ). None ≡ lend_refusal m r.object) forms
     given-here content m here k d below =
         let at = given-at k d below in

@@ -1,4 +1,4 @@
--- Several columns, of which one after the other gets a new object.
+-- Several columns, each of which gets a new object in turn.
 use Rattle.std.proofs.Common.{◌≡◌, ◌≢◌, ℕ, suc, ◌+◌, ◌<◌, true, List, [], ◌∷◌, ◌++◌, length, Some, refl, sym, ap, subst, ◌∙◌, arith}
 use Rattle.std.specs.Prelude.{All}
 use Rattle.std.specs.List.{slice_index_or}
@@ -24,7 +24,7 @@ AreNumbered n lists = (k : ℕ) (d : Replacement ℕ) → k < length lists → (
 pub count-after_create : {K : Type 0} (m new : Movement ℕ K) (name : Name) (list : List ℕ) → new ≡ after_create m name list → length new.records ≡ length m.records + 1
 count-after_create m new name list is = ap (λ w. length w.records) is ∙ length_push m.records (new_record name (length list))
 
--- objects that get other lists stay as many
+-- replacing lists keeps the number of objects
 length-after_write_all : {K : Type 0} (m : Movement ℕ K) (lists : List (Replacement ℕ)) → length (after_write_all m lists).records ≡ length m.records
 length-after_write_all m [] = refl
 length-after_write_all m (r ∷ lists) = length-after_write_all (after_write m r.object) lists ∙ length-with m.records r.object (λ object_record. record object_record { version = object_record.version + 1 })
@@ -45,11 +45,11 @@ numbered-first n r rest lists is numbered =
     let first : r.object ≡ n + 0 = subst (AreNumbered n) is numbered 0 r (omega arith) in
     omega arith
 
--- a number is none of those behind it
+-- a number differs from those after it
 pub numbered-disjoint : (n : ℕ) (rest : List (Replacement ℕ)) → AreNumbered (n + 1) rest → All (λ form. n ≢ form.0) (forms_of rest)
 numbered-disjoint n rest numbered = All-map (λ (form : ℕ × List ℕ). n ≢ form.0) (λ (r : Replacement ℕ). (r.object, r.list.items)) rest (λ k d below same. let at = numbered k d below in omega (arith, same, at))
 
--- a column of several gets a new object
+-- one of several columns gets a new object
 pub pushed-more : (n next : ℕ) (c : Texts) (objects : List ℕ) (rest new columns : List Texts) → columns ≡ c ∷ rest → begins_group c ≡ true → objects ≡ c.objects ++ n ∷ [] → next ≡ n + 1 → new ≡ after_push_all next rest
     → record { column = c.column; size = c.size; limit = c.limit; objects = objects; len = c.len + 1 } ∷ new ≡ after_push_all n columns
 pushed-more n next c objects rest new columns is begins more step later =

@@ -1,4 +1,4 @@
--- The new forms of several columns, made one after the other.
+-- The new forms of several columns, made one after another.
 use Rattle.std.proofs.Common.{◌≡◌, inl, inr, ℕ, ◌+◌, ◌<◌, ◌≤◌, List, [], ◌∷◌, ◌++◌, length, get_or, drop, Option, Some, refl, sym, ap, subst, ◌∙◌, arith, append_assoc}
 use Rattle.std.specs.Prelude.{slice_get}
 use Rattle.std.proofs.lemmas.Bool.{cases_lt}
@@ -26,7 +26,7 @@ is-next lists c text bytes form means long short =
     }
 
 module _ (lists : Lists) (n : ℕ) (columns : List Texts) (texts : List (Option (List ℕ))) (k : ℕ) (c : Texts) (text : Option (List ℕ)) (within : k < length columns) (within_too : k < length texts) (read : c ≡ get_or columns k c) (read_too : text ≡ get_or texts k text) where
-  -- one form more is made
+  -- one more form is made
   pub made-more : (made new : List (Replacement ℕ)) (r : Replacement ℕ) (all : List (ℕ × List ℕ)) → forms_of made ++ next_forms lists (n + k) (drop k columns) (drop k texts) ≡ all → new ≡ made ++ r ∷ [] → r.object ≡ object_for c (n + k) → r.list.items ≡ texts_form (group_with_next lists c text)
       → forms_of new ++ next_forms lists (n + (k + 1)) (drop (k + 1) columns) (drop (k + 1) texts) ≡ all
   made-more made new r all was is object list =
@@ -45,7 +45,7 @@ module _ (lists : Lists) (n : ℕ) (columns : List Texts) (texts : List (Option 
       ∙ ap (λ l. forms_of made ++ l) (sym next)
       ∙ was
 
-  -- and so are those before it
+  -- the forms before it are made too
   pub valid-more : IsNextForm lists c text → ((j : ℕ) (d : Texts) (t : Option (List ℕ)) → j < k → slice_get columns j ≡ Some d → slice_get texts j ≡ Some t → IsNextForm lists d t)
       → (j : ℕ) (d : Texts) (t : Option (List ℕ)) → j < k + 1 → slice_get columns j ≡ Some d → slice_get texts j ≡ Some t → IsNextForm lists d t
   valid-more here before j d t below at there = elim (cases_lt j k) [

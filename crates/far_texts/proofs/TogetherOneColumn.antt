@@ -1,4 +1,4 @@
--- One of several columns that get a text each.
+-- One of several columns, to each of which a text is appended.
 use Rattle.std.proofs.Common.{◌≡◌, ◌≢◌, inl, inr, ℕ, ◌<◌, eqb, Bool, true, false, cond, List, [], ◌∷◌, ◌++◌, length, get_or, Option, None, Some, refl, sym, ap, subst, ◌∙◌, arith}
 use Rattle.std.proofs.lemmas.Bool.{cases_eq, cases_lt, cases_Bool, ne_eqb, eq-eqb}
 use Rattle.std.proofs.lemmas.List.{length_push, get_or_push, get_or_append_left}
@@ -17,7 +17,7 @@ pub object-longer : (c : Texts) (n : ℕ) → begins_group c ≡ false → objec
 object-longer c n begins = ap (λ (b : Bool). cond b n (last_object c)) begins
 
 module _ (old new : Lists) (o : ℕ) (bytes : List ℕ) (here : new o ≡ Some bytes) where
-  -- the lists once that of object o alone is changed
+  -- the lists after only the list of object o changed
   abbrev mid : Lists
   mid p = cond (eqb p o) (Some bytes) (old p)
 
@@ -30,7 +30,7 @@ module _ (old new : Lists) (o : ℕ) (bytes : List ℕ) (here : new o ≡ Some b
   mid-changes : ChangesList old mid o (Some bytes)
   mid-changes = record { here = mid-here o refl; others = mid-other }
 
-  -- a column's lists are the same as then, if all but o kept theirs
+  -- a column's lists are those lists, if all objects except o kept theirs
   mid-same : (d : Texts) → ((k : ℕ) → k < length d.objects → get_or d.objects k 0 ≢ o → new (get_or d.objects k 0) ≡ old (get_or d.objects k 0)) → (k : ℕ) → k < length d.objects → new (get_or d.objects k 0) ≡ mid (get_or d.objects k 0)
   mid-same d kept k below = elim (cases_eq (get_or d.objects k 0) o) [
     | inl same ↦ ap new same ∙ here ∙ sym (mid-here (get_or d.objects k 0) same)

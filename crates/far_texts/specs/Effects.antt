@@ -1,4 +1,4 @@
--- How a column of texts changes, and the objects with it.
+-- The effects of calls on a column of texts and its objects.
 use Rattle.std.specs.Prelude.{ℕ, ◌+◌, ◌-◌, ◌*◌, ◌%◌, ◌==◌, if◌then◌else◌, Bool, List, [], ◌∷◌, ◌++◌, length, Option, slice_index, slice_set}
 use Rattle.far_codec.specs.TextForm.{texts_form}
 use Rattle.far_scopes.specs.Movement.{Movement}
@@ -13,28 +13,28 @@ begins_group c = c.len == length c.objects * c.size
 abbrev pub last_object : Texts → ℕ
 last_object c = slice_index c.objects (length c.objects - 1)
 
--- the texts of the row group of a place, once that place has this one
+-- the texts of a place's row group, with this text at the place
 abbrev pub group_with : Lists → Texts → ℕ → Option (List ℕ) → List (Option (List ℕ))
 group_with lists c place text = slice_set (texts_at lists (object_at c place)) (place % c.size) text
 
--- the texts of the row group of the next place, once it has this one
+-- the texts of the next place's row group, with this text appended
 abbrev pub group_with_next : Lists → Texts → Option (List ℕ) → List (Option (List ℕ))
 group_with_next lists c text = (if begins_group c then [] else texts_at lists (last_object c)) ++ text ∷ []
 
--- a column with a text more; o is the number of a new object, which is made if a row group begins
+-- the column with one more text; if a row group begins, a new object is made, with number o
 abbrev pub after_push : Texts → ℕ → Texts
 after_push c o = record c { objects = if begins_group c then c.objects ++ o ∷ [] else c.objects; len = c.len + 1 }
 
 module _ {K : Type 0} (content : K → List ℕ) (m : Movement ℕ K) (c : Texts) where
-  -- the object of the next place: the next that is made, if the place begins a row group
+  -- the object of the next place: a new one if the place begins a row group
   abbrev pub next_object : ℕ
   next_object = if begins_group c then length m.records else last_object c
 
-  -- the objects once the text of a place is another
+  -- the objects after the text at a place is set
   abbrev pub set_in : ℕ → Option (List ℕ) → Movement ℕ K
   set_in place text = after_replace m (object_at c place) (texts_form (group_with (lists_of content m) c place text))
 
-  -- the objects once there is a text more
+  -- the objects after a text is appended
   abbrev pub objects_after_push : Option (List ℕ) → Movement ℕ K
   objects_after_push text =
       let form : List ℕ = texts_form (group_with_next (lists_of content m) c text)

@@ -1,16 +1,17 @@
-// What a call on one column of texts leaves of the others in the same objects.
+// What a call on one column of texts does to the others in the same objects.
 ghost use Rattle.std.specs.Prelude.{◌≡◌, ◌≢◌, ◌<◌, ◌++◌, ℕ, List, [], ◌∷◌, ◌/◌, length, Option, Some, slice_get, slice_set, slice_index_or};
 ghost use Rattle.far_types.specs.Table.{in_group};
 ghost use Rattle.far_texts.specs.Texts.{Texts, Lists, HasGroups, IsTextColumn, texts_at, texts_in};
 ghost use Rattle.far_texts.specs.Effects.{group_with, group_with_next};
 ghost use Rattle.far_texts.specs.Columns.{AreTextColumns, ChangesColumn};
 
-/// Several columns of texts lie in the same objects, and no two have an object in common. Each clause says when that stays so:
+/// A law: several columns of texts share objects, and no two have an object in common. Each clause says when this remains
+/// true:
 ///
-/// - `none`, `more`: they become so one after the other, each without an object.
+/// - `none`, `more`: the columns are added one after another, each without an object.
 /// - `after`, `others`: a call changes one of them, as its clauses `is`, `others` and `disjoint` say. The others keep their
 ///   texts.
-/// - `moved`, `kept`: every object keeps its list, wherever it lies. All keep their texts.
+/// - `moved`, `kept`: every object keeps its list, wherever it is. All keep their texts.
 ///
 /// `far_vector::laws::vectors_stay_together` says the same of columns of numbers.
 pub fn columns_stay_together()
@@ -22,10 +23,10 @@ pub fn columns_stay_together()
     ensures kept { (old : Lists) → (new : Lists) → (c : Texts) → ((o : ℕ) → new o ≡ old o) → texts_in new c ≡ texts_in old c }
 {}
 
-/// The form of a row group's object means the texts of the row group's places, in order (`group`).
+/// A law: the form of a row group's object means the texts of the row group's places, in order (`group`).
 ///
-/// The form that a set or a push makes means the texts of the row group as it is afterwards (`with_text`, `next`). So
-/// `ChunkFull` depends on the texts of the row group's places alone, all of them.
+/// The form that a set or a push makes means the texts of the row group as it is afterwards (`with_text`, `next`). So whether
+/// a call is refused with `ChunkFull` depends only on the texts of the row group's places, all of them.
 pub fn forms_hold_row_groups()
     ensures group { (lists : Lists) → (c : Texts) → (g : ℕ) → (o : ℕ) → HasGroups c → IsTextColumn lists c → slice_get c.objects g ≡ Some o → texts_at lists o ≡ in_group c.size g (texts_in lists c) }
     ensures with_text { (lists : Lists) → (c : Texts) → (place : ℕ) → (text : Option (List ℕ)) → HasGroups c → IsTextColumn lists c → place < c.len → group_with lists c place text ≡ in_group c.size (place / c.size) (slice_set (texts_in lists c) place text) }

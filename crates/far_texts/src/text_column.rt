@@ -16,19 +16,19 @@ use std::alloc::Global;
 use std::marker::Model;
 pub use together::{fill_texts, may_push_texts, push_texts};
 
-/// A column of texts, each of which may be missing. The texts of a row group lie together as one far form. That form is the
-/// list of one object of the `Objects<u8, S>` that each call names.
+/// A column of texts that may be missing. The texts of a row group are encoded as one far form, which is the list of one
+/// object of the `Objects<u8, S>` that each call takes.
 ///
-/// Contracts see the column as the record of its fields, and its texts by the lists of its objects.
+/// Contracts see the column as the record of its fields, and its texts in the lists of its objects.
 #[derive(Drop)]
 pub struct TextColumn {
-    // The column's number, by which its objects are named.
+    // The column's number, which names its objects.
     column: u32,
     // How many places a row group has.
     size: usize,
     // A hint for divisions by `size`.
     reciprocal: Reciprocal,
-    // How many bytes the form of a row group may have.
+    // How many bytes the form of a row group may have at most.
     limit: usize,
     // The object of each row group.
     objects: Vec<u32>,
@@ -47,9 +47,9 @@ impl Model for TextColumn {
 }
 
 impl TextColumn {
-    /// Returns a column without a text. `column` is its number, `size` how many places a row group has (1 to 65,536). `limit`
-    /// is how many bytes the far form of a row group may have (at most 16,777,216): what a segment of local memory holds.
-    /// Allocates nothing.
+    /// Makes a column without texts. `column` is its number, `size` how many places a row group has (1 to 65,536). `limit` is
+    /// how many bytes the far form of a row group may have (at most 16,777,216), which is the size of a segment of local
+    /// memory. Allocates nothing.
     pub fn new(alloc: Global, column: u32, size: usize, limit: usize) -> TextColumn
         requires some { 0 < size }
         requires small { size ≤ 2 ^ 16 }
@@ -76,7 +76,7 @@ impl TextColumn {
         self.len
     }
 
-    /// Returns the object of a row group; `None` exactly if no place of it is used. Allocates nothing.
+    /// Returns the object of a row group, or `None` exactly if no place of it is used. Allocates nothing.
     pub fn object(&self, group: usize) -> Option<u32>
         ensures { result ≡ slice_get self.now.objects group }
     {

@@ -1,4 +1,4 @@
--- A row group more, and one less.
+-- One more row group, and one less.
 use Rattle.std.proofs.Common.{◌≡◌, ◌≢◌, ℕ, suc, ◌+◌, ◌-◌, ◌*◌, ◌/◌, ◌<◌, ◌^◌, List, [], ◌∷◌, ◌++◌, length, take, drop, set, get_or, replicate, Option, Some, refl, sym, ap, subst, ◌∙◌, arith, length-append}
 use Rattle.std.specs.Prelude.{All, IsSomeAnd, slice_get, slice_index}
 use Rattle.std.proofs.lemmas.List.{length-take-le, append-nil, length-replicate, take_all, take-take, drop_all, get_or-take, get_or_at}
@@ -13,7 +13,7 @@ use Rattle.far_vector.proofs.VectorWrites.{take-after, drop-after}
 use Rattle.far_vector.proofs.VectorDisjointness.{vector-unchanged, elements-unchanged, untouched}
 
 module _ {X : Type 0} (v : Vector X) (o : ℕ) where
-  -- a vector with the first element of a row group more, whose object is o
+  -- a vector with one more row group, which has its first element and object o
   abbrev pub begun : Vector X
   begun = record v { objects = v.objects ++ o ∷ []; len = v.len + 1 }
 
@@ -74,7 +74,7 @@ module _ {X : Type 0} (old new : ℕ → Option (List X)) (v : Vector X) (shaped
         disjoint = All-push (λ q. All (λ p. q ≢ p) w.objects) v.objects o disjoint (λ k d within e. omega (arith, below-w k d within, e));
       }
 
--- the last row group goes, of which one element was used
+-- the last row group is removed, of which one element was used
 module _ {X : Type 0} (old new : ℕ → Option (List X)) (v : Vector X) (shaped : IsShaped v) (is : IsVector old v) (alone : v.len ≡ (length v.objects - 1) * v.size + 1) (o : ℕ) (last : slice_get v.objects (length v.objects - 1) ≡ Some o) (others : KeepsOthers old new o) where
   abbrev others_of : List ℕ
   others_of = take (length v.objects - 1) v.objects

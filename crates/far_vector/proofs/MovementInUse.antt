@@ -19,12 +19,12 @@ module _ {X K : Type 0} (meaning : List ℕ → List X) (content : K → List �
     | inr past ↦ absurd (subst (λ list. IsSomeAnd list P) (none-past o past) has)
   ]
 
--- numbers that rise are at least as large as their places
+-- ascending numbers are at least their indexes
 climbs : (objects : List ℕ) → AllPairs (λ o p. o < p) objects → (k : ℕ) → k < length objects → k ≤ get_or objects k 0
 climbs objects sorted zero within = omega arith
 climbs objects sorted (suc k) within = omega (arith, climbs objects sorted k (omega arith), sorted k (suc k) 0 (omega arith) within)
 
--- so there are at most as many as the number that bounds them
+-- so there are at most as many as their bound
 pub bounded-sorted : (objects : List ℕ) (n : ℕ) → AllPairs (λ o p. o < p) objects → All (λ o. o < n) objects → length objects ≤ n
 bounded-sorted objects n sorted below = elim (cases_lt 0 (length objects)) [
   | inl some ↦ (let last = below (length objects - 1) 0 (omega arith) in omega (arith, last, climbs objects sorted (length objects - 1) (omega arith)))

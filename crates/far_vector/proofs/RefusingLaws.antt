@@ -1,4 +1,4 @@
--- What is known if a part, or an element that is set, is not refused.
+-- What follows if borrowing a part, or setting an element, is not refused.
 use Rattle.std.proofs.Common.{◌≡◌, ℕ, ◌-◌, ◌/◌, ◌<◌, ◌≤◌, Bool, true, false, [], ◌∷◌, nat_lt, None, refl}
 use Rattle.std.specs.Prelude.{◌==◌, ◌&&◌, not}
 use Rattle.std.proofs.lemmas.Bool.{ltb-true, ltb-false, or_parts, lt-ltb, eqb-true, not-false}
@@ -56,7 +56,7 @@ module _ {X : Type 0} (v : Vector X) (from to : ℕ) where
     pub free-written : write_refusal m (object_at v from) ≡ None
     free-written = two-free (absent m (object_at v from)).0 (written_out m (object_at v from)).0 (absent m (object_at v from)).1 (written_out m (object_at v from)).1 (there-if from to _ some parts.2) (there-if from to _ some parts.3)
 
--- an element that may be set is there, and its object may be written
+-- an element that may be set exists, and its object may be written
 module _ {X K : Type 0} (m : Movement X K) (v : Vector X) (i : ℕ) (free : set_refusal m v i ≡ None) where
   set-parts : ((past_end v i).0 ≡ false) × ((absent m (object_at v i)).0 ≡ false) × ((written_out m (object_at v i)).0 ≡ false)
   set-parts = free-three (past_end v i).0 (absent m (object_at v i)).0 (written_out m (object_at v i)).0 (past_end v i).1 (absent m (object_at v i)).1 (written_out m (object_at v i)).1 free

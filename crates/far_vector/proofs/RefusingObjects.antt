@@ -1,4 +1,4 @@
--- Objects that are asked for one after the other.
+-- Objects that are checked one after another.
 use Rattle.std.proofs.Common.{◌≡◌, ℕ, ◌+◌, ◌<◌, Bool, true, false, cond, List, length, drop, get_or, Option, Some, None, refl, sym, ◌∙◌}
 use Rattle.std.specs.Prelude.{not}
 use Rattle.std.proofs.lemmas.List.{at_drop_more}

@@ -1,4 +1,4 @@
--- A vector that shares no object with another stays what it was when that is written.
+-- A vector that shares no object with another is unchanged when that is written.
 use Rattle.std.proofs.Common.{◌≡◌, ◌≢◌, ℕ, List, length, take, drop, Option, Some, sym, ap, subst, ◌∙◌}
 use Rattle.std.specs.Prelude.{All, IsSomeAnd, slice_get}
 use Rattle.std.proofs.lemmas.Option.{slice_get_within, get_or_from_slice_get}

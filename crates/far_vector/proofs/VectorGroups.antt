@@ -1,4 +1,4 @@
--- The list of a row group's object: its elements, and what stands in places that are not yet used.
+-- The list of a row group's object: its elements, and the values of unused places.
 use Rattle.std.proofs.Common.{◌≡◌, ℕ, zero, suc, ◌+◌, ◌-◌, ◌*◌, ◌<◌, ◌≤◌, List, [], ◌∷◌, ◌++◌, length, take, drop, get_or, Option, Some, refl, sym, ap, subst, ◌∙◌, arith, mul-le-mul_right}
 use Rattle.std.specs.Prelude.{replicate, slice_get, IsSomeAnd}
 use Rattle.std.proofs.lemmas.List.{take_all, take-append-le, take-append-drop, take-replicate, drop-append-le, length-drop}
@@ -8,7 +8,7 @@ use Rattle.far_vector.specs.Vector.{Vector, IsShaped, IsVector, places, elements
 use Rattle.far_vector.proofs.VectorPlaces.{list_at, some-at, places-split, length-own, length-before}
 use Rattle.far_vector.proofs.VectorLaws.{length-elements}
 
--- so many of a list with enough behind it: what the list has of them, and the rest
+-- the first n elements of a list and a long enough tail: those of the list, then the rest of the tail
 filled : {X : Type 0} (size n : ℕ) (xs : List X) (b : X) → size ≤ length xs + n → take size (xs ++ replicate n b) ≡ take size xs ++ replicate (size - length (take size xs)) b
 filled zero n xs b fits = refl
 filled (suc k) n [] b fits = take-replicate (suc k) n b (omega (arith, fits)) ∙ ap (λ m. replicate m b) (let e : suc k ≡ suc k - 0 = omega arith in e)

@@ -1,4 +1,4 @@
--- The elements of a vector in the lists of its objects.
+-- The elements of a vector, in the lists of its objects.
 use Rattle.std.proofs.Common.{◌≡◌, ℕ, suc, ◌+◌, ◌-◌, ◌*◌, ◌/◌, ◌%◌, ◌<◌, ◌≤◌, List, ◌++◌, length, take, drop, get_or, Option, Some, refl, sym, ap, ◌∙◌, arith}
 use Rattle.std.specs.Prelude.{IsSomeAnd, slice_get, slice_range}
 use Rattle.std.proofs.lemmas.Nat.{div_below, mod_below, div-add-mod'}
@@ -52,7 +52,7 @@ module _ {X : Type 0} (lists : ℕ → Option (List X)) (v : Vector X) (shaped :
     in-own : i % v.size < length own
     in-own = omega (arith, own-long, mod_below i v.size shaped.some)
 
-    -- a place in the list of its row group
+    -- a place, as an index in the list of its row group
     place-in : (d : X) → get_or (places lists v.objects) i d ≡ get_or own (i % v.size) d
     place-in d =
         ap (λ l. get_or l i d) split
@@ -60,7 +60,7 @@ module _ {X : Type 0} (lists : ℕ → Option (List X)) (v : Vector X) (shaped :
         ∙ get_or-append-add front (own ++ back) (i % v.size) d
         ∙ get_or_append_left own back d (i % v.size) in-own
 
-    -- what begins at a place
+    -- the elements from a place on
     rest-in : drop i (places lists v.objects) ≡ drop (i % v.size) own ++ back
     rest-in =
         ap (drop i) split
@@ -94,13 +94,13 @@ part-fits size from to some more same =
     omega (arith, here, last, below, rows)
 
 module _ {X : Type 0} (lists : ℕ → Option (List X)) (v : Vector X) (shaped : IsShaped v) (is : IsVector lists v) where
-  -- the element that the list of its object has
+  -- the element in the list of its object
   pub get-is : (i : ℕ) → i < v.len → (list : List X) → lists (object_at v i) ≡ Some list → (x : X) → x ≡ get_or list (i % v.size) x → slice_get (elements lists v) i ≡ Some x
   get-is i within list has x read =
       slice_get-get_or (elements lists v) i x (omega (arith, length-elements lists v shaped is, within))
       ∙ ap Some (element-is lists v shaped is i within x ∙ (rw has (sym read)))
 
-  -- the part that the list of its object has
+  -- the part in the list of its object
   pub part-lent : (from to : ℕ) → from < to → to ≤ v.len → from / v.size ≡ (to - 1) / v.size → (list : List X) → lists (object_at v from) ≡ Some list → take (from % v.size + (to - from) - from % v.size) (drop (from % v.size) list) ≡ slice_range (elements lists v) from to
   part-lent from to some within same list has =
       let e : from % v.size + (to - from) - from % v.size ≡ to - from = omega arith in

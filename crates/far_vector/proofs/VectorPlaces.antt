@@ -1,4 +1,4 @@
--- The places of objects, one object after the other.
+-- The places of objects, one object after another.
 use Rattle.std.proofs.Common.{◌≡◌, ◌≢◌, ℕ, zero, suc, ◌+◌, ◌*◌, ◌<◌, ◌≤◌, List, [], ◌∷◌, ◌++◌, length, take, drop, get_or, Option, None, Some, refl, sym, ap, subst, ◌∙◌, arith, append_assoc, length-append}
 use Rattle.std.specs.Prelude.{All, AllPairs, IsSomeAnd, unwrap_or, slice_get}
 use Rattle.std.proofs.lemmas.Option.{slice_get_within, get_or_from_slice_get}
@@ -42,12 +42,12 @@ module _ {X : Type 0} where
     places-append [] o = append-nil (list_at lists o)
     places-append (p ∷ objects) o = ap (λ l. list_at lists p ++ l) (places-append objects o) ∙ sym (append_assoc (list_at lists p) (places lists objects) (list_at lists o))
 
-  -- objects whose lists stay have the places that they had
+  -- objects whose lists do not change have the same places
   pub places-unchanged : (old new : ℕ → Option (List X)) (objects : List ℕ) → All (λ o. new o ≡ old o) objects → places new objects ≡ places old objects
   places-unchanged old new [] same = refl
   places-unchanged old new (o ∷ objects) same = rw (same 0 o (omega arith)) (ap (λ l. list_at old o ++ l) (places-unchanged old new objects (λ k d within. same (suc k) d (omega arith))))
 
-  -- a range that is written into the middle of three lists
+  -- a range is written into the middle of three lists
   pub spliced : (before xs after range : List X) (a e i j : ℕ) → a ≤ length xs → e ≤ length xs → i ≡ length before + a → j ≡ length before + e → before ++ ((take a xs ++ (range ++ drop e xs)) ++ after) ≡ take i (before ++ (xs ++ after)) ++ (range ++ drop j (before ++ (xs ++ after)))
   spliced before xs after range a e i j within inside from to =
       let left : take i (before ++ (xs ++ after)) ≡ before ++ take a xs = rw from (take-append-add before (xs ++ after) a ∙ ap (λ l. before ++ l) (take-append-le a xs after within)) in
@@ -75,7 +75,7 @@ module _ (objects : List ℕ) (sorted : AllPairs (λ o p. o < p) objects) (g o :
       omega (arith, less, here, there, same)
 
 module _ {X : Type 0} (old new : ℕ → Option (List X)) (objects : List ℕ) (sorted : AllPairs (λ o p. o < p) objects) (g o : ℕ) (is : slice_get objects g ≡ Some o) (others : KeepsOthers old new o) where
-  -- one object's list changes: the places before and after its own are what they were
+  -- one object's list changes: the places before and after its own do not
   pub places-changed : places new objects ≡ places old (take g objects) ++ (list_at new o ++ places old (drop (suc g) objects))
   places-changed =
       places-split new objects g o is
@@ -96,7 +96,7 @@ module _ {X : Type 0} (lists : ℕ → Option (List X)) (size : ℕ) (objects : 
       length-places lists size (take g objects) (All-take (λ p. IsSomeAnd (lists p) (λ list. length list ≡ size)) g objects whole) ∙ ap (λ n. n * size) short
 
 module _ {X : Type 0} (old new : ℕ → Option (List X)) (size : ℕ) (objects : List ℕ) (sorted : AllPairs (λ o p. o < p) objects) (whole : AreWhole old size objects) (g o : ℕ) (is : slice_get objects g ≡ Some o) (others : KeepsOthers old new o) where
-  -- a range is written into one object's list: so it is into the places
+  -- writing a range into one object's list writes it into the places
   pub range-places : (a n : ℕ) (range : List X) → length range ≡ n → a + n ≤ size → list_at new o ≡ take a (list_at old o) ++ (range ++ drop (a + n) (list_at old o)) → (i : ℕ) → i ≡ g * size + a → places new objects ≡ take i (places old objects) ++ (range ++ drop (i + length range) (places old objects))
   range-places a n range long fits now i at =
       let same : length (list_at old o) ≡ size = length-own old size objects whole g o is in

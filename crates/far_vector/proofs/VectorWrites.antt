@@ -1,4 +1,4 @@
--- Elements that are written over.
+-- Overwritten elements.
 use Rattle.std.proofs.Common.{◌≡◌, ℕ, suc, ◌+◌, ◌-◌, ◌*◌, ◌/◌, ◌%◌, ◌<◌, ◌≤◌, List, [], ◌∷◌, ◌++◌, length, take, drop, get_or, replicate, Option, Some, inl, inr, refl, sym, ap, subst, ◌∙◌, arith, length-append}
 use Rattle.std.specs.Prelude.{IsSomeAnd, slice_set}
 use Rattle.std.proofs.lemmas.Bool.{cases_eq}
@@ -25,7 +25,7 @@ module _ {X : Type 0} where
     len-is : len ≡ i + length range + (len - (i + length range))
     len-is = omega (arith, within)
 
-    -- a range that is written over the first elements changes them alone
+    -- a range written over the first elements changes only them
     take-written : take len (take i all ++ (range ++ after)) ≡ take i (take len all) ++ (range ++ drop (i + length range) (take len all))
     take-written =
         let rest : drop (i + length range) (take len all) ≡ take (len - (i + length range)) after =
@@ -51,7 +51,7 @@ module _ {X : Type 0} where
       omega (arith, one, two, front, back, long, fits)
 
 module _ {X : Type 0} (old new : ℕ → Option (List X)) (v : Vector X) (shaped : IsShaped v) (is : IsVector old v) (i : ℕ) where
-  -- a range that is written over the list of one object is written over the places
+  -- a range written over the list of one object is written over the places
   pub places-after_write : i < length v.objects * v.size → KeepsOthers old new (object_at v i) → (range list : List X) → i % v.size + length range ≤ v.size → old (object_at v i) ≡ Some list → new (object_at v i) ≡ Some (take (i % v.size) list ++ (range ++ drop (i % v.size + length range) list)) → WritesPlaces old new v i range
   places-after_write there others range list fits had has =
       let o : ℕ = object_at v i in
@@ -78,11 +78,11 @@ module _ {X : Type 0} (old new : ℕ → Option (List X)) (v : Vector X) (shaped
         unused = ap (drop v.len) writes.places ∙ drop-written (places old v.objects) range i v.len within (omega (arith, all-long, shaped.enough)) ∙ is.unused;
       }
 
--- an element that is written over
+-- an overwritten element
 pub one-written : {X : Type 0} (xs : List X) (i : ℕ) (x : X) → i < length xs → take i xs ++ ((x ∷ []) ++ drop (i + length (x ∷ [])) xs) ≡ slice_set xs i x
 one-written xs i x within = let e : i + length (x ∷ []) ≡ suc i = omega arith in rw e (sym (set_split xs i x within))
 
--- an element that is written into the first place that is not yet used
+-- an element written to the first unused place
 module _ {X : Type 0} (old new : ℕ → Option (List X)) (v : Vector X) (shaped : IsShaped v) (is : IsVector old v) (x : X) (writes : WritesPlaces old new v v.len (x ∷ [])) (space : v.len < length v.objects * v.size) where
   abbrev filled : Vector X
   filled = record v { len = v.len + 1 }

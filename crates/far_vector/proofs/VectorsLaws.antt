@@ -1,4 +1,4 @@
--- Vectors that lie in the same objects, once one of them changes.
+-- Vectors in the same objects, after one of them changes.
 use Rattle.std.proofs.Common.{◌≡◌, ◌≢◌, ℕ, ◌<◌, List, [], ◌∷◌, ◌++◌, length, Option, Some, sym, ap, ◌∙◌, arith}
 use Rattle.std.specs.Prelude.{slice_get, slice_set, slice_index_or}
 use Rattle.std.proofs.lemmas.List.Elements.{All-push}
@@ -12,7 +12,7 @@ module _ {X : Type 0} where
   pub disjoint-turned : (v w : Vector X) → AreDisjoint v w → AreDisjoint w v
   disjoint-turned v w h = λ k d within j e inside same. h j e inside k d within (sym same)
 
-  -- vectors come together one after the other, each without an object
+  -- vectors are added one after another, each without an object
   pub no-vectors : (lists : ℕ → Option (List X)) → AreVectors lists []
   no-vectors lists = record {
     each = λ k d within. let no : ⊥ = omega (arith, within) in absurd no;
@@ -40,7 +40,7 @@ module _ {X : Type 0} where
         let all_disjoint = was-all_disjoint AreDisjoint disjoint-turned (IsVector old) (IsVector new) vectors are.each are.disjoint k v v' at change.is others-are j d ne within in
         ap (elements new) (other AreDisjoint disjoint-turned (IsVector old) (IsVector new) vectors are.each are.disjoint k v v' at change.is others-are j d ne) ∙ (change.others (slice_index_or vectors j d) (are.each j d within) all_disjoint).elements
 
-  -- lists that stay
+  -- lists that do not change
   pub vectors-stay : (old new : ℕ → Option (List X)) (vectors : List (Vector X)) → AreVectors old vectors → ((o : ℕ) → new o ≡ old o) → AreVectors new vectors
   vectors-stay old new vectors are same = record {
     each = λ k d within. vector-unchanged old new (slice_index_or vectors k d) (λ j e inside. same (slice_index_or (slice_index_or vectors k d).objects j e)) (are.each k d within);

@@ -1,4 +1,4 @@
--- How a vector and its objects change.
+-- The effects of calls on a vector and its objects.
 use Rattle.std.specs.Prelude.{ℕ, ◌+◌, ◌-◌, ◌*◌, ◌%◌, ◌==◌, if◌then◌else◌, Bool, List, [], ◌∷◌, ◌++◌, length, take, replicate}
 use Rattle.far_types.specs.declared.name.Name.{Name}
 use Rattle.far_scopes.specs.Movement.{Movement}
@@ -18,19 +18,19 @@ module _ {X : Type 0} where
   abbrev pub next_group : Vector X → X → List X
   next_group v x = x ∷ replicate (v.size - 1) v.default_value
 
-  -- one element more; the object of a new row group has this number
+  -- the vector with one more element; if a new row group begins, its object has this number
   abbrev pub after_push : Vector X → ℕ → Vector X
   after_push v o = if is_full v then record v { objects = v.objects ++ o ∷ []; len = v.len + 1 } else record v { len = v.len + 1 }
 
-  -- without the last element, which is alone in its row group, and without its object
+  -- the vector without its last element and the object of its last row group, which had only that element
   abbrev pub after_unpush : Vector X → Vector X
   after_unpush v = record v { objects = take (length v.objects - 1) v.objects; len = v.len - 1 }
 
   module _ {K : Type 0} where
-    -- the objects once a range is written over the elements from the i-th on, all of one row group
+    -- the objects after a range is written over the elements from the i-th on, all of one row group
     abbrev pub after_write_range : Movement X K → Vector X → ℕ → List X → Movement X K
     after_write_range m v i range = after_overwrite (after_write m (object_at v i)) (object_at v i) (i % v.size) range
 
-    -- the objects once an element is pushed
+    -- the objects after an element is pushed
     abbrev pub objects_after_push : Movement X K → Vector X → X → Movement X K
     objects_after_push m v x = if is_full v then after_create m (next_name v) (next_group v x) else after_write_range m v v.len (x ∷ [])

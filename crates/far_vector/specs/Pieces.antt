@@ -2,23 +2,23 @@
 use Rattle.std.specs.Prelude.{ℕ, ◌+◌, ◌-◌, ◌*◌, ◌/◌, if◌then◌else◌, nat_lt, min, max, List, map, slice_range}
 use Rattle.std.specs.List.{range_with_len}
 
--- the first row group of one size that holds places `from` up to `to`
+-- the first row group of this size with some of the places `from` up to `to`
 abbrev pub first_overlapped : ℕ → ℕ → ℕ
 first_overlapped size from = from / size
 
--- how many row groups of one size hold places `from` up to `to`
+-- how many row groups of this size have some of the places `from` up to `to`
 abbrev pub overlapped_count : ℕ → ℕ → ℕ → ℕ
 overlapped_count size from to = if nat_lt from to then (to - 1) / size + 1 - from / size else 0
 
--- the numbers of the row groups of one size that hold places `from` up to `to`
+-- the numbers of the row groups of this size with some of the places `from` up to `to`
 abbrev pub overlapped_groups : ℕ → ℕ → ℕ → List ℕ
 overlapped_groups size from to = range_with_len (first_overlapped size from) (overlapped_count size from to)
 
 module _ {X : Type 0} where
-  -- what row group g has of the elements `from` up to `to`
+  -- the elements of row group g among the elements `from` up to `to`
   abbrev pub piece : List X → ℕ → ℕ → ℕ → ℕ → List X
   piece elements size from to g = slice_range elements (max from (g * size)) (min to (g * size + size))
 
-  -- the part, a piece for each row group that holds some of it
+  -- the elements `from` up to `to`, as a list for each row group that has some of them
   abbrev pub pieces_of : List X → ℕ → ℕ → ℕ → List (List X)
   pieces_of elements size from to = map (piece elements size from to) (overlapped_groups size from to)

@@ -1,15 +1,15 @@
-// What a call on one vector leaves of the others in the same objects.
+// What a call on one vector does to the others in the same objects.
 ghost use Rattle.std.specs.Prelude.{◌≡◌, ◌≢◌, ◌<◌, ◌++◌, ℕ, List, [], ◌∷◌, length, Option, Some, slice_get, slice_set, slice_index_or};
 ghost use Rattle.far_vector.specs.Vector.{Vector, IsShaped, IsVector, elements, group_list};
 ghost use Rattle.far_vector.specs.Vectors.{AreVectors, ChangesVector};
 
 use far_codec::Elem;
 
-/// Several vectors lie in the same objects, and no two have an object in common. Each clause says when that stays so:
+/// A law: several vectors share objects, and no two have an object in common. Each clause says when this remains true:
 ///
-/// - `none`, `more`: they become so one after the other, each without an object.
+/// - `none`, `more`: the vectors are added one after another, each without an object.
 /// - `after`, `others`: a call changes one of them, as its clauses `is` and `disjoint` say. The others keep their elements.
-/// - `moved`, `kept`: every object keeps its list, wherever it lies. All keep their elements.
+/// - `moved`, `kept`: every object keeps its list, wherever it is. All keep their elements.
 pub fn vectors_stay_together<T: Elem>()
     ensures none { (lists : ℕ → Option (List T)) → AreVectors lists [] }
     ensures more { (lists : ℕ → Option (List T)) → (vectors : List (Vector T)) → (v : Vector T) → AreVectors lists vectors → IsVector lists v → v.objects ≡ [] → AreVectors lists (vectors ++ v ∷ []) }
@@ -19,8 +19,8 @@ pub fn vectors_stay_together<T: Elem>()
     ensures kept { (old : ℕ → Option (List T)) → (new : ℕ → Option (List T)) → (w : Vector T) → ((o : ℕ) → new o ≡ old o) → elements new w ≡ elements old w }
 {}
 
-/// The object of a row group holds the elements of the row group's places, in order. Behind them, up to the length of a row
-/// group, stands what places hold that are not yet used.
+/// A law: the object of a row group has the elements of the row group's places, in order. After them, up to the length of a
+/// row group, it has the values of unused places.
 pub fn objects_hold_row_groups<T: Elem>()
     ensures { (lists : ℕ → Option (List T)) → (v : Vector T) → (g : ℕ) → (o : ℕ) → IsShaped v → IsVector lists v → slice_get v.objects g ≡ Some o → lists o ≡ Some (group_list v (elements lists v) g) }
 {}

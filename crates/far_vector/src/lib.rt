@@ -1,5 +1,5 @@
 #![tactic(auto)]
-//! Lists of elements that lie in shared objects, one object a row group.
+//! Vectors over far objects: lists of elements, with one object for each row group.
 
 pub mod laws;
 mod pieces;

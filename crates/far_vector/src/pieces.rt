@@ -11,8 +11,8 @@ use far_scopes::Objects;
 use far_store::FarTickets;
 use std::marker::Model;
 
-/// A part of a vector, piece by piece: a slice of each row group that has some of it, borrowed from its object. No piece is
-/// empty.
+/// An iterator over a part of a vector. It returns one slice for each row group that has some of the part, borrowed from its
+/// object. No slice is empty.
 #[derive(Drop)]
 pub struct Pieces<'a, T: Elem, S: FarTickets> {
     vector: &'a FarVector<T>,
@@ -40,7 +40,7 @@ impl<'a, T: Elem, S: FarTickets> Model for Pieces<'a, T, S> {
 }
 
 impl<'a, T: Elem, S: FarTickets> Pieces<'a, T, S> {
-    // Returns the pieces of a part that may be lent.
+    // Makes the iterator over a part that may be lent.
     pub(crate) fn new(
         vector: &'a FarVector<T>,
         objects: &'a Objects<T, S>,
@@ -59,10 +59,10 @@ impl<'a, T: Elem, S: FarTickets> Pieces<'a, T, S> {
         }
     }
 
-    /// Returns the next piece, and `None` if there is none left. Allocates nothing.
+    /// Returns the next piece, or `None` at the end. Allocates nothing.
     ///
-    /// This is no `Iterator`: the prover cannot prove such a method of a trait, if it calls what needs elements that threads
-    /// may share.
+    /// This is no `Iterator`: the prover cannot prove a method of that trait if it calls something that requires elements
+    /// that threads may share.
     pub fn next(&mut self) -> Option<&'a [T]>
         ensures first { IfSome result (λ piece. self.old ≡ piece.now ∷ self.new) }
         ensures none { IfNone result ((self.old ≡ []) × (self.new ≡ [])) }
@@ -79,7 +79,7 @@ impl<'a, T: Elem, S: FarTickets> Pieces<'a, T, S> {
         Some(piece)
     }
 
-    /// Returns how many pieces are left. Allocates nothing.
+    /// Returns how many pieces remain. Allocates nothing.
     pub fn len(&self) -> usize
         ensures { result ≡ length self.now }
     {

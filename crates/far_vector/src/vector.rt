@@ -1,4 +1,4 @@
-// Lists of elements, one object a row group.
+// Vectors, one object for each row group.
 ghost use Rattle.std.specs.Prelude.{◌≡◌, ℕ, ◌-◌, ◌*◌, ◌/◌, ◌%◌, ◌<◌, List, [], length, replicate, Option, false, IfOk, IfErr, IsSomeAnd, slice_get};
 ghost use Rattle.far_scopes.specs.Movement.{list_of};
 ghost use Rattle.far_vector.specs.Vector.{IsShaped, IsVector, object_at};
@@ -24,10 +24,11 @@ struct Position {
     index: usize,
 }
 
-/// A list of elements that lies in objects, one object a row group. Many vectors share the objects: each call names them.
+/// A list of elements that is stored in objects, one object for each row group. Many vectors share the objects, which each
+/// call takes as an argument.
 ///
-/// Each object has as many elements as a row group. Places that are not yet used have the default value. The vector's column
-/// and the row groups name the objects.
+/// Each object has as many elements as a row group. Unused places have the default value. The vector's column and the row
+/// group name each object.
 #[derive(Drop)]
 pub struct FarVector<T: Elem> {
     column: u32,
@@ -36,7 +37,7 @@ pub struct FarVector<T: Elem> {
     objects: Vec<u32>,
     len: usize,
     default_value: T,
-    // The list of the next row group: all but its first element have the default value.
+    // The list for the next row group: all but its first element have the default value.
     next: Vec<T>,
 }
 
@@ -53,10 +54,9 @@ impl<T: Elem> Model for FarVector<T> {
 }
 
 impl<T: Elem> FarVector<T> {
-    /// Returns the empty list of a column, in row groups of `size` elements; `default_value` stands in places that are not yet
-    /// used.
+    /// Makes the empty vector of a column, in row groups of `size` elements. Unused places have `default_value`.
     ///
-    /// Allocates all memory for elements outside the objects. Refused with `NoMemory` (1) alone.
+    /// Allocates all memory for elements outside the objects. Refused only with `NoMemory` (1).
     pub fn new(
         alloc: Global,
         column: u32,
@@ -103,7 +103,7 @@ impl<T: Elem> FarVector<T> {
         self.objects.get(group as usize).copied()
     }
 
-    // Returns the row group of a place.
+    // Returns the row group of place `i`.
     #[inline(always)]
     fn group_of(&self, i: usize) -> usize
         ensures { result ≡ i / self.now.size }
@@ -111,7 +111,7 @@ impl<T: Elem> FarVector<T> {
         self.reciprocal.quotient(i, self.size)
     }
 
-    // Returns the position of a place that some row group has.
+    // Returns the position of a place in a row group that has been begun.
     #[inline(always)]
     fn position<S: FarTickets>(&self, objects: &Objects<T, S>, i: usize) -> Position
         requires is { IsVector (list_of T.meaning S.content objects.now) self.now }
@@ -128,7 +128,7 @@ impl<T: Elem> FarVector<T> {
         self.position_in(objects, group, i)
     }
 
-    // Returns the position of the next element. Its row group must be begun, so it is the last one.
+    // Returns the position of the next element, which is in the last row group. That must have been begun.
     #[inline(always)]
     fn next_position<S: FarTickets>(&self, objects: &Objects<T, S>) -> Position
         requires is { IsVector (list_of T.meaning S.content objects.now) self.now }
@@ -143,7 +143,7 @@ impl<T: Elem> FarVector<T> {
         self.position_in(objects, self.objects.len() - 1, self.len)
     }
 
-    // Returns the position of a place of a row group. For the proof: by the contract of `number`, its object is in use.
+    // Returns the position of a place in a row group. For the proof: by the contract of `number`, its object is in use.
     #[inline(always)]
     fn position_in<S: FarTickets>(
         &self,
@@ -162,7 +162,7 @@ impl<T: Elem> FarVector<T> {
         ensures list { IsSomeAnd (list_of T.meaning S.content objects.now result.object) (λ list. length list ≡ self.now.size) }
         ensures shaped { IsShaped self.now }
     {
-        // For the proof: gives that an object with a list is in use.
+        // For the proof: shows that an object with a list is in use.
         let _ = objects.number();
         Position {
             place: i,
@@ -172,7 +172,7 @@ impl<T: Elem> FarVector<T> {
     }
 }
 
-// Returns a list of `count` elements, all of the default value.
+// Returns a list of `count` default values.
 fn default_values<T: Elem>(alloc: Global, count: usize, default_value: T) -> Result<Vec<T>, Refusal>
     ensures default_value { IfOk result (λ list. list.items ≡ replicate count default_value) }
     ensures memory { IfErr result (λ e. e ≡ Refusal.NoMemory) }

@@ -1,4 +1,4 @@
-// Several columns of numbers get a number each, all or none.
+// Appends a number to each of several columns, all or none.
 ghost use Rattle.std.specs.Prelude.{◌≡◌, ◌⊎◌, ◌≤◌, ◌+◌, ◌-◌, ◌^◌, if◌then◌else◌, ℕ, List, length, map, take, true, false, None, Some, OnOk, IfErr, OnErr};
 ghost use Rattle.far_codec.specs.Reading.{ints_meaning};
 ghost use Rattle.far_scopes.specs.Movement.{AreClean, AreHere};
@@ -20,17 +20,17 @@ use far_types::Refusal;
 use filling::fill_places;
 use groups::{begin_groups, unbegin_groups};
 
-/// Checks that the next places of at most 16 columns may get a number each. Allocates nothing. After `Ok` a `push_numbers` can
-/// be refused with `NoMemory` (1) alone.
+/// Checks that `push_numbers` would be accepted for at most 16 columns. Allocates nothing. After `Ok`, `push_numbers` can be
+/// refused only with `NoMemory` (1).
 ///
-/// If row groups begin, refused with:
+/// If the next places begin row groups, refused with:
 ///
-/// - `RegionFull` (17) exactly if the new objects, placed one after the other, do not fit into the free space.
+/// - `RegionFull` (17) exactly if the new objects, placed one after another, do not fit into the free space.
 ///
 /// Otherwise refused with the first of these that applies:
 ///
-/// - `Absent` (16): some column's last object is away. It names the first such.
-/// - `EditsUsedUp` (24): some last object was written as often as objects may be.
+/// - `Absent` (16): some column's last object is away. The refusal names the first such object.
+/// - `EditsUsedUp` (24): some last object was written as often as the limits allow.
 pub fn may_push_numbers<S: FarTickets>(
     objects: &Objects<Option<i64>, S>,
     columns: &[IntColumn],
@@ -47,22 +47,22 @@ pub fn may_push_numbers<S: FarTickets>(
     all_writable(objects, columns)
 }
 
-/// Appends a number to each of several columns, to all or to none. If the next places begin row groups, it makes an object for
-/// each column. Otherwise it writes the last object of each in place.
+/// Appends a number to each of several columns, all or none. If the next places begin row groups, makes an object for each
+/// column. Otherwise writes the last object of each in place.
 ///
-/// If row groups begin, refused with one of these:
+/// If the next places begin row groups, refused with one of these:
 ///
-/// - `RegionFull` (17): the new objects, placed one after the other, do not fit into the free space.
-/// - `NoMemory` (1): an allocation fails, which may come before it is known that 17 applies.
+/// - `RegionFull` (17): the new objects, placed one after another, do not fit into the free space.
+/// - `NoMemory` (1): an allocation fails, perhaps before it is known whether 17 applies.
 ///
 /// Otherwise it allocates nothing, and is refused with the first of these that applies:
 ///
-/// - `Absent` (16): some column's last object is away. It names the first such.
-/// - `EditsUsedUp` (24): some last object was written as often as objects may be.
+/// - `Absent` (16): some column's last object is away. The refusal names the first such object.
+/// - `EditsUsedUp` (24): some last object was written as often as the limits allow.
 ///
 /// A refused call changes nothing.
 ///
-/// `may_push_numbers` returns the same refusals beforehand, but for memory. `unpush_numbers` undoes a call that began row
+/// `may_push_numbers` returns the same refusals beforehand, except `NoMemory`. `unpush_numbers` undoes a call that began row
 /// groups (`last`, `undone`).
 pub fn push_numbers<S: FarTickets>(
     objects: &mut Objects<Option<i64>, S>,
@@ -96,8 +96,8 @@ pub fn push_numbers<S: FarTickets>(
     Ok(())
 }
 
-/// Appends a number to each of several columns whose last row groups are begun, as `push_numbers` does, after
-/// `may_push_numbers` accepted it. It repeats no check. Allocates nothing.
+/// Appends a number to each of several columns whose last row groups have been begun, as `push_numbers` does, after
+/// `may_push_numbers` accepted it. Repeats no check, and allocates nothing.
 pub fn fill_numbers<S: FarTickets>(
     objects: &mut Objects<Option<i64>, S>,
     columns: &mut [IntColumn],
@@ -120,8 +120,8 @@ pub fn fill_numbers<S: FarTickets>(
     fill_places(objects, columns, numbers);
 }
 
-/// Undoes a `push_numbers` that began row groups. It removes the number of each column, the only one of its last row group, and
-/// that row group's object. The object that was made last goes first. Allocates nothing.
+/// Undoes a `push_numbers` that began row groups: removes each column's only number in its last row group, and that row group's
+/// object. Removes the object that was made last first. Allocates nothing.
 pub fn unpush_numbers<S: FarTickets>(
     objects: &mut Objects<Option<i64>, S>,
     columns: &mut [IntColumn],

@@ -1,11 +1,12 @@
-// What no clause says: digests that another program computed, and that each lane agrees with `sha2`.
+// Tests of what no clause says: digests that another program computed, and that each lane agrees
+// with `sha2`.
 ghost use Rattle.std.specs.Prelude.{◌≤◌};
 
 use super::digest_of;
 use crate::lanes::{digest_in, hash_values};
 use sha2::{Digest, Sha256};
 
-// Byte i is i modulo 251.
+// Returns bytes of which byte i is i modulo 251.
 fn counted() -> [u8; 5000] {
     let mut bytes = [0; 5000];
     for i in 0..5000 {
@@ -66,7 +67,7 @@ fn digest_of_first(len: usize) -> [u8; 32]
     digest_of(&counted()[..len])
 }
 
-// Computed by Python's hashlib.
+// Python's hashlib computed the expected digests.
 #[test]
 fn digests_are_those_that_another_program_computed(rt: HostRuntime) {
     let expected = [

@@ -18,7 +18,7 @@ use far_store::FarTickets;
 use far_texts::{TextColumn, may_push_texts};
 use far_types::{Refusal, Text};
 
-// Checks that each of at most 16 columns of texts may get its text. A table without such a column checks nothing.
+// Checks that a text may be appended to each of at most 16 columns of texts. A table without text columns checks nothing.
 #[inline(always)]
 fn may_push_all_texts<S: FarTickets>(
     objects: &Objects<u8, S>,
@@ -37,34 +37,35 @@ fn may_push_all_texts<S: FarTickets>(
 }
 
 impl<S: FarTickets> Rows<S> {
-    /// Checks that a row may be appended. Allocates nothing. After `Ok`, `push` can be refused with `NoMemory` (1) alone.
+    /// Checks that a row may be appended. Allocates nothing. After `Ok`, `push` can be refused only with `NoMemory` (1).
     ///
     /// Refused with the first of these that applies:
     ///
-    /// - `Absent` (16): the row group of the next place is begun, and some object of it is away. It names the first in the
-    ///   order of the columns.
-    /// - `ChunkFull` (11): the form of some column's texts would be longer than one may be.
+    /// - `Absent` (16): the row group of the next place has been begun, and some object of it is away. The refusal names
+    ///   the first in the order of the columns.
+    /// - `ChunkFull` (11): the form of some column's texts would be longer than its limit.
     /// - `RegionFull` (17): new forms, or new objects of numbers, do not fit into the free space.
-    /// - `EditsUsedUp` (24): the row group is begun, and some object of it was written as often as objects may be.
+    /// - `EditsUsedUp` (24): the row group has been begun, and some object of it was written as often as the limits
+    ///   allow.
     pub fn may_push(&self, row: &NewRow) -> Result<(), Refusal>
         requires numbers { length row.now.numbers ≡ length self.now.numbers }
         requires texts { length row.now.texts ≡ length self.now.texts }
         ensures refused { refusal_in result ≡ push_refusal S.content self.now row.now }
         ensures plain { (limits : Limits) → AreOf limits self.now → refusal_in result ≡ insert_refusal S.content limits self.now row.now }
     {
-        // For the proof: give `AreRows`, and that no text is too long.
+        // For the proof: shows `AreRows`, and that no text is too long.
         let _len = self.len();
         let _texts = row.texts();
         self.may_push_values(row)
     }
 
-    // Checks that a row may be appended, by one kind of columns after the other.
+    // Checks that a row may be appended: the columns of texts first, then those of numbers.
     fn may_push_values(&self, row: &NewRow) -> Result<(), Refusal>
         requires numbers { length row.now.numbers ≡ length self.now.numbers }
         requires texts { length row.now.texts ≡ length self.now.texts }
         ensures { refusal_in result ≡ kinds_refusal S.content self.now row.now }
     {
-        // For the proof: gives that a table has at most 16 columns.
+        // For the proof: shows that a table has at most 16 columns.
         let len = self.len();
         let group = self.reciprocal.quotient(len, self.size as usize);
         self.here(group as u32)?;

@@ -17,8 +17,8 @@ use far_types::Refusal;
 use std::alloc::Global;
 
 impl<S: FarTickets> Rows<S> {
-    /// Begins to send the object of a row group of a column away. If the object is dirty, the job takes its far form; if it is
-    /// clean, a copy of its ticket. The rows stay the same.
+    /// Begins to evict the object of a row group of a column. If the object is dirty, the job gets its far form; if it is
+    /// clean, a copy of its ticket. The rows do not change.
     ///
     /// Refused with the first of these that applies:
     ///
@@ -39,7 +39,7 @@ impl<S: FarTickets> Rows<S> {
         ensures free { OnOk result (evac_refusal self.now column group ≡ None) }
         ensures refused { IfErr result (MayRefuse (evac_refusal self.now column group) true) }
     {
-        // For the proof: gives `AreRows`. So the refusal names an object that is away by its own name.
+        // For the proof: shows `AreRows`. So the refusal names an object that is away by its own name.
         let _len = self.len();
         let job = match self.object(column, group)? {
             Object::Number(o) => ByKind::Numbers(self.begin_numbers(alloc, store, o)?),
@@ -48,7 +48,7 @@ impl<S: FarTickets> Rows<S> {
         Ok(RowsEvac { job })
     }
 
-    // Begins to send an object of numbers away.
+    // Begins to evict an object of numbers.
     fn begin_numbers(
         &self,
         alloc: Global,
@@ -65,7 +65,7 @@ impl<S: FarTickets> Rows<S> {
         begin_evac(alloc, self.number_objects(), store, Want::Object(o))
     }
 
-    // Begins to send an object of texts away.
+    // Begins to evict an object of texts.
     fn begin_texts(&self, alloc: Global, store: &S, o: u32) -> Result<EvacJob<u8, S>, Refusal>
         requires within { o < length self.now.text_objects.records }
         requires here { AreHere S.is_of (S.store_id store.now) self.now.text_objects }
@@ -77,7 +77,7 @@ impl<S: FarTickets> Rows<S> {
         begin_evac(alloc, self.text_objects(), store, Want::Object(o))
     }
 
-    /// Begins to bring the object of a row group of a column back. Allocates nothing.
+    /// Begins to fetch the object of a row group of a column. Allocates nothing.
     ///
     /// Refused with the first of these that applies:
     ///

@@ -1,4 +1,4 @@
-// The object of the rows that is evicted first.
+// The eviction victim among the objects of the rows.
 ghost use Rattle.std.specs.Prelude.{◌≡◌, ◌↔◌, None, Some, IfSome, option_map};
 ghost use Rattle.std.specs.Option.{option_or};
 ghost use Rattle.far_scopes.specs.Coldest.{coldest as coldest_in};
@@ -13,9 +13,9 @@ use far_store::FarTickets;
 use far_types::Name;
 
 impl<S: FarTickets> Rows<S> {
-    /// Returns the name of the object that goes away first. It is the coldest of the kind whose local memory has less space in
-    /// proportion to its capacity. If both have as much, that kind is numbers. If that kind has no such object, it is the
-    /// coldest of the other. `None` exactly if neither kind has one. Allocates nothing.
+    /// Returns the name of the eviction victim: the coldest object of the kind whose local memory has less space in proportion
+    /// to its capacity. If both have equal space, that kind is numbers. If that kind has no such object, it is the coldest of
+    /// the other kind. `None` exactly if neither kind has one. Allocates nothing.
     ///
     /// The object is local and has no pin.
     pub fn coldest(&self) -> Option<Name>
@@ -24,14 +24,14 @@ impl<S: FarTickets> Rows<S> {
         ensures unpinned { IfSome result (λ name. option_map (pins_at self.now) (object_at self.now name.column name.group) ≡ Some 0) }
         ensures none { (result ≡ None) ↔ ((coldest_in self.now.number_objects ≡ None) × (coldest_in self.now.text_objects ≡ None)) }
     {
-        // For the proof: give `AreRows`, and that the objects in the orders of use are the local ones.
+        // For the proof: shows `AreRows`, and that the objects in the orders of use are the local ones.
         let _len = self.len();
         let _number = self.number_objects.number();
         let _text = self.text_objects.number();
         self.coldest_of_both()
     }
 
-    // Returns the object that goes away first.
+    // Returns the name of the eviction victim.
     fn coldest_of_both(&self) -> Option<Name>
         ensures coldest { result ≡ coldest self.now }
         ensures none { (result ≡ None) ↔ ((coldest_in self.now.number_objects ≡ None) × (coldest_in self.now.text_objects ≡ None)) }
@@ -43,7 +43,7 @@ impl<S: FarTickets> Rows<S> {
         }
     }
 
-    // Returns whether the objects of numbers have no more space, in proportion to their capacity, than those of texts.
+    // Returns whether the objects of numbers have at most as much space, in proportion to their capacity, as those of texts.
     fn numbers_go_first(&self) -> bool
         ensures { result ≡ numbers_go_first self.now }
     {
@@ -53,7 +53,7 @@ impl<S: FarTickets> Rows<S> {
     }
 }
 
-// Returns the name of the coldest object of the first of two kinds; if it has none, of the second.
+// Returns the name of the coldest object of the first of two kinds or, if it has none, of the second.
 fn first_coldest<T: Elem, U: Elem, S: FarTickets>(
     first: &Objects<T, S>,
     second: &Objects<U, S>,
@@ -72,7 +72,7 @@ fn coldest_name<T: Elem, S: FarTickets>(objects: &Objects<T, S>) -> Option<Name>
     ensures name { result ≡ coldest_name objects.now }
     ensures none { (result ≡ None) ↔ (coldest_in objects.now ≡ None) }
 {
-    // For the proof: gives that a local object is in use.
+    // For the proof: shows that a local object is in use.
     let _number = objects.number();
     Some(objects.name(objects.coldest()?))
 }

@@ -10,13 +10,13 @@ use far_types::Refusal;
 use std::alloc::Global;
 
 impl<S: FarTickets> Rows<S> {
-    /// Compacts a segment of the objects of numbers. Its parts then lie in the lowest other segment without parts, one after
-    /// the other, those of hot objects first. None of their objects is hot afterwards.
+    /// Compacts a segment of the objects of numbers: moves its parts into the lowest other segment without parts, without
+    /// gaps, those of hot objects first. Clears the hot bits of these objects.
     ///
     /// Refused with the first of these that applies:
     ///
     /// - `OutOfRange` (14): there is no such segment.
-    /// - `RegionFull` (17): no other segment is without parts.
+    /// - `RegionFull` (17): every other segment has a part.
     /// - `NoMemory` (1): an allocation fails.
     ///
     /// A refused call changes nothing.
@@ -32,8 +32,8 @@ impl<S: FarTickets> Rows<S> {
         self.number_objects.compact(alloc, segment)
     }
 
-    /// Compacts a segment of the objects of texts likewise. Refused as `compact_numbers` is, with `OutOfRange` (14),
-    /// `RegionFull` (17) and `NoMemory` (1).
+    /// Compacts a segment of the objects of texts, as `compact_numbers` does for numbers. Refused as that is, with
+    /// `OutOfRange` (14), `RegionFull` (17) and `NoMemory` (1).
     pub fn compact_texts(&mut self, alloc: Global, segment: u32) -> Result<(), Refusal>
         ensures compacted { OnOk result (IsCompacted self.old.text_objects.memory self.new.text_objects.memory segment) }
         ensures stays { self.new ≡ record self.old { text_objects = record self.old.text_objects { memory = self.new.text_objects.memory } } }

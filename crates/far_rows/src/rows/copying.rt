@@ -1,4 +1,4 @@
-// What the far store has of the rows.
+// The far copies of the rows.
 ghost use Rattle.std.specs.Prelude.{◌≡◌, ◌<◌, ℕ, List, Some, true, false, length, option_map, IfOk, IfSome, IsSome};
 ghost use Rattle.far_codec.specs.Spelling.{IsSpelled};
 ghost use Rattle.far_scopes.specs.Movement.{is_local, ticket_of};
@@ -16,7 +16,7 @@ use far_store::FarTickets;
 use far_types::Refusal;
 
 impl<S: FarTickets> Rows<S> {
-    /// Returns the number that was given to `new`. Jobs on the rows have it. Allocates nothing.
+    /// Returns the number that was given to `new`, by which jobs know these rows. Allocates nothing.
     pub fn number(&self) -> u32
         ensures { result ≡ self.now.number_objects.number }
     {
@@ -26,14 +26,14 @@ impl<S: FarTickets> Rows<S> {
     /// Returns the ticket of the far copy of a row group of a column. `None` if its object is dirty, or there is no such
     /// object. Allocates nothing.
     ///
-    /// Its content is the far form of the row group as it is now, local or away.
+    /// Its content is the far form of the row group as it is now, whether it is local or away.
     pub fn copy(&self, column: usize, group: u32) -> Option<&S::Ticket>
         ensures ticket { option_map (λ ticket. ticket.now) result ≡ copy_of self.now column group }
         ensures form { IfSome result (λ ticket. IsCopyOf S.content self.now ticket.now column group) }
         ensures here { (id : List ℕ) → AreAt S.is_of id self.now → IfSome result (λ ticket. S.is_of ticket.now id) }
         ensures away { (absent_in self.now column group).0 ≡ true → IsSome result }
     {
-        // For the proof: gives `AreRows`.
+        // For the proof: shows `AreRows`.
         let _len = self.len();
         match self.object(column, group) {
             Ok(Object::Number(o)) => clean_ticket(self.number_objects(), o),
@@ -68,7 +68,7 @@ fn clean_ticket<T: Elem, S: FarTickets>(objects: &Objects<T, S>, o: u32) -> Opti
     ensures form { IfSome result (λ ticket. IsSpelled T.in_range T.has_spelling T.spelling (T.meaning (S.content ticket.now)) (S.content ticket.now)) }
     ensures away { is_local objects.now o ≡ false → IsSome result }
 {
-    // For the proof: gives that a clean object has a far copy.
+    // For the proof: shows that a clean object has a far copy.
     let _number = objects.number();
     if objects.word(o).dirty() {
         return None;

@@ -1,4 +1,4 @@
-// A row group, borrowed.
+// Borrowed row groups.
 ghost use Rattle.std.specs.Prelude.{◌≡◌, Some, IfOk, option_map, slice_get};
 ghost use Rattle.far_types.specs.Table.{in_group};
 ghost use Rattle.far_scopes.specs.Refusing.{refusal_in};
@@ -13,7 +13,7 @@ use far_store::FarTickets;
 use far_types::Refusal;
 
 impl<S: FarTickets> Rows<S> {
-    /// Returns the alive flags of the places of a row group, borrowed; none if no place of it is used. Allocates nothing.
+    /// Borrows the alive flags of the places of a row group: none if no place of it is used. Allocates nothing.
     pub fn flags(&self, group: u32) -> &[bool]
         ensures { result.now ≡ in_group self.now.size group self.now.alive }
     {
@@ -29,7 +29,7 @@ impl<S: FarTickets> Rows<S> {
         self.alive.flags(from, from + size)
     }
 
-    /// Returns the values of a row group of a column, borrowed. Allocates nothing.
+    /// Borrows the values of a row group of a column. Allocates nothing.
     ///
     /// Refused with the first of these that applies:
     ///
@@ -41,7 +41,7 @@ impl<S: FarTickets> Rows<S> {
         ensures form { IfOk result IsLent }
         ensures refused { refusal_in result ≡ evac_refusal self.now column group }
     {
-        // For the proof: gives `AreRows`.
+        // For the proof: shows `AreRows`.
         let _len = self.len();
         match self.object(column, group)? {
             Object::Number(o) => {

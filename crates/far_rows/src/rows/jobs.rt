@@ -18,13 +18,13 @@ use far_types::Refusal;
 use std::alloc::Global;
 
 impl<S: FarTickets> Rows<S> {
-    /// Sends an object away whose far form was carried. The carried evacuation is kept; no second commit of it is accepted.
-    /// Allocates nothing.
+    /// Evicts an object whose far form was carried. The caller keeps the carried evacuation, but a second commit of it is
+    /// refused. Allocates nothing.
     ///
     /// Refused with the first of these that applies:
     ///
-    /// - `StaleJob` (20): what it rests on holds no more (`IsEvacAccepted`). It was begun on other objects. Or the object is
-    ///   away, was written or away since, has used up its leavings, or is no longer what was carried.
+    /// - `StaleJob` (20): the job's assumptions no longer hold (`IsEvacAccepted`). It was begun on other objects, or the
+    ///   object is away, was written or sent away since, has used up its leavings, or differs from what was carried.
     /// - `Pinned` (19): the object has a pin.
     ///
     /// A refused call changes nothing.
@@ -46,7 +46,7 @@ impl<S: FarTickets> Rows<S> {
         }
     }
 
-    // Sends an object of numbers away.
+    // Evicts an object of numbers.
     fn commit_numbers(
         &mut self,
         store: &S,
@@ -67,7 +67,7 @@ impl<S: FarTickets> Rows<S> {
         commit(&mut self.number_objects, store, carried)
     }
 
-    // Sends an object of texts away.
+    // Evicts an object of texts.
     fn commit_texts(&mut self, store: &S, carried: &Carried<u8, S>) -> Result<(), Refusal>
         requires here { AreHere S.is_of (S.store_id store.now) self.old.text_objects }
         requires carried_here { S.is_of carried.now.ticket (S.store_id store.now) }
@@ -84,12 +84,13 @@ impl<S: FarTickets> Rows<S> {
         commit(&mut self.text_objects, store, carried)
     }
 
-    /// Brings an object back whose far form was read. The fetched bytes are kept; no second install of them is accepted.
+    /// Brings back an object whose far form was read. The caller keeps the fetched bytes, but a second install of them is
+    /// refused.
     ///
     /// Refused with the first of these that applies:
     ///
-    /// - `StaleJob` (20): what the fetch rests on holds no more (`IsFetchAccepted`). It was begun on other objects, or the
-    ///   object is local, or has been away again since.
+    /// - `StaleJob` (20): the job's assumptions no longer hold (`IsFetchAccepted`). It was begun on other objects, or the
+    ///   object is local or was sent away again since.
     /// - `RegionFull` (17): no segment has the space.
     /// - `NoMemory` (1): an allocation fails.
     ///
@@ -117,7 +118,7 @@ impl<S: FarTickets> Rows<S> {
         }
     }
 
-    // Brings an object of numbers back.
+    // Brings back an object of numbers.
     fn install_numbers(
         &mut self,
         alloc: Global,
@@ -139,7 +140,7 @@ impl<S: FarTickets> Rows<S> {
         install(alloc, &mut self.number_objects, store, fetched)
     }
 
-    // Brings an object of texts back.
+    // Brings back an object of texts.
     fn install_texts(
         &mut self,
         alloc: Global,

@@ -1,4 +1,4 @@
-// Parts of columns, borrowed, with the flags of their places.
+// Borrowed parts of columns, with the flags of their places.
 ghost use Rattle.std.specs.Prelude.{◌≡◌, ◌∷◌, ◌<◌, length, slice_get, map, option_map, slice_range, Some, All, IfOk};
 ghost use Rattle.std.specs.List.{flat_map, zip};
 ghost use Rattle.far_types.specs.FirstOf.{first_of};
@@ -18,15 +18,15 @@ use far_texts::TextCells;
 use far_types::Refusal;
 
 impl<S: FarTickets> Rows<S> {
-    /// Returns the numbers of the places `from` up to `to` with the flags of their places, borrowed. There is a piece for each
-    /// row group that has some of them. Allocates nothing.
+    /// Borrows the numbers of the places `from` up to `to` with the flags of their places, as a piece for each row group that
+    /// has some of them. Allocates nothing.
     ///
     /// Refused with the first of these that applies:
     ///
     /// - `NoColumn` (4): there is no such column.
     /// - `WrongKind` (5): it is a text column.
     /// - `OutOfRange` (14): `from` is above `to`, or `to` is past the places.
-    /// - `Absent` (16): the object of a row group with some of them is away. It names the first such.
+    /// - `Absent` (16): the object of a row group with some of them is away. The refusal names the first such object.
     pub fn ints(&self, column: usize, from: usize, to: usize) -> Result<Lents<'_, S>, Refusal>
         ensures lent { IfOk result (λ lents. lents ≡ lent_ints S.content self.now column from to) }
         ensures cells { IfOk result (λ lents. option_map (λ cells. slice_range cells from to) (slice_get (all_cells S.content self.now) column) ≡ Some (map int_cell (flat_map (λ lent. lent.0) lents))) }
@@ -43,7 +43,7 @@ impl<S: FarTickets> Rows<S> {
         self.ints_at(number, from, to)
     }
 
-    // Returns a part of a column of numbers, borrowed.
+    // Borrows a part of a column of numbers.
     fn ints_at(&self, number: usize, from: usize, to: usize) -> Result<Lents<'_, S>, Refusal>
         requires { number < length self.now.numbers }
         ensures lent { IfOk result (λ lents. lents ≡ with_flags (pieces_of (numbers_of S.content self.now (ColumnIndex.Number number)) self.now.size from to) (slice_range self.now.alive from to)) }
@@ -53,20 +53,20 @@ impl<S: FarTickets> Rows<S> {
         ensures refused { refusal_in result ≡ first_of (no_range self.now from to ∷ map (λ g. away_at self.now g (ColumnIndex.Number number)) (overlapped_groups self.now.size from to)) }
     {
         let column = &self.numbers[number];
-        // For the proof: gives how many numbers there are.
+        // For the proof: shows how many numbers there are.
         let _len = column.len();
         column.lent(&self.number_objects, &self.alive, from, to)
     }
 
-    /// Returns the texts of the places `from` up to `to`, in order, each borrowed, with the flag of its place. Allocates
-    /// nothing.
+    /// Returns an iterator over the texts of the places `from` up to `to`, each borrowed, with the flag of its place.
+    /// Allocates nothing.
     ///
     /// Refused with the first of these that applies:
     ///
     /// - `NoColumn` (4): there is no such column.
-    /// - `WrongKind` (5): it is of numbers.
+    /// - `WrongKind` (5): it is a number column.
     /// - `OutOfRange` (14): `from` is above `to`, or `to` is past the places.
-    /// - `Absent` (16): the object of a row group with some of them is away. It names the first such.
+    /// - `Absent` (16): the object of a row group with some of them is away. The refusal names the first such object.
     pub fn texts(&self, column: usize, from: usize, to: usize) -> Result<TextCells<'_, S>, Refusal>
         ensures lent { IfOk result (λ lent. lent ≡ lent_texts S.content self.now column from to) }
         ensures cells { IfOk result (λ lent. option_map (λ cells. slice_range cells from to) (slice_get (all_cells S.content self.now) column) ≡ Some (map (λ t. text_cell t.0) lent)) }
@@ -82,7 +82,7 @@ impl<S: FarTickets> Rows<S> {
         self.texts_at(text, from, to)
     }
 
-    // Returns a part of a column of texts, borrowed.
+    // Borrows a part of a column of texts.
     fn texts_at(&self, text: usize, from: usize, to: usize) -> Result<TextCells<'_, S>, Refusal>
         requires { text < length self.now.texts }
         ensures lent { IfOk result (λ lent. lent ≡ zip (slice_range (texts_of S.content self.now (ColumnIndex.Text text)) from to) (slice_range self.now.alive from to)) }
@@ -91,7 +91,7 @@ impl<S: FarTickets> Rows<S> {
         ensures refused { refusal_in result ≡ first_of (no_range self.now from to ∷ map (λ g. away_at self.now g (ColumnIndex.Text text)) (overlapped_groups self.now.size from to)) }
     {
         let column = &self.texts[text];
-        // For the proof: gives that a row group is begun for each place.
+        // For the proof: shows that the row group of each place has been begun.
         let _len = column.len();
         column.texts(&self.text_objects, self.alive.all(), from, to)
     }

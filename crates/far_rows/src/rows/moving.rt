@@ -1,4 +1,4 @@
-// The objects of the rows, named by their columns and row groups.
+// The objects of the rows, by column and row group.
 ghost use Rattle.std.specs.Prelude.{◌≡◌, ◌<◌, ℕ, length, Some, option_map, IfOk, IfSome, OnOk, OnErr, IsSomeAnd, slice_get};
 ghost use Rattle.far_types.specs.declared.name.Name.{Name};
 ghost use Rattle.far_codec.specs.FarForm.{FitsCount};
@@ -19,19 +19,19 @@ use far_store::FarTickets;
 use far_types::Refusal;
 
 impl<S: FarTickets> Rows<S> {
-    /// Returns the objects of numbers, borrowed, for jobs to begin with. Each that is local has a far form. Each belongs to the
-    /// column and the row group that it is named by. Allocates nothing.
+    /// Borrows the objects of numbers, on which jobs begin. The list of each local object has a far form. Each object
+    /// belongs to the column and the row group in its name. Allocates nothing.
     pub fn number_objects(&self) -> &Objects<Option<i64>, S>
         ensures objects { result.now ≡ self.now.number_objects }
         ensures spelled { (o : ℕ) → IfSome (list_in result.now.memory o) FitsCount }
         ensures owned { (o : ℕ) (name : Name) → slice_get (names_of result.now) o ≡ Some name → object_at self.now name.column name.group ≡ Some (object.Number o) }
     {
-        // For the proof: gives that an object with a list is in use.
+        // For the proof: shows that an object with a list is in use.
         let _number = self.number_objects.number();
         &self.number_objects
     }
 
-    /// Returns the objects of texts, likewise. Allocates nothing.
+    /// Borrows the objects of texts, as `number_objects` does those of numbers. Allocates nothing.
     pub fn text_objects(&self) -> &Objects<u8, S>
         ensures objects { result.now ≡ self.now.text_objects }
         ensures spelled { (o : ℕ) → IfSome (list_in result.now.memory o) IsTextsForm }
@@ -62,7 +62,7 @@ impl<S: FarTickets> Rows<S> {
         object.ok_or(Refusal::OutOfRange)
     }
 
-    // Returns the object of a row group of a column of numbers. For the proof: it is one of the objects.
+    // Returns the object of a row group of a number column. For the proof: it is one of the objects.
     fn number_object(&self, number: usize, group: u32) -> Option<Object>
         requires { number < length self.now.numbers }
         ensures object { result ≡ option_map (object_in (column_index.Number number)) (object_of self.now (column_index.Number number) group) }
@@ -72,7 +72,7 @@ impl<S: FarTickets> Rows<S> {
         Some(Object::Number(self.numbers[number].object(group)?))
     }
 
-    // Returns that of a column of texts, likewise.
+    // Returns the object of a row group of a text column. For the proof: it is one of the objects.
     fn text_object(&self, text: usize, group: u32) -> Option<Object>
         requires { text < length self.now.texts }
         ensures object { result ≡ option_map (object_in (column_index.Text text)) (object_of self.now (column_index.Text text) group) }
@@ -82,7 +82,7 @@ impl<S: FarTickets> Rows<S> {
         Some(Object::Text(self.texts[text].object(group as usize)?))
     }
 
-    /// Pins the object of a row group of a column once more. Allocates nothing.
+    /// Adds a pin to the object of a row group of a column. Allocates nothing.
     ///
     /// Refused with the first of these that applies:
     ///
@@ -104,7 +104,7 @@ impl<S: FarTickets> Rows<S> {
         }
     }
 
-    /// Pins the object of a row group of a column once less. Allocates nothing.
+    /// Removes a pin from the object of a row group of a column. Allocates nothing.
     ///
     /// Refused with the first of these that applies:
     ///
@@ -125,8 +125,8 @@ impl<S: FarTickets> Rows<S> {
         }
     }
 
-    /// Marks the object of a row group of a column as recently used, if it is resident: it is hot and used last. Allocates
-    /// nothing.
+    /// Marks the object of a row group of a column as recently used, if it is resident: hot and the most recently used.
+    /// Allocates nothing.
     ///
     /// Refused with the first of these that applies:
     ///

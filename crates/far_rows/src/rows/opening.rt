@@ -1,4 +1,4 @@
-// The columns of a table when it is opened.
+// The empty columns of a new table.
 ghost use Rattle.std.specs.Prelude.{◌≡◌, ◌++◌, ◌∷◌, [], length, IfOk, IfErr, OnOk};
 ghost use Rattle.far_types.specs.Bounds.{AreLimits, IsSchema};
 ghost use Rattle.far_rows.specs.ColumnIndexes.{column_indexes_from};
@@ -43,7 +43,7 @@ pub(super) fn text_limits(limits: &Limits) -> ObjectLimits
     }
 }
 
-// Returns the columns of a schema, each empty.
+// Makes the columns of a schema, each empty.
 pub(super) fn columns_of(
     alloc: Global,
     schema: &Schema,

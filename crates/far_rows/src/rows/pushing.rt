@@ -1,4 +1,4 @@
-// A row is appended.
+// Appending a row.
 ghost use Rattle.std.specs.Prelude.{◌≡◌, if◌then◌else◌, ◌<◌, ◌≤◌, ◌+◌, ◌^◌, ◌++◌, ◌∷◌, [], ℕ, List, length, map, true, false, None, All, OnOk, OnErr, IfErr};
 ghost use Rattle.far_codec.specs.Reading.{ints_meaning};
 ghost use Rattle.far_scopes.specs.Movement.{AreClean, AreHere, version_of};
@@ -24,7 +24,7 @@ use far_texts::{TextColumn, fill_texts};
 use far_types::{Refusal, Text};
 use std::alloc::Global;
 
-// For the proof: gives `IsShaped` of each column of numbers.
+// For the proof: shows `IsShaped` of each column of numbers.
 pub(super) fn all_are_shaped(columns: &[IntColumn])
     ensures { All IsShaped columns.now }
 {
@@ -33,7 +33,7 @@ pub(super) fn all_are_shaped(columns: &[IntColumn])
     }
 }
 
-// For the proof: gives `HasGroups` of each column of texts.
+// For the proof: shows `HasGroups` of each column of texts.
 pub(super) fn all_have_groups(columns: &[TextColumn])
     ensures { All HasGroups columns.now }
 {
@@ -42,8 +42,8 @@ pub(super) fn all_have_groups(columns: &[TextColumn])
     }
 }
 
-// Gives each column of texts its text, which may be appended. A table without such a column makes nothing. The form of a single
-// column is made in the memory of `spare`.
+// Appends a text to each column of texts. The texts must be ones that may be appended. A table without text columns does
+// nothing. The form of a single column is made in the memory of `spare`.
 #[inline(always)]
 fn push_all_texts<S: FarTickets>(
     alloc: Global,
@@ -73,8 +73,8 @@ fn push_all_texts<S: FarTickets>(
     fill_texts(alloc, spare, objects, columns, texts)
 }
 
-// Gives each column its value of the row. If row groups begin, it undoes the numbers if the texts are refused. Otherwise the
-// texts come first, and the numbers cannot be refused then.
+// Appends a value to each column. If row groups begin, the numbers come first, and are undone if the texts are refused.
+// Otherwise the texts come first, after which the numbers cannot be refused.
 fn push_values<S: FarTickets>(
     alloc: Global,
     spare: &mut Vec<u8>,
@@ -131,10 +131,10 @@ fn push_values<S: FarTickets>(
 }
 
 impl<S: FarTickets> Rows<S> {
-    /// Appends a row, which is alive: each column gets its value. If the place is the first of a row group, it makes an object
-    /// for each column. Otherwise it writes the last object of each, all texts before a number.
+    /// Appends a row, which is alive: each column gets its value. If the place is the first of a row group, makes an object for
+    /// each column. Otherwise writes the last object of each, all texts before a number.
     ///
-    /// The row is one that `may_push` accepted, and there are fewer than 2^24 places. Refused with `NoMemory` (1) alone. A
+    /// `may_push` must have accepted the row, and there must be fewer than 2^24 places. Refused only with `NoMemory` (1). A
     /// refused call changes nothing.
     pub fn push(&mut self, alloc: Global, row: &NewRow) -> Result<(), Refusal>
         requires numbers { length row.now.numbers ≡ length self.old.numbers }
@@ -147,14 +147,14 @@ impl<S: FarTickets> Rows<S> {
         ensures memory { IfErr result (λ e. e ≡ Refusal.NoMemory) }
         ensures err { OnErr result (self.new ≡ self.old) }
     {
-        // For the proof: give `AreRows`, and that no text is too long.
+        // For the proof: shows `AreRows`, and that no text is too long.
         let _len = self.len();
         let _texts = row.texts();
         self.push_row(alloc, row)?;
         Ok(())
     }
 
-    // Appends a row that was checked by one kind of columns after the other.
+    // Appends a row that was checked kind by kind.
     fn push_row(&mut self, alloc: Global, row: &NewRow) -> Result<(), Refusal>
         requires numbers { length row.now.numbers ≡ length self.old.numbers }
         requires texts { length row.now.texts ≡ length self.old.texts }
@@ -175,7 +175,7 @@ impl<S: FarTickets> Rows<S> {
         ensures memory { IfErr result (λ e. e ≡ Refusal.NoMemory) }
         ensures err { OnErr result (self.new ≡ self.old) }
     {
-        // For the proof: give what holds of all objects (`AreTracked`).
+        // For the proof: shows what is true of all objects (`AreTracked`).
         let _number = self.number_objects.number();
         let _number = self.text_objects.number();
         let index = self

@@ -1,4 +1,4 @@
-// Which objects of a row group are local, and cells that are read in place.
+// Checks that the objects of a row group are local, and reads cells in place.
 ghost use Rattle.std.specs.Prelude.{◌≡◌, ℕ, ◌∷◌, ◌<◌, ◌/◌, [], length, false, slice_get, option_map, slice_index_or, Some, None, IsTrue, IfOk};
 ghost use Rattle.std.specs.Option.{option_copied, option_map_or};
 ghost use Rattle.far_types.specs.declared.cell.Cell.TheVariants.{Missing};
@@ -26,14 +26,14 @@ use far_texts::TextColumn;
 use far_types::{CellRef, LentRow, Refusal};
 
 impl<S: FarTickets> Rows<S> {
-    /// Checks that all objects of a row group are local. A row group of which no place is used has none. Allocates nothing.
+    /// Checks that all objects of a row group are local. A row group without a used place has none. Allocates nothing.
     ///
-    /// Refused with `Absent` (16) exactly if one is away. It names the first in the order of the columns, by the column and the
-    /// row group.
+    /// Refused with `Absent` (16) exactly if one is away. The refusal names the first in the order of the columns, by the
+    /// column and the row group.
     pub fn here(&self, group: u32) -> Result<(), Refusal>
         ensures { refusal_in result ≡ first_of (absents self.now group) }
     {
-        // For the proof: gives that each index is that of a column.
+        // For the proof: shows that each index is a column's.
         let _len = self.len();
         if self.are_all_local() {
             return Ok(());
@@ -44,12 +44,12 @@ impl<S: FarTickets> Rows<S> {
         Ok(())
     }
 
-    // Returns whether every object of every column is local. It looks at no object. So if none is away, a row costs the same,
-    // however many columns it has.
+    // Returns whether every object of every column is local. It reads no object. So while none is away, the cost of a row does
+    // not depend on the number of columns.
     fn are_all_local(&self) -> bool
         ensures { IsTrue result → (g : ℕ) → first_of (absents self.now g) ≡ None }
     {
-        // For the proof: give `AreRows`, and that an object with a list is in use.
+        // For the proof: shows `AreRows`, and that an object with a list is in use.
         let _len = self.len();
         let _numbers = self.number_objects.number();
         let _texts = self.text_objects.number();
@@ -71,7 +71,7 @@ impl<S: FarTickets> Rows<S> {
         }
     }
 
-    /// Returns a cell, borrowed. Allocates nothing.
+    /// Borrows a cell. Allocates nothing.
     ///
     /// Refused with the first of these that applies:
     ///
@@ -91,7 +91,7 @@ impl<S: FarTickets> Rows<S> {
         self.cell_in(column, *column_index, place)
     }
 
-    // Returns the cell of a place that is there, in the column with this index.
+    // Borrows the cell of a place that exists, in the column with this index.
     #[inline(always)]
     pub(crate) fn cell_in(
         &self,
@@ -104,7 +104,7 @@ impl<S: FarTickets> Rows<S> {
         ensures cell { IfOk result (λ cell. slice_index_or (column_in (all_numbers S.content self.now) (all_texts S.content self.now) column_index) place Missing ≡ lent_cell cell) }
         ensures refused { refusal_in result ≡ first_of (absent_at self.now column (place / self.now.size) column_index ∷ []) }
     {
-        // For the proof: gives that each index is that of a column.
+        // For the proof: shows that each index is a column's.
         let _len = self.len();
         match column_index {
             ColumnIndex::Number(number) => Ok(CellRef::of_int(self.number_at(
@@ -114,16 +114,16 @@ impl<S: FarTickets> Rows<S> {
         }
     }
 
-    /// Returns the row of a place, with each cell borrowed. It looks at each column once. Allocates nothing.
+    /// Borrows the row of a place, cell by cell. Looks up each column once. Allocates nothing.
     ///
-    /// Refused with `Absent` (16) exactly if an object of the place's row group is away. It names the first in the order of the
-    /// columns.
+    /// Refused with `Absent` (16) exactly if an object of the place's row group is away. The refusal names the first in the
+    /// order of the columns.
     pub fn row(&self, place: usize) -> Result<LentRow<'_>, Refusal>
         requires { place < length self.now.alive }
         ensures row { IfOk result (λ row. row ≡ row_at (all_cells S.content self.now) place) }
         ensures refused { refusal_in result ≡ first_of (absents self.now (place / self.now.size)) }
     {
-        // For the proof: gives that a table has at most 16 columns.
+        // For the proof: shows that a table has at most 16 columns.
         let _len = self.len();
         let mut row = LentRow::new();
         for (column, column_index) in self.column_indexes.iter().enumerate() {
@@ -132,15 +132,15 @@ impl<S: FarTickets> Rows<S> {
         Ok(row)
     }
 
-    /// Returns the row of a place. It looks at each column once, and reads a number when it is asked for. Allocates nothing.
+    /// Returns the row of a place. Looks up each column once, and reads a number only on demand. Allocates nothing.
     ///
-    /// Refused as `row` is, with `Absent` (16) alone.
+    /// Refused as `row` is, only with `Absent` (16).
     pub fn place_row(&self, place: usize) -> Result<PlaceRow<'_>, Refusal>
         requires { place < length self.now.alive }
         ensures row { IfOk result (λ row. row ≡ row_at (all_cells S.content self.now) place) }
         ensures refused { refusal_in result ≡ first_of (absents self.now (place / self.now.size)) }
     {
-        // For the proof: gives that a table has at most 16 columns.
+        // For the proof: shows that a table has at most 16 columns.
         let _len = self.len();
         let mut row = PlaceRow::new();
         for (column, column_index) in self.column_indexes.iter().enumerate() {
@@ -149,7 +149,7 @@ impl<S: FarTickets> Rows<S> {
         Ok(row)
     }
 
-    // Returns the cell of a place that is there, in the column with this index. A number is not read.
+    // Borrows the cell of a place that exists, in the column with this index, without reading a number.
     #[inline(always)]
     fn place_cell(
         &self,
@@ -162,7 +162,7 @@ impl<S: FarTickets> Rows<S> {
         ensures cell { IfOk result (λ cell. slice_index_or (column_in (all_numbers S.content self.now) (all_texts S.content self.now) column_index) place Missing ≡ place_cell cell) }
         ensures refused { refusal_in result ≡ first_of (absent_at self.now column (place / self.now.size) column_index ∷ []) }
     {
-        // For the proof: gives that each index is that of a column.
+        // For the proof: shows that each index is a column's.
         let _len = self.len();
         match column_index {
             ColumnIndex::Number(number) => Ok(PlaceCell::Number(self.number_ref(
@@ -174,7 +174,7 @@ impl<S: FarTickets> Rows<S> {
         }
     }
 
-    // Borrows the number of a place that is there. It is not read.
+    // Borrows the number at a place that exists, without reading it.
     fn number_ref(&self, at: usize, number: usize, place: usize) -> Result<&Option<i64>, Refusal>
         requires lies { slice_get self.now.column_indexes at ≡ Some (column_index.Number number) }
         requires column { number < length self.now.numbers }
@@ -183,31 +183,31 @@ impl<S: FarTickets> Rows<S> {
         ensures refused { refusal_in result ≡ first_of (absent_at self.now at (place / self.now.size) (column_index.Number number) ∷ []) }
     {
         let column = &self.numbers[number];
-        // For the proof: gives that a row group is begun for each place.
+        // For the proof: shows that the row group of each place has been begun.
         let _len = column.len();
         column.get_ref(&self.number_objects, place)
     }
 
-    /// Returns the row of a place. It borrows each cell when it is asked for. Allocates nothing.
+    /// Returns a view of the row of a place. It borrows each cell when it is read. Allocates nothing.
     ///
-    /// Refused as `row` is, with `Absent` (16) alone.
+    /// Refused as `row` is, only with `Absent` (16).
     pub fn row_ref(&self, place: usize) -> Result<RowRef<'_, S>, Refusal>
         requires { place < length self.now.alive }
         ensures row { IfOk result (λ row. row ≡ row_at (all_cells S.content self.now) place) }
         ensures refused { refusal_in result ≡ first_of (absents self.now (place / self.now.size)) }
     {
-        // For the proof: gives that there are fewer places than numbers of 32 bits.
+        // For the proof: shows that there are fewer places than numbers of 32 bits.
         let _len = self.len();
         self.here(self.group_of(place))?;
         Ok(RowRef::new(self, place))
     }
 
-    /// Returns the text of a place, borrowed; `None` if it is missing. Allocates nothing.
+    /// Borrows the text at a place, or returns `None` if it is missing. Allocates nothing.
     ///
     /// Refused with the first of these that applies:
     ///
     /// - `NoColumn` (4): there is no such column.
-    /// - `WrongKind` (5): it is of numbers.
+    /// - `WrongKind` (5): it is a number column.
     /// - `NoRow` (8): the place is past the end.
     /// - `Absent` (16): the object of the text is away.
     pub fn text(&self, column: usize, place: usize) -> Result<Option<&str>, Refusal>
@@ -226,7 +226,7 @@ impl<S: FarTickets> Rows<S> {
         self.text_at(column, text, place)
     }
 
-    // Returns the number of a place that is there.
+    // Returns the number at a place that exists.
     fn number_at(&self, at: usize, number: usize, place: usize) -> Result<Option<i64>, Refusal>
         requires lies { slice_get self.now.column_indexes at ≡ Some (column_index.Number number) }
         requires column { number < length self.now.numbers }
@@ -235,12 +235,12 @@ impl<S: FarTickets> Rows<S> {
         ensures refused { refusal_in result ≡ first_of (absent_at self.now at (place / self.now.size) (column_index.Number number) ∷ []) }
     {
         let column = &self.numbers[number];
-        // For the proof: gives that a row group is begun for each place.
+        // For the proof: shows that the row group of each place has been begun.
         let _len = column.len();
         column.get(&self.number_objects, place)
     }
 
-    // Returns the text, likewise.
+    // Borrows the text at a place that exists.
     fn text_at(&self, at: usize, text: usize, place: usize) -> Result<Option<&str>, Refusal>
         requires lies { slice_get self.now.column_indexes at ≡ Some (column_index.Text text) }
         requires column { text < length self.now.texts }
@@ -249,13 +249,13 @@ impl<S: FarTickets> Rows<S> {
         ensures refused { refusal_in result ≡ first_of (absent_at self.now at (place / self.now.size) (column_index.Text text) ∷ []) }
     {
         let column = &self.texts[text];
-        // For the proof: gives `HasGroups` of the column.
+        // For the proof: shows `HasGroups` of the column.
         let _len = column.len();
         column.text(&self.text_objects, place)
     }
 }
 
-// Checks that the object of a row group of a column of numbers is local, if there is one.
+// Checks that the object of a row group of a number column is local, if there is one.
 fn numbers_are_here<S: FarTickets>(
     objects: &Objects<Option<i64>, S>,
     column: &IntColumn,
@@ -264,7 +264,7 @@ fn numbers_are_here<S: FarTickets>(
     requires { IsVector (number_lists S.content objects.now) column.now }
     ensures { refusal_in result ≡ first_of (option_map_or (absent objects.now) (slice_get column.now.objects group) (false, Refusal.StaleJob) ∷ []) }
 {
-    // For the proof: gives that an object with a list is in use.
+    // For the proof: shows that an object with a list is in use.
     let _number = objects.number();
     if let Some(o) = column.object(group) {
         objects.here(o)?;
@@ -272,7 +272,7 @@ fn numbers_are_here<S: FarTickets>(
     Ok(())
 }
 
-// Checks the same of a column of texts.
+// Checks that the object of a row group of a text column is local, if there is one.
 fn texts_are_here<S: FarTickets>(
     objects: &Objects<u8, S>,
     column: &TextColumn,
@@ -281,7 +281,7 @@ fn texts_are_here<S: FarTickets>(
     requires { IsTextColumn (lists_of S.content objects.now) column.now }
     ensures { refusal_in result ≡ first_of (option_map_or (absent objects.now) (slice_get column.now.objects group) (false, Refusal.StaleJob) ∷ []) }
 {
-    // For the proof: gives that an object with a list is in use.
+    // For the proof: shows that an object with a list is in use.
     let _number = objects.number();
     if let Some(o) = column.object(group as usize) {
         objects.here(o)?;

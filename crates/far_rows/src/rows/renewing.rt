@@ -1,4 +1,4 @@
-// Rows whose far copies go into another store.
+// Moves the far copies of rows to another store.
 ghost use Rattle.std.specs.Prelude.{◌≡◌, ◌+◌, ◌<◌, ◌^◌, ℕ, List, [], ◌∷◌, IfOk};
 ghost use Rattle.far_store.specs.Faults.{faults_in, RefusedBy};
 ghost use Rattle.far_rows.specs.Rows.{all_cells};
@@ -12,12 +12,12 @@ use far_types::Refusal;
 use std::alloc::Global;
 
 impl<S: FarRead> Rows<S> {
-    /// Puts the content of each object that is away into another store. Those of numbers come before those of texts, each by
-    /// ascending object number. Allocates all that `renew` needs. The rows stay the same.
+    /// Puts the content of each object that is away into another store. Objects of numbers come before those of texts, each
+    /// by ascending object number. Allocates all that `renew` needs. The rows do not change.
     ///
-    /// It ends at the first object that is refused. What was put before stays in the new store. Refused with one of these:
+    /// It stops at the first refusal. The new store keeps what was put before. Refused with one of these:
     ///
-    /// - `FarFault` (21): one of the stores fails, exactly if the meter rises, by one.
+    /// - `FarFault` (21): one of the stores fails. Only then does the meter rise, by one.
     /// - `FarFull` (22): the new store gives out no more numbers.
     /// - `NoMemory` (1): an allocation fails.
     pub fn renewal<N: FarStore>(
@@ -41,10 +41,11 @@ impl<S: FarRead> Rows<S> {
 }
 
 impl<S: FarTickets> Rows<S> {
-    /// Returns the same rows, whose far copies are those of the renewal from now on. The local objects are dirty, since they
-    /// have no copy in the new store. Allocates nothing.
+    /// Returns the same rows, whose far copies are from now on those of the renewal. The local objects are dirty, since the
+    /// new store has no copy of them. Allocates nothing.
     ///
-    /// What stays: every cell and flag; what is local, hot or pinned; versions, leavings, the orders of use and the regions.
+    /// Unchanged are every cell and flag; which objects are local, hot or pinned; versions, leavings, the orders of use and
+    /// the regions.
     pub fn renew<N: FarTickets>(self, renewal: RowsRenewal<N>) -> Rows<N>
         requires { RenewsRows S.content N.content self renewal }
         ensures renewed { result ≡ renewed_rows self renewal }

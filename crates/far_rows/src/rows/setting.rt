@@ -1,4 +1,4 @@
-// The cell of a place is set.
+// Setting a cell.
 ghost use Rattle.std.specs.Prelude.{◌≡◌, [], ◌/◌, ◌<◌, ◌≤◌, ◌+◌, ℕ, ℤ, Option, List, length, map, false, None, Some, OnOk, OnErr, IfErr, IsOk, IfSome, option_map, slice_get, slice_set, slice_index_or};
 ghost use Rattle.std.specs.Option.{option_and_then};
 ghost use Rattle.far_types.specs.Cells.{is_too_long};
@@ -25,15 +25,15 @@ use far_types::{Kind, Refusal, Text};
 use std::alloc::Global;
 
 impl<S: FarTickets> Rows<S> {
-    /// Checks that a value may be put in a column of a place. Allocates nothing. After `Ok`, `set` of a text can be refused
-    /// with `NoMemory` (1) alone, and `set` of a number not at all.
+    /// Checks that a cell may be set to a value. Allocates nothing. After `Ok`, `set` of a text can be refused only with
+    /// `NoMemory` (1), and `set` of a number not at all.
     ///
     /// Refused with the first of these that applies:
     ///
-    /// - `Absent` (16): some object of the place's row group is away. It names the first in the order of the columns.
-    /// - `ChunkFull` (11): it is a text whose form would be longer than one may be.
+    /// - `Absent` (16): some object of the place's row group is away. The refusal names the first in the order of the columns.
+    /// - `ChunkFull` (11): it is a text whose form would be longer than its column's limit.
     /// - `RegionFull` (17): it is a text whose form does not fit while the old one is kept.
-    /// - `EditsUsedUp` (24): the object was written as often as objects may be.
+    /// - `EditsUsedUp` (24): the object was written as often as the limits allow.
     pub fn may_set(&self, column: usize, place: usize, value: &NewCell) -> Result<(), Refusal>
         requires place { place < length self.now.alive }
         requires of_kind { option_map kind_of (slice_get self.now.column_indexes column) ≡ Some (kind_in value.now) }
@@ -41,19 +41,18 @@ impl<S: FarTickets> Rows<S> {
         ensures refused { refusal_in result ≡ set_refusal S.content self.now column place value.now }
         ensures plain { (limits : Limits) → AreOf limits self.now → refusal_in result ≡ cell_set_refusal S.content limits self.now column place value.now }
     {
-        // For the proof: gives `AreRows`.
+        // For the proof: shows `AreRows`.
         let _len = self.len();
         self.may_set_value(column, place, value)
     }
 
-    // Checks that a value may be put in a column of a place: all objects of its row group are local, and then the column
-    // accepts it.
+    // Checks that a cell may be set to a value: all objects of its row group are local, and then the column accepts the value.
     fn may_set_value(&self, column: usize, place: usize, value: &NewCell) -> Result<(), Refusal>
         requires place { place < length self.now.alive }
         requires of_kind { option_map kind_of (slice_get self.now.column_indexes column) ≡ Some (kind_in value.now) }
         ensures { refusal_in result ≡ set_refusal S.content self.now column place value.now }
     {
-        // For the proof: gives that each index is that of a column.
+        // For the proof: shows that each index is a column's.
         let _len = self.len();
         let group = self.group_of(place);
         self.here(group)?;
@@ -73,20 +72,20 @@ impl<S: FarTickets> Rows<S> {
         requires { place < length self.now.alive }
         ensures { result ≡ place / self.now.size }
     {
-        // For the proof: gives that there are fewer places than numbers of 32 bits.
+        // For the proof: shows that there are fewer places than numbers of 32 bits.
         let _len = self.len();
         self.reciprocal.quotient(place, self.size as usize) as u32
     }
 
-    // Checks that a number may be put at a place of a column of numbers. The caller knows the row group of the place, so it is
-    // not computed again.
+    // Checks that a number may be written at a place of a number column. The caller passes the place's row group, so it is not
+    // computed again.
     fn number_is_writable(&self, i: usize, place: usize, group: u32) -> Result<(), Refusal>
         requires within { i < length self.now.numbers }
         requires place { place < length self.now.alive }
         requires group { group ≡ place / self.now.size }
         ensures { refusal_in result ≡ option_and_then (λ v. number_set_refusal self.now.number_objects v place) (slice_get self.now.numbers i) }
     {
-        // For the proof: give `AreRows`, and that an object with a list is in use.
+        // For the proof: shows `AreRows`, and that an object with a list is in use.
         let _len = self.len();
         let _number = self.number_objects.number();
         let Some(o) = self.numbers[i].object(group) else {
@@ -95,7 +94,7 @@ impl<S: FarTickets> Rows<S> {
         self.number_objects.may_write(o)
     }
 
-    // Puts a number, which is not refused, at a place of a column of numbers.
+    // Writes a number at a place of a number column. It must be one that may be written.
     fn set_number(&mut self, i: usize, place: usize, number: Option<i64>)
         requires within { i < length self.old.numbers }
         requires free { value_refusal S.content self.old (column_index.Number i) place (new.Number number) ≡ None }
@@ -104,13 +103,13 @@ impl<S: FarTickets> Rows<S> {
         ensures store { (id : List ℕ) → AreHere S.is_of id self.old.number_objects → AreHere S.is_of id self.new.number_objects }
         ensures versions { (o : ℕ) → version_of self.new.number_objects o ≤ version_of self.old.number_objects o + 1 }
     {
-        // For the proof: gives `AreRows`.
+        // For the proof: shows `AreRows`.
         let _len = self.len();
         let group = self.group_of(place);
         self.numbers[i].set_in_group(&mut self.number_objects, group, place, number);
     }
 
-    // Puts a text, which is not refused, at a place of a column of texts. Refused with `NoMemory` (1) alone.
+    // Sets a text at a place of a text column. It must be one that may be set. Refused only with `NoMemory` (1).
     fn set_text(
         &mut self,
         alloc: Global,
@@ -130,10 +129,10 @@ impl<S: FarTickets> Rows<S> {
         self.texts[i].set_accepted(alloc, &mut self.text_objects, place, text)
     }
 
-    /// Puts a value in a column of a place. Its row group's object is written. A text's form is placed anew before the old one
+    /// Sets a cell to a value. The object of its row group counts as written. A text's new form is placed before the old one
     /// is dropped.
     ///
-    /// The value is one that `may_set` accepted. A number is not refused, and a text with `NoMemory` (1) alone. A refused call
+    /// `may_set` must have accepted the value. A number is never refused, and a text only with `NoMemory` (1). A refused call
     /// changes nothing.
     pub fn set(
         &mut self,
@@ -152,13 +151,13 @@ impl<S: FarTickets> Rows<S> {
         ensures memory { IfErr result (λ e. e ≡ Refusal.NoMemory) }
         ensures err { OnErr result (self.new ≡ self.old) }
     {
-        // For the proof: gives `AreRows`.
+        // For the proof: shows `AreRows`.
         let _len = self.len();
         self.set_value(alloc, column, place, value)?;
         Ok(())
     }
 
-    // Puts a value in a column of a place, as the column does it.
+    // Sets a cell to a value, in the column with this index.
     fn set_value(
         &mut self,
         alloc: Global,
@@ -178,7 +177,7 @@ impl<S: FarTickets> Rows<S> {
         ensures memory { IfErr result (λ e. e ≡ Refusal.NoMemory) }
         ensures err { OnErr result (self.new ≡ self.old) }
     {
-        // For the proof: gives that each index is that of a column.
+        // For the proof: shows that each index is a column's.
         let _len = self.len();
         match (self.column_indexes[column], value) {
             (ColumnIndex::Number(i), NewCell::Number(number)) => {

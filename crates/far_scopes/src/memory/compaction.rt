@@ -14,18 +14,18 @@ use far_pointer::{At, Pointer, Word};
 use far_types::Refusal;
 use std::alloc::Global;
 
-/// An object whose part lies in the segment that is compacted.
+/// An object with its part in the segment that is compacted.
 #[derive(Clone, Copy, Drop)]
 pub(crate) struct SegmentObject {
     /// The number of the object.
     object: usize,
-    /// Where in the segment its part begins.
+    /// The offset of its part in the segment.
     offset: u32,
 }
 
 impl<T: Elem> LocalMemory<T> {
-    /// Moves the parts of a segment into the lowest other segment without parts, those of hot objects first. Clears the hot bit of each
-    /// object moved. If it is refused, nothing is changed.
+    /// Moves the parts of a segment into the lowest other segment without parts, hot objects' parts first. Clears the hot bit of each
+    /// object moved. A refused call changes nothing.
     pub fn compact(&mut self, alloc: Global, segment: u32) -> Result<(), Refusal>
         ensures ok { OnOk result (IsCompacted self.old self.new segment) }
         ensures lists { (p : ℕ) → list_in self.new p ≡ list_in self.old p }
@@ -43,7 +43,7 @@ impl<T: Elem> LocalMemory<T> {
     }
 }
 
-// Returns the objects whose parts lie in a segment: the hot ones, then the others, each by ascending offset.
+// Returns the objects with parts in a segment: the hot ones, then the others, each by ascending offset.
 fn hot_first(alloc: Global, words: &[Word], segment: u32) -> Result<Vec<SegmentObject>, Refusal>
     ensures found { IfOk result (λ found. AreHotFirst words.now segment found.items) }
     ensures memory { IfErr result (λ e. e ≡ Refusal.NoMemory) }
@@ -53,7 +53,7 @@ fn hot_first(alloc: Global, words: &[Word], segment: u32) -> Result<Vec<SegmentO
     Ok(found)
 }
 
-// Returns the objects whose parts lie in a segment and whose hot bit is `hot`, by ascending offset.
+// Returns the objects with parts in a segment and with this hot bit, by ascending offset.
 fn sorted(
     alloc: Global,
     words: &[Word],
@@ -68,7 +68,7 @@ fn sorted(
     Ok(found)
 }
 
-// Returns the objects whose parts lie in a segment and whose hot bit is `hot`, by ascending number.
+// Returns the objects with parts in a segment and with this hot bit, by ascending number.
 fn objects_in(
     alloc: Global,
     words: &[Word],
@@ -87,7 +87,7 @@ fn objects_in(
     Ok(found)
 }
 
-// Returns where in a segment the part of an object begins, if it lies there and the object's hot bit is `hot`.
+// Returns the offset of an object's part, if it is in this segment and the object has this hot bit.
 fn offset_if(word: Word, segment: u32, hot: bool) -> Option<u32>
     ensures { result ≡ offset_if segment hot word }
 {
@@ -101,7 +101,7 @@ fn offset_if(word: Word, segment: u32, hot: bool) -> Option<u32>
     }
 }
 
-// Returns where the parts of objects begin.
+// Returns the offsets of the objects' parts.
 fn offsets_of(alloc: Global, objects: &[SegmentObject]) -> Result<Vec<u32>, Refusal>
     ensures offsets { IfOk result (λ offsets. offsets.items ≡ map (λ found. found.offset) objects.now) }
     ensures memory { IfErr result (λ e. e ≡ Refusal.NoMemory) }
@@ -111,7 +111,7 @@ fn offsets_of(alloc: Global, objects: &[SegmentObject]) -> Result<Vec<u32>, Refu
     Ok(offsets)
 }
 
-// Updates the words of objects: where their parts lie now, and that they are not hot. Returns how many were hot.
+// Updates the words of objects after their parts moved: sets the new locations and clears the hot bits. Returns how many were hot.
 fn settle(words: &mut [Word], objects: &[SegmentObject], moved: &Moved) -> usize
     requires within { All (λ found. found.object < length words.old) objects.now }
     requires once { AllPairs (λ o p. o ≢ p) (map (λ found. found.object) objects.now) }
@@ -132,7 +132,7 @@ fn settle(words: &mut [Word], objects: &[SegmentObject], moved: &Moved) -> usize
     cooled
 }
 
-// Returns 1 for the word of an object that is hot, else 0.
+// Returns 1 for the word of a hot object, else 0.
 fn hot_of(word: Word) -> usize
     ensures { result ≡ (if is_hot word then 1 else 0) }
 {

@@ -1,4 +1,4 @@
-// Lists borrowed mutably.
+// Mutable borrows of lists.
 ghost use Rattle.std.specs.Prelude.{◌≡◌, ℕ, ◌-◌, ◌≤◌, ◌++◌, List, length, take, drop, slice_range, Some, IsSome, IfSome, IsSomeAnd};
 ghost use Rattle.std.specs.Borrow.{sem};
 ghost use Rattle.far_scopes.specs.Memory.{place_of, list_in, ChangesList};
@@ -22,7 +22,7 @@ impl<T: Elem> LocalMemory<T> {
         region.part_long_mut(at, len)
     }
 
-    /// Mutably borrows the elements `from` to `to` of an object that is local.
+    /// Mutably borrows the elements `from` to `to` of object `o`, which is local.
     pub fn lend_range_mut(&mut self, o: usize, from: usize, to: usize) -> &mut [T]
         requires ordered { from ≤ to }
         requires within { IsSomeAnd (list_in self.old o) (λ list. to ≤ length list) }

@@ -1,4 +1,4 @@
-// Words of objects whose far copies are in another store.
+// The words of objects after their far copies moved to another store.
 ghost use Rattle.std.specs.Prelude.{◌≡◌, ℕ, IsSome};
 ghost use Rattle.far_scopes.specs.Memory.{place_of, list_in};
 ghost use Rattle.far_scopes.specs.Renewal.{renewed_word, renewed_memory};
@@ -8,7 +8,7 @@ use far_codec::Elem;
 use far_pointer::{Pointer, Word};
 
 impl<T: Elem> LocalMemory<T> {
-    /// Clears the far-copy bit of each local object, so each is dirty.
+    /// Clears the far-copy bit of each local object, which makes each dirty.
     pub fn forget_copies(&mut self)
         ensures renewed { self.new ≡ renewed_memory self.old }
         ensures lists { (p : ℕ) → list_in self.new p ≡ list_in self.old p }

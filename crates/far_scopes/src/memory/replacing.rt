@@ -1,4 +1,4 @@
-// Several objects that get other lists together.
+// Replaces the lists of several objects, all or none.
 ghost use Rattle.std.specs.Prelude.{◌≡◌, ◌≢◌, ◌⊎◌, ◌<◌, ◌-◌, ℕ, [], ◌∷◌, true, length, All, Some, None, IsSome, OnOk, OnErr, IfErr};
 ghost use Rattle.std.specs.Option.{option_or};
 ghost use Rattle.far_types.specs.FirstOf.{first_of};
@@ -12,10 +12,10 @@ use far_codec::Elem;
 use far_types::Refusal;
 
 impl<T: Elem> LocalMemory<T> {
-    /// Gives listed objects, which are local, other lists: places all new ones, in order, before it drops an old one.
-    /// If they fit, it returns `checked`. If it is refused, nothing is changed.
+    /// Replaces the lists of the listed objects, which are local: places all new lists, in order, before it drops an
+    /// old one. If they fit, it returns `checked`. A refused call changes nothing.
     ///
-    /// Until all are placed, each new list is that of a further object after the others.
+    /// While it places them, each new list is the list of an extra object at the end.
     pub fn replace_all(
         &mut self,
         lists: &[Replacement<T>],
@@ -43,7 +43,8 @@ impl<T: Elem> LocalMemory<T> {
         Ok(())
     }
 
-    // Gives object `o`, which is local, the part of the last object. Drops its own part, and removes the last object.
+    // Moves the part of the last object to object `o`, which is local. Drops the old part of `o`, and removes the
+    // last object.
     fn take_over(&mut self, o: usize)
         requires other { o < length self.old.words - 1 }
         requires local { IsSome (place_of self.old.words o) }

@@ -1,4 +1,4 @@
-// The object that goes away first.
+// The eviction victim.
 ghost use Rattle.std.specs.Prelude.{◌≡◌, ◌≢◌, ◌↔◌, ℕ, true, None, IfSome, reverse};
 ghost use Rattle.std.specs.List.{find};
 ghost use Rattle.far_scopes.specs.Coldest.{coldest, is_unpinned};
@@ -9,11 +9,11 @@ use far_codec::Elem;
 use far_store::FarTickets;
 
 impl<T: Elem, S: FarTickets> Objects<T, S> {
-    /// Returns the eviction victim, the object that goes away first: the least recently used of those that are neither pinned nor hot. If
-    /// there is none, it is the least recently used of all without pins. Returns `None` exactly if no local object is without pins.
+    /// Returns the eviction victim: the least recently used object that is neither pinned nor hot. If there is none, it is the least
+    /// recently used of all without pins. Returns `None` exactly if every local object has a pin.
     ///
-    /// Allocates nothing. It goes through the order of use from its end. If every local object is hot, it stops at the first object without
-    /// pins. Else it stops at the first that is neither pinned nor hot, or at the order's beginning if there is none.
+    /// Allocates nothing. It walks the order of use from its end. If every local object is hot, it stops at the first object without pins.
+    /// Else it stops at the first that is neither pinned nor hot, or at the order's beginning if there is none.
     pub fn coldest(&self) -> Option<u32>
         ensures coldest { result ≡ coldest self.now }
         ensures local { IfSome result (λ o. is_local self.now o ≡ true) }

@@ -11,15 +11,16 @@ use far_types::Refusal;
 use std::alloc::Global;
 
 impl<T: Elem, S: FarTickets> Objects<T, S> {
-    /// Compacts a segment: moves its parts into the lowest other segment without parts, one after another. Parts of hot objects come
-    /// first, then the others, each by where they lay.
+    /// Compacts a segment: moves its parts into the lowest other segment without parts, without gaps. Parts of hot objects come
+    /// first, then the others, each in the order of their old offsets.
     ///
-    /// It clears the hot bits of these objects. Every list, which objects are local, dirty or away, and the order of use stay.
+    /// It clears the hot bits of these objects. It changes no list, and neither which objects are local, dirty or away, nor the
+    /// order of use.
     ///
-    /// If it is refused, nothing is changed. Refused with:
+    /// A refused call changes nothing. Refused with:
     /// - `OutOfRange` (14) exactly if there is no such segment;
-    /// - `RegionFull` (17) exactly if there is one and no other is without parts;
-    /// - else `NoMemory` (1) alone.
+    /// - `RegionFull` (17) exactly if the segment exists and every other segment has a part;
+    /// - else only `NoMemory` (1).
     pub fn compact(&mut self, alloc: Global, segment: u32) -> Result<(), Refusal>
         ensures compacted { OnOk result (IsCompacted self.old.memory self.new.memory segment) }
         ensures kept { self.new ≡ record self.old { memory = self.new.memory } }

@@ -13,13 +13,14 @@ use far_types::{Name, Refusal};
 impl<T: Elem, S: FarTickets> Objects<T, S> {
     /// Makes an object of this list. Returns its number, which is the next.
     ///
-    /// - The object is local, dirty, hot and used last, and was never written, away or pinned.
+    /// - The object is local, dirty, hot and the most recently used, and was never written, away or
+    ///   pinned.
     /// - `uncreate` undoes the call (`undone`).
-    /// - Lists of further lengths that fitted in order after this one still do (`next`).
+    /// - Lists of further lengths that fitted in order after this one still fit (`next`).
     ///
-    /// If it is refused, nothing is changed. Refused with:
+    /// A refused call changes nothing. Refused with:
     /// - `RegionFull` (17) exactly if no segment has the space;
-    /// - else `NoMemory` (1) alone.
+    /// - else only `NoMemory` (1).
     pub fn create(&mut self, name: Name, items: &[T]) -> Result<u32, Refusal>
         requires some { 0 < length items.now }
         requires few { length self.old.records < 2 ^ 28 }

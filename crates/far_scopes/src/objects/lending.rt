@@ -1,4 +1,4 @@
-// Lists borrowed in place.
+// Borrows of lists in place.
 ghost use Rattle.std.specs.Prelude.{◌≡◌, ℕ, ◌-◌, ◌<◌, ◌≤◌, ◌++◌, List, length, take, drop, slice_range, true, Some, None, IfOk, IsSomeAnd};
 ghost use Rattle.std.specs.Borrow.{sem};
 ghost use Rattle.far_scopes.specs.Memory.{list_in, ChangesList};
@@ -27,7 +27,7 @@ impl<T: Elem, S: FarTickets> Objects<T, S> {
         Ok(self.memory.lend(o as usize, self.records[o as usize].len))
     }
 
-    /// Checks that an object is local, by its pointer word alone. Allocates nothing.
+    /// Checks that an object is local. Reads only its pointer word, and allocates nothing.
     ///
     /// Refused with `Absent` (16) exactly if the object is away, as `lend` is.
     pub fn here(&self, o: u32) -> Result<(), Refusal>
@@ -44,7 +44,7 @@ impl<T: Elem, S: FarTickets> Objects<T, S> {
     ///
     /// Refused with:
     /// - `Absent` (16) exactly if the object is away;
-    /// - `EditsUsedUp` (24) exactly if it is local and was written as often as objects may be.
+    /// - `EditsUsedUp` (24) exactly if it is local and was written as often as the limits allow.
     pub fn may_write(&self, o: u32) -> Result<(), Refusal>
         requires { o < length self.now.records }
         ensures { refusal_in result ≡ write_refusal self.now o }
@@ -58,8 +58,8 @@ impl<T: Elem, S: FarTickets> Objects<T, S> {
 
     /// Mutably borrows the list of an object that may be written, in place. Allocates nothing.
     ///
-    /// The object counts as written before it is borrowed: it is dirty, hot and used last, and its version is one more. What the borrow
-    /// leaves is the object's list, and no other list changes (`alone`).
+    /// The object counts as written before it is borrowed: it is dirty, hot and the most recently used, and its version is one more.
+    /// The borrow changes this object's list, and no other list (`alone`).
     pub fn lend_mut(&mut self, o: u32) -> &mut [T]
         requires within { o < length self.old.records }
         requires free { write_refusal self.old o ≡ None }
@@ -132,7 +132,7 @@ impl<T: Elem, S: FarTickets> Objects<T, S> {
         !self.is_local(o)
     }
 
-    // Returns the refusal that says that an object is away.
+    // Returns the refusal `Absent`, with this object's name.
     pub(super) fn absent(&self, o: u32) -> Refusal
         requires { o < length self.now.records }
         ensures { result ≡ (absent self.now o).1 }

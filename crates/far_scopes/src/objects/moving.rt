@@ -1,4 +1,4 @@
-// Objects that go away and come back.
+// Objects that leave local memory and come back.
 ghost use Rattle.std.specs.Prelude.{◌≡◌, ℕ, ◌<◌, ◌↔◌, ◌⊎◌, length, false, true, Some, None, OnOk, OnErr, IfErr, IfSome, IsSomeAnd, IsErrOf, List};
 ghost use Rattle.far_codec.specs.Spelling.{IsSpelled};
 ghost use Rattle.far_log.specs.RegionState.{fits_in};
@@ -13,7 +13,8 @@ use far_store::FarTickets;
 use far_types::Refusal;
 
 impl<T: Elem, S: FarTickets> Objects<T, S> {
-    /// Evicts an object whose far copy is this ticket's content. Drops its part and keeps its record. Allocates nothing.
+    /// Evicts an object whose list is encoded in this ticket's content. Drops its part and keeps its record. Allocates
+    /// nothing.
     pub fn leave(&mut self, store: &S, o: u32, ticket: &S::Ticket)
         requires here { S.is_of ticket.now (S.store_id store.now) }
         requires copied { IsSomeAnd (list_in self.old.memory o) (λ list. IsSpelled T.in_range T.has_spelling T.spelling list (S.content ticket.now)) }
@@ -32,11 +33,11 @@ impl<T: Elem, S: FarTickets> Objects<T, S> {
         self.order.remove(o);
     }
 
-    /// Brings an object back that is away and whose ticket means these elements: the end of a fetch.
+    /// Brings back an object that is away, with the list that its ticket means: the end of a fetch.
     ///
-    /// If it is refused, nothing is changed. Refused with:
+    /// A refused call changes nothing. Refused with:
     /// - `RegionFull` (17) exactly if no segment has the space;
-    /// - else `NoMemory` (1) alone.
+    /// - else only `NoMemory` (1).
     pub fn arrive(&mut self, o: u32, items: &[T]) -> Result<(), Refusal>
         requires within { o < length self.old.records }
         requires away { is_local self.old o ≡ false }

@@ -1,4 +1,4 @@
-// Pins, which keep objects from going away.
+// Pins, which keep objects local.
 ghost use Rattle.std.specs.Prelude.{◌≡◌, ◌<◌, List, ℕ, length, OnOk, OnErr};
 ghost use Rattle.far_scopes.specs.Refusing.{refusal_in, pin_refusal, unpin_refusal};
 ghost use Rattle.far_scopes.specs.Effects.{after_pin, after_unpin, after_touch};
@@ -10,9 +10,9 @@ use far_store::FarTickets;
 use far_types::Refusal;
 
 impl<T: Elem, S: FarTickets> Objects<T, S> {
-    /// Pins an object once more. Allocates nothing.
+    /// Adds a pin to an object. Allocates nothing.
     ///
-    /// If it is refused, nothing is changed. Refused with:
+    /// A refused call changes nothing. Refused with:
     /// - `Absent` (16) exactly if the object is away;
     /// - `EditsUsedUp` (24) exactly if it has 65,535 pins.
     pub fn pin(&mut self, o: u32) -> Result<(), Refusal>
@@ -36,9 +36,9 @@ impl<T: Elem, S: FarTickets> Objects<T, S> {
         Ok(())
     }
 
-    /// Pins an object once less. Allocates nothing.
+    /// Removes a pin from an object. Allocates nothing.
     ///
-    /// Refused with `NotPinned` (18) exactly if it has no pin. Then nothing is changed.
+    /// Refused with `NotPinned` (18) exactly if it has no pin. Then nothing changes.
     pub fn unpin(&mut self, o: u32) -> Result<(), Refusal>
         requires { o < length self.old.records }
         ensures unpinned { OnOk result (self.new ≡ after_unpin self.old o) }
@@ -57,7 +57,8 @@ impl<T: Elem, S: FarTickets> Objects<T, S> {
         Ok(())
     }
 
-    /// Marks an object as recently used, if it is local: it is hot and used last. Allocates nothing.
+    /// Marks an object as recently used, if it is local: hot and the most recently used. Allocates
+    /// nothing.
     pub fn touch(&mut self, o: u32)
         requires { o < length self.old.records }
         ensures touched { self.new ≡ after_touch self.old o }

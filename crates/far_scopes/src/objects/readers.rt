@@ -1,4 +1,4 @@
-// Readings of objects, and checks before they move.
+// Readers of objects, and checks before they move.
 ghost use Rattle.std.specs.Prelude.{◌≡◌, ℕ, ◌<◌, ◌≤◌, ◌↔◌, length, All, Some, IsTrue, true, option_map};
 ghost use Rattle.far_log.specs.RegionState.{fits_in, fit_in_order, spaces_of, space_of, capacity_of};
 ghost use Rattle.far_scopes.specs.Movement.{record_of, leavings_of, is_local};
@@ -9,14 +9,15 @@ use far_store::FarTickets;
 use far_types::Name;
 
 impl<T: Elem, S: FarTickets> Objects<T, S> {
-    /// Returns how many objects there are: the numbers below are in use. Allocates nothing.
+    /// Returns how many objects there are. Their numbers are those below. Allocates nothing.
     pub fn count(&self) -> u32
         ensures { result ≡ length self.now.records }
     {
         self.records.len() as u32
     }
 
-    /// Returns whether every object is local. Allocates nothing, and reads no object: the local ones are those in the order of use.
+    /// Returns whether every object is local. Allocates nothing, and reads no object: it compares their count with the length of the
+    /// order of use.
     pub fn are_all_local(&self) -> bool
         ensures { IsTrue result ↔ ((o : ℕ) → o < length self.now.records → is_local self.now o ≡ true) }
     {
@@ -25,7 +26,7 @@ impl<T: Elem, S: FarTickets> Objects<T, S> {
         local == all
     }
 
-    /// Returns how many elements the list of an object has, local or away. Allocates nothing.
+    /// Returns the length of an object's list, local or away. Allocates nothing.
     pub fn len(&self, o: u32) -> usize
         requires { o < length self.now.records }
         ensures { option_map (λ object_record. object_record.len) (record_of self.now o) ≡ Some result }
@@ -48,7 +49,7 @@ impl<T: Elem, S: FarTickets> Objects<T, S> {
         self.memory.fits(len)
     }
 
-    /// Returns whether at most 16 lists of these lengths, none of them empty, can be placed one after the other. Each goes to the lowest
+    /// Returns whether at most 16 lists of these lengths, none of them empty, can be placed one after another. Each goes to the lowest
     /// segment that has the space. Allocates nothing.
     pub fn fits_in_order(&self, lens: &[usize]) -> bool
         requires few { length lens.now ≤ 16 }
@@ -58,23 +59,23 @@ impl<T: Elem, S: FarTickets> Objects<T, S> {
         self.memory.fits_in_order(lens)
     }
 
-    /// Returns the space of all segments together, in elements. Allocates nothing.
+    /// Returns the total space of the segments, in elements. Allocates nothing.
     ///
-    /// A list needs its space in one segment. So a list that is no longer than this may still not fit.
+    /// A list needs its space in one segment. So a list may not fit although it is no longer than this.
     pub fn space(&self) -> usize
         ensures { result ≡ space_of self.now.memory.state }
     {
         self.memory.space()
     }
 
-    /// Returns the capacity of all segments together, in elements. Allocates nothing.
+    /// Returns the total capacity of the segments, in elements. Allocates nothing.
     pub fn capacity(&self) -> usize
         ensures { result ≡ capacity_of self.now.memory.state }
     {
         self.memory.capacity()
     }
 
-    /// Returns whether an object may go away once more: each may do so as often as the limits of `new` say. Allocates nothing.
+    /// Returns whether an object may go away again: each may do so as often as the limits given to `new` allow. Allocates nothing.
     pub fn may_leave(&self, o: u32) -> bool
         requires { o < length self.now.records }
         ensures { IsTrue result ↔ (leavings_of self.now o < self.now.leavings) }

@@ -1,4 +1,4 @@
-// Objects whose far copies go into another store.
+// Moves the far copies of objects to another store.
 ghost use Rattle.std.specs.Prelude.{◌≡◌, ◌+◌, ◌<◌, ◌^◌, ℕ, List, [], ◌∷◌, length, if◌then◌else◌, None, IfOk, option_map};
 ghost use Rattle.far_store.specs.Faults.{faults_in, RefusedBy};
 ghost use Rattle.far_scopes.specs.Movement.{list_of, AreClean, AreHere, is_local, ticket_of};
@@ -13,9 +13,9 @@ use std::alloc::Global;
 
 impl<T: Elem, S: FarRead> Objects<T, S> {
     /// Puts the content of each object that is away into another store, by ascending object number. Allocates all memory that `renew`
-    /// needs. These objects stay as they are.
+    /// needs. It does not change the objects.
     ///
-    /// It ends at the first object that is refused. What was put before stays in the new store. Refused with:
+    /// It stops at the first refusal. The new store keeps what was put before. Refused with:
     /// - `FarFault` (21) if one of the stores fails;
     /// - `FarFull` (22) if the new store gives out no more numbers;
     /// - `NoMemory` (1).
@@ -55,11 +55,12 @@ impl<T: Elem, S: FarRead> Objects<T, S> {
 }
 
 impl<T: Elem, S: FarTickets> Objects<T, S> {
-    /// Returns the same objects, whose far copies are those of the renewal from now on. Allocates nothing.
+    /// Returns the same objects, whose far copies are from now on those of the renewal. Allocates nothing.
     ///
-    /// - Objects that are away have their tickets there.
-    /// - Local ones are dirty, since they have no copy there.
-    /// - All else stays: every list, which objects are local, hot or pinned, versions, leavings, the order of use and the region.
+    /// - Objects that are away have the renewal's tickets.
+    /// - Local objects are dirty, since the new store has no copy of them.
+    /// - All else is unchanged: every list, which objects are local, hot or pinned, versions, leavings, the order of use and the
+    ///   region.
     pub fn renew<N: FarTickets>(self, renewal: Renewal<N>) -> Objects<T, N>
         requires { Renews S.content N.content self renewal }
         ensures renewed { result ≡ after_renew self renewal }
@@ -99,7 +100,7 @@ impl<T: Elem, S: FarTickets> Objects<T, S> {
     }
 }
 
-// Puts the content of a ticket into another store. The buffer's memory is reused.
+// Puts the content of a ticket into another store. Reuses the buffer's memory.
 fn put_again<S: FarRead, N: FarStore>(
     alloc: Global,
     store: &S,

@@ -1,4 +1,4 @@
-// Objects that get another list.
+// Replaces the lists of objects.
 ghost use Rattle.std.specs.Prelude.{◌≡◌, ℕ, ◌<◌, ◌⊎◌, List, [], ◌∷◌, true, length, map, All, Some, None, OnOk, OnErr, IfErr};
 ghost use Rattle.far_types.specs.FirstOf.{first_of};
 ghost use Rattle.far_scopes.specs.Memory.{ChangesList};
@@ -15,14 +15,14 @@ use far_store::FarTickets;
 use far_types::Refusal;
 
 impl<T: Elem, S: FarTickets> Objects<T, S> {
-    /// Gives an object another list: the new part is placed before the old one is dropped. The object counts as written:
-    /// it is dirty, hot and used last, and its version is one more. Its ticket stays.
+    /// Replaces the list of an object: places the new part before it drops the old one. The object counts as written: it is dirty, hot and
+    /// the most recently used, and its version is one more. Its ticket stays.
     ///
-    /// If it is refused, nothing is changed. Refused with:
+    /// A refused call changes nothing. Refused with:
     /// - `Absent` (16) exactly if the object is away;
     /// - else `RegionFull` (17) exactly if no segment has the space;
-    /// - else `EditsUsedUp` (24) exactly if it was written as often as objects may be;
-    /// - else `NoMemory` (1) alone.
+    /// - else `EditsUsedUp` (24) exactly if it was written as often as the limits allow;
+    /// - else only `NoMemory` (1).
     pub fn replace(&mut self, o: u32, items: &[T]) -> Result<(), Refusal>
         requires some { 0 < length items.now }
         requires within { o < length self.old.records }
@@ -59,12 +59,12 @@ impl<T: Elem, S: FarTickets> Objects<T, S> {
         }
     }
 
-    /// Checks that an object may get another list, of `len` elements. Allocates nothing.
+    /// Checks that the list of an object may be replaced by one of `len` elements. Allocates nothing.
     ///
     /// Refused as `replace` is, but never with `NoMemory`:
     /// - `Absent` (16) exactly if the object is away;
     /// - else `RegionFull` (17) exactly if no segment has the space;
-    /// - else `EditsUsedUp` (24) exactly if it was written as often as objects may be.
+    /// - else `EditsUsedUp` (24) exactly if it was written as often as the limits allow.
     pub fn may_replace(&self, o: u32, len: usize) -> Result<(), Refusal>
         requires { o < length self.now.records }
         ensures { refusal_in result ≡ replace_refusal self.now o len }
@@ -79,17 +79,17 @@ impl<T: Elem, S: FarTickets> Objects<T, S> {
         Ok(())
     }
 
-    /// Gives several objects other lists, all or none: all new parts are placed, in the given order, before an old one is dropped.
+    /// Replaces the lists of several objects, all or none: places all new parts, in the given order, before it drops an old one.
     ///
-    /// The objects count as written in that order: each is dirty and hot, and its version is one more. The last of them is the one used
-    /// last. Their tickets stay.
+    /// The objects count as written in that order: each is dirty and hot, and its version is one more. The last listed is then the most
+    /// recently used. Their tickets stay.
     ///
-    /// If it is refused, nothing is changed. Refused with:
+    /// A refused call changes nothing. Refused with:
     /// - `Absent` (16), which names the first such object, exactly if a listed object is away;
-    /// - else `RegionFull` (17) if the new parts, placed one after the other, do not fit with all old ones still there;
-    /// - else `EditsUsedUp` (24) if some listed object was written as often as objects may be;
-    /// - `NoMemory` (1) if an allocation failed. This may come before the call finds that 17 or 24 applies, but only if the first new part
-    ///   has space.
+    /// - else `RegionFull` (17) if the new parts, placed one after another, do not fit while all old ones are still there;
+    /// - else `EditsUsedUp` (24) if some listed object was written as often as the limits allow;
+    /// - `NoMemory` (1) if an allocation failed. This may happen before the call finds that 17 or 24 applies, but only if the first new
+    ///   part has space.
     pub fn replace_all(&mut self, lists: &[Replacement<T>]) -> Result<(), Refusal>
         requires some { All (λ r. 0 < length r.list.items) lists.now }
         requires within { All (λ r. r.object < length self.old.records) lists.now }
@@ -126,7 +126,7 @@ impl<T: Elem, S: FarTickets> Objects<T, S> {
         Ok(())
     }
 
-    // Checks that listed objects may be written once more.
+    // Checks that listed objects may be written again.
     fn all_writable(&self, lists: &[Replacement<T>]) -> Result<(), Refusal>
         requires { All (λ r. r.object < length self.now.records) lists.now }
         ensures { refusal_in result ≡ first_of (any_written_out self.now lists.now ∷ []) }
@@ -139,7 +139,7 @@ impl<T: Elem, S: FarTickets> Objects<T, S> {
         Ok(())
     }
 
-    // Marks the listed objects as written, one after the other.
+    // Marks the listed objects as written, one after another.
     fn mark_all(&mut self, lists: &[Replacement<T>])
         requires within { All (λ r. r.object < length self.old.records) lists.now }
         requires free { All (λ r. write_refusal self.old r.object ≡ None) lists.now }

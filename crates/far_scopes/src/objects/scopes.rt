@@ -15,10 +15,10 @@ use std::alloc::Global;
 impl<T: Elem, S: FarTickets> Objects<T, S> {
     /// Pins objects together, one pin for each listing, all or none. The scope must be spent by `close`.
     ///
-    /// If it is refused, nothing is changed. Refused with:
+    /// A refused call changes nothing. Refused with:
     /// - `Absent` (16), which names the first such object, exactly if a listed object is away;
     /// - `EditsUsedUp` (24) exactly if none is away and one would get more than 65,535 pins;
-    /// - else `NoMemory` (1) alone.
+    /// - else only `NoMemory` (1).
     pub fn enter(&mut self, alloc: Global, objects: &[u32]) -> Result<Scope, Refusal>
         requires within { All (λ o. o < length self.old.records) objects.now }
         requires few { length objects.now < 2 ^ 32 }

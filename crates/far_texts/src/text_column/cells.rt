@@ -1,4 +1,4 @@
-// Texts of a column with the flags of their places, borrowed.
+// Borrowed texts of a column, with the flags of their places.
 ghost use Rattle.std.specs.Prelude.{◌≡◌, ◌∷◌, ◌≤◌, [], drop, length, IfOk, IfSome, IfNone, slice_range};
 ghost use Rattle.std.specs.List.{zip};
 ghost use Rattle.std.specs.Option.{option_copied};
@@ -14,19 +14,20 @@ use far_store::FarTickets;
 use far_types::Refusal;
 use std::marker::Model;
 
-/// A text of a column, borrowed, and the flag of its place.
+/// A borrowed text of a column, and the flag of its place.
 #[derive(Clone, Copy)]
 pub struct TextCell<'a> {
-    /// The text; `None` if it is missing.
+    /// The text, or `None` if it is missing.
     pub text: Option<&'a str>,
     /// Whether the place is alive.
     pub alive: bool,
 }
 
-/// The texts of a part of a column, in order, each with the flag of its place. Contracts see the list of what is left.
+/// An iterator over the texts of a part of a column, each with the flag of its place. Contracts see the list of the remaining
+/// ones.
 ///
 /// It borrows each text from its object. For a text it reads the head of one form, one bit of its mask and two ends. It looks
-/// up an object once a row group.
+/// up an object once for each row group.
 #[derive(Drop)]
 pub struct TextCells<'a, S: FarTickets> {
     column: &'a TextColumn,
@@ -49,7 +50,7 @@ impl<'a, S: FarTickets> Model for TextCells<'a, S> {
 }
 
 impl<'a, S: FarTickets> TextCells<'a, S> {
-    // Returns the texts from a place on, one for each flag.
+    // Makes the iterator over the texts from a place on, one for each flag.
     fn new(
         column: &'a TextColumn,
         objects: &'a Objects<u8, S>,
@@ -72,10 +73,10 @@ impl<'a, S: FarTickets> TextCells<'a, S> {
         }
     }
 
-    /// Returns the next text with its flag, and `None` if there is none left. Allocates nothing.
+    /// Returns the next text with its flag, or `None` at the end. Allocates nothing.
     ///
-    /// This is no `Iterator`: the prover cannot prove such a method of a trait, if it calls what needs objects that threads may
-    /// share.
+    /// This is no `Iterator`: the prover cannot prove a method of that trait if it calls something that requires objects that
+    /// threads may share.
     pub fn next(&mut self) -> Option<TextCell<'a>>
         ensures first { IfSome result (λ cell. self.old ≡ (option_copied cell.text, cell.alive) ∷ self.new) }
         ensures none { IfNone result ((self.old ≡ []) × (self.new ≡ [])) }
@@ -115,13 +116,13 @@ impl TextColumn {
         Ok(())
     }
 
-    /// Returns the texts of the places `from` up to `to`, in order, each borrowed, with the flag of its place. The caller
-    /// passes the flags of all places. Allocates nothing.
+    /// Returns an iterator over the texts of the places `from` up to `to`, each borrowed, with the flag of its place. The
+    /// caller passes the flags of all places. Allocates nothing.
     ///
     /// Refused with the first of these that applies:
     ///
     /// - `OutOfRange` (14): `from` is above `to`, or `to` is past the end.
-    /// - `Absent` (16): the object of a row group that the part touches is away. It names the first such.
+    /// - `Absent` (16): the object of a row group that the part touches is away. The refusal names the first such object.
     pub fn texts<'a, S: FarTickets>(
         &'a self,
         objects: &'a Objects<u8, S>,

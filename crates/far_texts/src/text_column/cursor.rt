@@ -9,22 +9,22 @@ use super::TextColumn;
 use far_scopes::Objects;
 use far_store::FarTickets;
 
-/// A place of a column whose places are visited in order, and the far form of its row group. So it looks up an object once a
-/// row group, and divides no place.
+/// The current place of a walk over a column's places in order, and the far form of its row group. So a walk looks up an
+/// object once for each row group, and divides no place.
 #[derive(Clone, Copy)]
 pub(super) struct Cursor<'a> {
     /// The place.
     pub place: usize,
-    /// The row group that holds the place, or that ends before it.
+    /// The row group of the place, or one that ends before it.
     pub group: usize,
-    /// The index of the place, from that row group's beginning.
+    /// The index of the place in that row group.
     pub index: usize,
     /// The far form of the row group.
     pub form: &'a [u8],
 }
 
 impl<'a> Cursor<'a> {
-    // Returns the cursor for when no place is left.
+    // Returns the cursor past the last place.
     pub(super) fn none(place: usize) -> Cursor<'a>
         ensures { result.place ≡ place }
     {
@@ -47,7 +47,7 @@ impl<'a> Cursor<'a> {
         ensures place { result.place ≡ place }
         ensures cursor { IsCursor (lists_of S.content objects.now) column.now place result.group result.index result.form.now }
     {
-        // For the proof: gives `HasGroups`.
+        // For the proof: shows `HasGroups`.
         let _size = column.size();
         let group = column.group_of(place);
         let form = column.form_here(objects, group);
@@ -59,7 +59,7 @@ impl<'a> Cursor<'a> {
         }
     }
 
-    // Returns the same place, as one of the row group that holds it.
+    // Returns the same place, with the row group that contains it.
     #[inline(always)]
     pub(super) fn entered<S: FarTickets>(
         self,
@@ -97,7 +97,7 @@ impl TextColumn {
         self.size
     }
 
-    // Returns the far form of a row group whose object is local, borrowed.
+    // Borrows the far form of a row group whose object is local.
     fn form_here<'a, S: FarTickets>(&self, objects: &'a Objects<u8, S>, group: usize) -> &'a [u8]
         requires begun { group < length self.now.objects }
         requires is { IsTextColumn (lists_of S.content objects.now) self.now }

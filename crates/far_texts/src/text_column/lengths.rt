@@ -1,4 +1,4 @@
-// How long a form of a column becomes, before it is made.
+// The lengths of a column's forms, computed before the forms are made.
 ghost use Rattle.std.specs.Prelude.{◌≡◌, ◌∷◌, [], IfOk, length};
 ghost use Rattle.far_types.specs.FormLengths.{texts_length};
 ghost use Rattle.far_codec.specs.TextForm.{bytes_of};
@@ -13,7 +13,7 @@ use far_scopes::Objects;
 use far_store::FarTickets;
 use far_types::{Refusal, Text};
 
-/// Returns how many bytes a text has: 0 if it is missing.
+/// Returns the length of a text in bytes, 0 if it is missing.
 pub(crate) fn text_length(text: &Option<Text>) -> usize
     ensures { result ≡ length (bytes_of text.now) }
 {
@@ -23,7 +23,7 @@ pub(crate) fn text_length(text: &Option<Text>) -> usize
     }
 }
 
-/// Returns how many bytes the form of one text has.
+/// Returns the length of the form of one text, in bytes.
 fn length_of_one(text: &Option<Text>) -> usize
     ensures { result ≡ texts_length (text.now ∷ []) }
 {
@@ -41,7 +41,7 @@ impl TextColumn {
         self.len == self.objects.len() * self.size
     }
 
-    /// Returns how many bytes the form of a place's row group has once the place has this text. Allocates nothing.
+    /// Returns the length in bytes of the form of a place's row group with this text at the place. Allocates nothing.
     ///
     /// Refused with the first of these that applies:
     ///
@@ -65,9 +65,9 @@ impl TextColumn {
         Ok(length_with(form, self.index_in(group, place), text))
     }
 
-    /// Returns how many bytes the form of the next place's row group has once the place has this text. Allocates nothing.
+    /// Returns the length in bytes of the form of the next place's row group with this text appended. Allocates nothing.
     ///
-    /// Refused with `Absent` (16) exactly if the row group is begun and its object is away.
+    /// Refused with `Absent` (16) exactly if the row group has been begun and its object is away.
     #[inline(always)]
     pub fn form_length_with_next<S: FarTickets>(
         &self,

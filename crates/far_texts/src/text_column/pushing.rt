@@ -1,4 +1,4 @@
-// A text is appended to a column.
+// Appending a text to a column.
 ghost use Rattle.std.specs.Prelude.{◌≡◌, ◌⊎◌, ◌<◌, ◌≤◌, ◌^◌, ◌++◌, ◌∷◌, ℕ, List, [], length, true, false, None, Some, OnOk, OnErr, IfOk, IfErr};
 ghost use Rattle.far_types.specs.FormLengths.{texts_length};
 ghost use Rattle.far_codec.specs.TextForm.{texts_form, texts_meaning, IsTextsForm};
@@ -20,7 +20,7 @@ use far_types::{Name, Refusal, Text};
 use std::alloc::Global;
 
 impl TextColumn {
-    // Checks that the next place may get this text, unless memory runs out.
+    // Checks that this text may be appended, unless memory runs out.
     pub(super) fn may_push<S: FarTickets>(
         &self,
         objects: &Objects<u8, S>,
@@ -46,8 +46,8 @@ impl TextColumn {
         Ok(())
     }
 
-    // Returns the form of the next place's row group once the place has this text. It is made in the memory of a form that is
-    // no longer needed. It is inlined, so that a form is passed through memory by one call and not by two.
+    // Returns the form of the next place's row group with this text appended. It is made in the memory of a form that is no
+    // longer needed. It is inlined, so that a form is passed through memory by one call and not by two.
     #[inline(always)]
     pub(crate) fn form_pushed<S: FarTickets>(
         &self,
@@ -71,7 +71,7 @@ impl TextColumn {
         form_with_next(spare, form, text)
     }
 
-    // For the proof: gives that the column has groups, and that the next object's number has no list.
+    // For the proof: shows that the column has groups, and that the next object's number has no list.
     pub(super) fn next_object_is_unused<S: FarTickets>(&self, objects: &Objects<u8, S>)
         requires { IsTextColumn (lists_of S.content objects.now) self.now }
         ensures objects { length self.now.objects ≤ length objects.now.records }
@@ -113,7 +113,7 @@ impl TextColumn {
         Ok(())
     }
 
-    // Gives the next place's row group, which is begun, this form.
+    // Replaces the form of the last row group, which has the next place, by this one.
     fn extend_group<S: FarTickets>(
         &mut self,
         objects: &mut Objects<u8, S>,
@@ -137,16 +137,16 @@ impl TextColumn {
         Ok(())
     }
 
-    /// Appends a text. If the next place begins a row group, it makes an object, whose form has this text alone. Otherwise the
-    /// object of the last row group gets another form, placed before the old one is dropped.
+    /// Appends a text. If the next place begins a row group, makes an object whose form has only this text. Otherwise the
+    /// object of the last row group gets a new form, placed before the old one is dropped.
     ///
     /// Refused with the first of these that applies:
     ///
     /// - `TextTooLong` (7): the text has more than 4,096 bytes.
-    /// - `Absent` (16): the row group is begun, and its object is away.
-    /// - `ChunkFull` (11): the new form would be longer than one may be.
+    /// - `Absent` (16): the row group has been begun, and its object is away.
+    /// - `ChunkFull` (11): the new form would be longer than the column's limit.
     /// - `RegionFull` (17): no segment has the space.
-    /// - `EditsUsedUp` (24): the row group is begun, and its object was written as often as objects may be.
+    /// - `EditsUsedUp` (24): the row group has been begun, and its object was written as often as the limits allow.
     /// - `NoMemory` (1): an allocation fails.
     ///
     /// A refused call changes nothing.

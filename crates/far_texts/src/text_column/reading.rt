@@ -1,4 +1,4 @@
-// Texts of a column, borrowed.
+// Reading texts of a column.
 ghost use Rattle.std.specs.Prelude.{◌≡◌, ◌<◌, length, false, Some, IfOk, slice_get, slice_index};
 ghost use Rattle.std.specs.Option.{option_copied};
 ghost use Rattle.far_scopes.specs.Refusing.{refusal_in, lend_refusal};
@@ -13,19 +13,19 @@ use far_store::FarTickets;
 use far_types::Refusal;
 
 impl TextColumn {
-    // Returns the object of a row group that is begun.
+    // Returns the object of a row group that has been begun.
     pub(super) fn object_in_use<S: FarTickets>(&self, objects: &Objects<u8, S>, group: usize) -> u32
         requires begun { group < length self.now.objects }
         requires is { IsTextColumn (lists_of S.content objects.now) self.now }
         ensures object { result ≡ slice_index self.now.objects group }
         ensures used { result < length objects.now.records }
     {
-        // For the proof: gives that an object with a list is in use.
+        // For the proof: shows that an object with a list is in use.
         let _number = objects.number();
         self.objects[group]
     }
 
-    // Returns the far form of a row group that is begun, borrowed.
+    // Borrows the far form of a row group that has been begun.
     pub(super) fn form<'a, S: FarTickets>(
         &self,
         objects: &'a Objects<u8, S>,
@@ -41,7 +41,7 @@ impl TextColumn {
         objects.lend(o)
     }
 
-    // Returns the far form of the last row group, which holds the next place, borrowed.
+    // Borrows the far form of the last row group, which has the next place.
     pub(super) fn last_form<'a, S: FarTickets>(
         &self,
         objects: &'a Objects<u8, S>,
@@ -53,7 +53,7 @@ impl TextColumn {
         self.form(objects, self.objects.len() - 1)
     }
 
-    /// Returns the text of a place, borrowed; `None` if it is missing. Allocates nothing. It reads only the head of one form,
+    /// Borrows the text at a place, or returns `None` if it is missing. Allocates nothing. Reads only the head of one form,
     /// one bit of its mask and two ends.
     ///
     /// Refused with the first of these that applies:

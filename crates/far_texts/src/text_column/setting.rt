@@ -1,4 +1,4 @@
-// A text of a column is set.
+// Setting a text of a column.
 ghost use Rattle.std.specs.Prelude.{◌≡◌, ◌⊎◌, ◌<◌, ℕ, List, length, None, Some, OnOk, OnErr, IfOk, IfErr, slice_set};
 ghost use Rattle.far_types.specs.FormLengths.{texts_length};
 ghost use Rattle.far_codec.specs.TextForm.{texts_form, texts_meaning, IsTextsForm};
@@ -18,17 +18,17 @@ use far_types::{Refusal, Text};
 use std::alloc::Global;
 
 impl TextColumn {
-    /// Checks that the text of a place may be set to this one. Allocates nothing. After `Ok`, `set` can be refused with
-    /// `NoMemory` (1) alone.
+    /// Checks that the text at a place may be set to this one. Allocates nothing. After `Ok`, `set` can be refused only with
+    /// `NoMemory` (1).
     ///
     /// Refused with the first of these that applies:
     ///
     /// - `TextTooLong` (7): the text has more than 4,096 bytes.
     /// - `OutOfRange` (14): the place is past the end.
     /// - `Absent` (16): the object is away.
-    /// - `ChunkFull` (11): the new form would be longer than one may be.
+    /// - `ChunkFull` (11): the new form would be longer than the column's limit.
     /// - `RegionFull` (17): no segment has the space.
-    /// - `EditsUsedUp` (24): the object was written as often as objects may be.
+    /// - `EditsUsedUp` (24): the object was written as often as the limits allow.
     pub fn may_set<S: FarTickets>(
         &self,
         objects: &Objects<u8, S>,
@@ -49,7 +49,7 @@ impl TextColumn {
         objects.may_replace(o, len)
     }
 
-    // Returns the form of a place's row group once the place has this text, which may be set.
+    // Returns the form of a place's row group with this text at the place. The text must be one that may be set.
     fn form_set<S: FarTickets>(
         &self,
         alloc: Global,
@@ -68,17 +68,17 @@ impl TextColumn {
         form_with(alloc, form, place % self.size, text)
     }
 
-    /// Sets the text of a place. The column itself stays the same: its texts lie in the objects. The object of the place's row
-    /// group gets another form, placed before the old one is dropped.
+    /// Sets the text at a place. Changes only the objects, which have the texts, and not the column itself. The object of the
+    /// place's row group gets a new form, placed before the old one is dropped.
     ///
     /// Refused with the first of these that applies:
     ///
     /// - `TextTooLong` (7): the text has more than 4,096 bytes.
     /// - `OutOfRange` (14): the place is past the end.
     /// - `Absent` (16): the object is away.
-    /// - `ChunkFull` (11): the new form would be longer than one may be.
+    /// - `ChunkFull` (11): the new form would be longer than the column's limit.
     /// - `RegionFull` (17): no segment has the space.
-    /// - `EditsUsedUp` (24): the object was written as often as objects may be.
+    /// - `EditsUsedUp` (24): the object was written as often as the limits allow.
     /// - `NoMemory` (1): an allocation fails.
     ///
     /// A refused call changes nothing.
@@ -105,10 +105,10 @@ impl TextColumn {
         self.set_accepted(alloc, objects, place, text)
     }
 
-    /// Sets the text of a place, as `set` does, after `may_set` accepted it. It measures no form and asks for no space before it
-    /// makes the form.
+    /// Sets the text at a place, as `set` does, after `may_set` accepted it. It neither computes the length of the form nor
+    /// searches for space before it makes the form.
     ///
-    /// Refused with `NoMemory` (1) alone, if an allocation fails. A refused call changes nothing.
+    /// Refused only with `NoMemory` (1), if an allocation fails. A refused call changes nothing.
     pub fn set_accepted<S: FarTickets>(
         &self,
         alloc: Global,

@@ -1,4 +1,4 @@
-// Several columns of texts get a text each, all or none.
+// Appends a text to each of several columns, all or none.
 ghost use Rattle.std.specs.Prelude.{◌≡◌, if◌then◌else◌, ◌⊎◌, ◌<◌, ◌≤◌, ◌+◌, ◌^◌, ◌∷◌, ℕ, List, [], length, map, true, false, None, Some, All, OnOk, IfErr, OnErr};
 ghost use Rattle.far_types.specs.FirstOf.{first_of};
 ghost use Rattle.far_scopes.specs.Movement.{AreClean, AreHere};
@@ -21,24 +21,25 @@ use far_types::{Refusal, Text};
 use giving::make_forms;
 use std::alloc::Global;
 
-/// Appends a text to each of several columns, to all or to none.
+/// Appends a text to each of several columns, all or none.
 ///
-/// If the next places begin row groups, it makes an object for each column. Otherwise the last object of each gets another
-/// form. All new forms are placed, in the order of the columns, before an old one is dropped.
+/// If the next places begin row groups, makes an object for each column. Otherwise the last object of each gets a new form.
+/// Places all new forms, in the order of the columns, before it drops an old one.
 ///
 /// The form of a single column is made in the memory of `spare`, a form that is no longer needed. Afterwards `spare` is that
-/// form. So no text allocates while the forms have one length.
+/// form. So appending texts to one column allocates nothing while the forms keep their length.
 ///
 /// Refused with the first of these that applies:
 ///
 /// - `TextTooLong` (7): some text has more than 4,096 bytes.
-/// - `Absent` (16): the row groups are begun, and some column's last object is away. It names the first such.
-/// - `ChunkFull` (11): some new form would be longer than its column's may be.
-/// - `RegionFull` (17): the new forms, placed one after the other, do not fit into the free space.
-/// - `EditsUsedUp` (24): the row groups are begun, and some last object was written as often as objects may be.
+/// - `Absent` (16): the row groups have been begun, and some column's last object is away. The refusal names the first such
+///   object.
+/// - `ChunkFull` (11): some new form would be longer than its column's limit.
+/// - `RegionFull` (17): the new forms, placed one after another, do not fit into the free space.
+/// - `EditsUsedUp` (24): the row groups have been begun, and some last object was written as often as the limits allow.
 ///
-/// `NoMemory` (1) says that an allocation failed. That may come before it is known that 17 or 24 applies. A refused call
-/// changes nothing.
+/// `NoMemory` (1) means that an allocation failed, perhaps before it is known whether 17 or 24 applies. A refused call changes
+/// nothing.
 pub fn push_texts<S: FarTickets>(
     alloc: Global,
     spare: &mut Vec<u8>,
@@ -68,10 +69,10 @@ pub fn push_texts<S: FarTickets>(
     make_forms(alloc, spare, objects, columns, texts)
 }
 
-/// Appends a text to each of several columns, to all or to none, as `push_texts` does, after `may_push_texts` accepted them. It
-/// measures no text and checks no object before it makes the forms.
+/// Appends a text to each of several columns, all or none, as `push_texts` does, after `may_push_texts` accepted them. It
+/// checks no text and no object before it makes the forms.
 ///
-/// Refused with `NoMemory` (1) alone, if an allocation fails. A refused call changes nothing.
+/// Refused only with `NoMemory` (1), if an allocation fails. A refused call changes nothing.
 pub fn fill_texts<S: FarTickets>(
     alloc: Global,
     spare: &mut Vec<u8>,

@@ -1,4 +1,4 @@
-// Elements added and removed at the end.
+// Appending elements, and undoing that.
 ghost use Rattle.std.specs.Prelude.{◌≡◌, ℕ, ◌+◌, ◌-◌, ◌*◌, ◌<◌, ◌^◌, ◌⊎◌, ◌++◌, List, [], ◌∷◌, length, true, false, take, Some, None, OnOk, OnErr, IfErr, slice_index, slice_get};
 ghost use Rattle.far_log.specs.RegionState.{spaces_of, fit_in_order};
 ghost use Rattle.far_scopes.specs.Movement.{list_of, AreClean, AreHere, ChangesObject, is_local, pins_of};
@@ -23,7 +23,7 @@ impl<T: Elem> FarVector<T> {
         self.len == self.objects.len() * self.size
     }
 
-    /// Checks that the object of the next place is local. Its row group must be begun. Allocates nothing.
+    /// Checks that the object of the next place is local. Its row group must have been begun. Allocates nothing.
     ///
     /// Refused with `Absent` (16) exactly if it is away.
     pub fn next_is_here<S: FarTickets>(&self, objects: &Objects<T, S>) -> Result<(), Refusal>
@@ -34,12 +34,12 @@ impl<T: Elem> FarVector<T> {
         objects.here(self.next_position(objects).object)
     }
 
-    /// Checks that the object of the next place may be written. Its row group must be begun. Allocates nothing.
+    /// Checks that the object of the next place may be written. Its row group must have been begun. Allocates nothing.
     ///
     /// Refused with the first of these that applies:
     ///
     /// - `Absent` (16): the object is away.
-    /// - `EditsUsedUp` (24): it was written as often as objects may be.
+    /// - `EditsUsedUp` (24): it was written as often as the limits allow.
     pub fn next_is_writable<S: FarTickets>(&self, objects: &Objects<T, S>) -> Result<(), Refusal>
         requires is { IsVector (list_of T.meaning S.content objects.now) self.now }
         requires begun { is_full self.now ≡ false }
@@ -48,8 +48,8 @@ impl<T: Elem> FarVector<T> {
         objects.may_write(self.next_position(objects).object)
     }
 
-    /// Adds an element at the end. If the last row group is full, it makes the object of a new one. `unpush` undoes a push that
-    /// made an object (`undone`).
+    /// Appends an element. If the last row group is full, makes the object of a new one. `unpush` undoes a push that made an
+    /// object (`undone`).
     ///
     /// If the element begins a row group, refused with the first of these that applies:
     ///
@@ -59,7 +59,7 @@ impl<T: Elem> FarVector<T> {
     /// Otherwise it allocates nothing, and is refused with the first of these that applies:
     ///
     /// - `Absent` (16): the last row group's object is away.
-    /// - `EditsUsedUp` (24): that object was written as often as objects may be.
+    /// - `EditsUsedUp` (24): that object was written as often as the limits allow.
     ///
     /// A refused call changes nothing.
     pub fn push<S: FarTickets>(&mut self, objects: &mut Objects<T, S>, x: T) -> Result<(), Refusal>
@@ -88,7 +88,7 @@ impl<T: Elem> FarVector<T> {
         }
     }
 
-    // Adds an element in an object of its own. All places must be used.
+    // Appends an element in an object of its own. No place may be unused.
     fn begin_group<S: FarTickets>(
         &mut self,
         objects: &mut Objects<T, S>,
@@ -114,7 +114,7 @@ impl<T: Elem> FarVector<T> {
         ensures refused { IfErr result (λ e. (first_of (no_space objects.old (length objects.old.records) self.old.size ∷ []) ≡ Some e) ⊎ ((first_of (no_space objects.old (length objects.old.records) self.old.size ∷ []) ≡ None) × (e ≡ Refusal.NoMemory))) }
         ensures err { OnErr result ((self.new ≡ self.old) × (objects.new ≡ objects.old)) }
     {
-        // For the proof: gives what holds of all objects (`AreTracked`).
+        // For the proof: shows what is true of all objects (`AreTracked`).
         let _ = objects.number();
         if !objects.fits(self.size) {
             return Err(Refusal::RegionFull);
@@ -131,7 +131,7 @@ impl<T: Elem> FarVector<T> {
         Ok(())
     }
 
-    // Adds an element in the last row group, which must have a place that is not used.
+    // Appends an element in the last row group, which must have an unused place.
     fn fill_place<S: FarTickets>(
         &mut self,
         objects: &mut Objects<T, S>,
@@ -158,8 +158,7 @@ impl<T: Elem> FarVector<T> {
         Ok(())
     }
 
-    /// Undoes a push that made an object: removes its element, the only one of its row group, and the object. Allocates
-    /// nothing.
+    /// Undoes a push that made an object: removes the row group's only element, and the object. Allocates nothing.
     pub fn unpush<S: FarTickets>(&mut self, objects: &mut Objects<T, S>)
         requires is { IsVector (list_of T.meaning S.content objects.old) self.old }
         requires alone { self.old.len ≡ (length self.old.objects - 1) * self.old.size + 1 }

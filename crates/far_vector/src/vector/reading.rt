@@ -1,4 +1,4 @@
-// Elements read in place.
+// Reading elements in place.
 ghost use Rattle.std.specs.Prelude.{◌≡◌, ℕ, ◌+◌, ◌*◌, ◌/◌, ◌<◌, ◌≤◌, [], ◌∷◌, length, take, drop, Some, IfOk, All, slice_get, slice_range};
 ghost use Rattle.std.specs.List.{flat_map};
 ghost use Rattle.far_types.specs.FirstOf.{first_of};
@@ -35,7 +35,7 @@ impl<T: Elem> FarVector<T> {
         Ok(list[at.index])
     }
 
-    /// Borrows the element at a place, which is not read. Allocates nothing.
+    /// Borrows the element at a place, without reading it. Allocates nothing.
     ///
     /// Refused as `get` is.
     pub fn get_ref<'a, S: FarTickets>(
@@ -55,7 +55,7 @@ impl<T: Elem> FarVector<T> {
         Ok(&list[at.index])
     }
 
-    /// Returns the elements `from` up to `to`, all of one row group, borrowed from its object. Allocates nothing.
+    /// Borrows the elements `from` up to `to`, all of one row group, from its object. Allocates nothing.
     ///
     /// Refused with the first of these that applies:
     ///
@@ -80,13 +80,13 @@ impl<T: Elem> FarVector<T> {
         Ok(&list[at.index..at.index + (to - from)])
     }
 
-    /// Returns the elements `from` up to `to` piece by piece: a borrowed slice of each row group that has some of them.
-    /// Allocates nothing.
+    /// Returns an iterator over the elements `from` up to `to`: one slice for each row group that has some of them,
+    /// borrowed from its object. Allocates nothing.
     ///
     /// Refused with the first of these that applies:
     ///
     /// - `OutOfRange` (14): `from` is above `to`, or `to` is past the end.
-    /// - `Absent` (16): the object of a row group with some of them is away. It names the first such.
+    /// - `Absent` (16): the object of a row group with some of them is away. The refusal names the first such object.
     pub fn pieces<'a, S: FarTickets>(
         &'a self,
         objects: &'a Objects<T, S>,
@@ -120,7 +120,7 @@ impl<T: Elem> FarVector<T> {
         requires within { end ≤ length self.now.objects }
         ensures { refusal_in result ≡ first_absent objects.now (slice_range self.now.objects first end) }
     {
-        // For the proof: gives that an object with a list is in use.
+        // For the proof: shows that an object with a list is in use.
         let _ = objects.number();
         for o in &self.objects[first..end] {
             objects.here(*o)?;
@@ -128,7 +128,7 @@ impl<T: Elem> FarVector<T> {
         Ok(())
     }
 
-    // Checks that the elements `from` up to `to` are all there, and of one row group.
+    // Checks that the elements `from` up to `to` exist and are in one row group.
     pub(super) fn check_part(&self, from: usize, to: usize) -> Result<(), Refusal>
         ensures refused { refusal_in result ≡ first_of (no_range self.now from to ∷ crosses self.now from to ∷ []) }
         ensures shaped { IsShaped self.now }

@@ -1,4 +1,4 @@
-// Elements written in place.
+// Writing elements in place.
 ghost use Rattle.std.specs.Prelude.{◌≡◌, ℕ, ◌+◌, ◌-◌, ◌*◌, ◌/◌, ◌%◌, ◌<◌, ◌++◌, List, [], ◌∷◌, length, take, drop, Some, None, IsSomeAnd, OnOk, OnErr, slice_set, slice_range};
 ghost use Rattle.std.specs.Borrow.{sem};
 ghost use Rattle.far_scopes.specs.Memory.{list_in};
@@ -16,13 +16,13 @@ use far_store::FarTickets;
 use far_types::Refusal;
 
 impl<T: Elem> FarVector<T> {
-    /// Writes the element at a place; its row group's object counts as written. Allocates nothing.
+    /// Writes the element at a place. Its row group's object counts as written. Allocates nothing.
     ///
     /// Refused with the first of these that applies:
     ///
     /// - `OutOfRange` (14): the list has no such place.
     /// - `Absent` (16): the object of its row group is away.
-    /// - `EditsUsedUp` (24): that object was written as often as objects may be.
+    /// - `EditsUsedUp` (24): that object was written as often as the limits allow.
     ///
     /// A refused call changes nothing.
     pub fn set<S: FarTickets>(
@@ -52,8 +52,8 @@ impl<T: Elem> FarVector<T> {
         Ok(())
     }
 
-    /// Writes the element of a place that may be written, as `set` does. The caller passes its row group, so it repeats no
-    /// check and no division. Allocates nothing.
+    /// Writes the element at a place that may be written, as `set` does. The caller passes the row group, which saves every
+    /// check and the division. Allocates nothing.
     pub fn set_in_group<S: FarTickets>(
         &self,
         objects: &mut Objects<T, S>,
@@ -73,13 +73,13 @@ impl<T: Elem> FarVector<T> {
         ensures clean { AreClean T.meaning S.content objects.old → AreClean T.meaning S.content objects.new }
         ensures store { (id : List ℕ) → AreHere S.is_of id objects.old → AreHere S.is_of id objects.new }
     {
-        // For the proof: gives that a row group is begun for each element.
+        // For the proof: shows that the row group of each element has been begun.
         let _len = self.len();
         let at = self.position_in(objects, group as usize, i);
         self.write(objects, at, x);
     }
 
-    /// Checks that the element of a place may be written. Allocates nothing, and is refused exactly as `set` is.
+    /// Checks that the element at a place may be written. Allocates nothing, and is refused exactly as `set` is.
     pub fn may_set<S: FarTickets>(&self, objects: &Objects<T, S>, i: usize) -> Result<(), Refusal>
         requires { IsVector (list_of T.meaning S.content objects.now) self.now }
         ensures { refusal_in result ≡ set_refusal objects.now self.now i }
@@ -96,7 +96,7 @@ impl<T: Elem> FarVector<T> {
     ///
     /// - `OutOfRange` (14): `from` is above `to`, `to` is past the end, or the part is not empty and crosses row groups.
     /// - `Absent` (16): the part is not empty, and the object of its row group is away.
-    /// - `EditsUsedUp` (24): the part is not empty, and that object was written as often as objects may be.
+    /// - `EditsUsedUp` (24): the part is not empty, and that object was written as often as the limits allow.
     pub fn may_write_part<S: FarTickets>(
         &self,
         objects: &Objects<T, S>,
@@ -113,10 +113,9 @@ impl<T: Elem> FarVector<T> {
         objects.may_write(self.position(objects, from).object)
     }
 
-    /// Returns the elements `from` up to `to` of a part that is not empty and may be written, as a mutable slice. Allocates
-    /// nothing.
+    /// Mutably borrows the elements `from` up to `to` of a part that is not empty and may be written. Allocates nothing.
     ///
-    /// The object of their row group counts as written. The part becomes what the borrow leaves, and no other element changes.
+    /// The object of their row group counts as written. The borrow changes these elements, and no others.
     pub fn part_mut<'a, S: FarTickets>(
         objects: &'a mut Objects<T, S>,
         vector: &FarVector<T>,
@@ -142,7 +141,7 @@ impl<T: Elem> FarVector<T> {
         objects.lend_range_mut(o, begin, end)
     }
 
-    // Writes the element of a place, which may be one that is not yet used, of a row group that may be written.
+    // Writes the element at a place, used or not, of a row group that may be written.
     #[inline(always)]
     pub(super) fn write<S: FarTickets>(&self, objects: &mut Objects<T, S>, at: Position, x: T)
         requires is { IsVector (list_of T.meaning S.content objects.old) self.now }
@@ -159,14 +158,14 @@ impl<T: Elem> FarVector<T> {
         ensures clean { AreClean T.meaning S.content objects.old → AreClean T.meaning S.content objects.new }
         ensures store { (id : List ℕ) → AreHere S.is_of id objects.old → AreHere S.is_of id objects.new }
     {
-        // For the proof: give how many elements a row group has, and that the object has its list in local memory.
+        // For the proof: shows how many elements a row group has, and that the object's list is in local memory.
         let _len = self.len();
         let _ = objects.lend(at.object);
         let range = objects.lend_range_mut(at.object, at.index, at.index + 1);
         range[0] = x;
     }
 
-    // Returns the object with a place of a row group that may be written. For the proof: the contract of `lend` gives that its
+    // Returns the object with a place of a row group that may be written. For the proof: the contract of `lend` shows that its
     // list is in local memory.
     fn writable_at<S: FarTickets>(&self, objects: &Objects<T, S>, i: usize) -> u32
         requires is { IsVector (list_of T.meaning S.content objects.now) self.now }
@@ -177,7 +176,7 @@ impl<T: Elem> FarVector<T> {
         ensures list { IsSomeAnd (list_in objects.now.memory result) (λ list. length list ≡ self.now.size) }
     {
         let at = self.position(objects, i);
-        // For the proof: gives that the object has its list in local memory.
+        // For the proof: shows that the object's list is in local memory.
         let _ = objects.lend(at.object);
         at.object
     }

@@ -9,7 +9,7 @@ use Rattle.far_codec.proofs.TextFormFieldChanges.{moved_more}
 use Rattle.far_codec.proofs.changes.push_moved.Goals as goal
 use Rattle.std.specs.Prelude.{take}
 
--- what holds of each end holds of that of a word
+-- a property of each end is a property of the end in each word
 holds : (words : List (List ℕ)) (k from to end : ℕ) → All (λ e. (from ≤ e) × (e - from + to < 2 ^ 32)) (ends_in words) → k < length words → end ≡ from_le_bytes w32 (get_or words k []) → (from ≤ end) × (end - from + to < 2 ^ 32)
 holds words k from to end all h is =
     let e : get_or (ends_in words) k 0 ≡ end = get_or-map (from_le_bytes w32) words k [] 0 h ∙ sym is in

@@ -12,7 +12,7 @@ use Rattle.far_codec.proofs.FarFormHeads.{unset_without_mask}
 use Rattle.far_codec.proofs.ReadingMasks.{length-flags_of, flag_at}
 use Rattle.far_codec.proofs.flags.other_missing.Goals as goal
 
--- flag j, if flag i does not count
+-- flag j, ignoring flag i
 flag_but : (mask : List ℕ) (count i j : ℕ) (b : Bool) → j < count → b ≡ eqb j i → get_or (set (flags_of mask count) i false) j false ≡ (not b && is_missing mask j)
 flag_but mask count i j true h e =
     let same : j ≡ i = eqb-true j i (sym e) in

@@ -7,11 +7,11 @@ use Rattle.far_codec.specs.MaskLaws.{length-mask}
 use Rattle.far_codec.proofs.ReadingMasks.{flags_again}
 use Rattle.far_codec.proofs.head.split_mask.Goals as goal
 
--- the mask of so many flags is as long as this
+-- the length of the mask of this many flags
 mask_len : (flags : List Bool) (count : ℕ) → length flags ≡ count → some_missing flags ≡ true → length (mask_of flags) ≡ (count + 7) / 8
 mask_len flags count len any = length-mask flags any ∙ ap (λ n. (n + 7) / 8) len
 
--- the front of the rest is the mask, which tells its flags
+-- the prefix of the rest is the mask, which determines its flags
 front_is : (flags : List Bool) (count : ℕ) (rest fields front : List ℕ) → length flags ≡ count → some_missing flags ≡ true → rest ≡ mask_of flags ++ fields → front ≡ take ((count + 7) / 8) rest → front ≡ mask_of flags
 front_is flags count rest fields front len any e is = is ∙ ap (take ((count + 7) / 8)) e ∙ take_at (mask_of flags) fields ((count + 7) / 8) (mask_len flags count len any)
 

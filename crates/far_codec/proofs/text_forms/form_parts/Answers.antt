@@ -38,7 +38,7 @@ bounds-form-5 c = let long = (lies c.args.form.now c.requires).cells.long in ome
 pub split_at-requires : goal.split_at-requires
 split_at-requires c = (lies c.args.form.now c.requires).cells.long
 
--- what stands behind the head
+-- the bytes after the head
 abbrev fields_of : List ℕ → List ℕ
 fields_of form = flat_map (to_le_bytes w32) (ends_of (texts_meaning form)) ++ flat_map bytes_of (texts_meaning form)
 

@@ -9,7 +9,7 @@ use Rattle.far_codec.specs.TextLaws.{Texts, before_le, text_bytes_is}
 use Rattle.far_codec.proofs.Chunks.{written_more, taken_more}
 use Rattle.far_codec.proofs.text_forms.push_ends.Goals as goal
 
--- the end of one text more
+-- the end of one more text
 end_more : (texts : Texts) (i end : ℕ) (text : Option (List ℕ)) (bytes : List ℕ) → i < length texts → text ≡ get_or texts i text → end ≡ bytes_before texts i → bytes ≡ bytes_of text → end + length bytes ≡ bytes_before texts (i + 1)
 end_more texts i end text bytes h item e is =
     let more : flat_map bytes_of (take (i + 1) texts) ≡ flat_map bytes_of (take i texts) ++ flat_map bytes_of (text ∷ []) =

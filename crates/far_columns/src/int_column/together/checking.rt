@@ -1,4 +1,4 @@
-// Checks whether several columns of numbers may get a number each.
+// Checks before a number is appended to each of several columns.
 ghost use Rattle.std.specs.Prelude.{◌≡◌, ◌≤◌, ◌∷◌, [], length, false, None, All, OnOk};
 ghost use Rattle.far_types.specs.FirstOf.{first_of};
 ghost use Rattle.far_scopes.specs.Refusing.{refusal_in};
@@ -13,7 +13,7 @@ use far_scopes::Objects;
 use far_store::FarTickets;
 use far_types::Refusal;
 
-// Returns whether row groups begin at the next places.
+// Returns whether the next places begin row groups.
 pub(super) fn all_begin(columns: &[IntColumn]) -> bool
     ensures { result ≡ all_begin columns.now }
 {
@@ -25,7 +25,7 @@ pub(super) fn all_begin(columns: &[IntColumn]) -> bool
     true
 }
 
-// For the proof: gives `IsShaped` of each column.
+// For the proof: shows `IsShaped` of each column.
 pub(super) fn all_are_shaped(columns: &[IntColumn])
     ensures { All IsShaped columns.now }
 {
@@ -66,7 +66,7 @@ pub(super) fn all_writable<S: FarTickets>(
     Ok(())
 }
 
-// Checks that new row groups fit, placed in order.
+// Checks that the objects of new row groups fit, placed in order.
 pub(super) fn groups_fit<S: FarTickets>(
     objects: &Objects<Option<i64>, S>,
     columns: &[IntColumn],

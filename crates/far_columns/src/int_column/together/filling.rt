@@ -1,4 +1,4 @@
-// Adds numbers to several columns within row groups that are begun.
+// Appends numbers to several columns within row groups that have been begun.
 ghost use Rattle.std.specs.Prelude.{◌≡◌, ℕ, List, length, map, false, None, All};
 ghost use Rattle.far_codec.specs.Reading.{ints_meaning};
 ghost use Rattle.far_scopes.specs.Movement.{AreClean, AreHere};
@@ -13,7 +13,7 @@ use crate::int_column::IntColumn;
 use far_scopes::Objects;
 use far_store::FarTickets;
 
-// Adds a number to each column. Its last row group has a place that is not used and may be written.
+// Appends a number to each column. Its last row group has an unused place and may be written.
 pub(super) fn fill_places<S: FarTickets>(
     objects: &mut Objects<Option<i64>, S>,
     columns: &mut [IntColumn],

@@ -1,4 +1,4 @@
-// Row groups that several columns of numbers begin together, and how that is undone.
+// Begins row groups of several columns of numbers at once, and undoes that.
 ghost use Rattle.std.specs.Prelude.{◌≡◌, ◌⊎◌, ◌≤◌, ◌+◌, ◌-◌, ◌^◌, ℕ, List, length, map, take, true, false, All, OnOk, IfErr, OnErr};
 ghost use Rattle.far_log.specs.RegionState.{spaces_of, fit_in_order};
 ghost use Rattle.far_codec.specs.Reading.{ints_meaning};
@@ -45,7 +45,7 @@ pub(super) fn begin_groups<S: FarTickets>(
     let Some((number, numbers)) = numbers.split_first() else {
         unreachable!()
     };
-    // For the proof: gives that a row group has a place.
+    // For the proof: shows that a row group has a place.
     let _len = column.len();
     column.push(objects, *number)?;
     if let Err(refusal) = begin_groups(objects, columns, numbers) {
@@ -55,7 +55,8 @@ pub(super) fn begin_groups<S: FarTickets>(
     Ok(())
 }
 
-// Undoes the row groups that were begun last, one a column, with their objects. What was made last goes first.
+// Undoes the row groups that were begun last, one for each column, and removes their objects, the last made
+// first.
 pub(super) fn unbegin_groups<S: FarTickets>(
     objects: &mut Objects<Option<i64>, S>,
     columns: &mut [IntColumn],

@@ -1,4 +1,4 @@
-// Checks whether several columns of texts may get a text each, before anything changes.
+// Checks that a text may be appended to each of several columns, before anything changes.
 ghost use Rattle.std.specs.Prelude.{◌≡◌, ◌<◌, ◌≤◌, ◌∷◌, ℕ, [], length, map, take, false, None, All, IfOk};
 ghost use Rattle.std.specs.List.{list_any};
 ghost use Rattle.far_types.specs.FirstOf.{first_of};
@@ -15,8 +15,8 @@ use far_scopes::Objects;
 use far_store::FarTickets;
 use far_types::{Refusal, Text};
 
-// Finds how long the new forms are, in the order of the columns, of which a table has at most 16. None is longer than it may
-// be.
+// Computes the lengths of the new forms, in the order of the columns, of which a table has at most 16. None may be longer
+// than its column's limit.
 fn next_lens<S: FarTickets>(
     objects: &Objects<u8, S>,
     columns: &[TextColumn],
@@ -69,8 +69,8 @@ fn all_writable<S: FarTickets>(
     Ok(())
 }
 
-// Checks that no new form is longer than it may be, and that all of them fit. Checks also that objects with a new form may be
-// written. It finds the length of each form once.
+// Checks that no new form is longer than its column's limit, that all of them fit, and that the objects that get them may be
+// written. Computes the length of each form once.
 fn may_place_forms<S: FarTickets>(
     objects: &Objects<u8, S>,
     columns: &[TextColumn],
@@ -93,16 +93,17 @@ fn may_place_forms<S: FarTickets>(
     all_writable(objects, columns)
 }
 
-/// Checks that each of several columns, of which a table has at most 16, may get a text more. Allocates nothing. After `Ok`,
-/// `push_texts` and `fill_texts` can be refused with `NoMemory` (1) alone.
+/// Checks that a text may be appended to each of several columns, of which a table has at most 16. Allocates nothing. After
+/// `Ok`, `push_texts` and `fill_texts` can be refused only with `NoMemory` (1).
 ///
 /// Refused with the first of these that applies:
 ///
 /// - `TextTooLong` (7): some text has more than 4,096 bytes.
-/// - `Absent` (16): the row groups are begun, and some column's last object is away. It names the first such.
-/// - `ChunkFull` (11): some new form would be longer than its column's may be.
-/// - `RegionFull` (17): the new forms, placed one after the other, do not fit into the free space.
-/// - `EditsUsedUp` (24): the row groups are begun, and some last object was written as often as objects may be.
+/// - `Absent` (16): the row groups have been begun, and some column's last object is away. The refusal names the first such
+///   object.
+/// - `ChunkFull` (11): some new form would be longer than its column's limit.
+/// - `RegionFull` (17): the new forms, placed one after another, do not fit into the free space.
+/// - `EditsUsedUp` (24): the row groups have been begun, and some last object was written as often as the limits allow.
 pub fn may_push_texts<S: FarTickets>(
     objects: &Objects<u8, S>,
     columns: &[TextColumn],

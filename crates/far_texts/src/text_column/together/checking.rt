@@ -1,4 +1,4 @@
-// Checks whether several columns of texts may get a text each.
+// Checks before a text is appended to each of several columns.
 ghost use Rattle.std.specs.Prelude.{◌≡◌, if◌then◌else◌, ◌∷◌, [], length, false, None, All, OnOk};
 ghost use Rattle.far_types.specs.FirstOf.{first_of};
 ghost use Rattle.far_scopes.specs.Refusing.{refusal_in};
@@ -38,7 +38,7 @@ pub(super) fn all_begin(columns: &[TextColumn]) -> bool
     true
 }
 
-// For the proof: gives `HasGroups` of each column.
+// For the proof: shows `HasGroups` of each column.
 pub(super) fn all_have_groups(columns: &[TextColumn])
     ensures { All HasGroups columns.now }
 {
@@ -59,7 +59,7 @@ fn all_here<S: FarTickets>(objects: &Objects<u8, S>, columns: &[TextColumn]) -> 
     Ok(())
 }
 
-// Checks that no new form is longer than it may be.
+// Checks that no new form is longer than its column's limit.
 fn none_full<S: FarTickets>(
     objects: &Objects<u8, S>,
     columns: &[TextColumn],
@@ -81,7 +81,7 @@ fn none_full<S: FarTickets>(
 }
 
 // Checks that no text is too long, and that the objects of begun row groups are local. Then the lengths of the new forms can be
-// found.
+// computed.
 pub(super) fn may_measure_forms<S: FarTickets>(
     objects: &Objects<u8, S>,
     columns: &[TextColumn],
@@ -99,7 +99,7 @@ pub(super) fn may_measure_forms<S: FarTickets>(
     all_here(objects, columns)
 }
 
-// Checks that the next places may get these texts, but for what shows only while the new forms are made and placed.
+// Checks that these texts may be appended, except for what is only found while the new forms are made and placed.
 pub(super) fn may_make_forms<S: FarTickets>(
     objects: &Objects<u8, S>,
     columns: &[TextColumn],

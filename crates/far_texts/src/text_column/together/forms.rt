@@ -1,4 +1,4 @@
-// The new forms of several columns that get a text each.
+// The new forms of several columns, to each of which a text is appended.
 ghost use Rattle.std.specs.Prelude.{◌≡◌, ◌<◌, ◌≤◌, ◌+◌, ◌^◌, ◌∷◌, ℕ, [], length, true, None, All, IfOk, IfErr};
 ghost use Rattle.far_types.specs.FirstOf.{first_of};
 ghost use Rattle.far_texts.specs.Texts.{lists_of, HasGroups, IsTextColumn};
@@ -13,7 +13,7 @@ use far_store::FarTickets;
 use far_types::{Refusal, Text};
 use std::alloc::Global;
 
-// For the proof: gives that the columns have groups, and that an object number that is not given yet has no list.
+// For the proof: shows that the columns have groups, and that an unused object number has no list.
 pub(super) fn next_objects_are_unused<S: FarTickets>(
     objects: &Objects<u8, S>,
     columns: &[TextColumn],
@@ -43,7 +43,8 @@ impl TextColumn {
     }
 }
 
-// Makes the form for the next text of the one column, with its object, in the memory of a form that is no longer needed.
+// Makes the form of a single column with its next text, and finds its object. Reuses the memory of a form that is no
+// longer needed.
 pub(super) fn next_form<S: FarTickets>(
     spare: Vec<u8>,
     objects: &Objects<u8, S>,
@@ -66,7 +67,7 @@ pub(super) fn next_form<S: FarTickets>(
     Ok(Replacement { object, list })
 }
 
-// Makes the form for each column's next text, with its object.
+// Makes the form of each column with its next text, and finds its object.
 pub(super) fn next_forms<S: FarTickets>(
     alloc: Global,
     objects: &Objects<u8, S>,

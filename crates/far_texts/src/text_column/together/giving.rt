@@ -1,4 +1,4 @@
-// Several columns get the forms of their next texts, all or none.
+// Stores the new forms of several columns, all or none.
 ghost use Rattle.std.specs.Prelude.{◌≡◌, if◌then◌else◌, ◌⊎◌, ◌<◌, ◌≤◌, ◌+◌, ◌^◌, ◌∷◌, ℕ, List, [], length, map, true, false, None, Some, All, OnOk, IfErr, OnErr};
 ghost use Rattle.far_types.specs.FirstOf.{first_of};
 ghost use Rattle.far_scopes.specs.Movement.{AreClean, AreHere};
@@ -18,7 +18,7 @@ use std::alloc::Global;
 use std::mem;
 use std::slice::from_ref;
 
-// Gives each column the form of its next text, which may be made: to all of them, or to none.
+// Stores the form of each column with its next text, all or none. The forms must be ones that may be made.
 pub(super) fn give_forms<S: FarTickets>(
     objects: &mut Objects<u8, S>,
     columns: &mut [TextColumn],
@@ -57,8 +57,8 @@ pub(super) fn give_forms<S: FarTickets>(
     }
 }
 
-// Makes the form for each column's next text, if no first test refuses one, and gives them to all columns or to none. The form
-// of a single column is made in the memory of `spare`, and is left there.
+// Makes the form of each column with its next text, if no first test refuses one, and stores all forms or none. The form of a
+// single column is made in the memory of `spare`, and remains there.
 pub(super) fn make_forms<S: FarTickets>(
     alloc: Global,
     spare: &mut Vec<u8>,
@@ -87,7 +87,7 @@ pub(super) fn make_forms<S: FarTickets>(
 {
     next_objects_are_unused(objects, columns);
     if columns.len() == 1 {
-        // One form needs no list of forms, which would allocate. It takes the memory of the form before.
+        // A single form needs no list of forms, which would allocate. It is made in the memory of the form before it.
         let old = mem::replace(spare, Vec::new(alloc));
         let form = next_form(old, objects, columns, texts)?;
         let given = give_forms(objects, columns, texts, from_ref(&form));

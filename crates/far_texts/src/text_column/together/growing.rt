@@ -1,4 +1,4 @@
-// Several columns grow by a text each, whose forms are made.
+// Stores new forms in the objects of several columns.
 ghost use Rattle.std.specs.Prelude.{◌≡◌, ◌⊎◌, ◌<◌, ◌≤◌, ◌+◌, ◌^◌, ℕ, List, length, map, true, false, None, Some, All, OnOk, OnErr, IfErr};
 ghost use Rattle.std.specs.List.{slice_index_or};
 ghost use Rattle.far_log.specs.RegionState.{spaces_of, fit_in_order};
@@ -60,7 +60,7 @@ pub(super) fn begin_groups<S: FarTickets>(
     Ok(())
 }
 
-// Adds one to the length of each column. No column's last row group is full.
+// Adds one to the length of each column, none of whose last row groups is full.
 fn lengthen(columns: &mut [TextColumn])
     requires { All (λ c. begins_group c ≡ false) columns.old }
     ensures { (n : ℕ) → columns.new ≡ after_push_all n columns.old }
@@ -72,8 +72,7 @@ fn lengthen(columns: &mut [TextColumn])
     lengthen(columns);
 }
 
-// Gives listed objects new lists: all of them, or none. If one alone is listed, there is nothing to undo, so it takes the short
-// way.
+// Replaces the lists of the listed objects, all or none. A single one needs no undoing, so it takes the short path.
 fn replace_forms<S: FarTickets>(
     objects: &mut Objects<u8, S>,
     forms: &[Replacement<u8>],
@@ -96,7 +95,7 @@ fn replace_forms<S: FarTickets>(
     objects.replace_all(forms)
 }
 
-// Gives the last row groups, which are not full, these forms: all of them, or none.
+// Replaces the forms of the last row groups, which are not full, by these, all or none.
 pub(super) fn extend_groups<S: FarTickets>(
     objects: &mut Objects<u8, S>,
     columns: &mut [TextColumn],

@@ -6,7 +6,7 @@ use Rattle.far_scopes.proofs.objects.Objects.renewal.Given as given
 use Rattle.far_scopes.proofs.objects.Objects.renewal.Goals as goal
 use Rattle.far_scopes.proofs.objects.Objects.renewal.Goals.{in-Some+in_ok-put_again-in-Some, in-None}
 
--- the ticket of this object is as it should be, and no fault was met
+-- the new ticket of this object is right, and no fault was met
 one : (g : given.Over) (c : goal.After-push_reserved g) → (option_map g.N.FarTickets.content c.match-away_ticket.ticket ≡ cond (is_local c.args.self.now c.loop-o.o) None (option_map g.S.FarTickets.content (ticket_of c.args.self.now c.loop-o.o))) × IfSome c.match-away_ticket.ticket (λ ticket. g.N.FarTickets.is_of ticket (g.N.FarTickets.store_id c.args.new_store.now)) × (c.match-away_ticket.meter ≡ c.loop-o.meter)
 one g c =
     let local = is_local c.args.self.now c.loop-o.o in
