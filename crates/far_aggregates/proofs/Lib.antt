@@ -16,9 +16,11 @@ pub mod PendingLaws
 pub mod RetractLaws
 pub mod ReadingsLaws
 pub mod RecountingLaws
+pub mod ReplacingLaws
 pub mod AccumulatorsRegistry
 pub mod ReserveLaws
 pub mod ScansLaws
 pub mod LendingNeeds
+pub mod LinesLaws
 pub mod UntilLaws
 mod PendingFirst

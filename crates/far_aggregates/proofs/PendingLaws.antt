@@ -23,7 +23,7 @@ use Rattle.far_aggregates.proofs.ListLaws.{length-zip_all}
 
 -- a row with another cell in a column, by the number of the column
 
-get-set_same : {X : Type 0} (xs : List X) (i : ℕ) (x : X) → IsSome (slice_get xs i) → slice_get (slice_set xs i x) i ≡ Some x
+pub get-set_same : {X : Type 0} (xs : List X) (i : ℕ) (x : X) → IsSome (slice_get xs i) → slice_get (slice_set xs i x) i ≡ Some x
 get-set_same [] i x h = cc
 get-set_same (y ∷ xs) zero x h = refl
 get-set_same (y ∷ xs) (suc i) x h = get-set_same xs i x h

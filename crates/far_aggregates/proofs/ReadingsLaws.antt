@@ -22,7 +22,7 @@ use Rattle.far_aggregates.proofs.AccumulatorsTotals.{scanned-all}
 
 -- without key column each pair stands under the one key "none"
 
-abbrev Keyless : Change → Type 0
+abbrev pub Keyless : Change → Type 0
 Keyless None = Unit {0}
 Keyless (Some pair) = pair.0 ≡ None
 
@@ -34,7 +34,7 @@ keyless-when : (b : Bool) (c : Change) → Keyless c → Keyless (cond b c None)
 keyless-when true c h = h
 keyless-when false c h = tt
 
-keyless : (spec : Spec) (p : Place) → spec.key ≡ None → Keyless (place_pair spec p)
+pub keyless : (spec : Spec) (p : Place) → spec.key ≡ None → Keyless (place_pair spec p)
 keyless spec p h =
     let cells = cells_of p.cells in
     keyless-when p.alive (pair_of spec cells) (keyless-when (keeps spec.filter cells) (pair_in spec cells)

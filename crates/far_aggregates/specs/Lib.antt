@@ -7,10 +7,12 @@ pub mod Accumulators
 pub mod Known
 pub mod LeavingOut
 pub mod Lending
+pub mod Lines
 pub mod Pending
 pub mod PendingCounts
 pub mod Readings
 pub mod Recounting
+pub mod Replacing
 pub mod Reserve
 pub mod Scans
 pub mod SpareKeys

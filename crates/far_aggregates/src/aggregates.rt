@@ -9,15 +9,18 @@ ghost use Rattle.far_types.specs.Lent.{lent_cell};
 ghost use Rattle.far_types.specs.MayRefuse.{MayRefuse};
 ghost use Rattle.far_types.specs.Table.{Place, groups, in_group};
 
+mod replacing;
+
 use super::aggregate::Aggregate;
 use super::answers::answer;
 use super::changed::Changed;
 use super::deltas::{apply_deltas, undo_all};
 use super::leaving_out::leave_out;
 use super::lend_group::LendGroup;
+use super::line::Line;
 use super::pairs::row_pairs;
 use super::pending::Pending;
-use super::readings::{first_pending, plain};
+use super::readings::{first_pending, line, plain};
 use super::registrations::{aggregate_at, forget, free_number, register};
 use super::reserve::reserve_all;
 use super::retract::{needs_rows, retract_all, retract_totals};
@@ -25,7 +28,7 @@ use super::scans::scan_at;
 use super::spare_keys::SpareKeys;
 use super::spare_lists::SpareLists;
 use far_reciprocal::Reciprocal;
-use far_types::{Answer, CellRef, LendCells, Refusal, Spec};
+use far_types::{Answer, CellRef, Key, LendCells, Refusal, Spec};
 use std::alloc::Global;
 use std::marker::Model;
 
@@ -66,6 +69,7 @@ impl Aggregates {
     ghost use Rattle.far_aggregates.specs.Retract.{EachIsPlain};
     ghost use Rattle.far_aggregates.specs.Accumulators.{Keeps, PlacesFit, registered_of};
     ghost use Rattle.far_aggregates.specs.Lending.{EntryIsServed, AreServed};
+    ghost use Rattle.far_aggregates.specs.Lines.{AnswersKey};
     ghost use Rattle.far_aggregates.specs.PendingCounts.{pending_of};
     ghost use Rattle.far_aggregates.specs.Readings.{plain_in};
     ghost use Rattle.far_aggregates.specs.Scans.{entry_after_scan};
@@ -207,6 +211,23 @@ impl Aggregates {
             return Err(Refusal::NoAggregate);
         };
         answer(alloc, aggregate)
+    }
+
+    /// Returns the line of a key in the answer of the aggregate of a number, or `None` if the answer has no such line. Costs one
+    /// look-up, and makes no other line. Allocates nothing.
+    ///
+    /// Refused with the first of these that applies:
+    ///
+    /// - `NoAggregate` (12): there is no such aggregate.
+    /// - `Building` (15): row groups are pending. It says how many.
+    pub fn line(&self, a: u32, key: &Option<Key>) -> Result<Option<Line>, Refusal>
+        ensures ok { IfOk result (λ line. (size : ℕ) → (places : List Place) → 0 < size → Keeps size places self.now → AnswersKey places (aggregate_in self.now a) key.now line) }
+        ensures err { IfErr result (λ e. (size : ℕ) → (places : List Place) → Keeps size places self.now → MayRefuse (ask_refusal (aggregate_in self.now a)) false e) }
+    {
+        let Some(aggregate) = aggregate_at(self.registry.as_slice(), a) else {
+            return Err(Refusal::NoAggregate);
+        };
+        line(aggregate, key)
     }
 
     /// Returns how many rows the aggregate of a number folds, and the sum of their values, if it is of totals without key

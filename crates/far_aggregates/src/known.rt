@@ -259,4 +259,18 @@ impl KnownExtrema {
     {
         self.live.answer(alloc)
     }
+
+    /// Does what `LiveExtrema::left` does.
+    pub fn left(&self) -> u32
+        ensures { result ≡ self.now.left }
+    {
+        self.live.left()
+    }
+
+    /// Does what `LiveExtrema::get` does.
+    pub fn get(&self, key: &Option<Key>) -> Option<MinMax>
+        ensures { result ≡ fin.get (all_groups self.now.groups) key.now }
+    {
+        self.live.get(key)
+    }
 }

@@ -2,6 +2,7 @@
 ghost use Rattle.std.specs.Prelude.{◌≡◌, ◌<◌, ◌/◌, ◌++◌, ◌∷◌, [], IfOk, OnOk, IfErr, map, vec_len, vec_capacity};
 ghost use Rattle.far_types.specs.Lent.{lent_pair};
 ghost use Rattle.far_aggregates.specs.Pairs.{change_of, row_gives};
+ghost use Rattle.far_aggregates.specs.Replacing.{value_of};
 
 use super::aggregate::Aggregate;
 use super::spare_keys::SpareKeys;
@@ -28,26 +29,41 @@ pub fn give<'a, R: LendCells>(
     }
 }
 
-/// Appends the pair that a row that is alive at a place gives to an aggregate, or none, to the list. The list has capacity for
-/// it.
+/// Returns what `give` does, for an aggregate whose values stand in a column; nothing for another.
 #[inline(always)]
-fn next_pair<R: LendCells>(
-    keys: &mut SpareKeys,
-    pairs: &mut Vec<Option<Pair>>,
+fn give_value<'a, R: LendCells>(
     entry: &Option<Aggregate>,
-    row: &R,
+    column: u32,
+    row: &'a R,
     size: u32,
     place: usize,
     group: u32,
-) -> Result<(), Refusal>
+) -> PairRef<'a>
     requires size { 0 < size }
     requires group { group ≡ place / size }
+    ensures { lent_pair result ≡ value_of column size place (row_gives (R.cells row.now)) entry.now }
+{
+    match entry {
+        Some(aggregate) if aggregate.spec.value == column => {
+            give(entry, row, size, place, group)
+        }
+        _ => PairRef::Nothing,
+    }
+}
+
+/// Appends a pair, or none, to the list, which has capacity for it. A text is written into the string of a spare key.
+#[inline(always)]
+fn push_pair(
+    keys: &mut SpareKeys,
+    pairs: &mut Vec<Option<Pair>>,
+    pair: PairRef<'_>,
+) -> Result<(), Refusal>
     requires place { vec_len pairs.old < vec_capacity pairs.old }
     ensures capacity { vec_capacity pairs.new ≡ vec_capacity pairs.old }
-    ensures ok { OnOk result (pairs.new.items ≡ pairs.old.items ++ change_of size place (row_gives (R.cells row.now)) entry.now ∷ []) }
+    ensures ok { OnOk result (pairs.new.items ≡ pairs.old.items ++ lent_pair pair.entry ∷ []) }
     ensures memory { IfErr result (λ e. e ≡ Refusal.NoMemory) }
 {
-    match give(entry, row, size, place, group) {
+    match pair {
         PairRef::Nothing => pairs.push_reserved(None),
         PairRef::Under { number, value } => {
             let pair = (number_key(number), value);
@@ -81,7 +97,34 @@ pub fn row_pairs<R: LendCells>(
     pairs.clear();
     pairs.reserve(registry.len())?;
     for entry in registry {
-        next_pair(keys, &mut pairs, entry, row, size, place, group)?;
+        push_pair(keys, &mut pairs, give(entry, row, size, place, group))?;
+    }
+    Ok(pairs)
+}
+
+/// Returns the pairs that a row that is alive at a place gives to the aggregates whose values stand in a column, as `row_pairs`
+/// returns those of all.
+pub fn value_pairs<R: LendCells>(
+    keys: &mut SpareKeys,
+    list: Vec<Option<Pair>>,
+    registry: &[Option<Aggregate>],
+    column: u32,
+    row: &R,
+    size: u32,
+    place: usize,
+    group: u32,
+) -> Result<Vec<Option<Pair>>, Refusal>
+    requires size { 0 < size }
+    requires group { group ≡ place / size }
+    ensures ok { IfOk result (λ pairs. pairs.items ≡ map (value_of column size place (row_gives (R.cells row.now))) registry.now) }
+    ensures memory { IfErr result (λ e. e ≡ Refusal.NoMemory) }
+{
+    let mut pairs = list;
+    pairs.clear();
+    pairs.reserve(registry.len())?;
+    for entry in registry {
+        let pair = give_value(entry, column, row, size, place, group);
+        push_pair(keys, &mut pairs, pair)?;
     }
     Ok(pairs)
 }

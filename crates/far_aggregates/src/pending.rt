@@ -6,7 +6,8 @@ use far_groups::Pair;
 use std::alloc::Global;
 
 /// The deltas that an edit applied, and the pairs to retract once the rows are changed. If the rows refuse the edit, give this
-/// to `Aggregates::undo`. If they changed, give it to `Aggregates::retract`.
+/// to `Aggregates::undo`. If they changed, give it to `Aggregates::retract`. What `Aggregates::note_values` noted has no deltas:
+/// give it to `Aggregates::end` or to `Aggregates::replace`.
 #[derive(Drop)]
 pub struct Pending {
     pub(crate) group: u32,

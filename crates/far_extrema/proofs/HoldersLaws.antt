@@ -153,7 +153,7 @@ pub same-reserved : (m m' : Holders) → HaveSameReserved m m' → reserved_keys
 same-reserved m m' alike_reserved = same _ _ (λ q. get-reserved m' q ∙ alike_reserved q ∙ sym (get-reserved m q))
 
 -- what all row groups have under a key
-get-all : (m : Holders) (n : ℕ) (q : Option Key) → fin.get (all_groups (groups_in m n)) q ≡ joined_to n (λ g. min_max_at m g q)
+pub get-all : (m : Holders) (n : ℕ) (q : Option Key) → fin.get (all_groups (groups_in m n)) q ≡ joined_to n (λ g. min_max_at m g q)
 get-all m zero q = fin.get-empty line_cmp q
 get-all m (suc n) q =
     ap (λ e. fin.get e q) (fold-append joined_extrema fin.empty (groups_in m n) (group_in m n ∷ []))

@@ -6,7 +6,7 @@ use Rattle.std.specs.FinMap as fin
 use Rattle.far_types.specs.declared.key.Key.{Key}
 use Rattle.far_types.specs.Keys.{line_cmp}
 use Rattle.far_types.specs.Answers.{ByKey, Extrema}
-use Rattle.far_extrema.specs.Spreads.{MinMaxes, at, IsTopOf, IsSet}
+use Rattle.far_extrema.specs.Spreads.{MinMaxes, at, joined_to, IsTopOf, IsSet}
 
 -- the min-maxes of the row groups in which a key occurs, their joined min-max, and whether the key is reserved for one more
 pub record Holding : Type 0 where
@@ -64,6 +64,10 @@ AreReserved count holders = (g : ℕ) → (key : Option Key) → count ≤ g →
 -- the kept min-max is the joined one of all row groups
 abbrev pub IsTopped : Option Key × Holding → Type 0
 IsTopped entry = IsTopOf entry.1.min_maxes entry.1.top
+
+-- this is the joined min-max of a key over all row groups, or none if it occurs in none
+abbrev pub IsTopUnder : Holders → Option Key → Option (ℤ × ℤ) → Type 0
+IsTopUnder holders key top = (count : ℕ) → AreReserved count holders → joined_to count (λ g. min_max_at holders g key) ≡ top
 
 -- the line of a key that occurs in a row group
 abbrev pub line_of : Option Key × Holding → Option (Option Key × ℤ × ℤ)

@@ -8,7 +8,7 @@ ghost use Rattle.far_types.specs.declared.key.Key.{Key};
 ghost use Rattle.far_types.specs.Effects.{min_max_with};
 ghost use Rattle.far_types.specs.Keys.{line_cmp};
 ghost use Rattle.far_extrema.specs.MinMaxes.{extrema_of};
-ghost use Rattle.far_extrema.specs.Holders.{holders_of, min_max_at, reserved_at, line_of, IsPut, IsTopped, HaveSameReserved, HaveSameMinMaxes, KeepsReserved, AreReservedFor, IsGroup, IsCleared};
+ghost use Rattle.far_extrema.specs.Holders.{holders_of, min_max_at, reserved_at, line_of, IsPut, IsTopped, IsTopUnder, HaveSameReserved, HaveSameMinMaxes, KeepsReserved, AreReservedFor, IsGroup, IsCleared};
 
 use super::holder::Holder;
 use super::min_max::MinMax;
@@ -211,4 +211,14 @@ pub fn lines(alloc: Global, holders: &Holders) -> Result<Vec<(Option<Key>, i64, 
         }
     }
     Ok(lines)
+}
+
+/// Returns the joined min-max of a key over all row groups, or `None` if it occurs in none. Allocates nothing.
+pub fn top_under(holders: &Holders, key: &Option<Key>) -> Option<MinMax>
+    ensures { IsTopUnder (holders_of holders.now.entries) key.now result }
+{
+    match holders.get(key) {
+        Some(holder) => holder.top(),
+        None => None,
+    }
 }

@@ -6,7 +6,7 @@ ghost use Rattle.far_extrema.specs.Holders.{holders_of};
 use super::group_extrema::GroupExtrema;
 use super::holders::{
     Holders, clear_in, fill_all, leave_in, lines, min_max_in, observe_in, reserve_all, set_in,
-    shrink_in,
+    shrink_in, top_under,
 };
 use super::min_max::MinMax;
 use super::rows_left::RowsLeft;
@@ -212,5 +212,13 @@ impl LiveExtrema {
         }
         let lines = lines(alloc, &self.holders)?;
         Ok(Answer::Extrema(ExtremaLines::new(lines)))
+    }
+
+    /// Returns the least and the greatest value under a key over all row groups, or `None` if it occurs in none. Pending row groups do not
+    /// matter. Costs one look-up. Allocates nothing.
+    pub fn get(&self, key: &Option<Key>) -> Option<MinMax>
+        ensures { result ≡ fin.get (all_groups self.now.groups) key.now }
+    {
+        top_under(&self.holders, key)
     }
 }

@@ -33,7 +33,7 @@ get_under_key t None h = cc
 get_under_key t (Some k) h = get_at (one_line t) (Some k)
 
 -- one line is another with what it has set
-set_plain : (t u : ℕ × ℤ) → IsSet (one_line t) (one_line u) None (Some u)
+pub set_plain : (t u : ℕ × ℤ) → IsSet (one_line t) (one_line u) None (Some u)
 set_plain t u None = refl
 set_plain t u (Some k) = refl
 

@@ -32,11 +32,11 @@ get_elsewhere ts q other = get_at (lines_from 0 ts) q ∙ none_elsewhere 0 ts q 
 pub stands : (t : ℕ × ℤ) → (t.0 ≡ 0 → ⊥) → standing t ≡ Some t
 stands t some = let test : (t.0 == 0) ≡ false = grind (arith, nat_tests) in ap (λ b. cond b None (Some t)) test
 
-gone : (t : ℕ × ℤ) → t.0 ≡ 0 → standing t ≡ None
+pub gone : (t : ℕ × ℤ) → t.0 ≡ 0 → standing t ≡ None
 gone t none = let test : (t.0 == 0) ≡ true = grind (arith, nat_tests) in ap (λ b. cond b None (Some t)) test
 
 -- if the count is 0 and if it is not
-by_count : (t : ℕ × ℤ) (P : Type 0) → (t.0 ≡ 0 → P) → ((t.0 ≡ 0 → ⊥) → P) → P
+pub by_count : (t : ℕ × ℤ) (P : Type 0) → (t.0 ≡ 0 → P) → ((t.0 ≡ 0 → ⊥) → P) → P
 by_count t P none some = at_test (t.0 == 0) refl where
   at_test : (b : Bool) → (t.0 == 0) ≡ b → P
   at_test true is = none (grind (arith, nat_tests))

@@ -3,6 +3,7 @@ pub mod DenseLaws
 pub mod RankedLaws
 pub mod FoldsLaws
 pub mod CountSumsMerge
+pub mod CopiesLaws
 pub mod WalksNewLines
 pub mod NumbersLaws
 pub mod LivePairs
@@ -13,3 +14,4 @@ pub mod WalksReserve
 pub mod CountSumsLaws
 pub mod WalksLaws
 pub mod WalksMerge
+pub mod ReplacingLaws

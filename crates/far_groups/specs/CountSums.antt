@@ -1,5 +1,5 @@
 -- Counts and sums, and how those by key change with a count and a sum more or less under one key.
-use Rattle.std.specs.Prelude.{ℕ, ◌-◌, ◌*◌, ◌^◌, ◌≤◌, ◌==◌, ℤ, pos, ◌-ℤ◌, ◌≤ℤ◌, neg_ℤ, cond, List, [], ◌∷◌, Option, None, Some, IfSome}
+use Rattle.std.specs.Prelude.{ℕ, ◌-◌, ◌*◌, ◌^◌, ◌≤◌, ◌==◌, ℤ, pos, ◌+ℤ◌, ◌-ℤ◌, ◌≤ℤ◌, neg_ℤ, cond, List, [], ◌∷◌, Option, None, Some, IfSome}
 use Rattle.std.specs.Option.{option_map_or}
 use Rattle.std.specs.FinMap as fin
 use Rattle.far_types.specs.declared.key.Key.{Key}
@@ -57,3 +57,7 @@ IsAddend count_sum = (count_sum.0 ≤ 2 ^ 26) × IsSumOf count_sum.0 count_sum.1
 -- what two maps have under a key, if they have something there, can be added
 abbrev pub AreAddends : Option (ℕ × ℤ) → Option (ℕ × ℤ) → Type 0
 AreAddends one other = IfSome one IsAddend × IfSome other IsAddend
+
+-- a count and a sum with one value more and another one less
+abbrev pub replaced : ℤ → ℤ → ℕ × ℤ → ℕ × ℤ
+replaced from to count_sum = (count_sum.0, (count_sum.1 +ℤ to) -ℤ from)

@@ -5,7 +5,7 @@ use Rattle.std.specs.FinMap as fin
 use Rattle.far_types.specs.declared.key.Key.{Key}
 use Rattle.far_types.specs.Codes.{coded_totals}
 use Rattle.far_types.specs.Answers.{Totals}
-use Rattle.far_types.specs.Effects.{count_in}
+use Rattle.far_types.specs.Effects.{count_in, with_pair, without_pair}
 use Rattle.far_groups.specs.CountSums.{IsSumOf}
 
 -- how many row groups are pending, and the totals of the pairs that are in
@@ -25,3 +25,7 @@ CanRetract value (Some count_sum) = (1 ≤ count_sum.0) × IsSumOf (count_sum.0 
 -- two totals can be joined if each key then has at most 2^26 pairs
 abbrev pub CanJoin : Totals → Totals → Type 0
 CanJoin one other = (key : Option Key) → count_in (fin.get one key) + count_in (fin.get other key) ≤ 2 ^ 26
+
+-- totals in which one value under a key is replaced by another: the new one is added, and the old one is retracted
+abbrev pub with_replaced : Totals → Option Key → ℤ → ℤ → Totals
+with_replaced totals key from to = without_pair (with_pair totals (key, to)) (key, from)

@@ -5,7 +5,7 @@ ghost use Rattle.std.specs.Option.{option_copied};
 ghost use Rattle.std.specs.FinMap as fin;
 ghost use Rattle.far_types.specs.Answers.{total_lines};
 ghost use Rattle.far_types.specs.Effects.{count_in, joined_totals};
-ghost use Rattle.far_groups.specs.Live.{CanJoin};
+ghost use Rattle.far_groups.specs.Live.{CanRetract, CanJoin, with_replaced};
 ghost use Rattle.far_groups.specs.CountSums.{totals_of, IsCountSum, AreCountSums, with_count_sum, LeavesCountSum, without_count_sum};
 ghost use Rattle.far_groups.specs.Numbers.{number_key, number_of, by_number};
 ghost use Rattle.far_groups.specs.Dense.{place_key, by_place};
@@ -13,7 +13,7 @@ ghost use Rattle.far_groups.specs.ByKey.{plain_totals, in_form, totals_in, MayBe
 
 use super::count_sum::{CountSum, NO_VALUES};
 use super::count_sums::{self, CountSums};
-use super::dense::{self, Dense, may_place, numbers_of, place_of};
+use super::dense::{self, Dense, dense_of, may_place, numbers_of, place_of, places_for};
 use super::joins::join_all;
 use super::numbers::{self, Numbers, keyed};
 use far_types::{Key, Refusal};
@@ -25,7 +25,7 @@ use std::collections::BTreeMap;
 enum Form {
     /// One count and sum, under no key, as in an aggregate without key column. The count is not 0.
     Plain(CountSum),
-    /// A list by small number, in which a look-up is an index.
+    /// A list by number, in which a look-up is an index.
     Dense(Dense),
     /// A tree of bare numbers, in which a look-up takes a third of the time.
     Numbered(Numbers),
@@ -36,13 +36,22 @@ enum Form {
 /// Counts and sums by key. They begin as an empty list:
 /// - A row under no key replaces the empty list. Its count and sum change without a look-up.
 /// - A number without a place in the list moves all into a tree of numbers.
-/// - Any other key without a place in a form moves all into a tree of keys.
-/// - A tree of numbers or of keys stays one, except that a tree of numbers may become one of keys.
+/// - A tree of many numbers that lie close together becomes a list again (`settle`).
+/// - Any other key without a place in a form moves all into a tree of keys. That stays one.
 #[derive(Drop)]
 pub struct ByKey {
     alloc: Global,
     form: Form,
+    /// How many numbers a tree needs before it may become a list: twice as many as the last time. So moving them to and fro takes constant
+    /// time a number, on average.
+    many: usize,
 }
+
+/// The first time, a tree needs so many numbers. Smaller ones are as good as lists.
+const MANY: usize = 512;
+
+/// It is asked each time when so many numbers are new.
+const ASK_EACH: usize = 64;
 
 /// Makes empty counts and sums: no key has any. Allocates nothing.
 pub fn nothing(alloc: Global) -> ByKey
@@ -51,6 +60,7 @@ pub fn nothing(alloc: Global) -> ByKey
     ByKey {
         alloc,
         form: Form::Dense(Vec::new(alloc)),
+        many: MANY,
     }
 }
 
@@ -273,13 +283,52 @@ fn add_elsewhere(
             }
         },
         Form::Numbered(numbers) => match number_of(key) {
-            Some(number) => numbers::add(numbers, number, more),
+            Some(number) => {
+                let before = numbers.len();
+                numbers::add(numbers, number, more)?;
+                if numbers.len() != before {
+                    settle(by_key);
+                }
+                Ok(())
+            }
             None => {
                 by_key.form = with_key(by_key.alloc, numbers, key, more)?;
                 Ok(())
             }
         },
         Form::Keyed(keys) => count_sums::add_under(keys, key, more),
+    }
+}
+
+/// Turns a tree of numbers into a list, if it has many and they lie close together. If memory runs out, it stays a tree.
+#[inline(never)]
+fn settle(by_key: &mut ByKey)
+    requires valid_sums { AreCountSums (totals_in by_key.old) }
+    ensures same { totals_in by_key.new ≡ totals_in by_key.old }
+    ensures valid_sums { AreCountSums (totals_in by_key.new) }
+{
+    if let Form::Numbered(numbers) = &by_key.form {
+        let len = numbers.len();
+        if len >= by_key.many && len % ASK_EACH == 0 {
+            if let Some(dense) = listed(by_key.alloc, numbers) {
+                by_key.form = Form::Dense(dense);
+                by_key.many = len.saturating_mul(2);
+            }
+        }
+    }
+}
+
+/// Copies a tree of numbers into a list. Returns `None` if they lie too far apart, or if memory runs out.
+fn listed(alloc: Global, numbers: &Numbers) -> Option<Dense>
+    requires valid_sums { AreCountSums (by_number numbers.now.entries) }
+    ensures same { IfSome result (λ dense. by_place dense.items ≡ by_number numbers.now.entries) }
+{
+    match places_for(numbers) {
+        Some(places) => match dense_of(alloc, numbers, places) {
+            Ok(made) => made,
+            Err(_) => None,
+        },
+        None => None,
     }
 }
 
@@ -309,6 +358,28 @@ pub fn take(by_key: &mut ByKey, key: &Option<Key>, less: CountSum)
             None => {}
         },
         Form::Keyed(keys) => count_sums::take(keys, key, less),
+    }
+}
+
+/// Replaces one of the values under a key by another one. Allocates nothing.
+#[inline(always)]
+pub fn replace(by_key: &mut ByKey, key: &Option<Key>, from: i64, to: i64)
+    requires valid_sums { AreCountSums (totals_in by_key.old) }
+    requires there { CanRetract from (fin.get (totals_in by_key.old) key.now) }
+    ensures valid_sums { AreCountSums (totals_in by_key.new) }
+    ensures replaced { totals_in by_key.new ≡ with_replaced (totals_in by_key.old) key.now from to }
+{
+    match &mut by_key.form {
+        Form::Plain(count_sum) => *count_sum = count_sum.replace(from, to),
+        Form::Dense(dense) => match place_in(key) {
+            Some(place) => dense::replace(dense, place, from, to),
+            None => {}
+        },
+        Form::Numbered(numbers) => match number_of(key) {
+            Some(number) => numbers::replace(numbers, number, from, to),
+            None => {}
+        },
+        Form::Keyed(keys) => count_sums::replace(keys, key, from, to),
     }
 }
 
@@ -453,5 +524,26 @@ pub fn plain(by_key: &ByKey) -> CountSum
         Form::Dense(_) => NO_VALUES,
         Form::Numbered(_) => NO_VALUES,
         Form::Keyed(keys) => keys.get(&None).copied().unwrap_or(NO_VALUES),
+    }
+}
+
+/// Returns the count and the sum under a key, or `None` if nothing is there. Costs a look-up. Allocates nothing.
+pub fn get(by_key: &ByKey, key: &Option<Key>) -> Option<CountSum>
+    ensures { result ≡ fin.get (totals_in by_key.now) key.now }
+{
+    match &by_key.form {
+        Form::Plain(count_sum) => match key {
+            None => Some(*count_sum),
+            Some(_) => None,
+        },
+        Form::Dense(dense) => match place_in(key) {
+            Some(place) => dense::get(dense, place),
+            None => None,
+        },
+        Form::Numbered(numbers) => match number_of(key) {
+            Some(number) => numbers.get(number).copied(),
+            None => None,
+        },
+        Form::Keyed(keys) => keys.get(key).copied(),
     }
 }

@@ -1,7 +1,8 @@
 // How many values there are, and their sum.
 ghost use Rattle.std.specs.Prelude.{◌≡◌, ◌+◌, ◌-◌, ◌-ℤ◌, ◌^◌, ◌≤◌, Some};
 ghost use Rattle.far_types.specs.Effects.{add_count_sums};
-ghost use Rattle.far_groups.specs.CountSums.{IsCountSum, LeavesCountSum};
+ghost use Rattle.far_groups.specs.Live.{CanRetract};
+ghost use Rattle.far_groups.specs.CountSums.{IsCountSum, LeavesCountSum, replaced};
 
 use std::marker::Model;
 
@@ -67,6 +68,19 @@ impl CountSum {
         CountSum {
             count: self.count - less.count,
             sum: self.sum - less.sum,
+        }
+    }
+    /// Replaces one of the values by another one: the count stays.
+    #[inline(always)]
+    pub fn replace(self, from: i64, to: i64) -> CountSum
+        requires valid_sums { IsCountSum self }
+        requires there { CanRetract from (Some self) }
+        ensures value { result ≡ replaced from to self }
+        ensures valid_sums { IsCountSum result }
+    {
+        CountSum {
+            count: self.count,
+            sum: self.sum + i128::from(to) - i128::from(from),
         }
     }
 }

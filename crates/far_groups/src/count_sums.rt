@@ -5,7 +5,7 @@ ghost use Rattle.std.specs.FinMap as fin;
 ghost use Rattle.far_types.specs.declared.key.Key.{Key};
 ghost use Rattle.far_types.specs.Keys.{line_cmp};
 ghost use Rattle.far_types.specs.Effects.{add_count_sums, count_in, joined_totals};
-ghost use Rattle.far_groups.specs.Live.{CanJoin};
+ghost use Rattle.far_groups.specs.Live.{CanRetract, CanJoin, with_replaced};
 ghost use Rattle.far_groups.specs.CountSums.{totals_of, IsCountSum, AreCountSums, with_count_sum, LeavesCountSum, without_count_sum, CanRetractAll, without_all};
 
 use super::count_sum::CountSum;
@@ -91,6 +91,20 @@ pub fn take(count_sums: &mut CountSums, key: &Option<Key>, less: CountSum)
                 *count_sum = rest;
             }
         }
+    }
+}
+
+/// Replaces one of the values under a key by another one. Allocates nothing.
+#[inline(never)]
+pub fn replace(count_sums: &mut CountSums, key: &Option<Key>, from: i64, to: i64)
+    requires valid_sums { AreCountSums (totals_of count_sums.old.entries) }
+    requires there { CanRetract from (fin.get (totals_of count_sums.old.entries) key.now) }
+    ensures valid_sums { AreCountSums (totals_of count_sums.new.entries) }
+    ensures replaced { totals_of count_sums.new.entries ≡ with_replaced (totals_of count_sums.old.entries) key.now from to }
+{
+    match count_sums.get_mut(key) {
+        None => {}
+        Some(count_sum) => *count_sum = count_sum.replace(from, to),
     }
 }
 

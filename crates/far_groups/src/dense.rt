@@ -1,9 +1,10 @@
-// Counts and sums by small number, in a list with a place for each number, from 0 on to both sides. A look-up is an index.
+// Counts and sums by number, in a list with a place for each number, from 0 on to both sides. A look-up is an index. The numbers are small,
+// or so many that the list takes little more memory than a tree.
 ghost use Rattle.std.specs.Prelude.{◌≡◌, ◌+◌, ◌*◌, ◌^◌, ◌≤◌, ◌<◌, None, false, true, IsTrue, IfSome, IfOk, IfErr, OnOk, OnErr, length};
 ghost use Rattle.std.specs.Option.{option_map_or};
 ghost use Rattle.std.specs.FinMap as fin;
 ghost use Rattle.far_types.specs.Effects.{add_count_sums, count_in, joined_totals};
-ghost use Rattle.far_groups.specs.Live.{CanJoin};
+ghost use Rattle.far_groups.specs.Live.{CanRetract, CanJoin, with_replaced};
 ghost use Rattle.far_groups.specs.CountSums.{IsCountSum, AreCountSums, with_count_sum, LeavesCountSum, without_count_sum};
 ghost use Rattle.far_groups.specs.Numbers.{by_number, number_lines};
 ghost use Rattle.far_groups.specs.Dense.{place_number, place_key, standing, by_place, rank_place, in_order};
@@ -19,6 +20,12 @@ pub type Dense = Vec<CountSum>;
 
 /// A number from -1,024 to 1,023 always gets a place. A list of as many places takes 64 KB.
 const PLACES: usize = 2048;
+
+/// A tree of numbers becomes a list if the list has at most so many places for each number. A place takes 32 bytes.
+const PLACES_A_NUMBER: usize = 4;
+
+/// A list that was a tree has at most so many places: as many as all rows of a table could need.
+const MOST_PLACES: usize = 1 << 28;
 
 /// Returns the place of a number.
 #[inline(always)]
@@ -41,12 +48,12 @@ fn number_at(place: usize) -> i64
     if place % 2 == 0 { half } else { -half - 1 }
 }
 
-/// Returns whether a list has a place, or may get it.
+/// Returns whether a list has a place, or may get it: one of the first, or one for which the list has memory already.
 pub fn may_place(dense: &Dense, place: usize) -> bool
     ensures may_not { result ≡ false → length dense.now.items ≤ place }
     ensures fits { IsTrue result → place < 2 ^ 63 }
 {
-    place < PLACES || place < dense.len()
+    place < PLACES || place < dense.len() || place < dense.capacity().min(MOST_PLACES)
 }
 
 /// Adds a count and a sum to those of a place.
@@ -128,6 +135,33 @@ pub fn take(dense: &mut Dense, place: usize, less: CountSum)
     }
 }
 
+/// Replaces one of the values at a place by another one. Allocates nothing.
+#[inline(always)]
+pub fn replace(dense: &mut Dense, place: usize, from: i64, to: i64)
+    requires valid_sums { AreCountSums (by_place dense.old.items) }
+    requires there { CanRetract from (fin.get (by_place dense.old.items) (place_key place)) }
+    ensures valid_sums { AreCountSums (by_place dense.new.items) }
+    ensures replaced { by_place dense.new.items ≡ with_replaced (by_place dense.old.items) (place_key place) from to }
+{
+    if place < dense.len() {
+        dense[place] = dense[place].replace(from, to);
+    }
+}
+
+/// Returns the count and the sum at a place, or `None` if the list has no such place or its count is 0. Allocates nothing.
+pub fn get(dense: &Dense, place: usize) -> Option<CountSum>
+    ensures { result ≡ fin.get (by_place dense.now.items) (place_key place) }
+{
+    if place >= dense.len() {
+        return None;
+    }
+    let found = dense[place];
+    if found.count == 0 {
+        return None;
+    }
+    Some(found)
+}
+
 /// Joins another list to this one. Extends this one first, and only that can be refused.
 pub fn join(dense: &mut Dense, other: &Dense) -> Result<(), Refusal>
     requires valid_sums { AreCountSums (by_place dense.old.items) }
@@ -164,6 +198,58 @@ pub fn numbers_of(alloc: Global, dense: &Dense) -> Result<Numbers, Refusal>
     Ok(numbers)
 }
 
+/// Returns whether the number of an entry has a place among the first so many. It does if there is no entry.
+fn is_within(entry: Option<(&i64, &CountSum)>, places: usize) -> bool {
+    match entry {
+        Some((number, _)) => place_of(*number) < places,
+        None => true,
+    }
+}
+
+/// Returns how many places a tree of numbers may have as a list, or `None` if that is too few for its numbers.
+///
+/// It looks at the least and the greatest number alone.
+pub fn places_for(numbers: &Numbers) -> Option<usize>
+    ensures fits { IfSome result (λ places. places ≤ 2 ^ 28) }
+{
+    let places = numbers.len().min(MOST_PLACES / PLACES_A_NUMBER) * PLACES_A_NUMBER;
+    if is_within(numbers.first_key_value(), places) && is_within(numbers.last_key_value(), places) {
+        return Some(places);
+    }
+    None
+}
+
+/// Copies a tree of numbers into a list with memory for so many places. Returns `None` if a number has a place beyond.
+pub fn dense_of(alloc: Global, numbers: &Numbers, places: usize) -> Result<Option<Dense>, Refusal>
+    requires valid_sums { AreCountSums (by_number numbers.now.entries) }
+    requires fits { places ≤ 2 ^ 28 }
+    ensures same { IfOk result (λ made. IfSome made (λ dense. by_place dense.items ≡ by_number numbers.now.entries)) }
+    ensures memory { IfErr result (λ e. e ≡ Refusal.NoMemory) }
+{
+    let mut dense = Vec::with_capacity(alloc, places)?;
+    for (number, count_sum) in numbers {
+        let place = place_of(*number);
+        if place >= places {
+            return Ok(None);
+        }
+        add(&mut dense, place, *count_sum)?;
+    }
+    Ok(Some(dense))
+}
+
+/// Returns how many places have a count above 0.
+fn count_of(dense: &Dense) -> usize
+    ensures { result ≤ length dense.now.items }
+{
+    let mut count = 0;
+    for place in 0..dense.len() {
+        if dense[place].count != 0 {
+            count += 1;
+        }
+    }
+    count
+}
+
 /// Makes the line of a place.
 fn line(place: usize, count_sum: CountSum) -> (Option<Key>, u64, i128)
     requires { place < 2 ^ 63 }
@@ -195,7 +281,7 @@ pub fn lines(alloc: Global, dense: &Dense) -> Result<Vec<(Option<Key>, u64, i128
     ensures ok { IfOk result (λ lines. lines.items ≡ number_lines (in_order dense.now.items)) }
     ensures memory { IfErr result (λ e. e ≡ Refusal.NoMemory) }
 {
-    let mut lines = Vec::with_capacity(alloc, dense.len())?;
+    let mut lines = Vec::with_capacity(alloc, count_of(dense))?;
     let below = dense.len() / 2;
     for rank in 0..dense.len() {
         let place = place_of_rank(below, rank);

@@ -1,7 +1,7 @@
 // Totals that are kept up to date.
 ghost use Rattle.std.specs.Prelude.{◌≡◌, ◌≢◌, ◌+◌, ◌-◌, ◌^◌, ◌<◌, ◌≤◌, pos, None, Some, Err, unwrap_or, OnOk, OnErr, IfOk, IfErr};
 
-use super::by_key::{ByKey, add, add_under, join, lines, nothing, plain, take};
+use super::by_key::{ByKey, add, add_under, get, join, lines, nothing, plain, replace, take};
 use super::count_sum::CountSum;
 use super::folds::{Pair, fold_all};
 use far_types::{Answer, Key, Refusal, TotalLines};
@@ -38,7 +38,7 @@ impl LiveTotals {
     ghost use Rattle.far_types.specs.Answers.{total_lines, totals};
     ghost use Rattle.far_types.specs.Pairs.{PairsFit};
     ghost use Rattle.far_types.specs.Effects.{count_in, with_pair, without_pair, joined_totals};
-    ghost use Rattle.far_groups.specs.Live.{CanRetract, CanJoin};
+    ghost use Rattle.far_groups.specs.Live.{CanRetract, CanJoin, with_replaced};
     ghost use Rattle.far_groups.specs.CountSums.{IsCountSum};
 
     /// Makes totals without rows, with `left` row groups pending. Allocates nothing.
@@ -106,6 +106,16 @@ impl LiveTotals {
         take(&mut self.count_sums, key, CountSum::of(value));
     }
 
+    /// Replaces the value of a folded row, one of those that are in, by another one. Its key stays, and is searched for once. Allocates
+    /// nothing.
+    #[inline(always)]
+    pub fn replace(&mut self, key: &Option<Key>, from: i64, to: i64)
+        requires { CanRetract from (fin.get self.old.totals key.now) }
+        ensures { self.new ≡ record self.old { totals = with_replaced self.old.totals key.now from to } }
+    {
+        replace(&mut self.count_sums, key, from, to);
+    }
+
     /// Joins the rows of another to these, key by key. One row group less is pending. Of the other it reads nothing else. Refused with
     /// `NoMemory` (1) alone. Then nothing is changed.
     ///
@@ -166,5 +176,13 @@ impl LiveTotals {
     {
         let count_sum = plain(&self.count_sums);
         (count_sum.count, count_sum.sum)
+    }
+
+    /// Returns the count and the sum of the rows under a key, or `None` if there are none. Pending row groups do not matter. Costs one
+    /// look-up, or an index if the keys are small numbers. Allocates nothing.
+    pub fn get(&self, key: &Option<Key>) -> Option<CountSum>
+        ensures { result ≡ fin.get self.now.totals key.now }
+    {
+        get(&self.count_sums, key)
     }
 }

@@ -4,7 +4,7 @@ ghost use Rattle.std.specs.BTreeMap.{IsOrdered};
 ghost use Rattle.std.specs.Ordering.{int_cmp};
 ghost use Rattle.std.specs.FinMap as fin;
 ghost use Rattle.far_types.specs.Effects.{count_in, joined_totals};
-ghost use Rattle.far_groups.specs.Live.{CanJoin};
+ghost use Rattle.far_groups.specs.Live.{CanRetract, CanJoin, with_replaced};
 ghost use Rattle.far_groups.specs.CountSums.{IsCountSum, AreCountSums, with_count_sum, LeavesCountSum, without_count_sum, CanRetractAll, without_all};
 ghost use Rattle.far_groups.specs.Numbers.{number_key, numbered, by_number, number_line, number_lines};
 
@@ -72,6 +72,20 @@ pub fn take(numbers: &mut Numbers, number: &i64, less: CountSum)
                 *count_sum = rest;
             }
         }
+    }
+}
+
+/// Replaces one of the values under a number by another one. Allocates nothing.
+#[inline(never)]
+pub fn replace(numbers: &mut Numbers, number: &i64, from: i64, to: i64)
+    requires valid_sums { AreCountSums (by_number numbers.old.entries) }
+    requires there { CanRetract from (fin.get (by_number numbers.old.entries) (number_key number.now)) }
+    ensures valid_sums { AreCountSums (by_number numbers.new.entries) }
+    ensures replaced { by_number numbers.new.entries ≡ with_replaced (by_number numbers.old.entries) (number_key number.now) from to }
+{
+    match numbers.get_mut(number) {
+        None => {}
+        Some(count_sum) => *count_sum = count_sum.replace(from, to),
     }
 }
 

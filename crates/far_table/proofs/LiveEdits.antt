@@ -68,6 +68,10 @@ module _ {K : Type 0} where
   pub refuses-memory : (shown observed after : LiveState K) (e : Edit) (r : Refusal) → shown ≡ observed → after ≡ shown → None ≡ edit_due shown e → r ≡ refusal.NoMemory → Refuses (edit_due observed e) true observed r after
   refuses-memory shown observed after e r same stays free is = (stays ∙ same, subst (λ (s : LiveState K). MayRefuse (edit_due s e) true r) same (subst (λ (o : Option Refusal). MayRefuse o true r) free (is, refl)))
 
+  -- rows and aggregates alone, as those of a table
+  pub live-alone : (t : TableRows K) (registry : List RegistryEntry) → Keeps t.limits.group t.places registry → AreChecked t.schema (registered_of registry) → IsLive t 0 registry
+  live-alone t registry kept checked = record { registrations_few = omega arith; kept = kept; checked = checked }
+
   -- what is kept is that of the places, as the aggregates' calls ask for it
   pub keeps-fit : (t : TableRows K) (r : ℕ) (registry : List RegistryEntry) (limits : Limits) → limits ≡ t.limits → AreLimits t.limits → length t.places ≤ t.limits.places → PlacesFit t.places → IsLive t r registry → AreUpToDate limits.group t.places registry
   keeps-fit t r registry limits same bounds few fit live = record { kept = subst (λ (l : Limits). Keeps l.group t.places registry) (sym same) live.kept; few = omega (arith, few, bounds.places_high); fit = fit }
@@ -87,6 +91,11 @@ module _ {K : Type 0} where
   retracts-after old new e p limits now pending same made retracts =
       let bounds : limits ≡ new.limits = same ∙ sym made.limits in
       subst (λ (l : Limits). RetractsAll l.group (p / l.group) new.places now pending) bounds (subst (λ (ps : List Place). RetractsAll limits.group (p / limits.group) ps now pending) (sym made.places) retracts)
+
+  -- what is kept of the places after an edit is that of the new places
+  pub keeps-after : (old new : TableRows K) (e : Edit) (limits : Limits) (now : List RegistryEntry) → limits ≡ old.limits → IsMade old new e → Keeps limits.group (places_after e old.places) now → Keeps new.limits.group new.places now
+  keeps-after old new e limits now same made kept =
+      subst (λ (l : Limits). Keeps l.group new.places now) (same ∙ sym made.limits) (subst (λ (ps : List Place). Keeps limits.group ps now) (sym made.places) kept)
 
 -- the loaded row is appended
 module _ {K : Type 0} (content : K → List ℕ) (old mid new : TableRows K) (row : List Cell) (stays : mid ≡ record old { new_row = mid.new_row }) (loaded : row_of mid.held.column_indexes mid.new_row ≡ row) (appended : IsAppended content mid new) where

@@ -15,6 +15,7 @@ mod moving;
 mod offloading;
 mod recounting;
 mod renewing;
+mod setting;
 mod watching;
 
 use super::table_rows::TableRows;
@@ -22,6 +23,7 @@ use far_aggregates::laws::an_aggregate_is_served_by_the_columns_of_its_schema;
 use far_aggregates::{Aggregates, Pending};
 use far_store::FarTickets;
 use far_types::{Cell, Limits, Refusal, Row, Schema};
+use setting::put_cell;
 use std::alloc::Global;
 use std::marker::Model;
 
@@ -127,34 +129,14 @@ impl<S: FarTickets> LiveTable<S> {
         ensures here { (id : List ℕ) → AreAt S.is_of id self.old.rows → AreAt S.is_of id self.new.rows }
     {
         let value = self.rows.may_set(column, place, cell)?;
-        // Without aggregates nothing is kept of the rows.
-        if self.aggregates.is_empty() {
-            self.rows.set(self.alloc, column, place, &value)?;
-            return Ok(());
-        }
-        let size = self.rows.limits().group;
-        // For the proof: give how many places there are, and that their rows have all columns.
-        let _before = self.rows.len();
-        let _held = self.rows.held();
-        let Ok(row) = self.rows.place_row(place as usize) else {
-            unreachable!()
-        };
-        let pending = self.aggregates.change_in(
+        put_cell(
             self.alloc,
-            &row,
+            &mut self.rows,
+            &mut self.aggregates,
             column,
-            value.lend(),
-            size,
-            place as usize,
+            place,
+            &value,
         )?;
-        if let Err(refusal) = self.rows.set(self.alloc, column, place, &value) {
-            // The rows are as before, and now the aggregates are too.
-            self.aggregates.undo(pending);
-            return Err(refusal);
-        }
-        // For the proof: gives that the numbers of the places are those of 64 bits.
-        let _after = self.rows.len();
-        retract_row(&self.rows, &mut self.aggregates, place, pending);
         Ok(())
     }
 

@@ -5,4 +5,5 @@ pub mod LentLaws
 pub mod AnswersLines
 pub mod TablePairs
 pub mod EffectsLaws
+pub mod PrefixesLaws
 pub mod AnswersValues

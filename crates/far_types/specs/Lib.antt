@@ -15,6 +15,7 @@ pub mod Keys
 pub mod Lent
 pub mod MayRefuse
 pub mod Pairs
+pub mod Prefixes
 pub mod RefusalExamples
 pub mod Refusals
 pub mod Sentences

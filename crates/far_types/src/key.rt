@@ -105,6 +105,7 @@ impl Ord for Key {
 
     ghost matches_eq = { λ x y. refl };
 
+    #[inline(always)]
     fn cmp(&self, other: &Key) -> Ordering {
         match (self, other) {
             (Key::Int(a), Key::Int(b)) => a.cmp(b),

@@ -16,6 +16,7 @@ pub mod limits;
 pub mod name;
 pub mod pair_ref;
 pub mod pairs;
+mod prefix;
 pub mod refusal;
 pub mod row;
 pub mod schema;

@@ -1,4 +1,4 @@
-// A text, which contracts see as the list of its bytes.
+// A text, which contracts see as the list of its bytes. It keeps its first bytes as a number too, so that most comparisons take one step.
 ghost use Rattle.std.specs.Prelude.{◌≡◌, ◌↔◌, IsTrue, [], ◌==◌, IfOk, IfErr, length};
 ghost use Rattle.std.specs.String.{string_bytes};
 ghost use Rattle.std.proofs.Common.{rules};
@@ -7,32 +7,40 @@ ghost use Rattle.std.specs.Cmp.Rules.{comparing};
 ghost use Rattle.std.specs.Ordering.{nat_cmp, as_partial_cmp};
 ghost use Rattle.std.specs.Cmp.Lexicographic.{slice_cmp, pointwise};
 
+use super::prefix::prefix_of;
 use super::refusal::Refusal;
 use std::alloc::Global;
 use std::cmp::Ordering;
+use std::fmt;
 use std::marker::Model;
 
 /// A text of a cell, a key or a test: valid UTF-8, compared by bytes. Contracts see the list of its bytes.
-#[derive(Drop, Debug)]
+#[derive(Drop)]
 pub struct Text {
     string: String,
+    prefix: u64,
 }
 
 impl Model for Text {
-    ghost use Rattle.std.specs.Prelude.{ℕ, List};
+    ghost use Rattle.std.specs.Prelude.{◌≡◌, ℕ, List};
     ghost use Rattle.std.specs.String.{string_bytes};
+    ghost use Rattle.far_types.specs.Prefixes.{prefix_of, AreBytes};
 
     ghost Value = { List ℕ };
 
     ghost view = { λ t. string_bytes t.string };
+
+    ghost invariant = { λ t. (t.prefix ≡ prefix_of (string_bytes t.string)) × AreBytes (string_bytes t.string) };
 }
 
 impl Text {
     /// Makes a text of a string. Allocates nothing.
+    #[inline(always)]
     pub fn new(string: String) -> Text
         ensures { result ≡ string_bytes string }
     {
-        Text { string }
+        let prefix = prefix_of(string.as_str().as_bytes());
+        Text { string, prefix }
     }
 
     /// Copies these characters into a text. Refused with `NoMemory` (1) alone.
@@ -40,9 +48,7 @@ impl Text {
         ensures equal { IfOk result (λ made. made ≡ text.now) }
         ensures memory { IfErr result (λ e. e ≡ Refusal.NoMemory) }
     {
-        Ok(Text {
-            string: String::from_str(alloc, text)?,
-        })
+        Ok(Text::new(String::from_str(alloc, text)?))
     }
 
     /// Borrows the text in place.
@@ -87,6 +93,7 @@ impl Text {
     {
         Ok(Text {
             string: self.string.clone()?,
+            prefix: self.prefix,
         })
     }
 }
@@ -114,8 +121,12 @@ impl Ord for Text {
 
     ghost matches_eq = { Prim.search (comparing, rules) };
 
+    #[inline(always)]
     fn cmp(&self, other: &Text) -> Ordering {
-        self.string.cmp(&other.string)
+        if self.prefix == other.prefix {
+            return self.string.cmp(&other.string);
+        }
+        self.prefix.cmp(&other.prefix)
     }
 }
 
@@ -126,5 +137,14 @@ impl PartialOrd for Text {
 
     fn partial_cmp(&self, other: &Text) -> Option<Ordering> {
         Some(self.cmp(other))
+    }
+}
+
+/// Prints the characters alone.
+impl fmt::Debug for Text {
+    fn fmt<W: fmt::Write>(&self, f: &mut fmt::Formatter<W>) -> fmt::Result {
+        f.debug_struct("Text")
+            .field("string", &self.string)
+            .finish()
     }
 }

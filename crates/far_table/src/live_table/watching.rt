@@ -1,16 +1,19 @@
 // The aggregates of a table over objects.
 ghost use Rattle.std.specs.Prelude.{◌≡◌, true, false, ℕ, length, option_map, IfOk, IfErr, IfSome, IfNone, OnOk};
 ghost use Rattle.std.specs.Option.{option_copied};
+ghost use Rattle.far_types.specs.MayRefuse.{MayRefuse};
 ghost use Rattle.far_aggregates.specs.Aggregates.{Answers, ask_refusal, is_pending_in};
+ghost use Rattle.far_aggregates.specs.Lines.{AnswersKey};
 ghost use Rattle.far_aggregates.specs.PendingCounts.{pending_of};
 ghost use Rattle.far_aggregates.specs.Readings.{plain_in};
 ghost use Rattle.far_table.specs.Live.{Refuses};
 ghost use Rattle.far_table.specs.Watching.{aggregate_at, watch_refusal, unwatch_refusal, scan_refusal, IsWatched, IsUnwatched, IsScanned};
 
 use super::LiveTable;
+use far_aggregates::Line;
 use far_aggregates::laws::an_aggregate_is_served_by_the_columns_of_its_schema;
 use far_store::FarTickets;
-use far_types::{Answer, Refusal, Spec};
+use far_types::{Answer, Key, Refusal, Spec};
 
 impl<S: FarTickets> LiveTable<S> {
     /// Registers an aggregate under the lowest free number of 0 to 31. All row groups that have a place are pending in it.
@@ -104,6 +107,22 @@ impl<S: FarTickets> LiveTable<S> {
         // For the proof: gives `AreLimits`.
         let _limits = self.rows.limits();
         self.aggregates.answer(self.alloc, a)
+    }
+
+    /// Returns the line of a key in the answer of the aggregate of a number, over the rows as they are, or `None` if the answer has no
+    /// such line. Costs one look-up, and makes no other line. Allocates nothing.
+    ///
+    /// Refused with the first of these that applies:
+    ///
+    /// - `NoAggregate` (12): there is no such aggregate.
+    /// - `Building` (15): row groups are pending. It says how many.
+    pub fn line(&self, a: u32, key: &Option<Key>) -> Result<Option<Line>, Refusal>
+        ensures ok { IfOk result (AnswersKey self.now.table.places (aggregate_at self.now.table a) key.now) }
+        ensures err { IfErr result (MayRefuse (ask_refusal (aggregate_at self.now.table a)) false) }
+    {
+        // For the proof: gives `AreLimits`.
+        let _limits = self.rows.limits();
+        self.aggregates.line(a, key)
     }
 
     /// Returns the specification of the aggregate of a number, or `None` if there is none. Allocates nothing.

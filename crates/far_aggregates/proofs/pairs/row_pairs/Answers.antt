@@ -3,8 +3,8 @@ use Rattle.std.proofs.lemmas.List.{length-map, length-take-le}
 use Rattle.far_aggregates.specs.Pairs.{change_of, row_gives}
 use Rattle.far_aggregates.proofs.pairs.row_pairs.Goals as goal
 
-pub next_pair-requires-clause-place : goal.next_pair-requires-clause-place
-next_pair-requires-clause-place g c =
+pub push_pair-requires : goal.push_pair-requires
+push_pair-requires g c =
     let change = change_of c.args.size c.args.place (row_gives (g.R.LendCells.cells c.args.row.now)) in
     let registry = c.args.registry.now in
     let i = c.loop-entry.entry-index in

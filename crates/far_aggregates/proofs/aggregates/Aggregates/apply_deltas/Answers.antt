@@ -1,4 +1,4 @@
-use Rattle.std.proofs.Common.{◌≡◌, ◌/◌, List, refl, ap, sym, ◌∙◌, subst, arith, length, map}
+use Rattle.std.proofs.Common.{◌≡◌, ◌/◌, List, ap, sym, ◌∙◌, subst, arith, length, map}
 use Rattle.far_extrema.proofs.HoldersReserve.{err_any}
 use Rattle.far_aggregates.specs.Reserve.{AreReserved}
 use Rattle.far_aggregates.specs.declared.pending.Pending.{Pending}

@@ -1,4 +1,4 @@
-use Rattle.std.proofs.Common.{◌≡◌, ◌≤◌, ◌/◌, List, Option, refl, ap, sym, ◌∙◌, subst, arith, length, map}
+use Rattle.std.proofs.Common.{◌≡◌, ◌≤◌, ◌/◌, List, Option, ap, sym, ◌∙◌, subst, arith, length, map}
 use Rattle.std.proofs.lemmas.List.{length-map}
 use Rattle.far_extrema.proofs.HoldersReserve.{err_any}
 use Rattle.far_types.specs.Edits.{change_at, with_cell}

@@ -1,4 +1,4 @@
-use Rattle.std.proofs.Common.{◌≡◌, ◌/◌, List, refl, sym, ◌∙◌, subst, arith, length}
+use Rattle.std.proofs.Common.{◌≡◌, ◌/◌, List, sym, ◌∙◌, subst, arith, length}
 use Rattle.far_types.specs.Edits.{change_at, after_remove}
 use Rattle.far_aggregates.specs.Reserve.{AreReserved}
 use Rattle.far_aggregates.specs.declared.pending.Pending.{Pending}

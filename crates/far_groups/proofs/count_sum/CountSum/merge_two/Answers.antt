@@ -1,4 +1,4 @@
-use Rattle.std.proofs.Common.{◌≡◌, ◌+◌, ◌^◌, ◌≤◌, ◌+ℤ◌, ℕ, ℤ, FitsSigned, sym, ap, subst, arith}
+use Rattle.std.proofs.Common.{◌+◌, ◌^◌, ◌≤◌, ◌+ℤ◌, ℕ, ℤ, FitsSigned, sym, ap, subst, arith}
 use Rattle.std.specs.Int.{w128}
 use Rattle.std.proofs.lemmas.Int.{ints, to_z-of_z}
 use Rattle.far_groups.specs.CountSums.{IsCountSum}
