@@ -1,4 +1,4 @@
--- What a step on the table does to it and its objects, and its reply.
+-- The effect of a step on the table and its objects, and its reply.
 use Rattle.std.specs.Prelude.{◌≡◌, ℕ, ◌<◌, ◌≤◌, ◌⊎◌, true, false, List, length, None, Result}
 use Rattle.std.specs.declared.result.Result.TheVariants.{Ok, Err}
 use Rattle.far_types.specs.declared.answer.Answer.{Answer}
@@ -23,7 +23,7 @@ use Rattle.far_frame.specs.declared.step.Step.TheVariants as step
 use Rattle.far_frame.specs.declared.step.Reply.{Reply}
 use Rattle.far_frame.specs.declared.step.Reply.TheVariants as reply
 
--- a reply is a refusal with a reason, or it serves the step
+-- the reply refuses the step for a reason, or serves it
 abbrev pub Replies : (Reply → Type 0) → (Refusal → Type 0) → Reply → Type 0
 Replies serves refuses (reply.Refused given) = refuses given
 Replies serves refuses (reply.Place place) = serves (reply.Place place)
@@ -35,30 +35,30 @@ Replies serves refuses (reply.Texts pieces) = serves (reply.Texts pieces)
 Replies serves refuses (reply.Job n) = serves (reply.Job n)
 Replies serves refuses (reply.Next found) = serves (reply.Next found)
 
--- the reply of a call that returns nothing if it is done
+-- the reply of a call that returns nothing when it succeeds
 abbrev pub done_or : Result Unit Refusal → Reply
 done_or (Ok done) = reply.Done
 done_or (Err given) = reply.Refused given
 
--- a reply gives these row groups to fetch next
+-- the reply lists these row groups to fetch next
 abbrev pub Proposes : List ℕ → Reply → Type 0
 Proposes groups (reply.Next found) = found.items ≡ groups
 Proposes groups _ = ⊥
 
--- the reply to an accepted edit: the place of a row that was appended
+-- the reply to an accepted edit: for an insert, the place of the new row
 abbrev pub edit_reply : Table → Edit → Reply
 edit_reply table (edit.Insert row) = reply.Place (length table.places)
 edit_reply table (edit.Set place column cell) = reply.Done
 edit_reply table (edit.Remove place) = reply.Done
 
 module _ {K : Type 0} where
-  -- why a segment is not compacted: there is none, or no other is without parts, or memory ran out
+  -- why compacting a segment is refused: there is no such segment, every other segment has a part, or memory ran out
   abbrev pub CompactRefusal : Kind → ℕ → Rows K → Refusal → Type 0
   CompactRefusal kind segment r given = ((given ≡ refusal.OutOfRange) × (segments_of kind r ≤ segment))
       ⊎ (((given ≡ refusal.RegionFull) × (segment < segments_of kind r) × HasNoOther kind segment r)
       ⊎ ((given ≡ refusal.NoMemory) × (segment < segments_of kind r) × ¬ (HasNoOther kind segment r)))
 
-  -- why a step on the table is refused; the steps of jobs are none
+  -- why a step on the table is refused; the steps of jobs are not among these
   abbrev pub WhyRefused : State K → Step → Refusal → Type 0
   WhyRefused s (step.Edit e) given = MayRefuse (edit_due (live s) e) true given
   WhyRefused s (step.Watch spec) given = MayRefuse (watch_refusal s.table spec) true given
@@ -78,13 +78,13 @@ module _ {K : Type 0} where
   WhyRefused s (step.Install n) given = ⊥
   WhyRefused s (step.Merge n) given = ⊥
 
-  -- a step is refused: nothing changes
+  -- a refused step changes nothing
   abbrev pub Refuses : State K → Step → Refusal → State K → Type 0
   Refuses old s given new = (new ≡ old) × WhyRefused old s given
 
   module _ (content : K → List ℕ) where
-    -- a step is accepted: nothing refuses it, and its reply and its effect are those of the plain table. An answer is computed
-    -- from scratch from the rows as they are now
+    -- an accepted step: nothing refuses it, and its reply and its effect are those of the plain table. An answer is computed from scratch
+    -- from the rows as they are now
     abbrev pub Accepts : State K → Step → Reply → State K → Type 0
     Accepts old (step.Edit e) given new = (given ≡ edit_reply old.table e) × Alters (λ before after. IsEdited content before e after) old new
     Accepts old (step.Watch spec) given new = (a : ℕ) × (given ≡ reply.Aggregate a) × Alters (λ before after. IsWatched before after spec a) old new
@@ -104,6 +104,6 @@ module _ {K : Type 0} where
     Accepts old (step.Install n) given new = ⊥
     Accepts old (step.Merge n) given new = ⊥
 
-    -- what a step with this reply does to the table and its objects
+    -- the effect on the table and its objects of a step with this reply
     abbrev pub Changes : State K → Step → Reply → State K → Type 0
     Changes old s given new = Replies (λ served. Accepts old s served new) (λ why. Refuses old s why new) given

@@ -1,4 +1,4 @@
--- Jobs that move objects: what they are, how they begin, are carried and end.
+-- Jobs that move objects: what they are, and how they begin, are carried and end.
 use Rattle.std.specs.Prelude.{◌≡◌, ◌≢◌, ◌⊎◌, ℕ, ◌==◌, Bool, true, false, List, [], ◌∷◌, Option, None, Some, IsTrue, IsSome, IsSomeAnd}
 use Rattle.std.specs.List.{list_any}
 use Rattle.far_types.specs.declared.name.Name.{Name}
@@ -48,12 +48,12 @@ module _ {K : Type 0} where
   is_offload (work.Offloaded build) = true
   is_offload _ = false
 
-  -- what a job does
+  -- the kind of a job
   abbrev pub job_kind : JobRecord K → JobKind
   job_kind job = kind_of_work job.work
 
   module _ (is_of : K → List ℕ → Type 0) (id : List ℕ) where
-    -- what a work holds is of the store with this id
+    -- the tickets in a work are of the store with this id
     abbrev pub IsWorkAt : WorkOf K → Type 0
     IsWorkAt (work.Evac evac) = IsFormOf is_of id (of_either evac).form
     IsWorkAt (work.Carried carried) = is_of (of_either carried).ticket id
@@ -62,25 +62,25 @@ module _ {K : Type 0} where
     IsWorkAt (work.Offload build) = AreTicketsOf is_of id build.job.tickets
     IsWorkAt (work.Offloaded build) = AreTicketsOf is_of id build.job.tickets
 
-    -- what a job holds is of the store with this id
+    -- the tickets in a job are of the store with this id
     abbrev pub IsJobAt : JobRecord K → Type 0
     IsJobAt job = IsWorkAt job.work
 
   module _ (content : K → List ℕ) where
-    -- a begun work is carried
+    -- the second work is the first, carried
     abbrev pub IsWorkCarried : WorkOf K → WorkOf K → Type 0
     IsWorkCarried (work.Evac evac) (work.Carried carried) = IsCarriedEvac content evac carried
     IsWorkCarried (work.Fetch fetch) (work.Fetched fetched) = IsCarriedFetch content fetch fetched
     IsWorkCarried (work.Offload build) (work.Offloaded carried) = carried ≡ build
     IsWorkCarried begun _ = ⊥
 
-    -- a job that was begun is carried. The store has the form of an evacuation. A fetch has the content of its ticket. The contents of
-    -- the tickets of an offloaded build were read
+    -- the second job is the first, carried: the store has the form of an evacuation, a fetch has the content of its ticket, and an
+    -- offloaded build has read the contents of its tickets
     pub record IsCarried (job done : JobRecord K) : Type 0 where
       pub name : done.name ≡ job.name
       pub work : IsWorkCarried job.work done.work
 
-  -- why a work is not carried
+  -- why carrying a work is refused
   abbrev pub WorkRefusal : WorkOf K → Refusal → Type 0
   WorkRefusal (work.Evac evac) given = IsDirtyForm (of_either evac).form × IsOneOf (21 ∷ 22 ∷ 1 ∷ []) given
   WorkRefusal (work.Fetch fetch) given = IsOneOf (21 ∷ 1 ∷ []) given
@@ -89,92 +89,93 @@ module _ {K : Type 0} where
   WorkRefusal (work.Offload build) given = IsOneOf (21 ∷ 1 ∷ []) given
   WorkRefusal (work.Offloaded build) given = given ≡ refusal.StaleJob
 
-  -- why a job is not carried: it was already; else the store failed or was full, or memory ran out. An evacuation that was
-  -- begun on a clean object asks the store for nothing, so it is carried
+  -- why carrying a job is refused: it was carried already, the store failed or was full, or memory ran out. An evacuation of a clean object
+  -- does not call the store, so its carry is never refused
   abbrev pub CarryRefusal : JobRecord K → Refusal → Type 0
   CarryRefusal job given = WorkRefusal job.work given
 
   module _ (r : Rows K) (column group : ℕ) where
-    -- the work of an evacuation of the object, begun now
+    -- the work of an evacuation of the object that begins now
     abbrev pub IsEvacWork : WorkOf K → Type 0
     IsEvacWork (work.Evac evac) = IsEvacBegun r column group evac
     IsEvacWork _ = ⊥
 
-    -- an evacuation of the object of a row group of a column, begun now
+    -- an evacuation of the object of a row group of a column that begins now
     pub record IsEvacJob (job : JobRecord K) : Type 0 where
       pub free : evac_refusal r column group ≡ None
       pub name : job.name ≡ Some record { column = column; group = group }
       pub work : IsEvacWork job.work
 
-    -- the work of a fetch of the object, begun now
+    -- the work of a fetch of the object that begins now
     abbrev pub IsFetchWork : WorkOf K → Type 0
     IsFetchWork (work.Fetch fetch) = IsFetchBegun r column group fetch
     IsFetchWork _ = ⊥
 
-    -- a fetch of it, begun now
+    -- a fetch of the object of a row group of a column that begins now
     pub record IsFetchJob (job : JobRecord K) : Type 0 where
       pub free : fetch_refusal r column group ≡ None
       pub name : job.name ≡ Some record { column = column; group = group }
       pub work : IsFetchWork job.work
 
   module _ (s : State K) (a g : ℕ) where
-    -- the work of an offloaded build, begun now
+    -- the work of an offloaded build that begins now
     abbrev pub IsOffloadWork : WorkOf K → Type 0
     IsOffloadWork (work.Offload build) = IsOffloadBegun (live s) a g build
     IsOffloadWork _ = ⊥
 
-    -- an offloaded build of a row group into an aggregate, begun now
+    -- an offloaded build of a row group into an aggregate that begins now
     pub record IsOffloadJob (job : JobRecord K) : Type 0 where
       pub free : offload_refusal (live s) (aggregate_at s.table a) g ≡ None
       pub name : job.name ≡ None
       pub work : IsOffloadWork job.work
 
   module _ (r : Rows K) where
-    -- the coldest object's evacuation is begun, or there is none
+    -- the coldest object's evacuation begins; or there is no such object, and no job
     abbrev pub IsColdestJob : Option (JobRecord K) → Type 0
     IsColdestJob None = coldest r ≡ None
     IsColdestJob (Some job) = IsSomeAnd job.name (λ name. (coldest r ≡ Some name) × IsEvacJob r name.column name.group job)
 
-  -- a job is an offloaded build whose aggregate is not registered
+  -- the job is an offloaded build whose aggregate is no longer registered
   abbrev pub IsForgotten : State K → WorkOf K → Type 0
   IsForgotten s (work.Offload build) = aggregate_at s.table build.aggregate ≡ None
   IsForgotten s (work.Offloaded build) = aggregate_at s.table build.aggregate ≡ None
   IsForgotten s _ = ⊥
 
   module _ (number_of : K → ℕ) (old : State K) where
-    -- a job is an evacuation that was carried, and what it rests on still holds
+    -- the job is a carried evacuation whose assumptions still hold
     abbrev pub MayCommit : WorkOf K → Type 0
     MayCommit (work.Carried carried) = IsEvacAccepted number_of old.rows carried
     MayCommit _ = ⊥
 
-    -- likewise a fetch
+    -- the job is a carried fetch whose assumptions still hold
     abbrev pub MayInstall : WorkOf K → Type 0
     MayInstall (work.Fetched fetched) = IsFetchAccepted number_of old.rows fetched
     MayInstall _ = ⊥
 
-    -- likewise an offloaded build
+    -- the job is a carried offloaded build whose assumptions still hold
     abbrev pub MayMerge : WorkOf K → Type 0
     MayMerge (work.Offloaded build) = IsMergeable number_of (live old) build
     MayMerge _ = ⊥
 
-    -- a job is an evacuation that was carried and is accepted, and its object is away
+    -- the job is a carried evacuation that is accepted: its object is away
     abbrev pub Commits : WorkOf K → State K → Type 0
     Commits (work.Carried carried) new = Alters (IsMoved (IsCommitted number_of carried)) old new
     Commits _ new = ⊥
 
-    -- or it is not: what it rests on holds no more, or its object has a pin. Any other job is stale here
+    -- why a commit is refused: the job's assumptions no longer hold, or its object has a pin. A job that is not a carried evacuation is
+    -- stale
     abbrev pub CommitRefusal : WorkOf K → Refusal → Type 0
     CommitRefusal (work.Carried carried) given = ((given ≡ refusal.StaleJob) × ¬ (IsEvacAccepted number_of old.rows carried))
         ⊎ ((given ≡ refusal.Pinned) × IsEvacAccepted number_of old.rows carried × (pins_by old.rows carried ≢ 0))
     CommitRefusal _ given = given ≡ refusal.StaleJob
 
-    -- a job is an offloaded build that was carried and is accepted, and its row group is scanned
+    -- the job is a carried offloaded build that is accepted: its row group is scanned
     abbrev pub Merges : WorkOf K → State K → Type 0
     Merges (work.Offloaded build) new = Alters (λ before after. IsMerged number_of before build after) old new
     Merges _ new = ⊥
 
-    -- or it is not: its aggregate is not registered, what it rests on holds no more, or memory ran out. A build that was not
-    -- carried is stale if its aggregate is registered. A job of another kind is stale here
+    -- why a merge is refused: the job's aggregate is not registered, its assumptions no longer hold, or memory ran out. A build that was
+    -- not carried is stale if its aggregate is registered. A job of another kind is stale
     abbrev pub MergeRefusal : WorkOf K → Refusal → Type 0
     MergeRefusal (work.Offload build) given = ((given ≡ refusal.NoAggregate) × (aggregate_at old.table build.aggregate ≡ None))
         ⊎ ((given ≡ refusal.StaleJob) × IsSome (aggregate_at old.table build.aggregate))
@@ -184,12 +185,13 @@ module _ {K : Type 0} where
     MergeRefusal _ given = given ≡ refusal.StaleJob
 
     module _ (content : K → List ℕ) where
-      -- a job is a fetch that was carried and is accepted, and its object is back
+      -- the job is a carried fetch that is accepted: its object is local again
       abbrev pub Installs : WorkOf K → State K → Type 0
       Installs (work.Fetched fetched) new = Alters (IsMoved (IsInstalled content number_of fetched)) old new
       Installs _ new = ⊥
 
-      -- or it is not: what it rests on holds no more, its object does not fit, or memory ran out. Any other job is stale here
+      -- why an install is refused: the job's assumptions no longer hold, its object does not fit, or memory ran out. A job that is not a
+      -- carried fetch is stale
       abbrev pub InstallRefusal : WorkOf K → Refusal → Type 0
       InstallRefusal (work.Fetched fetched) given = ((given ≡ refusal.StaleJob) × ¬ (IsFetchAccepted number_of old.rows fetched))
           ⊎ (((given ≡ refusal.RegionFull) × IsFetchAccepted number_of old.rows fetched × HasNoSpace content old.rows fetched)

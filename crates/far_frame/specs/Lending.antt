@@ -1,4 +1,4 @@
--- Parts of columns that are lent, in the plain table's words, and the access history.
+-- Lent parts of columns, in terms of the plain table, and the access history.
 use Rattle.std.specs.Prelude.{◌≡◌, ℕ, Bool, ℤ, nat_lt, not, List, [], ◌∷◌, map, length, slice_get, slice_set, Option, Some, None}
 use Rattle.std.specs.List.{fold}
 use Rattle.std.specs.Option.{option_map_or}
@@ -30,11 +30,11 @@ pub record Piece : Type 0 where
 abbrev pub flags_of : List Place → List Bool
 flags_of places = map (λ place. place.alive) places
 
--- what some places have in a column
+-- the piece of a column at some places
 abbrev pub piece_of : ℕ → List Place → Piece
 piece_of column places = record { cells = column_of column places; flags = flags_of places }
 
--- what is lent of a part of a column: a piece for each row group that has some of its places
+-- a lent part of a column: a piece for each row group that has some of its places
 abbrev pub lent_part : Table → ℕ → ℕ → ℕ → List Piece
 lent_part table column from to = map (piece_of column) (pieces_of table.places table.limits.group from to)
 
@@ -54,23 +54,23 @@ int_piece copy = record { cells = map int_cell copy.values.items; flags = copy.f
 abbrev pub text_piece : TextPiece → Piece
 text_piece copy = record { cells = map text_cell copy.values.items; flags = copy.flags.items }
 
--- the pieces that a reply gives
+-- the pieces in a reply
 abbrev pub pieces_in : Reply → List Piece
 pieces_in (reply.Ints copies) = map int_piece copies.items
 pieces_in (reply.Texts copies) = map text_piece copies.items
 pieces_in _ = []
 
--- a reply gives these pieces of a column of this kind
+-- the reply has these pieces, of a column of this kind
 abbrev pub IsReplyOf : Option Kind → List Piece → Reply → Type 0
 IsReplyOf of pieces (reply.Ints copies) = (of ≡ Some kind.Int) × (map int_piece copies.items ≡ pieces)
 IsReplyOf of pieces (reply.Texts copies) = (of ≡ Some kind.Text) × (map text_piece copies.items ≡ pieces)
 IsReplyOf of pieces _ = ⊥
 
--- the access histories, once some row groups of a column were accessed, in order
+-- the access histories after some row groups of a column were accessed, in order
 abbrev pub after_access_all : List (List ℕ) → ℕ → List ℕ → List (List ℕ)
 after_access_all accesses column lent = fold (λ histories g. slice_set histories column (with_access (history_of histories column) g)) accesses lent
 
--- there is no such column
+-- why a prefetch is refused: there is no such column
 abbrev pub prefetch_refusal : Table → ℕ → Option Refusal
 prefetch_refusal table column = first_of ((not (nat_lt column (length table.schema)), refusal.NoColumn) ∷ [])
 
@@ -79,16 +79,16 @@ abbrev pub next_groups : Table → List (List ℕ) → ℕ → List ℕ
 next_groups table accesses column = proposed (groups table.limits.group (length table.places)) (history_of accesses column)
 
 module _ {K : Type 0} where
-  -- the objects of some row groups of a column are marked as recently used, in order
+  -- the objects after those of some row groups of a column were marked as recently used, in order
   abbrev pub after_touch_all : Rows K → ℕ → List ℕ → Rows K
   after_touch_all r column lent = fold (λ rows g. option_map_or (after_touch rows) (object_at rows column g) rows) r lent
 
-  -- why a part of a column is not lent. There is no such column. The places are not all there. The object of a row group that has some
-  -- of them is away, and the first such is named
+  -- why lending a part of a column is refused: there is no such column, the places do not all exist, or the object of a row group with some
+  -- of them is away. The refusal names the first such object
   abbrev pub lend_refusal : Rows K → ℕ → ℕ → ℕ → Option Refusal
   lend_refusal r column from to = first_of (no_column r column ∷ no_range r from to ∷ map (absent_in r column) (overlapped_groups r.size from to))
 
-  -- row groups of a column are accessed, in order: their objects are marked as recently used, and the history has them
+  -- row groups of a column were accessed, in order: their objects are marked as recently used, and the history has them
   pub record AreObserved (column : ℕ) (lent : List ℕ) (old new : State K) : Type 0 where
     pub table : new.table ≡ old.table
     pub rows : new.rows ≡ after_touch_all old.rows column lent

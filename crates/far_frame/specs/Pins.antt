@@ -1,4 +1,4 @@
--- Pins: which steps change how many an object has, and that each object with one is local.
+-- Pins: which steps change an object's pins, and that an object with a pin is local.
 use Rattle.std.specs.Prelude.{◌≡◌, ◌≢◌, Bool, true, false}
 use Rattle.far_scopes.specs.Movement.{is_local}
 use Rattle.far_rows.specs.declared.object.Object.{Object}
@@ -8,7 +8,7 @@ use Rattle.far_rows.specs.Coldest.{pins_at}
 use Rattle.far_frame.specs.declared.step.Step.{Step}
 use Rattle.far_frame.specs.declared.step.Step.TheVariants as step
 
--- the step puts a pin on an object or takes one off
+-- whether the step pins or unpins
 abbrev pub is_pinning : Step → Bool
 is_pinning (step.Pin column group) = true
 is_pinning (step.Unpin column group) = true
@@ -20,6 +20,6 @@ module _ {K : Type 0} (r : Rows K) where
   is_here (object.Number o) = is_local r.number_objects o
   is_here (object.Text o) = is_local r.text_objects o
 
-  -- each object that has a pin is local
+  -- each object with a pin is local
   abbrev pub ArePinnedHere : Type 0
   ArePinnedHere = (o : Object) → pins_at r o ≢ 0 → is_here o ≡ true

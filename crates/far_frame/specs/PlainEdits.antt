@@ -1,4 +1,4 @@
--- Why an edit of a table over objects is refused, in the words of the plain list.
+-- Why an edit of a table over objects is refused, in terms of the plain list.
 use Rattle.std.specs.Prelude.{◌≡◌, ◌⊎◌, [], ◌∷◌, None, Some}
 use Rattle.far_types.specs.declared.edit.Edit.{Edit}
 use Rattle.far_types.specs.declared.refusal.Refusal.{Refusal}
@@ -8,7 +8,7 @@ use Rattle.far_types.specs.FirstOf.{first_of}
 use Rattle.far_types.specs.Table.{Table}
 use Rattle.far_frame.specs.Jobs.{IsOneOf}
 
--- an object is away, or there is no space: the plain list knows neither
+-- the refusals that the plain list does not have: an object is away, or there is no space
 abbrev pub IsOfObjects : Refusal → Type 0
 IsOfObjects given = IsOneOf (16 ∷ 17 ∷ []) given
 

@@ -1,4 +1,4 @@
--- What a list of steps makes of the rows, without the aggregates.
+-- The effect of a list of steps on the rows, without the aggregates.
 use Rattle.std.specs.Prelude.{ℕ, Bool, true, false, cond, List, [], ◌∷◌, Option, None, Some}
 use Rattle.far_types.specs.Edits.{places_after}
 use Rattle.far_types.specs.Table.{Place}
@@ -19,7 +19,7 @@ is_refused (reply.Job n) = false
 is_refused (reply.Next found) = false
 is_refused (reply.Refused refusal) = true
 
--- only edits change the rows
+-- the rows after an accepted step: only edits change them
 abbrev pub rows_after : Step → List Place → List Place
 rows_after (step.Edit e) places = places_after e places
 rows_after (step.Watch spec) places = places
@@ -39,13 +39,13 @@ rows_after (step.Commit n) places = places
 rows_after (step.Install n) places = places
 rows_after (step.Merge n) places = places
 
--- the plain list under the edits that were accepted
+-- the plain list after the accepted edits
 abbrev pub plain_rows : List Step → List Reply → List Place → List Place
 plain_rows [] replies places = places
 plain_rows (s ∷ steps) [] places = places
 plain_rows (s ∷ steps) (given ∷ replies) places = plain_rows steps replies (cond (is_refused given) places (rows_after s places))
 
--- the step lends a part of a column, pins objects, moves them, returns which to move next, or is about a job that does
+-- whether the step lends a part of a column, pins or moves objects, proposes which to move next, or concerns a job that does
 abbrev pub is_movement : Step → Bool
 is_movement (step.Edit e) = false
 is_movement (step.Watch spec) = false

@@ -1,4 +1,4 @@
--- What a step makes of a world, and its reply.
+-- The effect of a step on a world, and its reply.
 use Rattle.std.specs.Prelude.{◌≡◌, ℕ, List, [], ◌∷◌}
 use Rattle.far_rows.specs.Jobs.{evac_refusal, fetch_refusal}
 use Rattle.far_frame.specs.declared.step.Step.{Step}
@@ -12,11 +12,11 @@ use Rattle.far_frame.specs.Jobs.{IsEvacJob, IsFetchJob, IsOffloadJob, Commits, C
 use Rattle.far_frame.specs.Worlds.{World, IsBegun, IsNotBegun, IsCarry, IsNoCarry, IsEnded, IsNotEnded}
 
 module _ {K : Type 0} (content : K → List ℕ) (number_of : K → ℕ) (old : World K) where
-  -- the state alone changes: not the jobs, the store or the faults
+  -- only the state changes: not the jobs, the store or the faults
   abbrev pub OnTable : Step → Reply → World K → Type 0
   OnTable s given new = Changes content old.state s given new.state × (new ≡ record old { state = new.state })
 
-  -- from old the world goes to new by a step with this reply
+  -- the world `old` becomes `new` by a step with this reply
   abbrev pub IsStep : Step → Reply → World K → Type 0
   IsStep (step.Edit e) given new = OnTable (step.Edit e) given new
   IsStep (step.Watch spec) given new = OnTable (step.Watch spec) given new
@@ -37,7 +37,7 @@ module _ {K : Type 0} (content : K → List ℕ) (number_of : K → ℕ) (old : 
   IsStep (step.Merge n) given new = Replies (λ served. IsEnded (Merges number_of old.state) n old served new) (λ why. IsNotEnded (MergeRefusal number_of old.state) n old why new) given
 
 module _ {K : Type 0} (content : K → List ℕ) (number_of : K → ℕ) where
-  -- from old the world goes to new by these steps with these replies, one for each
+  -- the world `old` becomes `new` by these steps with these replies, one for each
   abbrev pub IsRun : World K → List Step → List Reply → World K → Type 0
   IsRun old [] [] new = new ≡ old
   IsRun old [] (given ∷ replies) new = ⊥

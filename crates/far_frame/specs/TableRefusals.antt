@@ -1,5 +1,5 @@
--- A table in a user's words, and why its steps are refused: by its rows and aggregates, by which of
--- its chunks are away, and by their pins. A chunk is a row group of one column.
+-- A table as its user sees it, and why its steps are refused: by its rows and aggregates, by which
+-- of its chunks are away, and by their pins. A chunk is a row group of one column.
 use Rattle.std.specs.Prelude.{◌≡◌, ◌⊎◌, ℕ, ◌/◌, ◌==◌, ◌&&◌, ◌||◌, nat_lt, not, Bool, true, List, [], ◌∷◌, ◌++◌, map, length, Option, None, Some}
 use Rattle.std.specs.List.{Contains, enumerate_from}
 use Rattle.far_types.specs.declared.cell.Kind.{Kind}
@@ -18,8 +18,8 @@ use Rattle.far_table.specs.Watching.{aggregate_at, group_count, watch_refusal, u
 use Rattle.far_frame.specs.declared.step.Step.{Step}
 use Rattle.far_frame.specs.declared.step.Step.TheVariants as step
 
--- the plain table; then, by column and row group, whether the chunk is away and how many pins it
--- has. One that has no place is not away and has no pin
+-- the plain table and, by column and row group, whether the chunk is away and how many pins it has.
+-- A chunk without places is not away and has no pin
 pub record TableState : Type 0 where
   pub table : Table
   pub is_away : ℕ → ℕ → Bool
@@ -37,7 +37,7 @@ no_group table g = (not (nat_lt g (group_count table)), refusal.OutOfRange)
 abbrev pub away : TableState → ℕ → ℕ → Bool × Refusal
 away s c g = (s.is_away c g, refusal.Absent c g)
 
--- the columns, in order: it is needed, and its chunk of the row group is away
+-- for each needed column in order: its chunk of the row group is away
 abbrev pub any_away : TableState → (ℕ → Bool) → ℕ → List (Bool × Refusal)
 any_away s needed g = map
     (λ (at : ℕ × Kind). (needed at.0 && s.is_away at.0 g, refusal.Absent at.0 g))
@@ -49,22 +49,23 @@ edited_group table (edit.Insert row) = length table.places / table.limits.group
 edited_group table (edit.Set p c cell) = p / table.limits.group
 edited_group table (edit.Remove p) = p / table.limits.group
 
--- the tests of an edit that come before that of space: it has a fault of its own, a chunk of its
--- row group is away, or a text object would be too long
+-- the tests of an edit before the test for space: it has a fault of its own, a chunk of its row
+-- group is away, or a text object would be too long
 abbrev pub edit_tests : TableState → Edit → List (Bool × Refusal)
 edit_tests s e = edit_faults s.table.schema s.table.limits s.table.places e
     ++ (any_away s (λ c. true) (edited_group s.table e)
     ++ (overfills s.table.schema s.table.limits e s.table.places, refusal.ChunkFull) ∷ [])
 
--- why a row group is not scanned into an aggregate: there is no such aggregate, or no such row
--- group, or it is not pending, or one of these tests of the columns that the aggregate needs holds
+-- why scanning a row group into an aggregate is refused: there is no such aggregate, or no such row
+-- group, or it is not pending, or one of these tests of the columns that the aggregate needs
+-- applies
 abbrev pub scan_due :
     Table → Option Registered → ℕ → (Spec → List (Bool × Refusal)) → Option Refusal
 scan_due table None g columns = Some refusal.NoAggregate
 scan_due table (Some aggregate) g columns = first_of (no_group table g
     ∷ (not (is_pending aggregate.pending g), refusal.StaleJob) ∷ columns aggregate.spec)
 
--- why a step is refused, as far as the table, its chunks and their pins tell
+-- the refusal of a step that follows from the table, its chunks and their pins, if there is one
 abbrev pub due : TableState → Step → Option Refusal
 due s (step.Edit e) = first_of (edit_tests s e
     ++ (s.table.edits == s.table.limits.edits, refusal.EditsUsedUp) ∷ [])
@@ -87,7 +88,8 @@ due s (step.BeginOffload a g) = scan_due s.table (aggregate_at s.table a) g (λ 
 due s (step.Prefetch c) = first_of (no_column s.table c ∷ [])
 due s _ = None
 
--- the refusals that a step may have besides: its job, the space, the far store or memory refuses it
+-- the other refusals that a step may have: by its job, for lack of space, by the far store, or for
+-- lack of memory
 abbrev pub others : Step → List Refusal
 others (step.Unwatch a) = []
 others (step.Pin c g) = []
@@ -104,7 +106,7 @@ others (step.Compact kind segment) =
     refusal.OutOfRange ∷ refusal.RegionFull ∷ refusal.NoMemory ∷ []
 others _ = refusal.NoMemory ∷ []
 
--- a step is refused for what is due. If nothing is, it may be refused for one of the others. An
+-- why a step may be refused: for the refusal that is due or, if none is, for one of the others. An
 -- edit that finds no space is refused before it is known whether the edits are used up
 abbrev pub IsReason : TableState → Step → Refusal → Type 0
 IsReason s (step.Edit e) given = (due s (step.Edit e) ≡ Some given)

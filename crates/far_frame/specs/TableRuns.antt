@@ -1,5 +1,5 @@
--- What steps do to a table, in a user's words. Not said here: where an object lies, when space runs
--- out, and which job moves which chunk. `Steps` says these too.
+-- The effect of steps on a table, as its user sees it. Left out here, and defined in `Steps`: where
+-- an object is stored, when space runs out, and which job moves which chunk.
 use Rattle.std.specs.Prelude.{◌≡◌, ◌≢◌, ℕ, ◌+◌, ◌-◌, ◌==◌, ◌&&◌, true, false, cond, List, [], ◌∷◌, None, IsSomeAnd, slice_range}
 use Rattle.std.specs.List.{flat_map}
 use Rattle.far_types.specs.Edits.{after_edit}
@@ -20,11 +20,11 @@ IsPartOf table c from to given =
     (flat_map (λ piece. piece.cells) pieces ≡ part c from to table.places)
     × (flat_map (λ piece. piece.flags) pieces ≡ slice_range (flags_of table.places) from to)
 
--- the same but for one row group of one column, which has this
+-- the same function, except that one row group of one column has this value
 abbrev pub changed : {A : Type 0} → ℕ → ℕ → A → (ℕ → ℕ → A) → ℕ → ℕ → A
 changed c g x old column group = cond (column == c && group == g) x (old column group)
 
--- a step is accepted: its reply, and what it makes of the table
+-- an accepted step: its reply, and its effect on the table
 abbrev pub IsTableServed : TableState → Step → Reply → TableState → Type 0
 IsTableServed old (step.Edit e) given new = (given ≡ edit_reply old.table e)
     × (new ≡ record old { table = after_edit e old.table })
@@ -55,14 +55,14 @@ IsTableServed old (step.Compact kind segment) given new = (given ≡ reply.Done)
 IsTableServed old (step.Prefetch c) given new = new ≡ old
 IsTableServed old _ given new = ((n : ℕ) × (given ≡ reply.Job n)) × (new ≡ old)
 
--- from old the table goes to new by a step with this reply: it is refused for a reason, and nothing
--- changes, or nothing is due and it is accepted
+-- the table `old` becomes `new` by a step with this reply: it is refused for a reason and nothing
+-- changes, or no refusal is due and it is accepted
 abbrev pub IsTableStep : TableState → Step → Reply → TableState → Type 0
 IsTableStep old s given new = Replies
     (λ served. (due old s ≡ None) × IsTableServed old s served new)
     (λ why. IsReason old s why × (new ≡ old)) given
 
--- from old the table goes to new by these steps with these replies, one for each
+-- the table `old` becomes `new` by these steps with these replies, one for each
 abbrev pub IsTableRun : TableState → List Step → List Reply → TableState → Type 0
 IsTableRun old [] [] new = new ≡ old
 IsTableRun old [] (given ∷ replies) new = ⊥
@@ -70,6 +70,6 @@ IsTableRun old (s ∷ steps) [] new = ⊥
 IsTableRun old (s ∷ steps) (given ∷ replies) new =
     (mid : TableState) × IsTableStep old s given mid × IsTableRun mid steps replies new
 
--- what has a pin is not away
+-- a chunk with a pin is not away
 abbrev pub ArePinnedLocal : TableState → Type 0
 ArePinnedLocal s = (c g : ℕ) → s.pins c g ≢ 0 → s.is_away c g ≡ false

@@ -1,4 +1,4 @@
--- The table in a world, with what is away of it, and what always holds of them.
+-- The table in a world as its user sees it, and what is always true of a table and its objects.
 use Rattle.std.specs.Prelude.{◌≡◌, ℕ, Bool, true, false, List, map, length}
 use Rattle.std.specs.Option.{option_map_or}
 use Rattle.far_types.specs.Bounds.{AreLimits}
@@ -15,26 +15,26 @@ use Rattle.far_rows.specs.Rows.{Rows, AreRows}
 use Rattle.far_frame.specs.State.{State}
 use Rattle.far_frame.specs.TableRefusals.{TableState}
 
--- the word says that its object is away
+-- whether a word says that its object is away
 abbrev pub is_remote : Pointer → Bool
 is_remote (Local at dirty hot far) = false
 is_remote Remote = true
 
 module _ {K : Type 0} where
-  -- an object is away
+  -- whether an object is away
   abbrev pub is_gone : Rows K → Object → Bool
   is_gone r (object.Number o) = option_map_or is_remote (word_of r.number_objects o) false
   is_gone r (object.Text o) = option_map_or is_remote (word_of r.text_objects o) false
 
-  -- the object of a row group of a column is away; one that is not there is not
+  -- whether the object of a row group of a column is away; an object that does not exist is not
   abbrev pub gone_at : Rows K → ℕ → ℕ → Bool
   gone_at r c g = option_map_or (is_gone r) (object_at r c g) false
 
-  -- how many pins it has
+  -- how many pins the object of a row group of a column has
   abbrev pub pins_of_group : Rows K → ℕ → ℕ → ℕ
   pins_of_group r c g = option_map_or (pins_at r) (object_at r c g) 0
 
-  -- a table with its objects, in a user's words
+  -- a table over objects, as its user sees it
   abbrev pub table_of : State K → TableState
   table_of s = record {
     table = s.table;
@@ -42,7 +42,7 @@ module _ {K : Type 0} where
     pins = pins_of_group s.rows;
   }
 
-  -- what always holds of a table, its rows and their objects
+  -- what is always true of a table, its rows and their objects
   pub record IsKept (content : K → List ℕ) (s : State K) : Type 0 where
     pub limits : AreLimits s.table.limits
     pub rows : AreRows content s.rows

@@ -11,41 +11,43 @@ use Rattle.far_types.specs.Refusals.{number_of as refusal_number}
 use Rattle.far_aggregates.specs.Aggregates.{flattened}
 use Rattle.far_frame.specs.Jobs.{JobRecord, IsJobAt, IsCarried}
 
--- the jobs that are not spent, by number; a number has none only while its job is being carried
+-- the jobs whose numbers are not spent, by number; a number has no job only while its job is being
+-- carried
 abbrev pub Waiting : Type 0 → Type 0
 Waiting K = List (ℕ × Option (JobRecord K))
 
--- whether a number is that of a job
+-- whether two job numbers are the same
 abbrev pub is_number : ℕ → ℕ → Bool
 is_number n = is_at (nat_cmp n)
 
--- an end spends the number of a job that was accepted or is stale; every other refusal leaves it
+-- whether the end of a job spends its number: yes if the job was accepted or is stale, no for every
+-- other refusal
 abbrev pub spends : Result Unit Refusal → Bool
 spends (Ok done) = true
 spends (Err given) = refusal_number given == 20
 
 module _ {K : Type 0} where
-  -- the job of a number
+  -- the job with this number
   abbrev pub job_at : Waiting K → ℕ → Option (JobRecord K)
   job_at waiting n = flattened (lookup (is_number n) waiting)
 
-  -- one job more
+  -- the jobs, with one more
   abbrev pub one_more : Waiting K → ℕ → JobRecord K → Waiting K
   one_more waiting n job = insert_entry nat_cmp waiting n (Some job)
 
-  -- another job under a number, or none while it is being carried
+  -- the jobs, with another job at a number, or none while it is being carried
   abbrev pub with_job : Waiting K → ℕ → Option (JobRecord K) → Waiting K
   with_job waiting n job = set_value (is_number n) waiting job
 
-  -- a number is spent
+  -- the jobs after a number was spent
   abbrev pub without_job : Waiting K → ℕ → Waiting K
   without_job waiting n = remove_entry (is_number n) waiting
 
-  -- what the jobs hold is of the store with this id
+  -- the tickets in the jobs are of the store with this id
   abbrev pub AreJobsAt : (K → List ℕ → Type 0) → List ℕ → Waiting K → Type 0
   AreJobsAt is_of id waiting = All (λ job. IfSome job (IsJobAt is_of id)) (values_of waiting)
 
-  -- the job of a number is carried, and nothing else is changed
+  -- the job with this number was carried, and nothing else changed
   pub record IsCarriedAt (content : K → List ℕ) (n : ℕ) (old new : Waiting K) : Type 0 where
     pub job : JobRecord K
     pub waits : job_at old n ≡ Some job
@@ -53,7 +55,7 @@ module _ {K : Type 0} where
     pub carried : IsCarried content job done
     pub jobs : new ≡ with_job old n (Some done)
 
-  -- why the job of a number is refused: there is none, or it is refused itself
+  -- why a step on the job with a number is refused: there is none, or the job refuses
   abbrev pub RefusalAt : (JobRecord K → Refusal → Type 0) → Option (JobRecord K) → Refusal → Type 0
   RefusalAt why None given = given ≡ refusal.StaleJob
   RefusalAt why (Some job) given = why job given

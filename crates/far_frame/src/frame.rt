@@ -25,6 +25,7 @@ use far_prefetcher::Prefetcher;
 use far_store::FarTickets;
 use far_table::LiveTable;
 use far_types::{Answer, Cell, Limits, Refusal, Row, Schema, Spec};
+pub use renewing::migrate;
 use std::alloc::Global;
 use std::marker::Model;
 

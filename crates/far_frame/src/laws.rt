@@ -85,7 +85,7 @@ pub fn a_recount_is_over_the_rows_now<S: FarTickets>()
     ensures asked { (table : Table) → (a : ℕ) → (counted : Answer) → IsAnswerNow table a counted → (old : World S.Ticket) → old.state.table.places ≡ table.places → option_map (λ aggregate. aggregate.spec) (aggregate_at old.state.table a) ≡ option_map (λ aggregate. aggregate.spec) (aggregate_at table a) → (answer : Answer) → (new : World S.Ticket) → IsStep S.content S.number_of old (step.Ask a) (reply.Answer answer) new → answer ≡ counted }
 {}
 
-/// A table that goes on with another store, by `World::migrate` or by `Frame::migrate`, keeps its rows and aggregates, and so its
+/// A table that goes on with another store, by `World::migrate` or by `migrate`, keeps its rows and aggregates, and so its
 /// answers.
 pub fn a_migration_keeps_the_table<S: FarTickets, N: FarTickets>()
     ensures world { (id : List ℕ) → (old : World S.Ticket) → (new : World N.Ticket) → IsMigratedTo S.content N.content id old new → new.state.table ≡ old.state.table }

@@ -8,7 +8,7 @@ use crate::call::Value::Missing;
 use crate::opening::{FOUR_SEGMENTS, Plan, SOUND, frame, stores};
 use crate::script::{is_due, recounted, replied};
 use crate::two_tables::{Checked, End, both, carried, insert, watch_totals};
-use far_frame::Frame;
+use far_frame::{Frame, migrate};
 use far_store::{FarStore, FarTickets, Meter};
 use far_types::{Kind, Refusal};
 use std::alloc::Global;
@@ -88,7 +88,7 @@ fn is_same_then<S: FarStore, R: Threads + Sync>(
 ) -> Checked
     requires here { AreAt S.is_of (S.store_id from.now) frame.rows }
 {
-    match Frame::migrate(frame, from, to, &mut Meter::new()) {
+    match migrate(frame, from, to, &mut Meter::new()) {
         Ok(frame) => {
             let checked = is_same(rt, &frame, to, None, due);
             drop(frame);

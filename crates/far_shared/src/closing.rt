@@ -97,30 +97,6 @@ fn unlocked<N: PlanTag, B: TableTag, S: FarTickets, const I: usize>(
 }
 
 impl<N: PlanTag, B: TableTag, S: FarTickets> Shared<N, B, S> {
-    /// Ends all sessions, and returns the four tables. The entries of each table's history are just those that its sessions
-    /// know as their own.
-    ///
-    /// Refused with `OutOfRange` (14) exactly if a session is missing. The shared table and the sessions are then returned.
-    pub fn close<R: Wait>(
-        self,
-        rt: &R,
-        sessions: Vec<Session<B>>,
-    ) -> Result<Four<Frame<S>>, (Refusal, Shared<N, B, S>, Vec<Session<B>>)>
-        ensures whole { OnOk result (IsWhole N.plan.sessions sessions.items) }
-        ensures zero { IfOk result (λ frames. IsClosed N.plan 0 sessions.items frames.zero.table) }
-        ensures one { IfOk result (λ frames. IsClosed N.plan 1 sessions.items frames.one.table) }
-        ensures two { IfOk result (λ frames. IsClosed N.plan 2 sessions.items frames.two.table) }
-        ensures three { IfOk result (λ frames. IsClosed N.plan 3 sessions.items frames.three.table) }
-        ensures here { IfOk result (λ frames. AreAt S.is_of B.store frames.zero.rows × AreAt S.is_of B.store frames.one.rows × AreAt S.is_of B.store frames.two.rows × AreAt S.is_of B.store frames.three.rows) }
-        ensures missing { IfErr result (λ refused. (refused.0 ≡ Refusal.OutOfRange) × ¬ (IsWhole N.plan.sessions sessions.items)) }
-        ensures back { IfErr result (λ refused. refused.2.items ≡ sessions.items) }
-    {
-        if !are_whole(&sessions, self.count.sessions) {
-            return Err((Refusal::OutOfRange, self, sessions));
-        }
-        Ok(self.settled(rt, sessions))
-    }
-
     /// Ends these sessions, and returns the four tables.
     fn settled<R: Wait>(self, rt: &R, sessions: Vec<Session<B>>) -> Four<Frame<S>>
         ensures zero { IsClosed N.plan 0 sessions.items result.zero.table }
@@ -148,4 +124,28 @@ impl<N: PlanTag, B: TableTag, S: FarTickets> Shared<N, B, S> {
             sessions,
         )
     }
+}
+
+/// Ends all sessions, and returns the four tables. The entries of each table's history are just those that its sessions
+/// know as their own.
+///
+/// Refused with `OutOfRange` (14) exactly if a session is missing. The shared table and the sessions are then returned.
+pub fn close<N: PlanTag, B: TableTag, S: FarTickets, R: Wait>(
+    rt: &R,
+    shared: Shared<N, B, S>,
+    sessions: Vec<Session<B>>,
+) -> Result<Four<Frame<S>>, (Refusal, Shared<N, B, S>, Vec<Session<B>>)>
+    ensures whole { OnOk result (IsWhole N.plan.sessions sessions.items) }
+    ensures zero { IfOk result (λ frames. IsClosed N.plan 0 sessions.items frames.zero.table) }
+    ensures one { IfOk result (λ frames. IsClosed N.plan 1 sessions.items frames.one.table) }
+    ensures two { IfOk result (λ frames. IsClosed N.plan 2 sessions.items frames.two.table) }
+    ensures three { IfOk result (λ frames. IsClosed N.plan 3 sessions.items frames.three.table) }
+    ensures here { IfOk result (λ frames. AreAt S.is_of B.store frames.zero.rows × AreAt S.is_of B.store frames.one.rows × AreAt S.is_of B.store frames.two.rows × AreAt S.is_of B.store frames.three.rows) }
+    ensures missing { IfErr result (λ refused. (refused.0 ≡ Refusal.OutOfRange) × ¬ (IsWhole N.plan.sessions sessions.items)) }
+    ensures back { IfErr result (λ refused. refused.2.items ≡ sessions.items) }
+{
+    if !are_whole(&sessions, shared.count.sessions) {
+        return Err((Refusal::OutOfRange, shared, sessions));
+    }
+    Ok(shared.settled(rt, sessions))
 }

@@ -21,6 +21,7 @@ mod working;
 
 pub use asking::StripeGuard;
 pub use background::Background;
+pub use closing::close;
 pub use far_history::Reading;
 pub use far_sessions::{Cells, Session};
 pub use four::answer_four;

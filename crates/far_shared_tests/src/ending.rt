@@ -4,7 +4,7 @@ use crate::scenes::{End, Left, NO_ROW};
 use far_frame::Frame;
 use far_history::PlanTag;
 use far_sessions::Session;
-use far_shared::{Four, Shared, TableTag};
+use far_shared::{Four, Shared, TableTag, close};
 use far_store::FarTickets;
 use far_types::Refusal;
 use std::alloc::{AllocError, Global};
@@ -64,7 +64,7 @@ fn closes<N: PlanTag, B: TableTag, S: FarTickets, R: Wait>(
     left: &[Left; 4],
 ) -> bool {
     is_ok_and(
-        shared.close(rt, sessions),
+        close(rt, shared, sessions),
         |frames: &Four<Frame<S>>| -> bool { have_left(frames, left) },
     )
 }
@@ -103,7 +103,7 @@ fn closes_with_all<N: PlanTag, B: TableTag, S: FarTickets, R: Wait>(
         last,
         left,
     } = finale;
-    match error_of(shared.close(rt, sessions)) {
+    match error_of(close(rt, shared, sessions)) {
         Some(refused) => closes_again(rt, refused, last, &left),
         None => {
             drop(last);

@@ -12,7 +12,7 @@ use crate::outcome::{Outcome, Stop};
 use far_frame::Frame;
 use far_history::PlanTag;
 use far_sessions::Session;
-use far_shared::{Four, Shared, TableTag, answer_four};
+use far_shared::{Four, Shared, TableTag, answer_four, close};
 use far_store::FarTickets;
 use far_types::Answer;
 use std::alloc::Global;
@@ -45,7 +45,7 @@ fn close_all<N: PlanTag, B: TableTag, S: FarTickets, R: Wait>(
     ensures two { IsClosed N.plan 2 sessions.items result.two.table }
     ensures three { IsClosed N.plan 3 sessions.items result.three.table }
 {
-    accepted(shared.close(rt, sessions))
+    accepted(close(rt, shared, sessions))
 }
 
 /// Returns the answer of aggregate 0 of four tables, their gauge, over all their rows. Drops the tables. Ends with `Memory`

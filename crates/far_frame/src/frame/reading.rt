@@ -1,6 +1,9 @@
 // What can be read of a table's objects, space and aggregates.
-ghost use Rattle.std.specs.Prelude.{◌≡◌, Some, IfOk, option_map};
+ghost use Rattle.std.specs.Prelude.{◌≡◌, Some, false, IfOk, IfErr, option_map};
+ghost use Rattle.far_types.specs.MayRefuse.{MayRefuse};
 ghost use Rattle.far_scopes.specs.Refusing.{refusal_in};
+ghost use Rattle.far_aggregates.specs.Aggregates.{ask_refusal};
+ghost use Rattle.far_aggregates.specs.Lines.{AnswersKey};
 ghost use Rattle.far_aggregates.specs.PendingCounts.{pending_of};
 ghost use Rattle.far_rows.specs.Jobs.{AreAt};
 ghost use Rattle.far_rows.specs.Moving.{object_at, object_refusal};
@@ -10,11 +13,12 @@ ghost use Rattle.far_frame.specs.Objects.{space_at, space_with, state_of};
 use super::Frame;
 use crate::object::{ObjectState, state_in};
 use crate::space::Space;
+use far_aggregates::Line;
 use far_codec::Elem;
 use far_rows::Object;
 use far_scopes::Objects;
 use far_store::FarTickets;
-use far_types::{Kind, Refusal};
+use far_types::{Key, Kind, Refusal};
 
 impl<S: FarTickets> Frame<S> {
     /// Returns what the object of a row group of a column is. Allocates nothing.
@@ -42,6 +46,20 @@ impl<S: FarTickets> Frame<S> {
         ensures { result ≡ option_map pending_of (aggregate_at self.now.table a) }
     {
         self.table.pending(a)
+    }
+
+    /// Returns the line of a key in the answer of the aggregate of a number, over the rows as they are, or `None` if the answer has no
+    /// such line. Costs one look-up, and makes no other line. Allocates nothing.
+    ///
+    /// Refused with the first of these that applies:
+    ///
+    /// - `NoAggregate` (12): there is no such aggregate.
+    /// - `Building` (15): row groups are pending. It says how many.
+    pub fn line(&self, a: u32, key: &Option<Key>) -> Result<Option<Line>, Refusal>
+        ensures ok { IfOk result (AnswersKey self.now.table.places (aggregate_at self.now.table a) key.now) }
+        ensures err { IfErr result (MayRefuse (ask_refusal (aggregate_at self.now.table a)) false) }
+    {
+        self.table.line(a, key)
     }
 
     /// Returns the space of the local region of a kind. Allocates nothing.

@@ -9,38 +9,36 @@ use super::Frame;
 use far_store::{FarRead, FarStore, Meter};
 use far_types::Refusal;
 
-impl<S: FarRead> Frame<S> {
-    /// Returns the same table with its far copies in another store: puts the content of each object that is away there. Rows,
-    /// aggregates and answers do not change. A local object stays local, with its pins, versions and order of use. It is dirty,
-    /// since the new store has no copy of it. Do not use jobs of the old table on the new one.
-    ///
-    /// A refused call returns the table as it was. What was put stays in the new store. Refused with one of these:
-    ///
-    /// - `FarFault` (21): one of the stores fails, exactly if the meter rises, by one.
-    /// - `FarFull` (22): the new store gives out no more numbers.
-    /// - `NoMemory` (1): an allocation fails.
-    pub fn migrate<N: FarStore>(
-        frame: Frame<S>,
-        store: &S,
-        new_store: &N,
-        meter: &mut Meter,
-    ) -> Result<Frame<N>, (Refusal, Frame<S>)>
-        requires few { meter.old < 2 ^ 63 }
-        requires here { AreAt S.is_of (S.store_id store.now) frame.rows }
-        ensures migrated { IfOk result (IsMigrated S.content N.content frame) }
-        ensures there { IfOk result (λ new. AreAt N.is_of (N.store_id new_store.now) new.rows) }
-        ensures back { IfErr result (λ e. e.1 ≡ frame) }
-        ensures refused { IfErr result (λ e. IsOneOf (21 ∷ 22 ∷ 1 ∷ []) e.0) }
-        ensures met { IfErr result (λ e. meter.new ≡ meter.old + faults_of e.0) }
-        ensures none { IfOk result (λ new. meter.new ≡ meter.old) }
-    {
-        match frame.table.renewal(store, new_store, meter) {
-            Ok(renewal) => Ok(Frame {
-                alloc: frame.alloc,
-                table: frame.table.renew(renewal),
-                prefetcher: frame.prefetcher,
-            }),
-            Err(refusal) => Err((refusal, frame)),
-        }
+/// Returns the same table with its far copies in another store: puts the content of each object that is away there. Rows,
+/// aggregates and answers do not change. A local object stays local, with its pins, versions and order of use. It is dirty,
+/// since the new store has no copy of it. Do not use jobs of the old table on the new one.
+///
+/// A refused call returns the table as it was. What was put stays in the new store. Refused with one of these:
+///
+/// - `FarFault` (21): one of the stores fails, exactly if the meter rises, by one.
+/// - `FarFull` (22): the new store gives out no more numbers.
+/// - `NoMemory` (1): an allocation fails.
+pub fn migrate<S: FarRead, N: FarStore>(
+    frame: Frame<S>,
+    store: &S,
+    new_store: &N,
+    meter: &mut Meter,
+) -> Result<Frame<N>, (Refusal, Frame<S>)>
+    requires few { meter.old < 2 ^ 63 }
+    requires here { AreAt S.is_of (S.store_id store.now) frame.rows }
+    ensures migrated { IfOk result (IsMigrated S.content N.content frame) }
+    ensures there { IfOk result (λ new. AreAt N.is_of (N.store_id new_store.now) new.rows) }
+    ensures back { IfErr result (λ e. e.1 ≡ frame) }
+    ensures refused { IfErr result (λ e. IsOneOf (21 ∷ 22 ∷ 1 ∷ []) e.0) }
+    ensures met { IfErr result (λ e. meter.new ≡ meter.old + faults_of e.0) }
+    ensures none { IfOk result (λ new. meter.new ≡ meter.old) }
+{
+    match frame.table.renewal(store, new_store, meter) {
+        Ok(renewal) => Ok(Frame {
+            alloc: frame.alloc,
+            table: frame.table.renew(renewal),
+            prefetcher: frame.prefetcher,
+        }),
+        Err(refusal) => Err((refusal, frame)),
     }
 }

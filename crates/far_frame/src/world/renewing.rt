@@ -6,7 +6,7 @@ ghost use Rattle.far_frame.specs.Renewing.{IsMigratedTo};
 ghost use Rattle.far_frame.specs.TableViews.{table_of};
 
 use super::World;
-use crate::frame::Frame;
+use crate::frame::migrate;
 use crate::waiting::Waiting;
 use far_store::FarStore;
 use far_types::Refusal;
@@ -35,7 +35,7 @@ impl<S: FarStore> World<S> {
             jobs,
             mut meter,
         } = self;
-        match Frame::migrate(frame, &store, &new_store, &mut meter) {
+        match migrate(frame, &store, &new_store, &mut meter) {
             Ok(frame) => Ok(World {
                 alloc,
                 frame,
